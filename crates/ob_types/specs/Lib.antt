@@ -1,0 +1,3 @@
+pub mod PendingSize
+pub mod Refusal
+pub mod WaterMark

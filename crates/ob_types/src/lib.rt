@@ -1,0 +1,22 @@
+//! The words of an outbound buffer: messages and their sizes, water marks, promises, commands and replies.
+#![tactic(auto)]
+
+mod command;
+mod estimate;
+mod message;
+mod promise;
+mod refusal;
+mod reply;
+mod settlements;
+#[cfg(test)]
+mod tests;
+mod water_mark;
+
+pub use command::Command;
+pub use estimate::{Estimate, pending_size};
+pub use message::Message;
+pub use promise::{Cause, Outcome, PromiseId, PromiseState};
+pub use refusal::Refusal;
+pub use reply::{Answer, Change, Reply};
+pub use settlements::Settlements;
+pub use water_mark::WaterMark;
