@@ -1,3 +1,4 @@
+pub mod Change
 pub mod PendingSize
 pub mod Refusal
 pub mod WaterMark

@@ -1,5 +1,5 @@
 -- How many bytes a message counts while it is pending.
-use Rattle.std.specs.Prelude.{ℕ, ◌+◌, List, length, Bool, false, ◌||◌, nat_lt, if◌then◌else◌, Result, Ok, Err}
+use Rattle.std.specs.Prelude.{ℕ, ◌+◌, length, Bool, false, ◌||◌, nat_lt, if◌then◌else◌, Result, Ok, Err}
 use Rattle.ob_types.specs.declared.message.Message.{Message}
 use Rattle.ob_types.specs.declared.message.Message.TheVariants.{Block, Region, Other}
 use Rattle.ob_types.specs.declared.estimate.Estimate.{Estimate}
