@@ -1,0 +1,87 @@
+-- The answer to one more command.
+use Rattle.std.specs.Prelude.{ℕ, suc, ◌+◌, ◌||◌, Bool, List, [], ◌∷◌, ◌++◌, length, nat_lt, nat_le, if◌then◌else◌, is_some, is_ok, Option, Some, None, Result, Ok, Err}
+use Rattle.ob_types.specs.PendingSize.{counted_bytes, is_oversize}
+use Rattle.ob_types.specs.Change.{change_between}
+use Rattle.ob_types.specs.declared.estimate.Estimate.{Estimate}
+use Rattle.ob_types.specs.declared.command.Command.{Command}
+use Rattle.ob_types.specs.declared.command.Command.TheVariants.{Write, Flush, Remove}
+use Rattle.ob_types.specs.declared.promise.PromiseId.{PromiseId}
+use Rattle.ob_types.specs.declared.promise.Outcome.{Outcome}
+use Rattle.ob_types.specs.declared.promise.PromiseState.{PromiseState}
+use Rattle.ob_types.specs.declared.promise.PromiseState.TheVariants.{Waiting, Fixed, Settled}
+use Rattle.ob_types.specs.declared.reply.Reply.{Reply}
+use Rattle.ob_types.specs.declared.reply.Answer.{Answer}
+use Rattle.ob_types.specs.declared.reply.Answer.TheVariants.{Id, Count, Yes}
+use Rattle.ob_types.specs.declared.refusal.Refusal.{Refusal}
+use Rattle.ob_types.specs.declared.refusal.Refusal.TheVariants.{Oversize, TooMuch}
+use Rattle.ob_seq.specs.Settings.{Settings}
+use Rattle.ob_seq.specs.Row.{Row}
+use Rattle.ob_seq.specs.Line.{front, unflushed}
+use Rattle.ob_seq.specs.Total.{total}
+use Rattle.ob_seq.specs.Effect.{effect, rows_after}
+use Rattle.ob_seq.specs.Word.{word_after}
+
+-- whether a message is too much: the pending bytes would pass 4294967295, or 1048576 writes were accepted
+abbrev pub is_too_much : Estimate → List Row → ℕ → Bool
+is_too_much estimate rows size = nat_lt 4294967295 (total rows + size) || nat_le 1048576 (length rows)
+
+-- the first refusal of a command, in the order in which they are asked, or none
+abbrev pub refusal_of : Estimate → List Row → Command → Option Refusal
+refusal_of estimate rows (Write message) =
+    if is_oversize estimate message then Some Oversize
+    else (if is_too_much estimate rows (counted_bytes estimate message) then Some TooMuch else None)
+refusal_of estimate rows Flush = None
+refusal_of estimate rows Remove = None
+
+-- what an accepted command answers: a write its promise, a flush how many rows it reached, a removal whether there was a front
+abbrev pub answer_of : List Row → Command → Answer
+answer_of rows (Write message) = Id (record { 0 = length rows })
+answer_of rows Flush = Count (length (unflushed rows))
+answer_of rows Remove = Yes (is_some (front rows))
+
+-- how a promise is settled, if it is
+abbrev pub outcome_of : PromiseState → Option Outcome
+outcome_of Waiting = None
+outcome_of Fixed = None
+outcome_of (Settled outcome) = Some outcome
+
+-- the settlement of one promise: there is one where it was not settled before and is settled after
+abbrev pub settlement : ℕ → Option Outcome → Option Outcome → List (PromiseId × Outcome)
+settlement id None None = []
+settlement id None (Some outcome) = (record { 0 = id }, outcome) ∷ []
+settlement id (Some earlier) after = []
+
+-- the promises that are settled after and were not before, with their outcomes, in the order of the rows
+abbrev pub settlements_from : ℕ → List Row → List Row → List (PromiseId × Outcome)
+settlements_from id before [] = []
+settlements_from id [] (row ∷ after) = settlement id None (outcome_of row.promise) ++ settlements_from (suc id) [] after
+settlements_from id (was ∷ before) (row ∷ after) =
+    settlement id (outcome_of was.promise) (outcome_of row.promise) ++ settlements_from (suc id) before after
+
+-- the promises that one more accepted command settles
+abbrev pub settlements_of : Estimate → List Row → Command → List (PromiseId × Outcome)
+settlements_of estimate rows command = settlements_from 0 rows (effect estimate rows command)
+
+-- the reply to one more command, if it is accepted: its answer, what it settles, and the change of the word
+abbrev pub reply_of : Settings → List Command → Command → Reply
+reply_of settings commands command =
+    let rows = rows_after settings.estimate commands in record {
+      answer = answer_of rows command;
+      settled = settlements_of settings.estimate rows command;
+      change = change_between (word_after settings commands) (word_after settings (commands ++ command ∷ []));
+    }
+
+-- the reply, unless there is a refusal
+abbrev pub unless_refused : Option Refusal → Reply → Result Reply Refusal
+unless_refused None reply = Ok reply
+unless_refused (Some refusal) reply = Err refusal
+
+-- the answer to one more command: its first refusal, or its reply
+abbrev pub answer_to : Settings → List Command → Command → Result Reply Refusal
+answer_to settings commands command =
+    unless_refused (refusal_of settings.estimate (rows_after settings.estimate commands) command) (reply_of settings commands command)
+
+-- the accepted commands after one more command: a refused one has no effect
+abbrev pub commands_after : Settings → List Command → Command → List Command
+commands_after settings commands command =
+    if is_ok (answer_to settings commands command) then commands ++ command ∷ [] else commands

@@ -1,0 +1,12 @@
+pub mod Answer
+pub mod Effect
+pub mod Line
+pub mod Looks
+pub mod Mark
+pub mod Moment
+pub mod Pending
+pub mod Row
+pub mod Settings
+pub mod Total
+pub mod UserBit
+pub mod Word

@@ -1,0 +1,55 @@
+-- What a contract sees of a buffer, and the history that it stands for.
+use Rattle.std.specs.Prelude.{◌≡◌, ℕ, Bool, true, false, List, map, Result}
+use Rattle.ob_types.specs.declared.command.Command.{Command}
+use Rattle.ob_types.specs.declared.command.Command.TheVariants.{Write, Flush, Remove}
+use Rattle.ob_types.specs.declared.promise.PromiseState.{PromiseState}
+use Rattle.ob_types.specs.declared.reply.Reply.{Reply}
+use Rattle.ob_types.specs.declared.refusal.Refusal.{Refusal}
+use Rattle.ob_seq.specs.declared.entry.Entry.{Entry}
+use Rattle.ob_seq.specs.Settings.{Settings}
+use Rattle.ob_seq.specs.Row.{Row, unread_part}
+use Rattle.ob_seq.specs.Line.{line, unflushed}
+use Rattle.ob_seq.specs.Total.{counted_size}
+use Rattle.ob_seq.specs.Effect.{rows_after}
+use Rattle.ob_seq.specs.Word.{word_after}
+use Rattle.ob_seq.specs.Answer.{answer_to, commands_after}
+use Rattle.ob_seq.specs.declared.look.Look.{Look}
+use Rattle.ob_seq.specs.Looks.{look_after}
+
+-- what a buffer holds: its settings, the entries in line and those that no flush has reached, each oldest first,
+-- the state of each promise that it ever gave, and the word
+pub record Pending : Type 0 where
+  pub settings : Settings
+  pub line : List Entry
+  pub unflushed : List Entry
+  pub promises : List PromiseState
+  pub word : ℕ
+
+-- a row as an entry: its unread part, the bytes that it counts, and the progress that was told of it
+abbrev pub entry_of : Row → Entry
+entry_of row = record { message = unread_part row; size = counted_size row; progress = row.progress }
+
+-- a buffer stands for a history of accepted commands where it holds what the rows after them say
+pub record StandsFor (buffer : Pending) (commands : List Command) : Type 0 where
+  pub line : buffer.line ≡ map entry_of (line (rows_after buffer.settings.estimate commands))
+  pub unflushed : buffer.unflushed ≡ map entry_of (unflushed (rows_after buffer.settings.estimate commands))
+  pub promises : buffer.promises ≡ map (λ row. row.promise) (rows_after buffer.settings.estimate commands)
+  pub word : buffer.word ≡ word_after buffer.settings commands
+
+-- whatever history the old buffer stands for, the result is the answer to one more command after it
+abbrev pub Answers : Pending → Command → Result Reply Refusal → Type 0
+Answers old command result = (commands : List Command) → StandsFor old commands → result ≡ answer_to old.settings commands command
+
+-- whatever history the old buffer stands for, the new one stands for it with the command, if that was accepted
+abbrev pub Follows : Pending → Command → Pending → Type 0
+Follows old command new = (commands : List Command) → StandsFor old commands → StandsFor new (commands_after old.settings commands command)
+
+-- whatever history the buffer stands for, the look is the look after it
+abbrev pub Shows : Pending → Look → Type 0
+Shows buffer look = (commands : List Command) → StandsFor buffer commands → look ≡ look_after buffer.settings commands
+
+-- whether a command is answered without any memory of the allocator
+abbrev pub takes_no_memory : Command → Bool
+takes_no_memory (Write message) = false
+takes_no_memory Flush = true
+takes_no_memory Remove = true

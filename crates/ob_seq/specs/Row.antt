@@ -1,0 +1,67 @@
+-- The rows: one for each accepted write, kept for ever.
+use Rattle.std.specs.Prelude.{ℕ, Bool, true, false, [], drop, if◌then◌else◌}
+use Rattle.ob_types.specs.PendingSize.{counted_bytes}
+use Rattle.ob_types.specs.declared.estimate.Estimate.{Estimate}
+use Rattle.ob_types.specs.declared.message.Message.{Message}
+use Rattle.ob_types.specs.declared.message.Message.TheVariants.{Block, Region, Other}
+use Rattle.ob_types.specs.declared.promise.PromiseState.{PromiseState}
+use Rattle.ob_types.specs.declared.promise.PromiseState.TheVariants.{Waiting}
+
+-- where the message of a row is: behind the last flush, flushed, voided at its flush, or no longer in the buffer
+pub data Place : Type 0 where
+  Unflushed : Place
+  Flushed : Place
+  Voided : Place
+  Gone : Place
+
+-- a message with its pending size, its place, the bytes of it that were skipped, the progress that was told of it,
+-- and its promise; its id is its index among the rows
+pub record Row : Type 0 where
+  pub message : Message
+  pub size : ℕ
+  pub place : Place
+  pub skipped : ℕ
+  pub progress : ℕ
+  pub promise : PromiseState
+
+-- a message as it is written
+abbrev pub new_row : Estimate → Message → Row
+new_row estimate message = record {
+  message = message;
+  size = counted_bytes estimate message;
+  place = Unflushed;
+  skipped = 0;
+  progress = 0;
+  promise = Waiting;
+}
+
+-- whether no flush has come since the write
+abbrev pub is_unflushed : Place → Bool
+is_unflushed Unflushed = true
+is_unflushed Flushed = false
+is_unflushed Voided = false
+is_unflushed Gone = false
+
+-- whether the row waits for the transport
+abbrev pub is_flushed : Place → Bool
+is_flushed Unflushed = false
+is_flushed Flushed = true
+is_flushed Voided = false
+is_flushed Gone = false
+
+-- whether the row was voided at its flush and still stands in line
+abbrev pub is_voided : Place → Bool
+is_voided Unflushed = false
+is_voided Flushed = false
+is_voided Voided = true
+is_voided Gone = false
+
+-- what is left of a message when so many bytes of it are skipped
+abbrev pub without_skipped : ℕ → Message → Message
+without_skipped skipped (Block bytes) = Block (drop skipped bytes)
+without_skipped skipped (Region units) = Region units
+without_skipped skipped (Other value) = Other value
+
+-- the unread part: an empty block where the row was voided, a block without its skipped bytes, else the message
+abbrev pub unread_part : Row → Message
+unread_part row = if is_voided row.place then Block [] else without_skipped row.skipped row.message

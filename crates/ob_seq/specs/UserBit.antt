@@ -1,0 +1,14 @@
+-- User-defined writability (Netty's `setUserDefinedWritability`).
+use Rattle.std.specs.Prelude.{ℕ, Bool, false, List, filter_map, reverse, slice_get, unwrap_or, Option, None}
+use Rattle.ob_types.specs.declared.command.Command.{Command}
+use Rattle.ob_types.specs.declared.command.Command.TheVariants.{Write, Flush, Remove}
+
+-- what a command asks of a user bit: to be set, to be clear, or nothing
+abbrev pub bit_request : ℕ → Command → Option Bool
+bit_request index (Write message) = None
+bit_request index Flush = None
+bit_request index Remove = None
+
+-- a user bit is as the last command that asked something of it left it, and clear where none did
+abbrev pub user_bit : List Command → ℕ → Bool
+user_bit commands index = unwrap_or (slice_get (reverse (filter_map (bit_request index) commands)) 0) false
