@@ -1,5 +1,6 @@
 pub mod Answer
 pub mod Effect
+pub mod Inside
 pub mod Line
 pub mod Looks
 pub mod Mark
@@ -7,6 +8,8 @@ pub mod Moment
 pub mod Pending
 pub mod Row
 pub mod Settings
+pub mod Steps
 pub mod Total
 pub mod UserBit
 pub mod Word
+pub mod Worked

@@ -1,0 +1,15 @@
+mod Acceptance
+mod Along
+mod Entries
+mod Flushed
+mod History
+mod Kept
+mod Looks
+mod Marks
+mod Order
+mod Parts
+mod Removed
+mod Rows
+mod Sizes
+mod WordBits
+mod Written

@@ -1,0 +1,155 @@
+-- The order of the rows: those that are gone, then those in line, then those that no flush has reached.
+use Rattle.std.proofs.Common.{◌≡◌, true, false, ◌||◌, List, [], ◌∷◌, ◌++◌, map, refl, sym, ap, ◌∙◌, cond, append_assoc, append-nil, subst}
+use Rattle.std.specs.List.{AllByRecursion}
+use Rattle.std.proofs.lemmas.List.{map-append}
+use Rattle.std.specs.Prelude.{fold}
+use Rattle.ob_types.specs.declared.estimate.Estimate.{Estimate}
+use Rattle.ob_types.specs.declared.command.Command.{Command}
+use Rattle.ob_types.specs.declared.command.Command.TheVariants.{Write, Flush, Remove}
+use Rattle.ob_types.specs.declared.promise.PromiseState.TheVariants.{Waiting, Fixed}
+use Rattle.ob_types.specs.declared.promise.Outcome.TheVariants.{Success}
+use Rattle.ob_seq.specs.Row.{Row, Unflushed, Flushed, Gone, is_unflushed, is_flushed, is_voided, new_row}
+use Rattle.ob_seq.specs.Line.{is_in_line}
+use Rattle.ob_seq.specs.Effect.{effect, flushed_row, taken_row, with_front, rows_after}
+
+-- the row is no longer in the buffer
+pub record IsGone (row : Row) : Type 0 where
+  pub place : row.place ≡ Gone
+
+-- the row is flushed, and its promise fixed
+pub record IsStanding (row : Row) : Type 0 where
+  pub place : row.place ≡ Flushed
+  pub promise : row.promise ≡ Fixed
+
+-- no flush has reached the row, and its promise waits
+pub record IsFresh (row : Row) : Type 0 where
+  pub place : row.place ≡ Unflushed
+  pub promise : row.promise ≡ Waiting
+
+-- rows in order: gone, standing in line, fresh
+pub record Layout (rows : List Row) : Type 0 where
+  pub gone : List Row
+  pub standing : List Row
+  pub fresh : List Row
+  pub is : rows ≡ gone ++ (standing ++ fresh)
+  pub all_gone : AllByRecursion IsGone gone
+  pub all_standing : AllByRecursion IsStanding standing
+  pub all_fresh : AllByRecursion IsFresh fresh
+
+pub each_append : (P : Row → Type 0) (xs ys : List Row) → AllByRecursion P xs → AllByRecursion P ys → AllByRecursion P (xs ++ ys)
+each_append P [] ys a b = b
+each_append P (x ∷ xs) ys a b = (a.0, each_append P xs ys a.1 b)
+
+pub gone_not_in_line : (row : Row) → IsGone row → is_in_line row ≡ false
+gone_not_in_line row gone = ap (λ place. is_flushed place || is_voided place) gone.place
+
+pub standing_in_line : (row : Row) → IsStanding row → is_in_line row ≡ true
+standing_in_line row standing = ap (λ place. is_flushed place || is_voided place) standing.place
+
+pub fresh_not_in_line : (row : Row) → IsFresh row → is_in_line row ≡ false
+fresh_not_in_line row fresh = ap (λ place. is_flushed place || is_voided place) fresh.place
+
+-- the front is behind the rows that are gone
+pub with_front_gone : (change : Row → Row) (gone rows : List Row) → AllByRecursion IsGone gone → with_front change (gone ++ rows) ≡ gone ++ with_front change rows
+with_front_gone change [] rows all = refl
+with_front_gone change (row ∷ gone) rows all =
+    ap (λ first. cond first (change row ∷ (gone ++ rows)) (row ∷ with_front change (gone ++ rows))) (gone_not_in_line row all.0)
+    ∙ ap (λ rest. row ∷ rest) (with_front_gone change gone rows all.1)
+
+-- fresh rows have no front
+pub with_front_fresh : (change : Row → Row) (fresh : List Row) → AllByRecursion IsFresh fresh → with_front change fresh ≡ fresh
+with_front_fresh change [] all = refl
+with_front_fresh change (row ∷ fresh) all =
+    ap (λ first. cond first (change row ∷ fresh) (row ∷ with_front change fresh)) (fresh_not_in_line row all.0)
+    ∙ ap (λ rest. row ∷ rest) (with_front_fresh change fresh all.1)
+
+-- the first row in line is the front
+pub with_front_standing : (change : Row → Row) (row : Row) (rows : List Row) → IsStanding row → with_front change (row ∷ rows) ≡ change row ∷ rows
+with_front_standing change row rows standing = ap (λ first. cond first (change row ∷ rows) (row ∷ with_front change rows)) (standing_in_line row standing)
+
+flushed_gone : (row : Row) → IsGone row → flushed_row row ≡ row
+flushed_gone row gone = ap (λ place. cond (is_unflushed place) (record row { place = Flushed; promise = Fixed }) row) gone.place
+
+flushed_standing : (row : Row) → IsStanding row → flushed_row row ≡ row
+flushed_standing row standing = ap (λ place. cond (is_unflushed place) (record row { place = Flushed; promise = Fixed }) row) standing.place
+
+pub flushed_fresh : (row : Row) → IsFresh row → flushed_row row ≡ record row { place = Flushed; promise = Fixed }
+flushed_fresh row fresh = ap (λ place. cond (is_unflushed place) (record row { place = Flushed; promise = Fixed }) row) fresh.place
+
+-- a flush leaves alone what stands in line already or is gone
+pub flush_same : (P : Row → Type 0) (same : (row : Row) → P row → flushed_row row ≡ row) (rows : List Row) → AllByRecursion P rows → map flushed_row rows ≡ rows
+flush_same P same [] all = refl
+flush_same P same (row ∷ rows) all = ap (λ first. first ∷ map flushed_row rows) (same row all.0) ∙ ap (λ rest. row ∷ rest) (flush_same P same rows all.1)
+
+pub flush_gone : (rows : List Row) → AllByRecursion IsGone rows → map flushed_row rows ≡ rows
+flush_gone rows all = flush_same IsGone flushed_gone rows all
+
+pub flush_standing : (rows : List Row) → AllByRecursion IsStanding rows → map flushed_row rows ≡ rows
+flush_standing rows all = flush_same IsStanding flushed_standing rows all
+
+pub flush_stands : (rows : List Row) → AllByRecursion IsFresh rows → AllByRecursion IsStanding (map flushed_row rows)
+flush_stands [] all = tt
+flush_stands (row ∷ rows) all = (subst IsStanding (sym (flushed_fresh row all.0)) (record { place = refl; promise = refl }), flush_stands rows all.1)
+
+-- a flush by the parts of the rows
+pub flush_parts : (gone standing fresh : List Row) → AllByRecursion IsGone gone → AllByRecursion IsStanding standing →
+    map flushed_row (gone ++ (standing ++ fresh)) ≡ gone ++ (standing ++ map flushed_row fresh)
+flush_parts gone standing fresh all_gone all_standing =
+    map-append flushed_row gone (standing ++ fresh)
+    ∙ ap (λ first. first ++ map flushed_row (standing ++ fresh)) (flush_gone gone all_gone)
+    ∙ ap (λ rest. gone ++ rest) (map-append flushed_row standing fresh ∙ ap (λ first. first ++ map flushed_row fresh) (flush_standing standing all_standing))
+
+layout_of_removal : (rows gone standing fresh : List Row) → rows ≡ gone ++ (standing ++ fresh) → AllByRecursion IsGone gone → AllByRecursion IsStanding standing →
+    AllByRecursion IsFresh fresh → Layout (with_front (taken_row Success) rows)
+layout_of_removal rows gone [] fresh is all_gone all_standing all_fresh = record {
+  gone = gone;
+  standing = [];
+  fresh = fresh;
+  is = ap (with_front (taken_row Success)) is ∙ with_front_gone (taken_row Success) gone fresh all_gone ∙ ap (λ rest. gone ++ rest) (with_front_fresh (taken_row Success) fresh all_fresh);
+  all_gone = all_gone;
+  all_standing = tt;
+  all_fresh = all_fresh;
+}
+layout_of_removal rows gone (row ∷ standing) fresh is all_gone all_standing all_fresh = record {
+  gone = gone ++ taken_row Success row ∷ [];
+  standing = standing;
+  fresh = fresh;
+  is = ap (with_front (taken_row Success)) is ∙ with_front_gone (taken_row Success) gone ((row ∷ standing) ++ fresh) all_gone
+      ∙ ap (λ rest. gone ++ rest) (with_front_standing (taken_row Success) row (standing ++ fresh) all_standing.0)
+      ∙ sym (append_assoc gone (taken_row Success row ∷ []) (standing ++ fresh));
+  all_gone = each_append IsGone gone (taken_row Success row ∷ []) all_gone (record { place = refl }, tt);
+  all_standing = all_standing.1;
+  all_fresh = all_fresh;
+}
+
+-- each command keeps the order
+layout_of_effect : (estimate : Estimate) (rows : List Row) (command : Command) → Layout rows → Layout (effect estimate rows command)
+layout_of_effect estimate rows (Write message) layout = record {
+  gone = layout.gone;
+  standing = layout.standing;
+  fresh = layout.fresh ++ new_row estimate message ∷ [];
+  is = ap (λ all. all ++ new_row estimate message ∷ []) layout.is ∙ append_assoc layout.gone (layout.standing ++ layout.fresh) (new_row estimate message ∷ [])
+      ∙ ap (λ rest. layout.gone ++ rest) (append_assoc layout.standing layout.fresh (new_row estimate message ∷ []));
+  all_gone = layout.all_gone;
+  all_standing = layout.all_standing;
+  all_fresh = each_append IsFresh layout.fresh (new_row estimate message ∷ []) layout.all_fresh (record { place = refl; promise = refl }, tt);
+}
+layout_of_effect estimate rows Flush layout = record {
+  gone = layout.gone;
+  standing = layout.standing ++ map flushed_row layout.fresh;
+  fresh = [];
+  is = ap (map flushed_row) layout.is ∙ flush_parts layout.gone layout.standing layout.fresh layout.all_gone layout.all_standing
+      ∙ ap (λ rest. layout.gone ++ rest) (sym (append-nil (layout.standing ++ map flushed_row layout.fresh)));
+  all_gone = layout.all_gone;
+  all_standing = each_append IsStanding layout.standing (map flushed_row layout.fresh) layout.all_standing (flush_stands layout.fresh layout.all_fresh);
+  all_fresh = tt;
+}
+layout_of_effect estimate rows Remove layout = layout_of_removal rows layout.gone layout.standing layout.fresh layout.is layout.all_gone layout.all_standing layout.all_fresh
+
+layout_from : (estimate : Estimate) (rows : List Row) (commands : List Command) → Layout rows → Layout (fold (effect estimate) rows commands)
+layout_from estimate rows [] layout = layout
+layout_from estimate rows (command ∷ commands) layout = layout_from estimate (effect estimate rows command) commands (layout_of_effect estimate rows command layout)
+
+-- the rows of each history are in order
+pub layout_of : (estimate : Estimate) (commands : List Command) → Layout (rows_after estimate commands)
+layout_of estimate commands = layout_from estimate [] commands (record { gone = []; standing = []; fresh = []; is = refl; all_gone = tt; all_standing = tt; all_fresh = tt })

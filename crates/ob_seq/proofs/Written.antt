@@ -1,0 +1,113 @@
+-- A buffer with one more message stands for the history with the write.
+use Rattle.std.proofs.Common.{◌≡◌, ℕ, ◌+◌, true, List, [], ◌∷◌, ◌++◌, length, map, refl, sym, ap, ◌∙◌, append-nil, arith}
+use Rattle.std.proofs.lemmas.Bool.Decides.{nat_tests}
+use Rattle.std.proofs.lemmas.List.{map-append, length-map}
+use Rattle.std.proofs.lemmas.List.Elements.{filter-append}
+use Rattle.std.proofs.lemmas.List.Sums.{sum_by_push}
+use Rattle.ob_types.specs.WaterMark.{Marks}
+use Rattle.ob_types.specs.PendingSize.{counted_bytes}
+use Rattle.ob_types.specs.Change.{change_between}
+use Rattle.ob_types.specs.declared.estimate.Estimate.{Estimate}
+use Rattle.ob_types.specs.declared.message.Message.{Message}
+use Rattle.ob_types.specs.declared.message.Message.TheVariants.{Block, Region, Other}
+use Rattle.ob_types.specs.declared.command.Command.{Command}
+use Rattle.ob_types.specs.declared.command.Command.TheVariants.{Write}
+use Rattle.ob_types.specs.declared.reply.Reply.{Reply}
+use Rattle.ob_types.specs.declared.reply.Answer.TheVariants.{Id}
+use Rattle.ob_types.specs.declared.promise.PromiseState.TheVariants.{Waiting}
+use Rattle.ob_seq.specs.declared.entry.Entry.{Entry}
+use Rattle.ob_seq.specs.Row.{Row, new_row, without_skipped, is_unflushed}
+use Rattle.ob_seq.specs.Line.{is_in_line, line, unflushed}
+use Rattle.ob_seq.specs.Total.{counted_size, total}
+use Rattle.ob_seq.specs.Effect.{rows_after}
+use Rattle.ob_seq.specs.Moment.{moment_of, moments_along, moments_of}
+use Rattle.ob_seq.specs.Word.{word_after}
+use Rattle.ob_seq.specs.Answer.{settlements_from, settlements_of, reply_of}
+use Rattle.ob_seq.specs.Pending.{Pending, StandsFor, entry_of}
+use Rattle.ob_seq.specs.Steps.{sum_of, pending_total, written, word_after_rise}
+use Rattle.ob_seq.proofs.Acceptance.{same_reply}
+use Rattle.ob_seq.proofs.Rows.{sum_of_rows}
+use Rattle.ob_seq.proofs.Along.{moments_along_same, settlements_from_same}
+use Rattle.ob_seq.proofs.History.{rows_after_more}
+use Rattle.ob_seq.proofs.Marks.{word_step, word_after_more}
+
+-- the bytes pending in a buffer are those of the rows
+pub pending_total_stands : (buffer : Pending) (commands : List Command) → StandsFor buffer commands → pending_total buffer ≡ total (rows_after buffer.settings.estimate commands)
+pending_total_stands buffer commands stands =
+    let rows = rows_after buffer.settings.estimate commands in
+    ap (λ entries. sum_of entries + sum_of buffer.unflushed) stands.line ∙ ap (λ entries. sum_of (map entry_of (line rows)) + sum_of entries) stands.unflushed ∙ sum_of_rows rows
+
+-- nothing skipped leaves a message whole
+without_skipped_none : (message : Message) → without_skipped 0 message ≡ message
+without_skipped_none (Block bytes) = refl
+without_skipped_none (Region units) = refl
+without_skipped_none (Other value) = refl
+
+-- a new row as an entry
+entry_of_new : (estimate : Estimate) (message : Message) → entry_of (new_row estimate message) ≡ record { message = message; size = counted_bytes estimate message; progress = 0 }
+entry_of_new estimate message = ap (λ (left : Message). let entry : Entry = record { message = left; size = counted_bytes estimate message; progress = 0 } in entry) (without_skipped_none message)
+
+-- the moment of a write
+moments_of_write : (estimate : Estimate) (rows : List Row) (message : Message) →
+    moments_of estimate rows (Write message) ≡ moment_of true 0 (counted_bytes estimate message) (total rows + counted_bytes estimate message)
+moments_of_write estimate rows message =
+    let row = new_row estimate message in
+    ap (λ before. moments_along true [] before (rows ++ row ∷ [])) (sym (append-nil rows))
+    ∙ moments_along_same true [] rows [] (row ∷ [])
+    ∙ append-nil (moment_of true 0 (counted_size row) (total (rows ++ row ∷ [])))
+    ∙ ap (moment_of true 0 (counted_size row)) (sum_by_push counted_size rows row)
+
+-- a write settles nothing
+settlements_of_write : (estimate : Estimate) (rows : List Row) (message : Message) → settlements_of estimate rows (Write message) ≡ []
+settlements_of_write estimate rows message =
+    ap (λ before. settlements_from 0 before (rows ++ new_row estimate message ∷ [])) (sym (append-nil rows))
+    ∙ settlements_from_same 0 rows [] (new_row estimate message ∷ [])
+
+-- a rise, seen as the step of the word
+rise_step : (marks : Marks) (word size sum : ℕ) → word_after_rise marks word size sum ≡ word_step marks word 0 size sum
+rise_step marks word size sum = grind (arith, nat_tests)
+
+-- the word after a write
+pub word_of_write : (buffer : Pending) (commands : List Command) (message : Message) → StandsFor buffer commands →
+    (let size = counted_bytes buffer.settings.estimate message in
+    word_after_rise buffer.settings.marks buffer.word size (pending_total buffer + size) ≡ word_after buffer.settings (commands ++ Write message ∷ []))
+word_of_write buffer commands message stands =
+    let size = counted_bytes buffer.settings.estimate message in
+    let rows = rows_after buffer.settings.estimate commands in
+    rise_step buffer.settings.marks buffer.word size (pending_total buffer + size)
+    ∙ ap (λ sum. word_step buffer.settings.marks buffer.word 0 size (sum + size)) (pending_total_stands buffer commands stands)
+    ∙ ap (λ word. word_step buffer.settings.marks word 0 size (total rows + size)) stands.word
+    ∙ sym (word_after_more buffer.settings commands (Write message) 0 size (total rows + size) (moments_of_write buffer.settings.estimate rows message))
+
+-- a buffer with one more message stands for the history with the write
+pub written_stands : (buffer : Pending) (commands : List Command) (message : Message) → StandsFor buffer commands →
+    StandsFor (written buffer message (counted_bytes buffer.settings.estimate message)) (commands ++ Write message ∷ [])
+written_stands buffer commands message stands =
+    let estimate = buffer.settings.estimate in
+    let rows = rows_after estimate commands in
+    let row = new_row estimate message in
+    let more : rows_after estimate (commands ++ Write message ∷ []) ≡ rows ++ row ∷ [] = rows_after_more estimate commands (Write message) in
+    record {
+      line = stands.line ∙ sym (ap (λ all. map entry_of (line all)) more ∙ ap (map entry_of) (filter-append is_in_line rows (row ∷ []) ∙ append-nil (line rows)));
+      unflushed = ap (λ first. first ++ record { message = message; size = counted_bytes estimate message; progress = 0 } ∷ []) stands.unflushed
+          ∙ sym (ap (λ all. map entry_of (unflushed all)) more
+          ∙ ap (map entry_of) (filter-append (λ (row : Row). is_unflushed row.place) rows (row ∷ []))
+          ∙ map-append entry_of (unflushed rows) (row ∷ [])
+          ∙ ap (λ last. map entry_of (unflushed rows) ++ last ∷ []) (entry_of_new estimate message));
+      promises = ap (λ first. first ++ Waiting ∷ []) stands.promises ∙ sym (ap (map (λ (row : Row). row.promise)) more ∙ map-append (λ (row : Row). row.promise) rows (row ∷ []));
+      word = word_of_write buffer commands message stands;
+    }
+
+-- the reply to a write
+pub reply_of_write : (buffer : Pending) (commands : List Command) (message : Message) → StandsFor buffer commands →
+    (let size = counted_bytes buffer.settings.estimate message in
+    let after = word_after_rise buffer.settings.marks buffer.word size (pending_total buffer + size) in
+    let reply : Reply = record { answer = Id (record { 0 = length buffer.promises }); settled = []; change = change_between buffer.word after } in
+    reply ≡ reply_of buffer.settings commands (Write message))
+reply_of_write buffer commands message stands =
+    let estimate = buffer.settings.estimate in
+    let rows = rows_after estimate commands in
+    let count : length buffer.promises ≡ length rows = ap length stands.promises ∙ length-map rows (λ row. row.promise) in
+    same_reply (ap (λ id. Id (record { 0 = id })) count) (sym (settlements_of_write estimate rows message))
+    (ap (λ before. change_between before (word_after_rise buffer.settings.marks buffer.word (counted_bytes estimate message) (pending_total buffer + counted_bytes estimate message))) stands.word
+    ∙ ap (change_between (word_after buffer.settings commands)) (word_of_write buffer commands message stands))

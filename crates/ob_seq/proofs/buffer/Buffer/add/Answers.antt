@@ -1,0 +1,31 @@
+use Rattle.std.proofs.Common.{◌≡◌, ◌+◌, [], ◌∷◌, ◌++◌, sym, ap, ◌∙◌, arith}
+use Rattle.std.proofs.lemmas.List.Sums.{sum_by_push}
+use Rattle.ob_types.specs.declared.promise.PromiseState.TheVariants.{Waiting}
+use Rattle.ob_seq.specs.declared.entry.Entry.{Entry}
+use Rattle.ob_seq.specs.Steps.{sum_of, pending_total, written}
+use Rattle.ob_seq.proofs.Entries.{sum_of_parts}
+use Rattle.ob_seq.proofs.Kept.{kept_written}
+use Rattle.ob_seq.proofs.buffer.Buffer.add.Goals as goal
+
+pub total_of-total-requires : goal.total_of-total-requires
+total_of-total-requires c =
+    let entry : Entry = record { message = c.args.message; size = c.args.size; progress = 0 } in
+    let pending : pending_total c.args.self.now ≡ sum_of c.self.inside.entries.items =
+    ap pending_total (sym c.self.view_is) ∙ sum_of_parts c.self.inside.flushed c.self.inside.entries.items in
+    let sum : sum_of c.deref.result.now ≡ sum_of c.self.inside.entries.items + c.args.size =
+    ap sum_of (c.deref.ensures.value ∙ c.push_reserved.ensures.items) ∙ sum_by_push (λ (one : Entry). one.size) c.reserve.new.self.items entry
+    ∙ ap (λ items. sum_of items + c.args.size) c.in_ok-reserve.ensures.items in
+    omega (arith, c.requires.fits)
+
+pub returns-clause-ok : goal.returns-clause-ok
+returns-clause-ok c =
+    let entry : Entry = record { message = c.args.message; size = c.args.size; progress = 0 } in
+    let inside = c.self.inside in
+    kept_written (record { marks = inside.marks; estimate = inside.estimate }) inside.entries.items inside.flushed inside.promises.items inside.word c.args.size c.args.message
+    c.push_reserved.new.self.items c.push_reserved-2.new.self.items c.after_rise-self-inside.result c.total_of-total.result
+    (omega (arith, c.self.invariant.line_within, c.self.inside.entries.ok))
+    (c.push_reserved.ensures.items ∙ ap (λ items. items ++ entry ∷ []) c.in_ok-reserve.ensures.items)
+    (c.push_reserved-2.ensures.items ∙ ap (λ items. items ++ Waiting ∷ []) c.in_ok-reserve-2.ensures.items)
+    (c.total_of-total.ensures ∙ ap sum_of c.deref.ensures.value)
+    c.after_rise-self-inside.ensures
+    ∙ ap (λ old. written old c.args.message c.args.size) c.self.view_is

@@ -1,0 +1,11 @@
+use Rattle.std.proofs.Common.{refl, sym}
+use Rattle.ob_seq.proofs.Marks.{word_at_start}
+use Rattle.ob_seq.proofs.buffer.Buffer.new.Goals as goal
+
+pub returns-clause-stands : goal.returns-clause-stands
+returns-clause-stands c = record {
+  line = refl;
+  unflushed = c.new.ensures.items;
+  promises = c.new-2.ensures.items;
+  word = sym (word_at_start (record { marks = c.args.marks; estimate = c.args.estimate }));
+}

@@ -1,0 +1,83 @@
+-- The definitions on small histories, computed by hand beforehand.
+use Rattle.std.specs.Prelude.{◌≡◌, ℕ, true, false, List, [], ◌∷◌, replicate, Option, Some, None, Result, Ok, Err}
+use Rattle.ob_types.specs.declared.command.Command.{Command}
+use Rattle.ob_types.specs.declared.command.Command.TheVariants.{Write, Flush, Remove}
+use Rattle.ob_types.specs.declared.message.Message.TheVariants.{Block, Region, Other}
+use Rattle.ob_types.specs.declared.promise.PromiseId.{PromiseId}
+use Rattle.ob_types.specs.declared.promise.Outcome.{Outcome}
+use Rattle.ob_types.specs.declared.promise.Outcome.TheVariants.{Success}
+use Rattle.ob_types.specs.declared.refusal.Refusal.{Refusal}
+use Rattle.ob_types.specs.declared.refusal.Refusal.TheVariants.{Oversize}
+use Rattle.ob_types.specs.declared.reply.Answer.{Answer}
+use Rattle.ob_types.specs.declared.reply.Answer.TheVariants.{Id, Count, Yes}
+use Rattle.ob_types.specs.declared.reply.Change.{Change}
+use Rattle.ob_types.specs.declared.reply.Change.TheVariants.{Unwritable, Writable}
+use Rattle.ob_types.specs.declared.reply.Reply.{Reply}
+use Rattle.ob_seq.specs.Settings.{Settings}
+use Rattle.ob_seq.specs.Total.{total}
+use Rattle.ob_seq.specs.Effect.{rows_after}
+use Rattle.ob_seq.specs.Word.{word_after}
+use Rattle.ob_seq.specs.Answer.{answer_to, commands_after}
+use Rattle.ob_seq.specs.Looks.{look_after}
+
+-- marks low and high, 96 bytes for each entry and 8 for an unknown message
+abbrev pub marked : ℕ → ℕ → Settings
+marked low high = record { marks = record { low = low; high = high }; estimate = record { overhead = 96; unknown = 8 } }
+
+-- a write of a block of so many bytes
+abbrev pub block : ℕ → Command
+block n = Write (Block (replicate n 0))
+
+-- the answer to a command, and the pending bytes and the word after it
+pub record Shown : Type 0 where
+  pub answer : Result Reply Refusal
+  pub total : ℕ
+  pub word : ℕ
+
+-- what the commands of a list show, one after another
+abbrev pub shown : Settings → List Command → List Command → List Shown
+shown settings earlier [] = []
+shown settings earlier (command ∷ commands) =
+    let after = commands_after settings earlier command in
+    record { answer = answer_to settings earlier command; total = total (rows_after settings.estimate after); word = word_after settings after } ∷ shown settings after commands
+
+-- a reply to an accepted command
+abbrev pub replied : Answer → List (PromiseId × Outcome) → Option Change → ℕ → ℕ → Shown
+replied answer settled change sum word = record { answer = Ok (record { answer = answer; settled = settled; change = change }); total = sum; word = word }
+
+-- a promise that succeeds
+abbrev pub succeeds : ℕ → List (PromiseId × Outcome)
+succeeds id = (record { 0 = id }, Success) ∷ []
+
+-- a rise to the high mark sets nothing, one above it does, and a fall below the low mark clears it
+abbrev pub TheFirstRun : Type 0
+TheFirstRun =
+    shown (marked 200 400) [] (block 304 ∷ block 0 ∷ Flush ∷ Remove ∷ [])
+    ≡ replied (Id (record { 0 = 0 })) [] None 400 0 ∷ replied (Id (record { 0 = 1 })) [] (Some Unwritable) 496 1
+    ∷ replied (Count 2) [] None 496 1 ∷ replied (Yes true) (succeeds 0) (Some Writable) 96 0 ∷ []
+
+-- a fall to the low mark clears nothing
+abbrev pub EqualityWithLow : Type 0
+EqualityWithLow =
+    shown (marked 200 400) [] (block 204 ∷ block 104 ∷ Flush ∷ Remove ∷ Remove ∷ Remove ∷ [])
+    ≡ replied (Id (record { 0 = 0 })) [] None 300 0 ∷ replied (Id (record { 0 = 1 })) [] (Some Unwritable) 500 1
+    ∷ replied (Count 2) [] None 500 1 ∷ replied (Yes true) (succeeds 0) None 200 1 ∷ replied (Yes true) (succeeds 1) (Some Writable) 0 0
+    ∷ replied (Yes false) [] None 0 0 ∷ []
+
+-- with a low mark of 0 a buffer stays unwritable when it is empty again
+abbrev pub LowZero : Type 0
+LowZero =
+    shown (marked 0 400) [] (block 400 ∷ Flush ∷ Remove ∷ [])
+    ≡ replied (Id (record { 0 = 0 })) [] (Some Unwritable) 496 1 ∷ replied (Count 1) [] None 496 1 ∷ replied (Yes true) (succeeds 0) None 0 1 ∷ []
+
+-- a region that is too long is refused and leaves no trace
+abbrev pub LongRegion : Type 0
+LongRegion =
+    shown (marked 200 400) [] (Write (Region 9223372036854775808) ∷ Write (Other 7) ∷ [])
+    ≡ record { answer = Err Oversize; total = 0; word = 0 } ∷ replied (Id (record { 0 = 0 })) [] None 104 0 ∷ []
+
+-- a look at an empty buffer, and at one that is unwritable
+abbrev pub Looks : Type 0
+Looks =
+    (look_after (marked 32768 65536) [] ≡ record { total = 0; word = 0; size = 0; before_unwritable = 65537; before_writable = 0; current_progress = 0 })
+    × (look_after (marked 200 400) (block 304 ∷ block 0 ∷ []) ≡ record { total = 496; word = 1; size = 0; before_unwritable = 0; before_writable = 297; current_progress = 0 })

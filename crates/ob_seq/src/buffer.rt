@@ -1,0 +1,106 @@
+ghost use Rattle.std.specs.Prelude.{◌≡◌, ◌≤◌, [], IsTrue, IsErrOf};
+ghost use Rattle.ob_types.specs.Change.{change_between};
+ghost use Rattle.ob_seq.specs.Pending.{StandsFor, Answers, Follows, Shows, takes_no_memory};
+ghost use Rattle.ob_seq.specs.Steps.{sum_of};
+
+mod flush;
+mod look;
+mod remove;
+mod word;
+mod write;
+
+use crate::entry::Entry;
+use ob_types::{Answer, Command, Estimate, PromiseState, Refusal, Reply, Settlements, WaterMark};
+use std::alloc::Global;
+use std::marker::Model;
+
+/// What an application has written to a channel and the transport has not yet sent (Netty's
+/// `ChannelOutboundBuffer`), for one thread.
+#[derive(Debug, Drop)]
+pub struct Buffer {
+    marks: WaterMark,
+    estimate: Estimate,
+    /// What stands in line, and behind it what no flush has reached, each oldest first.
+    entries: Vec<Entry>,
+    /// How many of the entries stand in line.
+    flushed: usize,
+    /// The state of each promise, by its id.
+    promises: Vec<PromiseState>,
+    word: u32,
+}
+
+impl Model for Buffer {
+    ghost use Rattle.ob_seq.specs.Pending.{Pending};
+
+    ghost Value = { Pending };
+
+    ghost use Rattle.ob_seq.specs.Inside.{pending_of, IsSound};
+
+    ghost view = { pending_of };
+
+    ghost invariant = { IsSound };
+}
+
+impl Buffer {
+    /// An empty buffer, which takes no memory. The overhead and the size of unknown messages are at most 65535 bytes.
+    pub fn new(alloc: Global, marks: WaterMark, estimate: Estimate) -> Buffer
+        requires overhead { estimate.overhead ≤ 65535 }
+        requires unknown { estimate.unknown ≤ 65535 }
+        ensures settings { result.settings ≡ record { marks = marks; estimate = estimate } }
+        ensures stands { StandsFor result [] }
+    {
+        Buffer {
+            marks,
+            estimate,
+            entries: Vec::new(alloc),
+            flushed: 0,
+            promises: Vec::new(alloc),
+            word: 0,
+        }
+    }
+
+    /// Gives one command: the call of the same name.
+    ///
+    /// A refused command leaves the buffer as it was. `NoMemory` comes for a write alone, where the allocator refused.
+    pub fn apply(&mut self, command: Command) -> Result<Reply, Refusal>
+        ensures answer { ¬ IsErrOf result Refusal.NoMemory → Answers self.old command result }
+        ensures stands { ¬ IsErrOf result Refusal.NoMemory → Follows self.old command self.new }
+        ensures settings { self.new.settings ≡ self.old.settings }
+
+        // Memory is wanted by some commands alone, and where it is refused nothing has changed.
+        ensures no_memory { IsErrOf result Refusal.NoMemory → self.new ≡ self.old }
+        ensures frugal { IsTrue (takes_no_memory command) → ¬ IsErrOf result Refusal.NoMemory }
+    {
+        match command {
+            Command::Write(message) => self.write(message),
+            Command::Flush => self.flush(),
+            Command::Remove => self.remove(),
+        }
+    }
+
+    /// The reply of a call that found the word `before`.
+    fn reply(&self, answer: Answer, settled: Settlements, before: u32) -> Reply
+        ensures { result ≡ record { answer = answer; settled = settled; change = change_between before self.now.word } }
+    {
+        Reply {
+            answer,
+            settled,
+            change: word::change(before, self.word),
+        }
+    }
+
+    /// A reply's list of settlements, still empty.
+    fn no_settlements(&self) -> Settlements
+        ensures { result ≡ [] }
+    {
+        Settlements::new(*self.entries.allocator())
+    }
+}
+
+/// The bytes that the entries count together.
+fn total_of(entries: &[Entry]) -> u32
+    requires { sum_of entries.now ≤ 4294967295 }
+    ensures { result ≡ sum_of entries.now }
+{
+    entries.iter().map(|entry| entry.size).sum()
+}

@@ -1,0 +1,42 @@
+ghost use Rattle.std.specs.Prelude.{◌≡◌};
+ghost use Rattle.ob_types.specs.Change.{change_between};
+ghost use Rattle.ob_seq.specs.Steps.{word_after_rise, word_after_fall};
+
+use ob_types::{Change, WaterMark};
+
+/// Bit 0 of the word, which is set while too much is pending.
+const MARK: u32 = 1;
+
+/// The word after the pending bytes rose by `size` to `total`. A rise by 0 is none.
+#[tactic(auto, using(crate::proofs::WordBits::bit_or_one))]
+pub fn after_rise(marks: WaterMark, word: u32, size: u32, total: u32) -> u32
+    ensures { result ≡ word_after_rise marks word size total }
+{
+    if size > 0 && total > marks.high() {
+        word | MARK
+    } else {
+        word
+    }
+}
+
+/// The word after the pending bytes fell by `size` to `total`, with notice. A fall by 0 is none.
+pub fn after_fall(marks: WaterMark, word: u32, size: u32, total: u32) -> u32
+    ensures { result ≡ word_after_fall marks word size total }
+{
+    if size > 0 && total < marks.low() {
+        word & !MARK
+    } else {
+        word
+    }
+}
+
+/// The change that a call reports which found the one word and left the other.
+pub fn change(before: u32, after: u32) -> Option<Change>
+    ensures { result ≡ change_between before after }
+{
+    match (before == 0, after == 0) {
+        (true, false) => Some(Change::Unwritable),
+        (false, true) => Some(Change::Writable),
+        _ => None,
+    }
+}

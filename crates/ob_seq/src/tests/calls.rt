@@ -1,0 +1,133 @@
+//! The calls of a buffer with memory at hand, and with memory refused.
+
+use crate::{Buffer, Look};
+use bytes::Bytes;
+use ob_types::{
+    Answer, Change, Command, Estimate, Message, Outcome, PromiseId, Refusal, Reply, WaterMark,
+};
+use std::alloc::{AllocError, Global};
+use std::test::Fail;
+
+fn buffer(alloc: Global, low: u32, high: u32) -> Result<Buffer, Refusal> {
+    let estimate = Estimate {
+        overhead: 96,
+        unknown: 8,
+    };
+    Ok(Buffer::new(alloc, WaterMark::new(low, high)?, estimate))
+}
+
+fn block(alloc: Global, length: usize) -> Result<Message, AllocError> {
+    Ok(Message::Block(Bytes::from_vec(vec![in alloc; 0u8; length]?)?))
+}
+
+/// A command of a row, before its message is made.
+#[derive(Clone, Copy)]
+enum Step {
+    Write(usize),
+    Flush,
+    Remove,
+}
+
+fn command(alloc: Global, step: Step) -> Result<Command, AllocError> {
+    Ok(match step {
+        Step::Write(length) => Command::Write(block(alloc, length)?),
+        Step::Flush => Command::Flush,
+        Step::Remove => Command::Remove,
+    })
+}
+
+/// What a row expects: the answer, the change, the promise that succeeds, the pending bytes and the word.
+type Row = (Step, Answer, Option<Change>, Option<PromiseId>, u32, u32);
+
+fn settled_by(reply: &Reply) -> Option<(PromiseId, Outcome)> {
+    reply.settled.as_slice().first().copied()
+}
+
+#[test]
+fn the_first_run(rt: HostRuntime) -> Result<(), Fail> {
+    let alloc = rt.alloc();
+    let mut buffer = buffer(alloc, 200, 400)?;
+    let rows: [Row; 5] = [
+        (
+            Step::Write(304),
+            Answer::Id(PromiseId(0)),
+            None,
+            None,
+            400,
+            0,
+        ),
+        (
+            Step::Write(0),
+            Answer::Id(PromiseId(1)),
+            Some(Change::Unwritable),
+            None,
+            496,
+            1,
+        ),
+        (Step::Flush, Answer::Count(2), None, None, 496, 1),
+        (
+            Step::Remove,
+            Answer::Yes(true),
+            Some(Change::Writable),
+            Some(PromiseId(0)),
+            96,
+            0,
+        ),
+        (Step::Flush, Answer::Count(0), None, None, 96, 0),
+    ];
+    for (step, answer, change, settled, total, word) in rows {
+        let reply = buffer.apply(command(alloc, step)?)?;
+        assert_eq!(rt; reply.answer, answer);
+        assert_eq!(rt; reply.change, change);
+        assert_eq!(rt;
+            settled_by(&reply),
+            settled.map(|id| (id, Outcome::Success))
+        );
+        let look = buffer.look();
+        assert_eq!(rt; (look.total, look.word), (total, word));
+    }
+    Ok(())
+}
+
+#[test]
+fn looks_at_an_empty_and_a_full_buffer(rt: HostRuntime) -> Result<(), Fail> {
+    let alloc = rt.alloc();
+    let empty = Look {
+        total: 0,
+        word: 0,
+        size: 0,
+        before_unwritable: 65537,
+        before_writable: 0,
+        current_progress: 0,
+    };
+    assert_eq!(rt; buffer(alloc, 32768, 65536)?.look(), empty);
+
+    let mut buffer = buffer(alloc, 200, 400)?;
+    buffer.write(block(alloc, 304)?)?;
+    buffer.write(block(alloc, 0)?)?;
+    let full = Look {
+        total: 496,
+        word: 1,
+        size: 0,
+        before_unwritable: 0,
+        before_writable: 297,
+        current_progress: 0,
+    };
+    assert_eq!(rt; buffer.look(), full);
+    Ok(())
+}
+
+#[test]
+fn a_refused_write_leaves_all_as_it_was(rt: HostRuntime) -> Result<(), Fail> {
+    let alloc = rt.alloc();
+    let mut buffer = buffer(alloc, 200, 400)?;
+    buffer.write(block(alloc, 304)?)?;
+    let before = buffer.look();
+    let refused = buffer.write(Message::Region(9223372036854775808)).err();
+    assert_eq!(rt; refused, Some(Refusal::Oversize));
+    assert_eq!(rt; buffer.look(), before);
+    assert_eq!(rt; buffer.remove()?.answer, Answer::Yes(false));
+    assert_eq!(rt; buffer.flush()?.answer, Answer::Count(1));
+    assert_eq!(rt; buffer.remove()?.answer, Answer::Yes(true));
+    Ok(())
+}
