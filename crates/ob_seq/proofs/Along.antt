@@ -21,7 +21,7 @@ moments_along_same notice passed (row ∷ same) before after =
     ∙ ap (λ rows. moments_along notice rows before after) (append_assoc passed (row ∷ []) same)
 
 -- a promise that stays is not settled anew
-settlement_same : (id : ℕ) (outcome : Option Outcome) → settlement id outcome outcome ≡ []
+pub settlement_same : (id : ℕ) (outcome : Option Outcome) → settlement id outcome outcome ≡ []
 settlement_same id None = refl
 settlement_same id (Some outcome) = refl
 

@@ -21,8 +21,8 @@ use Rattle.ob_seq.specs.Answer.{outcome_of, settlement, settlements_from, reply_
 use Rattle.ob_seq.specs.Pending.{Pending, StandsFor, entry_of}
 use Rattle.ob_seq.specs.Steps.{all_flushed}
 use Rattle.ob_seq.proofs.Acceptance.{same_reply}
-use Rattle.ob_seq.proofs.Along.{moment_of_same}
-use Rattle.ob_seq.proofs.History.{rows_after_more}
+use Rattle.ob_seq.proofs.Along.{moment_of_same, settlement_same}
+use Rattle.ob_seq.proofs.History.{rows_after_more, accepted_more}
 use Rattle.ob_seq.proofs.Marks.{word_after_same}
 use Rattle.ob_seq.proofs.Order.{IsStanding, flush_parts, flush_stands, layout_of, each_append}
 use Rattle.ob_seq.proofs.Parts.{line_of_parts, unflushed_of_parts, entries_of_flushed, promises_of_flushed}
@@ -49,10 +49,6 @@ moments_along_flush passed (row ∷ rows) =
 settles_nothing : (id : ℕ) (before : Option Outcome) → settlement id before None ≡ []
 settles_nothing id None = refl
 settles_nothing id (Some outcome) = refl
-
-settlement_same : (id : ℕ) (outcome : Option Outcome) → settlement id outcome outcome ≡ []
-settlement_same id None = refl
-settlement_same id (Some outcome) = refl
 
 settlement_if : (id : ℕ) (b : Bool) (row : Row) → settlement id (outcome_of row.promise) (outcome_of (cond b (record row { place = Flushed; promise = Fixed }) row).promise) ≡ []
 settlement_if id true row = settles_nothing id (outcome_of row.promise)
@@ -85,6 +81,7 @@ flushed_stands buffer commands stands =
     let size : length buffer.promises ≡ length kept + length fresh = ap length promises_was ∙ length-append kept (map promise fresh) ∙ ap (λ n. length kept + n) (length-map fresh promise) in
     let first : length buffer.promises - length buffer.unflushed ≡ length kept = omega arith in
     record {
+      accepted = accepted_more buffer.settings.estimate commands Flush stands.accepted refl;
       line = ap (λ first. first ++ buffer.unflushed) line_was ∙ ap (λ rest. map entry_of standing ++ rest) (unflushed_was ∙ sym (entries_of_flushed fresh layout.all_fresh))
           ∙ sym (ap (λ all. map entry_of (line all)) (more ∙ in_order)
           ∙ ap (map entry_of) (line_of_parts gone (standing ++ map flushed_row fresh) [] layout.all_gone all_standing tt) ∙ map-append entry_of standing (map flushed_row fresh));

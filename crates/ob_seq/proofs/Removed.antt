@@ -27,7 +27,7 @@ use Rattle.ob_seq.specs.Pending.{Pending, StandsFor, entry_of}
 use Rattle.ob_seq.specs.Steps.{pending_total, first_size, front_id, front_taken, word_after_fall}
 use Rattle.ob_seq.proofs.Acceptance.{same_reply}
 use Rattle.ob_seq.proofs.Along.{moments_along_same, settlements_from_same}
-use Rattle.ob_seq.proofs.History.{rows_after_more}
+use Rattle.ob_seq.proofs.History.{rows_after_more, accepted_more}
 use Rattle.ob_seq.proofs.Marks.{word_step, word_after_more, word_after_same}
 use Rattle.ob_seq.proofs.Order.{Layout, IsGone, IsStanding, IsFresh, with_front_gone, with_front_fresh, with_front_standing, layout_of, each_append}
 use Rattle.ob_seq.proofs.Parts.{line_of_parts, unflushed_of_parts, front_of_parts, no_front_of_parts}
@@ -127,6 +127,7 @@ nothing_removed_stands buffer commands stands none =
     let parts = no_front_stands buffer commands stands none in
     let more : rows_after buffer.settings.estimate (commands ++ Remove ∷ []) ≡ rows = rows_after_more buffer.settings.estimate commands Remove ∙ same_rows rows parts in
     record {
+      accepted = accepted_more buffer.settings.estimate commands Remove stands.accepted refl;
       line = stands.line ∙ sym (ap (λ all. map entry_of (line all)) more);
       unflushed = stands.unflushed ∙ sym (ap (λ all. map entry_of (unflushed all)) more);
       promises = stands.promises ∙ sym (ap (map (λ (row : Row). row.promise)) more);
@@ -253,6 +254,7 @@ module _ (buffer : Pending) (commands : List Command) (stands : StandsFor buffer
   -- a buffer without its front stands for the history with the removal
   pub removed_stands : StandsFor (front_taken buffer Success) (commands ++ Remove ∷ [])
   removed_stands = record {
+    accepted = accepted_more buffer.settings.estimate commands Remove stands.accepted refl;
     line = ap (drop 1) line_is ∙ sym (ap (λ all. map entry_of (line all)) (rows_of_removal ∙ moved)
         ∙ ap (map entry_of) (line_of_parts (parts.gone ++ taken_row Success parts.row ∷ []) parts.standing parts.fresh all_gone_after parts.all_standing parts.all_fresh));
     unflushed = unflushed_is ∙ sym (ap (λ all. map entry_of (unflushed all)) (rows_of_removal ∙ moved)

@@ -22,14 +22,15 @@ use Rattle.ob_seq.specs.Total.{counted_size, total}
 use Rattle.ob_seq.specs.Effect.{rows_after}
 use Rattle.ob_seq.specs.Moment.{moment_of, moments_along, moments_of}
 use Rattle.ob_seq.specs.Word.{word_after}
-use Rattle.ob_seq.specs.Answer.{settlements_from, settlements_of, reply_of}
+use Rattle.ob_seq.specs.Answer.{settlements_from, settlements_of, reply_of, refusal_of}
 use Rattle.ob_seq.specs.Pending.{Pending, StandsFor, entry_of}
 use Rattle.ob_seq.specs.Steps.{sum_of, pending_total, written, word_after_rise}
 use Rattle.ob_seq.proofs.Acceptance.{same_reply}
 use Rattle.ob_seq.proofs.Rows.{sum_of_rows}
 use Rattle.ob_seq.proofs.Along.{moments_along_same, settlements_from_same}
-use Rattle.ob_seq.proofs.History.{rows_after_more}
+use Rattle.ob_seq.proofs.History.{rows_after_more, accepted_more}
 use Rattle.ob_seq.proofs.Marks.{word_step, word_after_more}
+use Rattle.std.specs.Prelude.{None}
 
 -- the bytes pending in a buffer are those of the rows
 pub pending_total_stands : (buffer : Pending) (commands : List Command) → StandsFor buffer commands → pending_total buffer ≡ total (rows_after buffer.settings.estimate commands)
@@ -81,13 +82,15 @@ word_of_write buffer commands message stands =
 
 -- a buffer with one more message stands for the history with the write
 pub written_stands : (buffer : Pending) (commands : List Command) (message : Message) → StandsFor buffer commands →
+    refusal_of buffer.settings.estimate (rows_after buffer.settings.estimate commands) (Write message) ≡ None →
     StandsFor (written buffer message (counted_bytes buffer.settings.estimate message)) (commands ++ Write message ∷ [])
-written_stands buffer commands message stands =
+written_stands buffer commands message stands room =
     let estimate = buffer.settings.estimate in
     let rows = rows_after estimate commands in
     let row = new_row estimate message in
     let more : rows_after estimate (commands ++ Write message ∷ []) ≡ rows ++ row ∷ [] = rows_after_more estimate commands (Write message) in
     record {
+      accepted = accepted_more estimate commands (Write message) stands.accepted room;
       line = stands.line ∙ sym (ap (λ all. map entry_of (line all)) more ∙ ap (map entry_of) (filter-append is_in_line rows (row ∷ []) ∙ append-nil (line rows)));
       unflushed = ap (λ first. first ++ record { message = message; size = counted_bytes estimate message; progress = 0 } ∷ []) stands.unflushed
           ∙ sym (ap (λ all. map entry_of (unflushed all)) more

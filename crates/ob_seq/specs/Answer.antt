@@ -1,5 +1,5 @@
 -- The answer to one more command.
-use Rattle.std.specs.Prelude.{ℕ, suc, ◌+◌, ◌||◌, Bool, List, [], ◌∷◌, ◌++◌, length, nat_lt, nat_le, if◌then◌else◌, is_some, is_ok, Option, Some, None, Result, Ok, Err}
+use Rattle.std.specs.Prelude.{ℕ, suc, ◌+◌, ◌||◌, Bool, List, [], ◌∷◌, ◌++◌, length, nat_lt, nat_le, if◌then◌else◌, is_some, is_ok, Option, Some, None, Result, Ok, Err, true, is_none, ◌&&◌}
 use Rattle.ob_types.specs.PendingSize.{counted_bytes, is_oversize}
 use Rattle.ob_types.specs.Change.{change_between}
 use Rattle.ob_types.specs.declared.estimate.Estimate.{Estimate}
@@ -32,6 +32,11 @@ refusal_of estimate rows (Write message) =
     else (if is_too_much estimate rows (counted_bytes estimate message) then Some TooMuch else None)
 refusal_of estimate rows Flush = None
 refusal_of estimate rows Remove = None
+
+-- whether commands that find these rows are accepted, one after another
+abbrev pub are_accepted : Estimate → List Row → List Command → Bool
+are_accepted estimate rows [] = true
+are_accepted estimate rows (command ∷ commands) = is_none (refusal_of estimate rows command) && are_accepted estimate (effect estimate rows command) commands
 
 -- what an accepted command answers: a write its promise, a flush how many rows it reached, a removal whether there was a front
 abbrev pub answer_of : List Row → Command → Answer

@@ -1,5 +1,5 @@
 -- What a contract sees of a buffer, and the history that it stands for.
-use Rattle.std.specs.Prelude.{◌≡◌, ℕ, Bool, true, false, List, map, Result}
+use Rattle.std.specs.Prelude.{◌≡◌, ℕ, Bool, true, false, List, map, Result, [], None}
 use Rattle.ob_types.specs.declared.command.Command.{Command}
 use Rattle.ob_types.specs.declared.command.Command.TheVariants.{Write, Flush, Remove}
 use Rattle.ob_types.specs.declared.promise.PromiseState.{PromiseState}
@@ -12,7 +12,7 @@ use Rattle.ob_seq.specs.Line.{line, unflushed}
 use Rattle.ob_seq.specs.Total.{counted_size}
 use Rattle.ob_seq.specs.Effect.{rows_after}
 use Rattle.ob_seq.specs.Word.{word_after}
-use Rattle.ob_seq.specs.Answer.{answer_to, commands_after}
+use Rattle.ob_seq.specs.Answer.{answer_to, commands_after, are_accepted, refusal_of}
 use Rattle.ob_seq.specs.declared.look.Look.{Look}
 use Rattle.ob_seq.specs.Looks.{look_after}
 
@@ -29,8 +29,9 @@ pub record Pending : Type 0 where
 abbrev pub entry_of : Row → Entry
 entry_of row = record { message = unread_part row; size = counted_size row; progress = row.progress }
 
--- a buffer stands for a history of accepted commands where it holds what the rows after them say
+-- a buffer stands for a history where each command of it was accepted and the buffer holds what the rows after them say
 pub record StandsFor (buffer : Pending) (commands : List Command) : Type 0 where
+  pub accepted : are_accepted buffer.settings.estimate [] commands ≡ true
   pub line : buffer.line ≡ map entry_of (line (rows_after buffer.settings.estimate commands))
   pub unflushed : buffer.unflushed ≡ map entry_of (unflushed (rows_after buffer.settings.estimate commands))
   pub promises : buffer.promises ≡ map (λ row. row.promise) (rows_after buffer.settings.estimate commands)
@@ -44,12 +45,16 @@ Answers old command result = (commands : List Command) → StandsFor old command
 abbrev pub Follows : Pending → Command → Pending → Type 0
 Follows old command new = (commands : List Command) → StandsFor old commands → StandsFor new (commands_after old.settings commands command)
 
+-- whatever history the old buffer stands for, the command is not refused after it
+abbrev pub Accepts : Pending → Command → Type 0
+Accepts old command = (commands : List Command) → StandsFor old commands → refusal_of old.settings.estimate (rows_after old.settings.estimate commands) command ≡ None
+
 -- whatever history the buffer stands for, the look is the look after it
 abbrev pub Shows : Pending → Look → Type 0
 Shows buffer look = (commands : List Command) → StandsFor buffer commands → look ≡ look_after buffer.settings commands
 
--- whether a command is answered without any memory of the allocator
-abbrev pub takes_no_memory : Command → Bool
-takes_no_memory (Write message) = false
-takes_no_memory Flush = true
-takes_no_memory Remove = true
+-- whether a command to a buffer is answered without any memory of the allocator
+abbrev pub takes_no_memory : Pending → Command → Bool
+takes_no_memory buffer (Write message) = false
+takes_no_memory buffer Flush = true
+takes_no_memory buffer Remove = true

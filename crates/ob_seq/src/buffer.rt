@@ -1,6 +1,6 @@
-ghost use Rattle.std.specs.Prelude.{◌≡◌, ◌≤◌, [], IsTrue, IsErrOf};
+ghost use Rattle.std.specs.Prelude.{◌≡◌, ◌≤◌, [], IsTrue, IsErrOf, OnErr};
 ghost use Rattle.ob_types.specs.Change.{change_between};
-ghost use Rattle.ob_seq.specs.Pending.{StandsFor, Answers, Follows, Shows, takes_no_memory};
+ghost use Rattle.ob_seq.specs.Pending.{StandsFor, Answers, Follows, Accepts, takes_no_memory};
 ghost use Rattle.ob_seq.specs.Steps.{sum_of};
 
 mod flush;
@@ -67,9 +67,11 @@ impl Buffer {
         ensures stands { ¬ IsErrOf result Refusal.NoMemory → Follows self.old command self.new }
         ensures settings { self.new.settings ≡ self.old.settings }
 
-        // Memory is wanted by some commands alone, and where it is refused nothing has changed.
+        // Memory is wanted by some commands alone, and only when nothing else refuses them. A refusal changes nothing.
         ensures no_memory { IsErrOf result Refusal.NoMemory → self.new ≡ self.old }
-        ensures frugal { IsTrue (takes_no_memory command) → ¬ IsErrOf result Refusal.NoMemory }
+        ensures no_memory_last { IsErrOf result Refusal.NoMemory → Accepts self.old command }
+        ensures frugal { IsTrue (takes_no_memory self.old command) → ¬ IsErrOf result Refusal.NoMemory }
+        ensures refused { OnErr result (self.new ≡ self.old) }
     {
         match command {
             Command::Write(message) => self.write(message),

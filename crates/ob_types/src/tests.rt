@@ -17,6 +17,19 @@ fn refusals_tell_what_was_wrong(rt: HostRuntime) -> Result<(), Fail> {
             "too much is pending, or too many writes were accepted",
         ),
         (Refusal::Closed, "the buffer is closed"),
+        (Refusal::NothingFlushed, "no message is flushed"),
+        (
+            Refusal::TooFar,
+            "the progress of the message would pass 9223372036854775807",
+        ),
+        (
+            Refusal::TooManyBytes,
+            "the flushed blocks in front hold fewer bytes",
+        ),
+        (Refusal::BadIndex, "the index of a user bit is 1 to 31"),
+        (Refusal::FlushedLeft, "flushed messages are left"),
+        (Refusal::UnknownPromise, "no write has this promise"),
+        (Refusal::HistoryFull, "the history is full"),
         (Refusal::NoMemory, "out of memory"),
     ];
     for (refusal, text) in cases {

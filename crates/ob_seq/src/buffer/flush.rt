@@ -1,4 +1,4 @@
-ghost use Rattle.std.specs.Prelude.{◌≡◌, ◌-◌, ◌≤◌, ◌++◌, length, take, replicate, IsErrOf};
+ghost use Rattle.std.specs.Prelude.{◌≡◌, ◌-◌, ◌≤◌, ◌++◌, length, take, replicate, IsErrOf, OnErr};
 ghost use Rattle.ob_types.specs.declared.promise.PromiseState.TheVariants.{Fixed};
 ghost use Rattle.ob_types.specs.declared.command.Command.TheVariants.{Flush};
 ghost use Rattle.ob_seq.specs.Pending.{Answers, Follows};
@@ -13,6 +13,7 @@ impl Buffer {
         ensures answer { Answers self.old Flush result }
         ensures stands { Follows self.old Flush self.new }
         ensures settings { self.new.settings ≡ self.old.settings }
+        ensures refused { OnErr result (self.new ≡ self.old) }
         ensures frugal { ¬ IsErrOf result Refusal.NoMemory }
     {
         let reached = self.entries.len() - self.flushed;

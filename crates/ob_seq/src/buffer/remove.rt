@@ -1,4 +1,4 @@
-ghost use Rattle.std.specs.Prelude.{◌≡◌, ◌<◌, length, IsErrOf};
+ghost use Rattle.std.specs.Prelude.{◌≡◌, ◌<◌, length, IsErrOf, OnErr};
 ghost use Rattle.ob_types.specs.declared.command.Command.TheVariants.{Remove};
 ghost use Rattle.ob_seq.specs.Pending.{Answers, Follows};
 ghost use Rattle.ob_seq.specs.Steps.{front_id, front_taken};
@@ -13,6 +13,7 @@ impl Buffer {
         ensures answer { Answers self.old Remove result }
         ensures stands { Follows self.old Remove self.new }
         ensures settings { self.new.settings ≡ self.old.settings }
+        ensures refused { OnErr result (self.new ≡ self.old) }
         ensures frugal { ¬ IsErrOf result Refusal.NoMemory }
     {
         let before = self.word;

@@ -1,6 +1,6 @@
 ghost use Rattle.std.specs.Prelude.{◌≡◌, ◌+◌, ◌<◌, ◌≤◌, ◌&&◌, length, nat_le, nat_lt, IsErrOf, OnOk, OnErr};
 ghost use Rattle.ob_types.specs.declared.command.Command.TheVariants.{Write};
-ghost use Rattle.ob_seq.specs.Pending.{Answers, Follows};
+ghost use Rattle.ob_seq.specs.Pending.{Answers, Follows, Accepts};
 ghost use Rattle.ob_seq.specs.Steps.{pending_total, written};
 
 use crate::buffer::{Buffer, total_of, word};
@@ -25,6 +25,8 @@ impl Buffer {
         ensures stands { ¬ IsErrOf result Refusal.NoMemory → Follows self.old (Write message) self.new }
         ensures settings { self.new.settings ≡ self.old.settings }
         ensures no_memory { IsErrOf result Refusal.NoMemory → self.new ≡ self.old }
+        ensures no_memory_last { IsErrOf result Refusal.NoMemory → Accepts self.old (Write message) }
+        ensures refused { OnErr result (self.new ≡ self.old) }
     {
         let size = pending_size(&message, self.estimate)?;
         if !self.has_room_for(size) {

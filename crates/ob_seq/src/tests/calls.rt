@@ -1,4 +1,4 @@
-//! The calls of a buffer with memory at hand, and with memory refused.
+//! The calls of a buffer with memory at hand.
 
 use crate::{Buffer, Look};
 use bytes::Bytes;

@@ -59,6 +59,13 @@ returns-clause-stands c other commands stands =
     ap (λ (held : Pending). pending_size_of held.settings.estimate c.args.message) (sym c.self.view_is) ∙ sym c.pending_size.ensures ∙ c.in_ok-size.was in
     let added : c.add.new.self ≡ written buffer c.args.message (counted_bytes buffer.settings.estimate c.args.message) =
     c.in_ok-add.ensures.ok ∙ ap (written buffer c.args.message) (sized buffer.settings.estimate c.args.message c.in_ok-size.size size).1 in
-    stands_accepted buffer.settings c.add.new.self commands (Write c.args.message)
-    (refusal_by_room buffer commands c.args.message c.in_ok-size.size stands size true (sym c.has_room_for.ensures ∙ c.if-not-has_room_for.false))
-    (subst (λ (held : Pending). StandsFor held (commands ++ Write c.args.message ∷ [])) (sym added) (written_stands buffer commands c.args.message stands))
+    let accepted = refusal_by_room buffer commands c.args.message c.in_ok-size.size stands size true (sym c.has_room_for.ensures ∙ c.if-not-has_room_for.false) in
+    stands_accepted buffer.settings c.add.new.self commands (Write c.args.message) accepted
+    (subst (λ (held : Pending). StandsFor held (commands ++ Write c.args.message ∷ [])) (sym added) (written_stands buffer commands c.args.message stands accepted))
+
+pub returns-in_err-add-clause-no_memory_last : goal.returns-in_err-add-clause-no_memory_last
+returns-in_err-add-clause-no_memory_last c wants commands stands =
+    let buffer = c.args.self.now in
+    let size : pending_size_of buffer.settings.estimate c.args.message ≡ Ok c.in_ok-size.size =
+    ap (λ (held : Pending). pending_size_of held.settings.estimate c.args.message) (sym c.self.view_is) ∙ sym c.pending_size.ensures ∙ c.in_ok-size.was in
+    refusal_by_room buffer commands c.args.message c.in_ok-size.size stands size true (sym c.has_room_for.ensures ∙ c.if-not-has_room_for.false)
