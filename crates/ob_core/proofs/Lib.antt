@@ -1,0 +1,5 @@
+pub mod LawLemmas
+pub mod Masks
+pub mod RunLemmas
+pub mod SoundLemmas
+pub mod TurnLemmas

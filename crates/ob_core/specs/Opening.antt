@@ -1,0 +1,53 @@
+-- How a world begins.
+use Rattle.std.specs.Prelude.{ℕ, Bool, false, not, ◌||◌, ◌==◌, nat_lt, List, [], ◌∷◌, length, map, sum_by, Option, None, bit_and}
+use Rattle.std.specs.List.{list_any}
+use Rattle.ob_types.specs.WaterMark.{Marks}
+use Rattle.ob_core.specs.CoreState.{CoreState, WorldState}
+use Rattle.ob_core.specs.FirstFault.{first_fault}
+use Rattle.ob_core.specs.declared.lane.Lane.{Lane}
+use Rattle.ob_core.specs.declared.lane.Phase.TheVariants.{Idle}
+use Rattle.ob_core.specs.declared.lane_start.LaneStart.{LaneStart}
+use Rattle.ob_core.specs.declared.world_fault.WorldFault.{WorldFault}
+use Rattle.ob_core.specs.declared.world_fault.WorldFault.TheVariants.{BadCount, TooMuchRoom, BitsTwice}
+
+-- a world has 1 to 64 lanes
+abbrev pub is_bad_count : List LaneStart → Bool
+is_bad_count starts = (length starts == 0) || nat_lt 64 (length starts)
+
+-- the rooms of the lanes together
+abbrev pub room_of : List LaneStart → ℕ
+room_of starts = sum_by (λ start. start.room) starts
+
+-- two masks have a bit in common
+abbrev pub share_a_bit : ℕ → ℕ → Bool
+share_a_bit mask other = not (bit_and mask other == 0)
+
+-- some two of the masks have a bit in common
+abbrev pub any_overlap : List ℕ → Bool
+any_overlap [] = false
+any_overlap (mask ∷ masks) = list_any (share_a_bit mask) masks || any_overlap masks
+
+-- the masks of those who hold bits: the mark, which holds bit 0, and the lanes
+abbrev pub holders_of : List ℕ → List ℕ
+holders_of masks = 1 ∷ masks
+
+-- the first fault of these lanes, or none
+abbrev pub opening_fault : List LaneStart → Option WorldFault
+opening_fault starts =
+    first_fault (
+    (is_bad_count starts, BadCount)
+    ∷ (nat_lt 4294967295 (room_of starts), TooMuchRoom)
+    ∷ (any_overlap (holders_of (map (λ start. start.bits) starts)), BitsTwice)
+    ∷ [])
+
+-- a lane that begins owes nothing, has set no bit and is between two calls
+abbrev pub new_lane : LaneStart → Lane
+new_lane start = record { room = start.room; debt = None; held = start.bits; raised = 0; phase = Idle }
+
+-- both words of a core state that begins are 0
+abbrev pub new_core : Marks → List LaneStart → CoreState
+new_core marks starts = record { total = 0; word = 0; marks = marks; lanes = map new_lane starts }
+
+-- a world that begins has changed nothing
+abbrev pub new_world : Marks → List LaneStart → WorldState
+new_world marks starts = record { core = new_core marks starts; last_change = None }

@@ -1,0 +1,44 @@
+ghost use Rattle.std.specs.Prelude.{◌≡◌};
+
+use thiserror::Error;
+
+/// Why an ask was refused. A refused ask leaves the two words and the lanes as they were.
+#[derive(Clone, Copy, Debug, PartialEq, Eq, Error)]
+pub enum AskFault {
+    /// There is no lane with this number.
+    #[error("there is no such lane")]
+    UnknownLane,
+    /// A charge is above the room of its lane. It is asked after `Owing`.
+    #[error("the charge is above the room of the lane")]
+    NoRoom,
+    /// A lane that owes a charge was asked for another.
+    #[error("the lane owes a charge already")]
+    Owing,
+    /// A lane that owes nothing was asked to discharge.
+    #[error("the lane owes nothing")]
+    NotOwing,
+    /// The lane does not hold the bit, or the index is none of 1 to 31.
+    #[error("the lane does not hold the bit")]
+    NotHeld,
+    /// A lane that is between two calls was asked to go on.
+    #[error("the lane is in the middle of no call")]
+    NotInside,
+}
+
+impl AskFault {
+    ghost use Rattle.ob_core.specs.AskFault.{number_of};
+
+    /// The number of the fault, 1 to 6, as traces print it.
+    pub fn number(self) -> u8
+        ensures { result ≡ number_of self }
+    {
+        match self {
+            AskFault::UnknownLane => 1,
+            AskFault::NoRoom => 2,
+            AskFault::Owing => 3,
+            AskFault::NotOwing => 4,
+            AskFault::NotHeld => 5,
+            AskFault::NotInside => 6,
+        }
+    }
+}

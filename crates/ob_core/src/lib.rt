@@ -1,0 +1,30 @@
+//! The two words of an outbound buffer as a pure machine: lanes charge, discharge and set bits, one atomic step at
+//! a time, in whatever order a schedule gives them their turns.
+#![tactic(auto)]
+
+mod ask;
+mod ask_fault;
+mod bits;
+mod change;
+mod event;
+mod lane;
+mod lane_start;
+mod lane_step;
+mod laws;
+mod opening;
+mod player;
+#[cfg(test)]
+mod tests;
+mod world;
+mod world_fault;
+
+pub use ask::{Ask, Turn};
+pub use ask_fault::AskFault;
+pub use event::Event;
+pub use lane_start::LaneStart;
+pub use laws::{
+    bit_zero_is_clear_at_rest, changes_alternate, each_turn_is_one_step, total_is_the_sum_owed,
+};
+pub use player::play;
+pub use world::World;
+pub use world_fault::WorldFault;

@@ -1,0 +1,30 @@
+ghost use Rattle.std.specs.Prelude.{◌≡◌, IfOk, OnOk, OnErr, IsOkUnless};
+ghost use Rattle.ob_core.specs.Run.{answers_of, world_after_all};
+
+use crate::ask::Turn;
+use crate::event::Event;
+use crate::world::World;
+use ob_types::{Change, Refusal};
+use std::alloc::Global;
+
+/// Plays a schedule, one turn after the other, and answers each turn's event and change.
+///
+/// The room for all answers is made before the first turn: `NoMemory` is the only refusal, and comes only then, with
+/// the world as it was.
+pub fn play(
+    alloc: Global,
+    world: &mut World,
+    turns: &[Turn],
+) -> Result<Vec<(Event, Option<Change>)>, Refusal>
+    ensures answers { IfOk result (λ answers. answers.items ≡ answers_of world.old.core turns.now) }
+    ensures world { OnOk result (world.new ≡ world_after_all world.old turns.now) }
+    ensures no_memory { IsOkUnless result Refusal.NoMemory }
+    ensures err { OnErr result (world.new ≡ world.old) }
+{
+    let mut answers = Vec::with_capacity(alloc, turns.len())?;
+    for turn in turns {
+        let event = world.turn(*turn);
+        answers.push_reserved((event, world.last_change()));
+    }
+    Ok(answers)
+}

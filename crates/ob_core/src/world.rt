@@ -1,0 +1,127 @@
+ghost use Rattle.std.specs.Prelude.{◌≡◌, IfOk, IfSome, IsOkUnless, slice_get};
+ghost use Rattle.ob_types.specs.Change.{change_between};
+ghost use Rattle.ob_core.specs.AskFault.{refusal_of};
+ghost use Rattle.ob_core.specs.CoreStep.{core_after_step};
+ghost use Rattle.ob_core.specs.LaneStep.{CanMake};
+ghost use Rattle.ob_core.specs.Opening.{opening_fault, new_world};
+ghost use Rattle.ob_core.specs.Turn.{step_of, event_of_step, core_after_ask, event_of, core_after, change_of};
+
+mod looks;
+
+use crate::ask::{Ask, Turn};
+use crate::ask_fault::AskFault;
+use crate::change::find_change;
+use crate::event::Event;
+use crate::lane::{Lane, find_lane, make_lanes};
+use crate::lane_start::LaneStart;
+use crate::lane_step::LaneStep;
+use crate::opening::find_fault;
+use crate::world_fault::WorldFault;
+use ob_types::{Change, WaterMark};
+use std::alloc::Global;
+use std::marker::Model;
+
+/// The two words of an outbound buffer, a total and a word, and the lanes that change them.
+///
+/// A schedule gives the lanes their turns. In a turn a lane makes one atomic step on one of the words, so what holds
+/// of a `World` under every schedule holds of every interleaving. It is our own machine for what Netty does with
+/// `totalPendingSize` and `unwritable`.
+#[derive(Debug, Drop)]
+pub struct World {
+    marks: WaterMark,
+    total: u32,
+    word: u32,
+    lanes: Vec<Lane>,
+    last_change: Option<Change>,
+}
+
+impl Model for World {
+    ghost use Rattle.ob_core.specs.CoreState.{WorldState};
+    ghost use Rattle.ob_core.specs.Sound.{IsSound};
+
+    ghost Value = { WorldState };
+
+    ghost view = { λ world. record {
+      core = record { total = world.total; word = world.word; marks = world.marks; lanes = world.lanes.items };
+      last_change = world.last_change;
+    } };
+
+    ghost invariant = { λ world.
+        IsSound (record { total = world.total; word = world.word; marks = world.marks; lanes = world.lanes.items }) };
+}
+
+impl World {
+    /// A world whose lanes are numbered from 0 in the order given. Both words are 0, no lane owes anything, and no
+    /// lane is in the middle of a call. The faults are asked in the order of `WorldFault`; `NoMemory` comes only
+    /// where there is no other.
+    pub fn new(alloc: Global, marks: WaterMark, starts: &[LaneStart]) -> Result<World, WorldFault>
+        ensures fault { IfSome (opening_fault starts.now) (λ fault. result ≡ Err fault) }
+        ensures no_memory { opening_fault starts.now ≡ None → IsOkUnless result WorldFault.NoMemory }
+        ensures ok { IfOk result (λ world. world ≡ new_world marks starts.now) }
+    {
+        if let Some(fault) = find_fault(starts) {
+            return Err(fault);
+        }
+        let lanes = make_lanes(alloc, starts)?;
+        Ok(World {
+            marks,
+            total: 0,
+            word: 0,
+            lanes,
+            last_change: None,
+        })
+    }
+
+    /// Gives a lane its turn, and tells what it did. It takes no memory.
+    ///
+    /// A lane between two calls begins the call that is asked, or refuses it. A lane in the middle of a call goes on
+    /// with it and ignores the ask. A refused ask changes nothing but that there is no last change then. A charge of
+    /// 0 and its discharge touch neither word, and the lane counts as owing in between.
+    pub fn turn(&mut self, turn: Turn) -> Event
+        ensures event { result ≡ event_of self.old.core turn }
+        ensures core { self.new.core ≡ core_after self.old.core turn }
+        ensures change { self.new.last_change ≡ change_of self.old.core turn }
+    {
+        self.last_change = None;
+        let Some(lane) = find_lane(&self.lanes, turn.lane) else {
+            return Event::Refused(AskFault::UnknownLane);
+        };
+        if let Some(fault) = lane.refusal(turn.ask) {
+            return Event::Refused(fault);
+        }
+        match lane.step(turn.ask) {
+            Some(step) => self.make_step(turn.lane as usize, lane, step),
+            None => self.make_none(turn.lane as usize, lane, turn.ask),
+        }
+    }
+
+    /// Makes a step of the lane with this index.
+    fn make_step(&mut self, index: usize, lane: Lane, step: LaneStep) -> Event
+        requires lane { slice_get self.old.core.lanes index ≡ Some lane }
+        requires allowed { CanMake lane step }
+        ensures event { result ≡ event_of_step step }
+        ensures core { self.new.core ≡ core_after_step self.old.core index lane step }
+        ensures change { self.new.last_change ≡ change_between self.old.core.word self.new.core.word }
+    {
+        let before = self.word;
+        self.total = step.total_after(self.total);
+        self.word = step.word_after(before);
+        self.lanes[index] = step.lane_after(self.marks, self.total, lane);
+        self.last_change = find_change(before, self.word);
+        step.event()
+    }
+
+    /// Answers an ask that is no step: a charge of 0, or its discharge.
+    fn make_none(&mut self, index: usize, lane: Lane, ask: Ask) -> Event
+        requires lane { slice_get self.old.core.lanes index ≡ Some lane }
+        requires accepted { refusal_of lane ask ≡ None }
+        requires no_step { step_of lane ask ≡ None }
+        ensures event { result ≡ Event.Nothing }
+        ensures core { self.new.core ≡ core_after_ask self.old.core index lane ask None }
+        ensures change { self.new.last_change ≡ None }
+    {
+        self.lanes[index] = lane.after_nothing(ask);
+        self.last_change = None;
+        Event::Nothing
+    }
+}
