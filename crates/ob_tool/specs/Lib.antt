@@ -1,0 +1,13 @@
+pub mod Ending
+pub mod Entry
+pub mod Fault
+pub mod Line
+pub mod Lines
+pub mod Numbers
+pub mod Options
+pub mod Outcome
+pub mod Script
+pub mod Session
+pub mod Table
+pub mod Text
+pub mod Trace

@@ -1,0 +1,41 @@
+-- The numbers of a script line.
+use Rattle.std.specs.Prelude.{◌≡◌, ◌==◌, ◌&&◌, ℕ, Bool, not, List, [], ◌∷◌, length, nat_le, slice_index, if◌then◌else◌, Result, Ok, Err}
+use Rattle.std.specs.List.{list_all}
+use Rattle.std.specs.Char.{is_ascii_digit}
+use Rattle.std.specs.Str.Parse.{digits_value}
+use Rattle.ob_tool.specs.declared.range.Range.{Range}
+use Rattle.ob_tool.specs.declared.line_fault.LineFault.{LineFault}
+use Rattle.ob_tool.specs.declared.line_fault.LineFault.TheVariants.{NotANumber, OutOfRange}
+
+-- a number is one or more decimal digits, and zeros may lead
+abbrev pub is_number : List ℕ → Bool
+is_number word = not (length word == 0) && list_all is_ascii_digit word
+
+-- whether a range holds a number
+abbrev pub holds : Range → ℕ → Bool
+holds range number = nat_le range.least number && nat_le number range.greatest
+
+-- the number that a word in a number's place is, or the fault of the word
+abbrev pub number_in : Range → List ℕ → Result ℕ LineFault
+number_in range word =
+    if not (is_number word) then Err NotANumber
+    else (if holds range (digits_value 10 word) then Ok (digits_value 10 word) else Err OutOfRange)
+
+-- a number before those of the words that follow: the fault of the first comes first
+abbrev pub before_numbers : Result ℕ LineFault → Result (List ℕ) LineFault → Result (List ℕ) LineFault
+before_numbers (Err fault) rest = Err fault
+before_numbers (Ok number) (Err fault) = Err fault
+before_numbers (Ok number) (Ok numbers) = Ok (number ∷ numbers)
+
+-- the numbers of words, each in its range, or the fault of the first faulty word
+abbrev pub numbers_in : List Range → List (List ℕ) → Result (List ℕ) LineFault
+numbers_in [] words = Ok []
+numbers_in (range ∷ ranges) [] = Ok []
+numbers_in (range ∷ ranges) (word ∷ words) = before_numbers (number_in range word) (numbers_in ranges words)
+
+-- an array holds the numbers that were read, with zeros behind them, or the fault is the one that was found
+abbrev pub HoldsNumbers : Result (List ℕ) LineFault → Result (List ℕ) LineFault → Type 0
+HoldsNumbers (Ok array) (Ok numbers) = (k : ℕ) → slice_index array k ≡ slice_index numbers k
+HoldsNumbers (Ok array) (Err fault) = ⊥
+HoldsNumbers (Err found) (Ok numbers) = ⊥
+HoldsNumbers (Err found) (Err fault) = found ≡ fault

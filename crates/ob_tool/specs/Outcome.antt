@@ -1,0 +1,47 @@
+-- How a run ends.
+use Rattle.std.specs.Prelude.{ℕ, List, take, Option, None, Some, Result, Ok, Err}
+use Rattle.ob_seq.specs.Settings.{Settings}
+use Rattle.ob_tool.specs.Script.{script_lines}
+use Rattle.ob_tool.specs.Trace.{trace_from}
+use Rattle.std.specs.Prelude.{[]}
+use Rattle.ob_tool.specs.declared.line_fault.LineFault.{LineFault}
+use Rattle.ob_tool.specs.declared.run_fault.RunFault.{RunFault}
+use Rattle.ob_tool.specs.declared.run_fault.RunFault.TheVariants.{Line, Read, TooLong, Write, NoMemory}
+
+-- the fault of a line that a run tells, with the line's number
+abbrev pub fault_told : {T : Type 0} → Result T RunFault → Option (ℕ × LineFault)
+fault_told (Ok done) = None
+fault_told (Err (Line number fault)) = Some (number, fault)
+fault_told (Err Read) = None
+fault_told (Err TooLong) = None
+fault_told (Err Write) = None
+fault_told (Err NoMemory) = None
+
+-- a run went through the script to its end, or to its first faulty line
+abbrev pub WentThrough : {T : Type 0} → Result T RunFault → Type 0
+WentThrough (Ok done) = Unit {0}
+WentThrough (Err (Line number fault)) = Unit {0}
+WentThrough (Err Read) = ⊥
+WentThrough (Err TooLong) = ⊥
+WentThrough (Err Write) = ⊥
+WentThrough (Err NoMemory) = ⊥
+
+-- the trace of the first lines of a script, so many of those that are carried out
+abbrev pub trace_of_first : ℕ → Settings → List ℕ → List ℕ
+trace_of_first count settings script = trace_from settings [] (take count (script_lines script))
+
+-- a fault of reading a script
+abbrev pub IsReadingFault : RunFault → Type 0
+IsReadingFault (Line number fault) = ⊥
+IsReadingFault Read = Unit {0}
+IsReadingFault TooLong = Unit {0}
+IsReadingFault Write = ⊥
+IsReadingFault NoMemory = Unit {0}
+
+-- the status with which the program ends after a fault of a run
+abbrev pub status_of : RunFault → ℕ
+status_of (Line number fault) = 2
+status_of Read = 3
+status_of TooLong = 3
+status_of Write = 3
+status_of NoMemory = 4

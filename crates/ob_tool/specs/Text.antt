@@ -1,0 +1,59 @@
+-- The text of a trace line.
+use Rattle.std.specs.Prelude.{ℕ, ◌^◌, ◌-◌, true, false, List, [], ◌∷◌, ◌++◌, codes, Option, None, Some, Result, Ok, Err}
+use Rattle.std.specs.List.{flat_map}
+use Rattle.std.specs.Fmt.{decimal, digits, padded_integral, format_spec}
+use Rattle.ob_types.specs.Refusal.{number_of}
+use Rattle.ob_types.specs.declared.promise.PromiseId.{PromiseId}
+use Rattle.ob_types.specs.declared.promise.Outcome.{Outcome}
+use Rattle.ob_types.specs.declared.promise.Outcome.TheVariants.{Success, Failed, Cancelled}
+use Rattle.ob_types.specs.declared.reply.Reply.{Reply}
+use Rattle.ob_types.specs.declared.reply.Answer.{Answer}
+use Rattle.ob_types.specs.declared.reply.Answer.TheVariants.{Id, Count, Yes, Done}
+use Rattle.ob_types.specs.declared.reply.Change.{Change}
+use Rattle.ob_types.specs.declared.reply.Change.TheVariants.{Unwritable, Writable}
+use Rattle.ob_types.specs.declared.refusal.Refusal.{Refusal}
+use Rattle.ob_seq.specs.declared.look.Look.{Look}
+
+-- a number in eight hexadecimal digits
+abbrev pub eight_hex : ℕ → List ℕ
+eight_hex number = padded_integral (format_spec 32 0 4 8 (2 ^ 64 - 1)) false [] (digits 16 false number)
+
+-- the pending bytes and the word of a look
+abbrev pub levels_text : Look → List ℕ
+levels_text look = codes " t=" ++ decimal look.total ++ codes " w=" ++ eight_hex look.word
+
+-- an answer
+abbrev pub answer_text : Answer → List ℕ
+answer_text (Id id) = codes "id " ++ decimal id.0
+answer_text (Count count) = codes "n " ++ decimal count
+answer_text (Yes true) = codes "yes"
+answer_text (Yes false) = codes "no"
+answer_text Done = codes "ok"
+
+-- a change of writability, or nothing where there is none
+abbrev pub change_text : Option Change → List ℕ
+change_text None = []
+change_text (Some Unwritable) = codes " -"
+change_text (Some Writable) = codes " +"
+
+-- an outcome of a promise
+abbrev pub outcome_text : Outcome → List ℕ
+outcome_text Success = codes "ok"
+outcome_text (Failed cause) = codes "f" ++ decimal cause.0
+outcome_text Cancelled = codes "x"
+
+-- a settlement: the promise and its outcome
+abbrev pub settlement_text : (PromiseId × Outcome) → List ℕ
+settlement_text settlement = codes " " ++ decimal settlement.0.0 ++ codes ":" ++ outcome_text settlement.1
+
+-- the line of a command: its answer or the number of its refusal, the look after it, and then the change and the settlements
+abbrev pub command_text : Result Reply Refusal → Look → List ℕ
+command_text (Ok reply) look =
+    answer_text reply.answer ++ levels_text look ++ change_text reply.change ++ flat_map settlement_text reply.settled ++ 10 ∷ []
+command_text (Err refusal) look = codes "!" ++ decimal (number_of refusal) ++ levels_text look ++ 10 ∷ []
+
+-- the line of a look
+abbrev pub look_text : Look → List ℕ
+look_text look =
+    codes "size=" ++ decimal look.size ++ codes " cur=" ++ decimal look.current_progress ++
+    codes " bu=" ++ decimal look.before_unwritable ++ codes " bw=" ++ decimal look.before_writable ++ levels_text look ++ 10 ∷ []

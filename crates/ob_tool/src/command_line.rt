@@ -1,0 +1,120 @@
+ghost use Rattle.std.specs.Prelude.{◌≡◌, ◌≢◌, ◌≤◌, ◌↔◌, IsOk, IfOk, IfErr};
+ghost use Rattle.ob_tool.specs.Options.{settings_of};
+ghost use Rattle.ob_tool.specs.Entry.{exit_status_of};
+
+use crate::entry_fault::EntryFault;
+use crate::options::Options;
+use clap::{Arg, ArgAction, ArgMatches, Command, value_parser};
+use ob_types::{Estimate, WaterMark};
+use std::alloc::{AllocError, Global};
+use std::convert::AsStr;
+
+/// The greatest mark, in bytes.
+const MAX_MARK: i64 = 2147483647;
+
+/// The low mark where none is given, in bytes.
+const LOW: u32 = 32768;
+
+/// The high mark where none is given, in bytes.
+const HIGH: u32 = 65536;
+
+/// The bytes added for each message where no number is given.
+const OVERHEAD: u16 = 96;
+
+/// The bytes of a message of unknown size where no number is given.
+const UNKNOWN: u16 = 8;
+
+/// The options of a run, by the program's words: its name, `run`, and the options.
+///
+/// `CommandLine` comes where `clap` refuses the words, or is asked for help, `BadMarks` where the low mark is above the
+/// high one, and `NoMemory` where the allocator refuses.
+pub fn options_of<'a, S: AsStr>(alloc: Global, words: &'a [S]) -> Result<Options, EntryFault>
+    ensures { IfErr result (λ fault. exit_status_of fault ≢ 2) }
+{
+    let matches = command(alloc)?.try_get_matches_from(words)?;
+    let Some(given) = matches.subcommand_matches("run") else {
+        return options(LOW, HIGH, OVERHEAD, UNKNOWN);
+    };
+    options(
+        given.get_one("low").unwrap_or(LOW),
+        given.get_one("high").unwrap_or(HIGH),
+        given.get_one("overhead").unwrap_or(OVERHEAD),
+        given.get_one("unknown").unwrap_or(UNKNOWN),
+    )
+}
+
+/// The options of these numbers, in bytes.
+fn options(low: u32, high: u32, overhead: u16, unknown: u16) -> Result<Options, EntryFault>
+    ensures ok { IfOk result (λ options. settings_of options ≡ record {
+      marks = record { low = low; high = high };
+      estimate = record { overhead = overhead; unknown = unknown };
+    }) }
+    ensures err { IfErr result (λ fault. exit_status_of fault ≡ 1) }
+    ensures accepted { IsOk result ↔ (low ≤ high × high ≤ 2147483647) }
+{
+    let Ok(marks) = WaterMark::new(low, high) else {
+        return Err(EntryFault::BadMarks);
+    };
+    let estimate = Estimate {
+        overhead: u32::from(overhead),
+        unknown: u32::from(unknown),
+    };
+    Ok(Options { marks, estimate })
+}
+
+/// What the program takes.
+fn command<'a>(alloc: Global) -> Result<Command<'a>, AllocError> {
+    Command::new(alloc, "ob_tool")
+        .about(
+            "Carries out scripts of commands on the outbound buffer of a channel, and shows what each command does",
+        )
+        .subcommand_required(true)
+        .subcommand(run_command(alloc)?)
+}
+
+/// The subcommand `run`.
+fn run_command<'a>(alloc: Global) -> Result<Command<'a>, AllocError> {
+    Command::new(alloc, "run")
+        .about(
+            "Reads a script from standard input, and writes one line for each of its lines to standard output",
+        )
+        .arg(mark(
+            alloc,
+            "low",
+            "Writers may go on once fewer bytes than this are pending (32768 where it is not given)",
+        ))?
+        .arg(mark(
+            alloc,
+            "high",
+            "Writers should stop once more bytes than this are pending (65536 where it is not given)",
+        ))?
+        .arg(size(
+            alloc,
+            "overhead",
+            "Bytes that each message counts beside its own (96 where it is not given)",
+        ))?
+        .arg(size(
+            alloc,
+            "unknown",
+            "Bytes that a message of unknown size counts (8 where it is not given)",
+        ))
+}
+
+/// An option that is a mark.
+fn mark<'a>(alloc: Global, name: &'a str, help: &'a str) -> Arg<'a> {
+    option(alloc, name, help).value_parser(value_parser!(u32).range(0..=MAX_MARK))
+}
+
+/// An option that is a number of bytes up to 65535.
+fn size<'a>(alloc: Global, name: &'a str, help: &'a str) -> Arg<'a> {
+    option(alloc, name, help).value_parser(value_parser!(u16))
+}
+
+/// An option with a number of bytes.
+fn option<'a>(alloc: Global, name: &'a str, help: &'a str) -> Arg<'a> {
+    Arg::new(alloc, name)
+        .long(name)
+        .value_name("BYTES")
+        .action(ArgAction::Set)
+        .help(help)
+}

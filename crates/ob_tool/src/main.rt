@@ -1,0 +1,38 @@
+//! Runs scripts of buffer commands, and writes a line of trace for each.
+#![tactic(auto)]
+
+mod block;
+mod command_line;
+mod entry;
+mod entry_fault;
+mod line;
+mod line_fault;
+mod line_word;
+mod line_words;
+mod options;
+mod range;
+mod run;
+mod run_fault;
+mod script;
+mod script_line;
+mod session;
+#[cfg(test)]
+mod tests;
+mod text;
+mod trace;
+
+use entry::entry;
+use std::process::ExitCode;
+use std::{env, io};
+
+fn main(rt: HostRuntime) -> io::Result<ExitCode> {
+    let words: Vec<String> = env::args(&rt)?.collect(rt.alloc())?;
+    let status = entry(
+        &rt,
+        words.as_slice(),
+        &mut rt.reader(),
+        &mut rt.stdout(),
+        &mut rt.stderr(),
+    );
+    Ok(ExitCode::from(status))
+}

@@ -1,0 +1,55 @@
+use crate::line_fault::LineFault;
+use std::alloc::AllocError;
+use thiserror::Error;
+
+/// Why a run ended before the end of its script.
+#[derive(Clone, Copy, Debug, PartialEq, Eq, Error)]
+pub enum RunFault {
+    /// A line is faulty. The lines before it were carried out, and their trace was written.
+    #[error("line {line}: fault {}", .fault.number())]
+    Line {
+        /// The number of the line, from 1 on.
+        line: u32,
+        /// What is wrong with it.
+        fault: LineFault,
+    },
+    /// The reader failed, or 33554432 reads did not bring the script to its end. Nothing was written.
+    #[error("read fault")]
+    Read,
+    /// The script has more than 16777216 bytes. Nothing was written.
+    #[error("script too long")]
+    TooLong,
+    /// The writer failed. It is not known how much of the trace it took.
+    #[error("write fault")]
+    Write,
+    /// The allocator refused memory. The trace of the lines before was written.
+    #[error("no memory")]
+    NoMemory,
+}
+
+impl RunFault {
+    ghost use Rattle.std.specs.Prelude.{◌≡◌};
+    ghost use Rattle.ob_tool.specs.Outcome.{status_of};
+
+    /// The status with which the program ends.
+    pub fn status(self) -> u8
+        ensures { result ≡ status_of self }
+    {
+        match self {
+            RunFault::Line { .. } => 2,
+            RunFault::Read | RunFault::TooLong | RunFault::Write => 3,
+            RunFault::NoMemory => 4,
+        }
+    }
+}
+
+impl From<AllocError> for RunFault {
+    ghost use Rattle.std.specs.Prelude.{◌≡◌};
+    ghost use Rattle.ob_tool.specs.declared.run_fault.RunFault.TheVariants.{NoMemory};
+
+    ghost from_gives = { λ _ fault. fault ≡ NoMemory };
+
+    fn from(_error: AllocError) -> RunFault {
+        RunFault::NoMemory
+    }
+}

@@ -1,0 +1,4 @@
+mod doubles;
+mod faults;
+mod rows;
+mod statuses;

@@ -1,0 +1,114 @@
+//! Worked rows: a script, its options, and the trace that was worked out by hand.
+
+use crate::entry::entry;
+use std::process::Abort;
+use std::test::Fail;
+
+/// What the program is given, and what it must leave.
+#[derive(Drop)]
+struct Row<'a> {
+    words: &'a [&'a str],
+    script: &'a str,
+    trace: &'a str,
+    told: &'a str,
+    status: u8,
+}
+
+/// The options of most rows.
+static LOW_200_HIGH_400: [&str; 6] = ["ob_tool", "run", "--low", "200", "--high", "400"];
+
+static LOW_0_HIGH_400: [&str; 6] = ["ob_tool", "run", "--low", "0", "--high", "400"];
+
+static NO_OPTIONS: [&str; 2] = ["ob_tool", "run"];
+
+/// Runs the program on a row, and compares all that it leaves.
+fn holds<H: Abort + AllocGlobal>(rt: &H, row: Row<'_>) {
+    let mut reader = row.script.as_bytes();
+    let mut written: Vec<u8> = Vec::new(rt.alloc());
+    let mut told: Vec<u8> = Vec::new(rt.alloc());
+    let status = entry(rt, row.words, &mut reader, &mut written, &mut told);
+    assert_eq!(rt; written.as_slice(), row.trace.as_bytes());
+    assert_eq!(rt; told.as_slice(), row.told.as_bytes());
+    assert_eq!(rt; status, row.status);
+}
+
+/// Runs the program on a script without a fault.
+fn traces<H: Abort + AllocGlobal>(rt: &H, words: &[&str], script: &str, trace: &str) {
+    holds(
+        rt,
+        Row {
+            words,
+            script,
+            trace,
+            told: "",
+            status: 0,
+        },
+    );
+}
+
+#[test]
+fn empty_script(rt: HostRuntime) {
+    traces(&rt, &LOW_200_HIGH_400, "", "");
+}
+
+#[test]
+fn equality_with_high_sets_nothing(rt: HostRuntime) {
+    let trace = "id 0 t=400 w=00000000\nid 1 t=496 w=00000001 -\n";
+    traces(&rt, &LOW_200_HIGH_400, "b 304\nb 0\n", trace);
+}
+
+#[test]
+fn the_first_run(rt: HostRuntime) {
+    let trace = "id 0 t=400 w=00000000\nid 1 t=496 w=00000001 -\n\
+        n 2 t=496 w=00000001\nyes t=96 w=00000000 + 0:ok\n";
+    traces(&rt, &LOW_200_HIGH_400, "b 304\nb 0\nf\nrm\n", trace);
+    // The last line may lack its ending byte.
+    traces(&rt, &LOW_200_HIGH_400, "b 304\nb 0\nf\nrm", trace);
+}
+
+#[test]
+fn equality_with_low_clears_nothing(rt: HostRuntime) {
+    let trace = "id 0 t=300 w=00000000\nid 1 t=500 w=00000001 -\nn 2 t=500 w=00000001\n\
+        yes t=200 w=00000001 0:ok\nyes t=0 w=00000000 + 1:ok\n";
+    traces(&rt, &LOW_200_HIGH_400, "b 204\nb 104\nf\nrm\nrm\n", trace);
+}
+
+#[test]
+fn low_zero_stays_unwritable(rt: HostRuntime) {
+    let trace = "id 0 t=496 w=00000001 -\nn 1 t=496 w=00000001\nyes t=0 w=00000001 0:ok\n";
+    traces(&rt, &LOW_0_HIGH_400, "b 400\nf\nrm\n", trace);
+}
+
+#[test]
+fn looks_at_an_empty_and_a_full_buffer(rt: HostRuntime) {
+    let empty = "size=0 cur=0 bu=65537 bw=0 t=0 w=00000000\n";
+    traces(&rt, &NO_OPTIONS, "?\n", empty);
+    let full = "id 0 t=400 w=00000000\nid 1 t=496 w=00000001 -\n\
+        size=0 cur=0 bu=0 bw=297 t=496 w=00000001\n";
+    traces(&rt, &LOW_200_HIGH_400, "b 304\nb 0\n?\n", full);
+}
+
+#[test]
+fn a_missing_number(rt: HostRuntime) {
+    holds(
+        &rt,
+        Row {
+            words: &NO_OPTIONS,
+            script: "b 1\nb\nb 1\n",
+            trace: "id 0 t=97 w=00000000\n",
+            told: "line 2: fault 4\n",
+            status: 2,
+        },
+    );
+}
+
+/// A removal from an empty buffer, and a flush of nothing.
+#[test]
+fn nothing_to_flush_or_remove(rt: HostRuntime) {
+    traces(
+        &rt,
+        &NO_OPTIONS,
+        "rm\nf\n",
+        "no t=0 w=00000000\nn 0 t=0 w=00000000\n",
+    );
+}
