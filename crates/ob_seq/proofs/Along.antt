@@ -1,5 +1,5 @@
 -- The moments and the settlements read off rows before and after.
-use Rattle.std.proofs.Common.{◌≡◌, ℕ, suc, ◌+◌, Bool, List, [], ◌∷◌, ◌++◌, length, refl, sym, ap, ◌∙◌, append_assoc, append-nil, arith}
+use Rattle.std.proofs.Common.{◌≡◌, ℕ, suc, ◌+◌, Bool, List, [], ◌∷◌, ◌++◌, length, refl, sym, ap, ◌∙◌, append_assoc, append-nil, arith, zero-add}
 use Rattle.std.proofs.lemmas.Bool.Decides.{nat_tests}
 use Rattle.std.specs.Prelude.{Option, Some, None}
 use Rattle.ob_types.specs.declared.promise.Outcome.{Outcome}
@@ -31,3 +31,36 @@ settlements_from_same id [] before after = ap (λ at. settlements_from at before
 settlements_from_same id (row ∷ same) before after =
     ap (λ first. first ++ settlements_from (suc id) (same ++ before) (same ++ after)) (settlement_same id (outcome_of row.promise))
     ∙ settlements_from_same (suc id) same before after ∙ ap (λ at. settlements_from at before after) (omega arith)
+
+-- rows behind that stay give no moment
+moments_behind : (notice : Bool) (passed rows : List Row) → moments_along notice passed rows rows ≡ []
+moments_behind notice passed rows = ap (λ all. moments_along notice passed all all) (sym (append-nil rows)) ∙ moments_along_same notice passed rows [] []
+
+-- where one row changes, its moment is the only one
+pub moments_of_one : (notice : Bool) (rows : List Row) (was row : Row) (behind : List Row) →
+    moments_along notice [] (rows ++ was ∷ behind) (rows ++ row ∷ behind) ≡ moment_of notice (counted_size was) (counted_size row) (total (rows ++ row ∷ behind))
+moments_of_one notice rows was row behind =
+    let sum = total (rows ++ row ∷ behind) in
+    moments_along_same notice [] rows (was ∷ behind) (row ∷ behind)
+    ∙ ap (λ more. moment_of notice (counted_size was) (counted_size row) sum ++ more) (moments_behind notice (rows ++ row ∷ []) behind)
+    ∙ append-nil (moment_of notice (counted_size was) (counted_size row) sum)
+
+-- rows behind that stay settle nothing
+settlements_behind : (id : ℕ) (rows : List Row) → settlements_from id rows rows ≡ []
+settlements_behind id rows = ap (λ all. settlements_from id all all) (sym (append-nil rows)) ∙ settlements_from_same id rows [] []
+
+-- where one row changes, its settlement is the only one
+pub settlements_of_one : (rows : List Row) (was row : Row) (behind : List Row) →
+    settlements_from 0 (rows ++ was ∷ behind) (rows ++ row ∷ behind) ≡ settlement (length rows) (outcome_of was.promise) (outcome_of row.promise)
+settlements_of_one rows was row behind =
+    settlements_from_same 0 rows (was ∷ behind) (row ∷ behind)
+    ∙ ap (λ id. settlements_from id (was ∷ behind) (row ∷ behind)) (zero-add (length rows))
+    ∙ ap (λ more. settlement (length rows) (outcome_of was.promise) (outcome_of row.promise) ++ more) (settlements_behind (suc (length rows)) behind)
+    ∙ append-nil (settlement (length rows) (outcome_of was.promise) (outcome_of row.promise))
+
+-- rows that stay give no moment and settle nothing
+pub moments_of_same : (notice : Bool) (rows : List Row) → moments_along notice [] rows rows ≡ []
+moments_of_same notice rows = moments_behind notice [] rows
+
+pub settlements_of_same : (rows : List Row) → settlements_from 0 rows rows ≡ []
+settlements_of_same rows = settlements_behind 0 rows

@@ -1,9 +1,9 @@
 -- What the fields of a buffer say after a step, over plain lists.
-use Rattle.std.proofs.Common.{◌≡◌, ℕ, zero, suc, ◌+◌, ◌-◌, ◌<◌, ◌≤◌, List, [], ◌∷◌, ◌++◌, length, take, drop, get_or, refl, sym, ap, ◌∙◌, length-append, arith}
-use Rattle.std.specs.Prelude.{slice_set, replicate}
-use Rattle.std.proofs.Math.Seq.{take-append_seam, take-length, drop-length}
+use Rattle.std.proofs.Common.{◌≡◌, ℕ, zero, suc, ◌+◌, ◌-◌, ◌<◌, ◌≤◌, List, [], ◌∷◌, ◌++◌, length, take, drop, get_or, refl, sym, ap, ◌∙◌, length-append, arith, false, append_assoc, Bool, true, cond}
+use Rattle.std.specs.Prelude.{slice_set, if◌then◌else◌}
+use Rattle.std.proofs.Math.Seq.{take-append_seam, drop-append_seam, set-append_seam, get_or-append_seam}
 use Rattle.std.proofs.lemmas.List.{take-append-drop, take-append-le, drop-append-le, length-drop}
-use Rattle.std.proofs.lemmas.List.Sums.{sum_by_push, sum_by-cons}
+use Rattle.std.proofs.lemmas.List.Sums.{sum_by_push, sum_by-cons, sum_by-append}
 use Rattle.ob_types.specs.declared.message.Message.{Message}
 use Rattle.ob_types.specs.declared.promise.Outcome.{Outcome}
 use Rattle.ob_types.specs.declared.promise.PromiseState.{PromiseState}
@@ -11,8 +11,9 @@ use Rattle.ob_types.specs.declared.promise.PromiseState.TheVariants.{Waiting, Fi
 use Rattle.ob_seq.specs.declared.entry.Entry.{Entry}
 use Rattle.ob_seq.specs.Settings.{Settings}
 use Rattle.ob_seq.specs.Pending.{Pending}
-use Rattle.ob_seq.specs.Steps.{sum_of, written, front_taken, all_flushed, word_after_rise, word_after_fall}
+use Rattle.ob_seq.specs.Steps.{first_size, sum_of, written, front_taken, word_after_rise, word_after_fall, next_flushed, reached_entry, first_reached, front_changed}
 use Rattle.ob_seq.proofs.Entries.{sum_of_parts}
+use Rattle.ob_seq.specs.Row.{is_cancelled}
 
 -- what a buffer holds, by its parts
 abbrev pub pending_from : Settings → List Entry → List Entry → List PromiseState → ℕ → Pending
@@ -32,10 +33,10 @@ kept settings entries flushed promises word = pending_from settings (take flushe
 -- an entry behind the others is unflushed
 pub kept_written : (settings : Settings) (entries : List Entry) (flushed : ℕ) (promises : List PromiseState) (word size : ℕ) (message : Message)
     (entries' : List Entry) (promises' : List PromiseState) (word' sum : ℕ) → flushed ≤ length entries →
-    entries' ≡ entries ++ record { message = message; size = size; progress = 0 } ∷ [] → promises' ≡ promises ++ Waiting ∷ [] → sum ≡ sum_of entries' →
+    entries' ≡ entries ++ record { message = message; size = size; progress = 0; voided = false } ∷ [] → promises' ≡ promises ++ Waiting ∷ [] → sum ≡ sum_of entries' →
     word' ≡ word_after_rise settings.marks word size sum → kept settings entries' flushed promises' word' ≡ written (kept settings entries flushed promises word) message size
 kept_written settings entries flushed promises word size message entries' promises' word' sum within pushed promised summed risen =
-    let entry : Entry = record { message = message; size = size; progress = 0 } in
+    let entry : Entry = record { message = message; size = size; progress = 0; voided = false } in
     same_pending settings
     (ap (take flushed) pushed ∙ take-append-le flushed entries (entry ∷ []) within)
     (ap (drop flushed) pushed ∙ drop-append-le flushed entries (entry ∷ []) within)
@@ -47,12 +48,14 @@ without_first all size rest is = omega arith
 
 -- without the first entry the line is shorter by one
 pub kept_taken : (settings : Settings) (entries : List Entry) (flushed : ℕ) (promises : List PromiseState) (word : ℕ) (entry : Entry) (outcome : Outcome)
-    (entries' : List Entry) (id word' sum : ℕ) → 0 < flushed → flushed ≤ length entries → entry ≡ get_or entries 0 entry →
-    entries' ≡ drop 1 entries → id ≡ length promises - length entries → sum ≡ sum_of entries' → word' ≡ word_after_fall settings.marks word entry.size sum →
-    kept settings entries' (flushed - 1) (slice_set promises id (Settled outcome)) word' ≡ front_taken (kept settings entries flushed promises word) outcome
-kept_taken settings [] flushed promises word entry outcome entries' id word' sum some within first taken id_is summed fallen = absurd (omega arith)
-kept_taken settings (e ∷ es) zero promises word entry outcome entries' id word' sum some within first taken id_is summed fallen = absurd (omega arith)
-kept_taken settings (e ∷ es) (suc n) promises word entry outcome entries' id word' sum some within first taken id_is summed fallen =
+    (entries' : List Entry) (promises' : List PromiseState) (word' sum : ℕ) → 0 < flushed → flushed ≤ length entries → entry ≡ get_or entries 0 entry →
+    entries' ≡ drop 1 entries →
+    promises' ≡ (if entry.voided then promises else slice_set promises (length promises - length entries) (Settled outcome)) →
+    sum ≡ sum_of entries' → word' ≡ word_after_fall settings.marks word entry.size sum →
+    kept settings entries' (flushed - 1) promises' word' ≡ front_taken outcome (kept settings entries flushed promises word)
+kept_taken settings [] flushed promises word entry outcome entries' promises' word' sum some within first taken settled summed fallen = absurd (omega arith)
+kept_taken settings (e ∷ es) zero promises word entry outcome entries' promises' word' sum some within first taken settled summed fallen = absurd (omega arith)
+kept_taken settings (e ∷ es) (suc n) promises word entry outcome entries' promises' word' sum some within first taken settled summed fallen =
     let less : suc n - 1 ≡ n = omega arith in
     let parts : length (e ∷ es) ≡ length (take (suc n) (e ∷ es)) + length (drop (suc n) (e ∷ es)) =
     sym (ap length (take-append-drop (suc n) (e ∷ es))) ∙ length-append (take (suc n) (e ∷ es)) (drop (suc n) (e ∷ es)) in
@@ -60,22 +63,106 @@ kept_taken settings (e ∷ es) (suc n) promises word entry outcome entries' id w
     same_pending settings
     (ap (λ count. take count entries') less ∙ ap (take n) taken)
     (ap (λ count. drop count entries') less ∙ ap (drop n) taken)
-    (ap (λ at. slice_set promises at (Settled outcome)) (id_is ∙ ap (λ count. length promises - count) parts))
+    (settled ∙ ap (λ (one : Entry). if one.voided then promises else slice_set promises (length promises - length (e ∷ es)) (Settled outcome)) first
+    ∙ ap (λ count. if e.voided then promises else slice_set promises (length promises - count) (Settled outcome)) parts)
     (fallen ∙ ap (λ size. word_after_fall settings.marks word size sum) (ap (λ (one : Entry). one.size) first)
     ∙ ap (word_after_fall settings.marks word e.size) (summed ∙ ap sum_of taken ∙ without_first _ e.size (sum_of es) all))
 
--- all written over is what was written
-pub refill_all : (n : ℕ) (old new : List PromiseState) → length new ≡ n → take n (new ++ drop (length new) old) ≡ new
-refill_all n old new size = ap (λ count. take count (new ++ drop (length new) old)) (sym size) ∙ take-append_seam new (drop (length new) old)
+-- a list with the entry at an index apart
+record Split (n : ℕ) (entries : List Entry) : Type 0 where
+  before : List Entry
+  entry : Entry
+  behind : List Entry
+  is : entries ≡ before ++ entry ∷ behind
+  size : length before ≡ n
 
--- with all entries in line nothing is unflushed, and their promises are the last
-pub kept_flushed : (settings : Settings) (entries : List Entry) (flushed : ℕ) (promises : List PromiseState) (word : ℕ) (promises' : List PromiseState) (count : ℕ) →
-    count ≡ length entries → promises' ≡ take (length promises - (length entries - flushed)) promises ++ replicate (length entries - flushed) Fixed →
-    kept settings entries count promises' word ≡ all_flushed (kept settings entries flushed promises word)
-kept_flushed settings entries flushed promises word promises' count all fixed =
-    let behind : length (drop flushed entries) ≡ length entries - flushed = length-drop flushed entries in
+split : (n : ℕ) (entries : List Entry) → n < length entries → Split n entries
+split n [] within = absurd (omega arith)
+split zero (entry ∷ entries) within = record { before = []; entry = entry; behind = entries; is = refl; size = refl }
+split (suc n) (entry ∷ entries) within =
+    let rest = split n entries (omega arith) in
+    record { before = entry ∷ rest.before; entry = rest.entry; behind = rest.behind; is = ap (λ all. entry ∷ all) rest.is; size = ap suc rest.size }
+
+module _ (n : ℕ) (before : List Entry) (entry : Entry) (behind : List Entry) (size : length before ≡ n) where
+  take_seam : take n (before ++ entry ∷ behind) ≡ before
+  take_seam = ap (λ count. take count (before ++ entry ∷ behind)) (sym size) ∙ take-append_seam before (entry ∷ behind)
+
+  drop_seam : drop n (before ++ entry ∷ behind) ≡ entry ∷ behind
+  drop_seam = ap (λ count. drop count (before ++ entry ∷ behind)) (sym size) ∙ drop-append_seam before (entry ∷ behind)
+
+  more_size : length (before ++ entry ∷ []) ≡ n + 1
+  more_size = length-append before (entry ∷ []) ∙ ap (λ count. count + 1) size
+
+  take_more_seam : take (n + 1) (before ++ entry ∷ behind) ≡ before ++ entry ∷ []
+  take_more_seam = ap (λ all. take (n + 1) all) (sym (append_assoc before (entry ∷ []) behind))
+      ∙ ap (λ count. take count ((before ++ entry ∷ []) ++ behind)) (sym more_size) ∙ take-append_seam (before ++ entry ∷ []) behind
+
+  drop_more_seam : drop (n + 1) (before ++ entry ∷ behind) ≡ behind
+  drop_more_seam = ap (λ all. drop (n + 1) all) (sym (append_assoc before (entry ∷ []) behind))
+      ∙ ap (λ count. drop count ((before ++ entry ∷ []) ++ behind)) (sym more_size) ∙ drop-append_seam (before ++ entry ∷ []) behind
+
+sums : (front size rest all left : ℕ) → all ≡ front + (size + rest) → left ≡ front + (0 + rest) → left ≡ all - size
+sums front size rest all left is less = omega arith
+
+flag_is : (entries : List Entry) (flushed : ℕ) (promises : List PromiseState) (back : Bool) → is_cancelled (get_or promises (length promises - (length entries - flushed)) Waiting) ≡ back →
+    is_cancelled (get_or promises (length promises - length (drop flushed entries)) Waiting) ≡ back
+flag_is entries flushed promises back is = ap (λ n. is_cancelled (get_or promises (length promises - n) Waiting)) (length-drop flushed entries) ∙ is
+
+-- one more entry in line, by whether its promise was taken back
+pub kept_next : (settings : Settings) (entries : List Entry) (flushed : ℕ) (promises : List PromiseState) (word : ℕ) (back : Bool)
+    (entries' : List Entry) (promises' : List PromiseState) (word' sum : ℕ) → flushed < length entries →
+    is_cancelled (get_or promises (length promises - (length entries - flushed)) Waiting) ≡ back →
+    ((d : Entry) → entries' ≡ (if back then slice_set entries flushed (reached_entry true (get_or entries flushed d)) else entries)) →
+    promises' ≡ (if back then promises else slice_set promises (length promises - (length entries - flushed)) Fixed) →
+    sum ≡ sum_of entries' →
+    ((d : Entry) → word' ≡ (if back then word_after_fall settings.marks word (get_or entries flushed d).size sum else word)) →
+    kept settings entries' (flushed + 1) promises' word' ≡ next_flushed (kept settings entries flushed promises word)
+kept_next settings entries flushed promises word true entries' promises' word' sum within back_is entries_are promises_are summed word_is =
+    let s = split flushed entries within in
+    let e = s.entry in
+    let found : get_or entries flushed e ≡ e =
+    ap (λ all. get_or all flushed e) s.is ∙ ap (λ at. get_or (s.before ++ e ∷ s.behind) at e) (sym s.size) ∙ get_or-append_seam s.before e s.behind e in
+    let now : entries' ≡ s.before ++ reached_entry true e ∷ s.behind =
+    entries_are e ∙ ap (λ one. slice_set entries flushed (reached_entry true one)) found ∙ ap (λ all. slice_set all flushed (reached_entry true e)) s.is
+    ∙ ap (λ at. slice_set (s.before ++ e ∷ s.behind) at (reached_entry true e)) (sym s.size) ∙ set-append_seam s.before e s.behind (reached_entry true e) in
+    let flag = flag_is entries flushed promises true back_is in
+    let front : take flushed entries ≡ s.before = ap (take flushed) s.is ∙ take_seam flushed s.before e s.behind s.size in
+    let rest : drop flushed entries ≡ e ∷ s.behind = ap (drop flushed) s.is ∙ drop_seam flushed s.before e s.behind s.size in
+    let less : sum ≡ sum_of (take flushed entries) + sum_of (drop flushed entries) - e.size =
+    sums (sum_of s.before) e.size (sum_of s.behind) (sum_of (take flushed entries) + sum_of (drop flushed entries)) sum
+    (ap (λ all. sum_of all + sum_of (drop flushed entries)) front ∙ ap (λ all. sum_of s.before + sum_of all) rest ∙ ap (λ n. sum_of s.before + n) (sum_by-cons (λ entry. entry.size) e s.behind))
+    (summed ∙ ap sum_of now ∙ sum_by-append (λ entry. entry.size) s.before (reached_entry true e ∷ s.behind) ∙ ap (λ n. sum_of s.before + n) (sum_by-cons (λ entry. entry.size) (reached_entry true e) s.behind)) in
     same_pending settings
-    (ap (λ n. take n entries) all ∙ take-length entries ∙ sym (take-append-drop flushed entries))
-    (ap (λ n. drop n entries) all ∙ drop-length entries)
-    (fixed ∙ ap (λ n. take (length promises - n) promises ++ replicate n Fixed) (sym behind))
-    refl
+    (ap (take (flushed + 1)) now ∙ take_more_seam flushed s.before (reached_entry true e) s.behind s.size
+    ∙ sym (ap (λ all. all ++ first_reached (is_cancelled (get_or promises (length promises - length (drop flushed entries)) Waiting)) (drop flushed entries)) front
+    ∙ ap (λ fl. s.before ++ first_reached fl (drop flushed entries)) flag ∙ ap (λ all. s.before ++ first_reached true all) rest))
+    (ap (drop (flushed + 1)) now ∙ drop_more_seam flushed s.before (reached_entry true e) s.behind s.size ∙ sym (ap (drop 1) rest))
+    (promises_are ∙ sym (ap (λ fl. cond fl promises (slice_set promises (length promises - length (drop flushed entries)) Fixed)) flag))
+    (word_is e ∙ ap (λ one. word_after_fall settings.marks word one.size sum) found
+    ∙ ap (word_after_fall settings.marks word e.size) less
+    ∙ ap (λ size. word_after_fall settings.marks word size (sum_of (take flushed entries) + sum_of (drop flushed entries) - size)) (sym (ap first_size rest))
+    ∙ sym (ap (λ fl. cond fl (word_after_fall settings.marks word (first_size (drop flushed entries)) (sum_of (take flushed entries) + sum_of (drop flushed entries) - first_size (drop flushed entries))) word) flag))
+kept_next settings entries flushed promises word false entries' promises' word' sum within back_is entries_are promises_are summed word_is =
+    let s = split flushed entries within in
+    let e = s.entry in
+    let now : entries' ≡ s.before ++ e ∷ s.behind = entries_are e ∙ s.is in
+    let flag = flag_is entries flushed promises false back_is in
+    let front : take flushed entries ≡ s.before = ap (take flushed) s.is ∙ take_seam flushed s.before e s.behind s.size in
+    let rest : drop flushed entries ≡ e ∷ s.behind = ap (drop flushed) s.is ∙ drop_seam flushed s.before e s.behind s.size in
+    same_pending settings
+    (ap (take (flushed + 1)) now ∙ take_more_seam flushed s.before e s.behind s.size
+    ∙ sym (ap (λ all. all ++ first_reached (is_cancelled (get_or promises (length promises - length (drop flushed entries)) Waiting)) (drop flushed entries)) front
+    ∙ ap (λ fl. s.before ++ first_reached fl (drop flushed entries)) flag ∙ ap (λ all. s.before ++ first_reached false all) rest))
+    (ap (drop (flushed + 1)) now ∙ drop_more_seam flushed s.before e s.behind s.size ∙ sym (ap (drop 1) rest))
+    (promises_are ∙ sym (ap (λ fl. cond fl promises (slice_set promises (length promises - length (drop flushed entries)) Fixed)) flag
+    ∙ ap (λ n. slice_set promises (length promises - n) Fixed) (length-drop flushed entries)))
+    (word_is e
+    ∙ sym (ap (λ fl. cond fl (word_after_fall settings.marks word (first_size (drop flushed entries)) (sum_of (take flushed entries) + sum_of (drop flushed entries) - first_size (drop flushed entries))) word) flag))
+
+-- a changed first entry
+pub kept_changed : (settings : Settings) (entries : List Entry) (flushed : ℕ) (promises : List PromiseState) (word : ℕ) (change : Entry → Entry) (entries' : List Entry) → 0 < flushed → 0 < length entries →
+    ((d : Entry) → entries' ≡ slice_set entries 0 (change (get_or entries 0 d))) → kept settings entries' flushed promises word ≡ front_changed change (kept settings entries flushed promises word)
+kept_changed settings [] flushed promises word change entries' some any are = absurd (omega arith)
+kept_changed settings (e ∷ es) zero promises word change entries' some any are = absurd (omega arith)
+kept_changed settings (e ∷ es) (suc n) promises word change entries' some any are =
+    same_pending settings (ap (take (suc n)) (are e)) (ap (drop (suc n)) (are e)) refl refl

@@ -6,7 +6,7 @@ use Rattle.std.proofs.lemmas.List.{reverse-append}
 use Rattle.std.proofs.lemmas.List.Sums.{sum_by-cons}
 use Rattle.ob_types.specs.WaterMark.{Marks}
 use Rattle.ob_types.specs.declared.command.Command.{Command}
-use Rattle.ob_types.specs.declared.command.Command.TheVariants.{Write, Flush, Remove}
+use Rattle.ob_types.specs.declared.command.Command.TheVariants.{Write, Flush, Remove, RemoveWith, Progress, Cancel}
 use Rattle.ob_seq.specs.Settings.{Settings}
 use Rattle.ob_seq.specs.Effect.{rows_after}
 use Rattle.ob_seq.specs.Moment.{Moment, Rise, NoticedFall, moment_of, moments_of, moments_after}
@@ -40,6 +40,9 @@ no_requests index [] = refl
 no_requests index (Write message ∷ commands) = no_requests index commands
 no_requests index (Flush ∷ commands) = no_requests index commands
 no_requests index (Remove ∷ commands) = no_requests index commands
+no_requests index (RemoveWith cause ∷ commands) = no_requests index commands
+no_requests index (Progress n ∷ commands) = no_requests index commands
+no_requests index (Cancel id ∷ commands) = no_requests index commands
 
 user_bit_clear : (commands : List Command) (index : ℕ) → user_bit commands index ≡ false
 user_bit_clear commands index = ap (λ requests. unwrap_or (slice_get (reverse requests) 0) false) (no_requests index commands)
@@ -98,3 +101,17 @@ word_after_same settings commands command none =
     word_is_mark settings (commands ++ command ∷ [])
     ∙ ap (λ all. bit_value 0 (mark_of settings.marks all)) (moments_after_more settings.estimate commands command ∙ ap (λ more. moments_after settings.estimate commands ++ more) none ∙ append-nil (moments_after settings.estimate commands))
     ∙ sym (word_is_mark settings commands)
+
+-- the word by the moments alone
+abbrev pub word_from : Marks → List Moment → ℕ
+word_from marks moments = bit_value 0 (mark_of marks moments)
+
+-- the word of a history, by its moments
+pub word_is_from : (settings : Settings) (commands : List Command) → word_after settings commands ≡ word_from settings.marks (moments_after settings.estimate commands)
+word_is_from settings commands = word_is_mark settings commands
+
+-- the word after one more moment
+pub word_from_more : (marks : Marks) (moments : List Moment) (before after sum : ℕ) → word_from marks (moments ++ moment_of true before after sum) ≡ word_step marks (word_from marks moments) before after sum
+word_from_more marks moments before after sum =
+    ap (bit_value 0) (mark_of_moment marks moments (ltb before after) (ltb after before) sum)
+    ∙ word_of_moment (mark_of marks moments) (ltb before after) (ltb marks.high sum) (ltb after before) (ltb sum marks.low)

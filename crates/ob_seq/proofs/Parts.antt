@@ -1,15 +1,11 @@
 -- What the parts of the rows are: the line, what is unflushed, the front.
-use Rattle.std.proofs.Common.{◌≡◌, Bool, true, false, List, [], ◌∷◌, ◌++◌, length, map, refl, sym, ap, ◌∙◌, cond, append-nil}
+use Rattle.std.proofs.Common.{◌≡◌, Bool, true, false, List, [], ◌∷◌, ◌++◌, refl, ap, ◌∙◌, cond, append-nil, inl, inr}
 use Rattle.std.specs.List.{AllByRecursion}
-use Rattle.std.specs.Prelude.{filter, replicate, Some, None}
+use Rattle.std.specs.Prelude.{filter, Some, None}
 use Rattle.std.proofs.lemmas.List.Elements.{filter-append}
-use Rattle.ob_types.specs.declared.promise.PromiseState.TheVariants.{Fixed}
-use Rattle.ob_seq.specs.declared.entry.Entry.{Entry}
-use Rattle.ob_seq.specs.Row.{Row, Place, is_unflushed}
+use Rattle.ob_seq.specs.Row.{Row, is_unflushed}
 use Rattle.ob_seq.specs.Line.{is_in_line, line, front, unflushed}
-use Rattle.ob_seq.specs.Effect.{flushed_row}
-use Rattle.ob_seq.specs.Pending.{entry_of}
-use Rattle.ob_seq.proofs.Order.{IsGone, IsStanding, IsFresh, gone_not_in_line, standing_in_line, fresh_not_in_line, flushed_fresh}
+use Rattle.ob_seq.proofs.Order.{IsGone, IsStanding, IsFresh, gone_not_in_line, standing_in_line, fresh_not_in_line}
 
 -- a filter that no row passes
 filter_none : (P : Row → Type 0) (test : Row → Bool) (fails : (row : Row) → P row → test row ≡ false) (rows : List Row) → AllByRecursion P rows → filter test rows ≡ []
@@ -25,7 +21,8 @@ gone_not_unflushed : (row : Row) → IsGone row → is_unflushed row.place ≡ f
 gone_not_unflushed row gone = ap is_unflushed gone.place
 
 standing_not_unflushed : (row : Row) → IsStanding row → is_unflushed row.place ≡ false
-standing_not_unflushed row standing = ap is_unflushed standing.place
+standing_not_unflushed row (inl sent) = ap is_unflushed sent.place
+standing_not_unflushed row (inr void) = ap is_unflushed void.place
 
 fresh_unflushed : (row : Row) → IsFresh row → is_unflushed row.place ≡ true
 fresh_unflushed row fresh = ap is_unflushed fresh.place
@@ -66,23 +63,3 @@ no_front_fresh (row ∷ fresh) all = ap (λ found. cond found (Some row) (front 
 pub no_front_of_parts : (gone fresh : List Row) → AllByRecursion IsGone gone → AllByRecursion IsFresh fresh → front (gone ++ fresh) ≡ None
 no_front_of_parts [] fresh all all_fresh = no_front_fresh fresh all_fresh
 no_front_of_parts (row ∷ gone) fresh all all_fresh = ap (λ found. cond found (Some row) (front (gone ++ fresh))) (gone_not_in_line row all.0) ∙ no_front_of_parts gone fresh all.1 all_fresh
-
--- a row as an entry, by its place
-entry_at : Row → Place → Entry
-entry_at row place = entry_of (record row { place = place })
-
-entry_of_flushed : (row : Row) → IsFresh row → entry_of (flushed_row row) ≡ entry_of row
-unfolding entry_at
-entry_of_flushed row fresh = ap entry_of (flushed_fresh row fresh) ∙ ap (entry_at row) (sym fresh.place)
-
--- a flush keeps the entries of fresh rows
-pub entries_of_flushed : (fresh : List Row) → AllByRecursion IsFresh fresh → map entry_of (map flushed_row fresh) ≡ map entry_of fresh
-entries_of_flushed [] all = refl
-entries_of_flushed (row ∷ fresh) all =
-    ap (λ first. first ∷ map entry_of (map flushed_row fresh)) (entry_of_flushed row all.0) ∙ ap (λ rest. entry_of row ∷ rest) (entries_of_flushed fresh all.1)
-
--- a flush fixes the promises of fresh rows
-pub promises_of_flushed : (fresh : List Row) → AllByRecursion IsFresh fresh → map (λ row. row.promise) (map flushed_row fresh) ≡ replicate (length fresh) Fixed
-promises_of_flushed [] all = refl
-promises_of_flushed (row ∷ fresh) all =
-    ap (λ first. first ∷ map (λ row. row.promise) (map flushed_row fresh)) (ap (λ (flushed : Row). flushed.promise) (flushed_fresh row all.0)) ∙ ap (λ rest. Fixed ∷ rest) (promises_of_flushed fresh all.1)

@@ -1,5 +1,5 @@
 -- A buffer with one more message stands for the history with the write.
-use Rattle.std.proofs.Common.{◌≡◌, ℕ, ◌+◌, true, List, [], ◌∷◌, ◌++◌, length, map, refl, sym, ap, ◌∙◌, append-nil, arith}
+use Rattle.std.proofs.Common.{◌≡◌, ℕ, ◌+◌, true, List, [], ◌∷◌, ◌++◌, length, map, refl, sym, ap, ◌∙◌, append-nil, arith, false}
 use Rattle.std.proofs.lemmas.Bool.Decides.{nat_tests}
 use Rattle.std.proofs.lemmas.List.{map-append, length-map}
 use Rattle.std.proofs.lemmas.List.Elements.{filter-append}
@@ -45,8 +45,8 @@ without_skipped_none (Region units) = refl
 without_skipped_none (Other value) = refl
 
 -- a new row as an entry
-entry_of_new : (estimate : Estimate) (message : Message) → entry_of (new_row estimate message) ≡ record { message = message; size = counted_bytes estimate message; progress = 0 }
-entry_of_new estimate message = ap (λ (left : Message). let entry : Entry = record { message = left; size = counted_bytes estimate message; progress = 0 } in entry) (without_skipped_none message)
+entry_of_new : (estimate : Estimate) (message : Message) → entry_of (new_row estimate message) ≡ record { message = message; size = counted_bytes estimate message; progress = 0; voided = false }
+entry_of_new estimate message = ap (λ (left : Message). let entry : Entry = record { message = left; size = counted_bytes estimate message; progress = 0; voided = false } in entry) (without_skipped_none message)
 
 -- the moment of a write
 moments_of_write : (estimate : Estimate) (rows : List Row) (message : Message) →
@@ -92,7 +92,7 @@ written_stands buffer commands message stands room =
     record {
       accepted = accepted_more estimate commands (Write message) stands.accepted room;
       line = stands.line ∙ sym (ap (λ all. map entry_of (line all)) more ∙ ap (map entry_of) (filter-append is_in_line rows (row ∷ []) ∙ append-nil (line rows)));
-      unflushed = ap (λ first. first ++ record { message = message; size = counted_bytes estimate message; progress = 0 } ∷ []) stands.unflushed
+      unflushed = ap (λ first. first ++ record { message = message; size = counted_bytes estimate message; progress = 0; voided = false } ∷ []) stands.unflushed
           ∙ sym (ap (λ all. map entry_of (unflushed all)) more
           ∙ ap (map entry_of) (filter-append (λ (row : Row). is_unflushed row.place) rows (row ∷ []))
           ∙ map-append entry_of (unflushed rows) (row ∷ [])

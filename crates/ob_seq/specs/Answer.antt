@@ -1,19 +1,19 @@
 -- The answer to one more command.
-use Rattle.std.specs.Prelude.{ℕ, suc, ◌+◌, ◌||◌, Bool, List, [], ◌∷◌, ◌++◌, length, nat_lt, nat_le, if◌then◌else◌, is_some, is_ok, Option, Some, None, Result, Ok, Err, true, is_none, ◌&&◌}
+use Rattle.std.specs.Prelude.{ℕ, suc, ◌+◌, ◌||◌, Bool, List, [], ◌∷◌, ◌++◌, length, nat_lt, nat_le, if◌then◌else◌, is_some, is_ok, Option, Some, None, Result, Ok, Err, option_map, slice_get, true, false, is_none, ◌&&◌}
 use Rattle.ob_types.specs.PendingSize.{counted_bytes, is_oversize}
 use Rattle.ob_types.specs.Change.{change_between}
 use Rattle.ob_types.specs.declared.estimate.Estimate.{Estimate}
 use Rattle.ob_types.specs.declared.command.Command.{Command}
-use Rattle.ob_types.specs.declared.command.Command.TheVariants.{Write, Flush, Remove}
+use Rattle.ob_types.specs.declared.command.Command.TheVariants.{Write, Flush, Remove, RemoveWith, Progress, Cancel}
 use Rattle.ob_types.specs.declared.promise.PromiseId.{PromiseId}
 use Rattle.ob_types.specs.declared.promise.Outcome.{Outcome}
 use Rattle.ob_types.specs.declared.promise.PromiseState.{PromiseState}
 use Rattle.ob_types.specs.declared.promise.PromiseState.TheVariants.{Waiting, Fixed, Settled}
 use Rattle.ob_types.specs.declared.reply.Reply.{Reply}
 use Rattle.ob_types.specs.declared.reply.Answer.{Answer}
-use Rattle.ob_types.specs.declared.reply.Answer.TheVariants.{Id, Count, Yes}
+use Rattle.ob_types.specs.declared.reply.Answer.TheVariants.{Id, Count, Yes, Done}
 use Rattle.ob_types.specs.declared.refusal.Refusal.{Refusal}
-use Rattle.ob_types.specs.declared.refusal.Refusal.TheVariants.{Oversize, TooMuch}
+use Rattle.ob_types.specs.declared.refusal.Refusal.TheVariants.{Oversize, TooMuch, NothingFlushed, TooFar, UnknownPromise}
 use Rattle.ob_seq.specs.Settings.{Settings}
 use Rattle.ob_seq.specs.Row.{Row}
 use Rattle.ob_seq.specs.Line.{front, unflushed}
@@ -25,6 +25,11 @@ use Rattle.ob_seq.specs.Word.{word_after}
 abbrev pub is_too_much : Estimate → List Row → ℕ → Bool
 is_too_much estimate rows size = nat_lt 4294967295 (total rows + size) || nat_le 1048576 (length rows)
 
+-- the refusal of progress: nothing is flushed, or the sum would pass 9223372036854775807
+abbrev pub refusal_of_progress : Option Row → ℕ → Option Refusal
+refusal_of_progress None n = Some NothingFlushed
+refusal_of_progress (Some row) n = if nat_lt 9223372036854775807 (row.progress + n) then Some TooFar else None
+
 -- the first refusal of a command, in the order in which they are asked, or none
 abbrev pub refusal_of : Estimate → List Row → Command → Option Refusal
 refusal_of estimate rows (Write message) =
@@ -32,17 +37,35 @@ refusal_of estimate rows (Write message) =
     else (if is_too_much estimate rows (counted_bytes estimate message) then Some TooMuch else None)
 refusal_of estimate rows Flush = None
 refusal_of estimate rows Remove = None
+refusal_of estimate rows (RemoveWith cause) = None
+refusal_of estimate rows (Progress n) = refusal_of_progress (front rows) n
+refusal_of estimate rows (Cancel id) = if nat_lt id.0 (length rows) then None else Some UnknownPromise
 
 -- whether commands that find these rows are accepted, one after another
 abbrev pub are_accepted : Estimate → List Row → List Command → Bool
 are_accepted estimate rows [] = true
 are_accepted estimate rows (command ∷ commands) = is_none (refusal_of estimate rows command) && are_accepted estimate (effect estimate rows command) commands
 
--- what an accepted command answers: a write its promise, a flush how many rows it reached, a removal whether there was a front
+-- the state of the promise with this id, if a write was accepted under it
+abbrev pub promise_at : List Row → ℕ → Option PromiseState
+promise_at rows id = option_map (λ row. row.promise) (slice_get rows id)
+
+-- whether nothing has become of a promise yet
+abbrev pub is_waiting : Option PromiseState → Bool
+is_waiting None = false
+is_waiting (Some Waiting) = true
+is_waiting (Some Fixed) = false
+is_waiting (Some (Settled outcome)) = false
+
+-- what an accepted command answers: a write its promise; a flush how many rows it reached; a removal whether there was
+-- a front, and one of bytes how many rows it took away; a cancellation whether the promise still waited
 abbrev pub answer_of : List Row → Command → Answer
 answer_of rows (Write message) = Id (record { 0 = length rows })
 answer_of rows Flush = Count (length (unflushed rows))
 answer_of rows Remove = Yes (is_some (front rows))
+answer_of rows (RemoveWith cause) = Yes (is_some (front rows))
+answer_of rows (Progress n) = Done
+answer_of rows (Cancel id) = Yes (is_waiting (promise_at rows id.0))
 
 -- how a promise is settled, if it is
 abbrev pub outcome_of : PromiseState → Option Outcome

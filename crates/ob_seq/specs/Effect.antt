@@ -1,17 +1,22 @@
 -- What an accepted command does to the rows.
-use Rattle.std.specs.Prelude.{List, [], ◌∷◌, ◌++◌, map, fold, if◌then◌else◌}
+use Rattle.std.specs.Prelude.{List, [], ◌∷◌, ◌++◌, map, fold, if◌then◌else◌, ℕ, zero, suc, ◌+◌}
 use Rattle.ob_types.specs.declared.estimate.Estimate.{Estimate}
 use Rattle.ob_types.specs.declared.command.Command.{Command}
-use Rattle.ob_types.specs.declared.command.Command.TheVariants.{Write, Flush, Remove}
+use Rattle.ob_types.specs.declared.command.Command.TheVariants.{Write, Flush, Remove, RemoveWith, Progress, Cancel}
 use Rattle.ob_types.specs.declared.promise.Outcome.{Outcome}
-use Rattle.ob_types.specs.declared.promise.Outcome.TheVariants.{Success}
-use Rattle.ob_types.specs.declared.promise.PromiseState.TheVariants.{Fixed, Settled}
-use Rattle.ob_seq.specs.Row.{Row, Flushed, Gone, new_row, is_unflushed, is_flushed}
+use Rattle.ob_types.specs.declared.promise.Outcome.TheVariants.{Success, Failed, Cancelled}
+use Rattle.ob_types.specs.declared.promise.PromiseState.TheVariants.{Fixed, Settled, Waiting}
+use Rattle.ob_seq.specs.Row.{Row, Flushed, Gone, new_row, is_unflushed, is_flushed, Voided, is_cancelled}
 use Rattle.ob_seq.specs.Line.{is_in_line}
+use Rattle.ob_types.specs.declared.promise.PromiseState.{PromiseState}
 
--- an unflushed row after a flush: it stands in line, and its promise is fixed
+-- a row that a flush reaches: it stands in line, voided where its promise was cancelled, and else with its promise fixed
+abbrev pub reached_row : Row → Row
+reached_row row = if is_cancelled row.promise then record row { place = Voided } else record row { place = Flushed; promise = Fixed }
+
+-- a row after a flush, which reaches the unflushed rows
 abbrev pub flushed_row : Row → Row
-flushed_row row = if is_unflushed row.place then record row { place = Flushed; promise = Fixed } else row
+flushed_row row = if is_unflushed row.place then reached_row row else row
 
 -- a row taken away, its promise settled if it was flushed and not voided
 abbrev pub taken_row : Outcome → Row → Row
@@ -22,11 +27,30 @@ abbrev pub with_front : (Row → Row) → List Row → List Row
 with_front change [] = []
 with_front change (row ∷ rows) = if is_in_line row then change row ∷ rows else row ∷ with_front change rows
 
+-- a row of which so much more progress was told
+abbrev pub progressed_row : ℕ → Row → Row
+progressed_row n row = record row { progress = row.progress + n }
+
+-- a promise taken back, if it still waits
+abbrev pub cancelled : PromiseState → PromiseState
+cancelled Waiting = Settled Cancelled
+cancelled Fixed = Fixed
+cancelled (Settled outcome) = Settled outcome
+
+-- the rows with the promise of this id taken back
+abbrev pub with_cancelled : ℕ → List Row → List Row
+with_cancelled id [] = []
+with_cancelled zero (row ∷ rows) = record row { promise = cancelled row.promise } ∷ rows
+with_cancelled (suc id) (row ∷ rows) = row ∷ with_cancelled id rows
+
 -- the rows after one more accepted command
 abbrev pub effect : Estimate → List Row → Command → List Row
 effect estimate rows (Write message) = rows ++ new_row estimate message ∷ []
 effect estimate rows Flush = map flushed_row rows
 effect estimate rows Remove = with_front (taken_row Success) rows
+effect estimate rows (RemoveWith cause) = with_front (taken_row (Failed cause)) rows
+effect estimate rows (Progress n) = with_front (progressed_row n) rows
+effect estimate rows (Cancel id) = with_cancelled id.0 rows
 
 -- the rows after a list of accepted commands, oldest first
 abbrev pub rows_after : Estimate → List Command → List Row

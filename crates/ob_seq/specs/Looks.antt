@@ -1,15 +1,19 @@
 -- What a look at a buffer shows.
-use Rattle.std.specs.Prelude.{ℕ, ◌+◌, ◌-◌, ◌&&◌, not, List, length, min, nat_le, if◌then◌else◌, Option, Some, None}
+use Rattle.std.specs.Prelude.{ℕ, ◌+◌, ◌-◌, ◌&&◌, not, List, length, min, nat_le, if◌then◌else◌, Option, Some, None, option_map}
 use Rattle.ob_types.specs.Change.{is_writable}
 use Rattle.ob_types.specs.WaterMark.{Marks}
 use Rattle.ob_types.specs.declared.command.Command.{Command}
 use Rattle.ob_seq.specs.declared.look.Look.{Look}
 use Rattle.ob_seq.specs.Settings.{Settings}
-use Rattle.ob_seq.specs.Row.{Row}
+use Rattle.ob_seq.specs.Row.{Row, unread_part}
 use Rattle.ob_seq.specs.Line.{line, front}
 use Rattle.ob_seq.specs.Total.{total}
 use Rattle.ob_seq.specs.Effect.{rows_after}
 use Rattle.ob_seq.specs.Word.{word_after}
+use Rattle.ob_types.specs.declared.promise.PromiseId.{PromiseId}
+use Rattle.ob_types.specs.declared.promise.PromiseState.{PromiseState}
+use Rattle.ob_types.specs.declared.message.Message.{Message}
+use Rattle.ob_seq.specs.Answer.{promise_at}
 
 -- how many bytes more make a writable buffer unwritable (Netty's `bytesBeforeUnwritable`); 0 where it is not writable
 abbrev pub before_unwritable : Marks → ℕ → ℕ → ℕ
@@ -37,3 +41,11 @@ look_after settings commands =
       before_writable = before_writable settings.marks word (total rows);
       current_progress = progress_of (front rows);
     }
+
+-- what has become of a promise after a history, or nothing where no write was accepted under its id
+abbrev pub promise_after : Settings → List Command → PromiseId → Option PromiseState
+promise_after settings commands id = promise_at (rows_after settings.estimate commands) id.0
+
+-- the unread part of the front after a history, or nothing where nothing stands in line (Netty's `current`)
+abbrev pub current_after : Settings → List Command → Option Message
+current_after settings commands = option_map unread_part (front (rows_after settings.estimate commands))

@@ -1,20 +1,22 @@
 -- What a contract sees of a buffer, and the history that it stands for.
-use Rattle.std.specs.Prelude.{◌≡◌, ℕ, Bool, true, false, List, map, Result, [], None}
+use Rattle.std.specs.Prelude.{◌≡◌, ℕ, Bool, true, false, List, map, Result, [], None, Option}
 use Rattle.ob_types.specs.declared.command.Command.{Command}
-use Rattle.ob_types.specs.declared.command.Command.TheVariants.{Write, Flush, Remove}
+use Rattle.ob_types.specs.declared.command.Command.TheVariants.{Write, Flush, Remove, RemoveWith, Progress, Cancel}
 use Rattle.ob_types.specs.declared.promise.PromiseState.{PromiseState}
 use Rattle.ob_types.specs.declared.reply.Reply.{Reply}
 use Rattle.ob_types.specs.declared.refusal.Refusal.{Refusal}
 use Rattle.ob_seq.specs.declared.entry.Entry.{Entry}
 use Rattle.ob_seq.specs.Settings.{Settings}
-use Rattle.ob_seq.specs.Row.{Row, unread_part}
+use Rattle.ob_seq.specs.Row.{Row, unread_part, is_voided}
 use Rattle.ob_seq.specs.Line.{line, unflushed}
 use Rattle.ob_seq.specs.Total.{counted_size}
 use Rattle.ob_seq.specs.Effect.{rows_after}
 use Rattle.ob_seq.specs.Word.{word_after}
 use Rattle.ob_seq.specs.Answer.{answer_to, commands_after, are_accepted, refusal_of}
 use Rattle.ob_seq.specs.declared.look.Look.{Look}
-use Rattle.ob_seq.specs.Looks.{look_after}
+use Rattle.ob_seq.specs.Looks.{look_after, promise_after, current_after}
+use Rattle.ob_types.specs.declared.promise.PromiseId.{PromiseId}
+use Rattle.ob_types.specs.declared.message.Message.{Message}
 
 -- what a buffer holds: its settings, the entries in line and those that no flush has reached, each oldest first,
 -- the state of each promise that it ever gave, and the word
@@ -25,9 +27,9 @@ pub record Pending : Type 0 where
   pub promises : List PromiseState
   pub word : ℕ
 
--- a row as an entry: its unread part, the bytes that it counts, and the progress that was told of it
+-- a row as an entry: its unread part, the bytes that it counts, the progress that was told of it, and whether it was voided
 abbrev pub entry_of : Row → Entry
-entry_of row = record { message = unread_part row; size = counted_size row; progress = row.progress }
+entry_of row = record { message = unread_part row; size = counted_size row; progress = row.progress; voided = is_voided row.place }
 
 -- a buffer stands for a history where each command of it was accepted and the buffer holds what the rows after them say
 pub record StandsFor (buffer : Pending) (commands : List Command) : Type 0 where
@@ -53,8 +55,19 @@ Accepts old command = (commands : List Command) → StandsFor old commands → r
 abbrev pub Shows : Pending → Look → Type 0
 Shows buffer look = (commands : List Command) → StandsFor buffer commands → look ≡ look_after buffer.settings commands
 
+-- whatever history the buffer stands for, this is what has become of the promise after it
+abbrev pub Tells : Pending → PromiseId → Option PromiseState → Type 0
+Tells buffer id state = (commands : List Command) → StandsFor buffer commands → state ≡ promise_after buffer.settings commands id
+
+-- whatever history the buffer stands for, this is the unread part of the front after it
+abbrev pub IsCurrent : Pending → Option Message → Type 0
+IsCurrent buffer message = (commands : List Command) → StandsFor buffer commands → message ≡ current_after buffer.settings commands
+
 -- whether a command to a buffer is answered without any memory of the allocator
 abbrev pub takes_no_memory : Pending → Command → Bool
 takes_no_memory buffer (Write message) = false
 takes_no_memory buffer Flush = true
 takes_no_memory buffer Remove = true
+takes_no_memory buffer (RemoveWith cause) = true
+takes_no_memory buffer (Progress n) = true
+takes_no_memory buffer (Cancel id) = true

@@ -5,7 +5,8 @@ use Rattle.ob_types.specs.declared.estimate.Estimate.{Estimate}
 use Rattle.ob_types.specs.declared.message.Message.{Message}
 use Rattle.ob_types.specs.declared.message.Message.TheVariants.{Block, Region, Other}
 use Rattle.ob_types.specs.declared.promise.PromiseState.{PromiseState}
-use Rattle.ob_types.specs.declared.promise.PromiseState.TheVariants.{Waiting}
+use Rattle.ob_types.specs.declared.promise.Outcome.TheVariants.{Success, Failed, Cancelled}
+use Rattle.ob_types.specs.declared.promise.PromiseState.TheVariants.{Waiting, Fixed, Settled}
 
 -- where the message of a row is: behind the last flush, flushed, voided at its flush, or no longer in the buffer
 pub data Place : Type 0 where
@@ -65,3 +66,11 @@ without_skipped skipped (Other value) = Other value
 -- the unread part: an empty block where the row was voided, a block without its skipped bytes, else the message
 abbrev pub unread_part : Row → Message
 unread_part row = if is_voided row.place then Block [] else without_skipped row.skipped row.message
+
+-- whether a promise was taken back
+abbrev pub is_cancelled : PromiseState → Bool
+is_cancelled Waiting = false
+is_cancelled Fixed = false
+is_cancelled (Settled Success) = false
+is_cancelled (Settled (Failed cause)) = false
+is_cancelled (Settled Cancelled) = true

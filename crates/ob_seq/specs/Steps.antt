@@ -1,5 +1,5 @@
 -- What one call does to what a buffer holds, step by step. No public clause cites this module.
-use Rattle.std.specs.Prelude.{ℕ, ◌+◌, ◌-◌, ◌*◌, ◌/◌, ◌&&◌, Bool, true, false, List, [], ◌∷◌, ◌++◌, length, take, drop, replicate, sum_by, slice_set, nat_lt, if◌then◌else◌}
+use Rattle.std.specs.Prelude.{ℕ, ◌+◌, ◌-◌, ◌*◌, ◌/◌, ◌&&◌, Bool, true, false, List, [], ◌∷◌, ◌++◌, length, drop, sum_by, slice_set, nat_lt, if◌then◌else◌, zero, suc, slice_index_or}
 use Rattle.ob_types.specs.WaterMark.{Marks}
 use Rattle.ob_types.specs.declared.message.Message.{Message}
 use Rattle.ob_types.specs.declared.promise.Outcome.{Outcome}
@@ -7,6 +7,13 @@ use Rattle.ob_types.specs.declared.promise.PromiseState.TheVariants.{Waiting, Fi
 use Rattle.ob_seq.specs.declared.entry.Entry.{Entry}
 use Rattle.ob_seq.specs.Word.{bit_value}
 use Rattle.ob_seq.specs.Pending.{Pending}
+use Rattle.ob_seq.specs.Row.{is_cancelled}
+use Rattle.ob_types.specs.declared.message.Message.TheVariants.{Block}
+use Rattle.ob_types.specs.declared.promise.PromiseId.{PromiseId}
+use Rattle.ob_types.specs.declared.reply.Reply.{Reply}
+use Rattle.ob_types.specs.declared.reply.Answer.TheVariants.{Yes}
+use Rattle.ob_types.specs.Change.{change_between}
+use Rattle.ob_types.specs.declared.promise.PromiseState.{PromiseState}
 
 -- the word with bit 0 as given
 abbrev pub with_mark : Bool → ℕ → ℕ
@@ -31,16 +38,25 @@ pending_total old = sum_of old.line + sum_of old.unflushed
 -- a buffer with a new message behind all others
 abbrev pub written : Pending → Message → ℕ → Pending
 written old message size = record old {
-  unflushed = old.unflushed ++ record { message = message; size = size; progress = 0 } ∷ [];
+  unflushed = old.unflushed ++ record { message = message; size = size; progress = 0; voided = false } ∷ [];
   promises = old.promises ++ Waiting ∷ [];
   word = word_after_rise old.settings.marks old.word size (pending_total old + size);
 }
 
--- the id of the front: the entries have the last promises
-abbrev pub front_id : Pending → ℕ
-front_id old = length old.promises - (length old.line + length old.unflushed)
+-- the id of the first entry that no flush has reached: the unflushed entries have the last promises
+abbrev pub unflushed_id : Pending → ℕ
+unflushed_id old = length old.promises - length old.unflushed
 
--- the bytes that the first entry counts, or 0
+-- whether the promise of the first unflushed entry was taken back
+abbrev pub is_next_cancelled : Pending → Bool
+is_next_cancelled old = is_cancelled (slice_index_or old.promises (unflushed_id old) Waiting)
+
+-- an entry that a flush reaches: empty where it is voided
+abbrev pub reached_entry : Bool → Entry → Entry
+reached_entry true entry = record { message = Block []; size = 0; progress = entry.progress; voided = true }
+reached_entry false entry = entry
+
+-- the first entry, or none where there is none
 abbrev pub first_size : List Entry → ℕ
 first_size [] = 0
 first_size (entry ∷ entries) = entry.size
@@ -50,18 +66,73 @@ abbrev pub first_progress : List Entry → ℕ
 first_progress [] = 0
 first_progress (entry ∷ entries) = entry.progress
 
--- a buffer without its front, whose promise is settled
-abbrev pub front_taken : Pending → Outcome → Pending
-front_taken old outcome = record old {
+-- whether the first entry was voided
+abbrev pub is_first_voided : List Entry → Bool
+is_first_voided [] = false
+is_first_voided (entry ∷ entries) = entry.voided
+
+-- a list with its first entry as a flush reaches it, alone
+abbrev pub first_reached : Bool → List Entry → List Entry
+first_reached cancelled [] = []
+first_reached cancelled (entry ∷ entries) = reached_entry cancelled entry ∷ []
+
+-- a buffer with one more entry in line: voided where its promise was taken back, else with its promise fixed
+abbrev pub next_flushed : Pending → Pending
+next_flushed old = record old {
+  line = old.line ++ first_reached (is_next_cancelled old) old.unflushed;
+  unflushed = drop 1 old.unflushed;
+  promises = if is_next_cancelled old then old.promises else slice_set old.promises (unflushed_id old) Fixed;
+  word = if is_next_cancelled old
+      then word_after_fall old.settings.marks old.word (first_size old.unflushed) (pending_total old - first_size old.unflushed)
+      else old.word;
+}
+
+-- a step taken so many times
+abbrev pub times : ℕ → (Pending → Pending) → Pending → Pending
+times zero step old = old
+times (suc n) step old = step (times n step old)
+
+-- the id of the front: the entries have the last promises
+abbrev pub front_id : Pending → ℕ
+front_id old = length old.promises - (length old.line + length old.unflushed)
+
+-- what the removal of the front settles: its promise, unless it was voided
+abbrev pub front_settlement : Pending → Outcome → List (PromiseId × Outcome)
+front_settlement old outcome = if is_first_voided old.line then [] else (record { 0 = front_id old }, outcome) ∷ []
+
+-- a buffer without its front, whose promise is settled unless it was voided
+abbrev pub front_taken : Outcome → Pending → Pending
+front_taken outcome old = record old {
   line = drop 1 old.line;
-  promises = slice_set old.promises (front_id old) (Settled outcome);
+  promises = if is_first_voided old.line then old.promises else slice_set old.promises (front_id old) (Settled outcome);
   word = word_after_fall old.settings.marks old.word (first_size old.line) (pending_total old - first_size old.line);
 }
 
--- a buffer with all in line, and their promises fixed
-abbrev pub all_flushed : Pending → Pending
-all_flushed old = record old {
-  line = old.line ++ old.unflushed;
-  unflushed = [];
-  promises = take (length old.promises - length old.unflushed) old.promises ++ replicate (length old.unflushed) Fixed;
+-- the line with its first entry changed
+abbrev pub first_changed : (Entry → Entry) → List Entry → List Entry
+first_changed change [] = []
+first_changed change (entry ∷ entries) = change entry ∷ entries
+
+-- a buffer with its front changed
+abbrev pub front_changed : (Entry → Entry) → Pending → Pending
+front_changed change old = record old { line = first_changed change old.line }
+
+-- an entry of which so much more progress was told
+abbrev pub progressed_entry : ℕ → Entry → Entry
+progressed_entry n entry = record entry { progress = entry.progress + n }
+
+-- a buffer without its front, if it has one
+abbrev pub front_removed : Outcome → Pending → Pending
+front_removed outcome old = if nat_lt 0 (length old.line) then front_taken outcome old else old
+
+-- what the removal of the front replies
+abbrev pub removal_reply : Outcome → Pending → Reply
+removal_reply outcome old = record {
+  answer = Yes (nat_lt 0 (length old.line));
+  settled = if nat_lt 0 (length old.line) then front_settlement old outcome else [];
+  change = change_between old.word (front_removed outcome old).word;
 }
+
+-- a buffer with the state of one promise set
+abbrev pub promise_set : ℕ → PromiseState → Pending → Pending
+promise_set id state old = record old { promises = slice_set old.promises id state }

@@ -1,13 +1,16 @@
 -- User-defined writability (Netty's `setUserDefinedWritability`).
 use Rattle.std.specs.Prelude.{ℕ, Bool, false, List, filter_map, reverse, slice_get, unwrap_or, Option, None}
 use Rattle.ob_types.specs.declared.command.Command.{Command}
-use Rattle.ob_types.specs.declared.command.Command.TheVariants.{Write, Flush, Remove}
+use Rattle.ob_types.specs.declared.command.Command.TheVariants.{Write, Flush, Remove, RemoveWith, Progress, Cancel}
 
 -- what a command asks of a user bit: to be set, to be clear, or nothing
 abbrev pub bit_request : ℕ → Command → Option Bool
 bit_request index (Write message) = None
 bit_request index Flush = None
 bit_request index Remove = None
+bit_request index (RemoveWith cause) = None
+bit_request index (Progress n) = None
+bit_request index (Cancel id) = None
 
 -- a user bit is as the last command that asked something of it left it, and clear where none did
 abbrev pub user_bit : List Command → ℕ → Bool

@@ -1,15 +1,15 @@
 -- The definitions on small histories, computed by hand beforehand.
 use Rattle.std.specs.Prelude.{◌≡◌, ℕ, true, false, List, [], ◌∷◌, replicate, Option, Some, None, Result, Ok, Err}
 use Rattle.ob_types.specs.declared.command.Command.{Command}
-use Rattle.ob_types.specs.declared.command.Command.TheVariants.{Write, Flush, Remove}
+use Rattle.ob_types.specs.declared.command.Command.TheVariants.{Write, Flush, Remove, RemoveWith, Progress, Cancel}
 use Rattle.ob_types.specs.declared.message.Message.TheVariants.{Block, Region, Other}
 use Rattle.ob_types.specs.declared.promise.PromiseId.{PromiseId}
 use Rattle.ob_types.specs.declared.promise.Outcome.{Outcome}
-use Rattle.ob_types.specs.declared.promise.Outcome.TheVariants.{Success}
+use Rattle.ob_types.specs.declared.promise.Outcome.TheVariants.{Success, Failed, Cancelled}
 use Rattle.ob_types.specs.declared.refusal.Refusal.{Refusal}
-use Rattle.ob_types.specs.declared.refusal.Refusal.TheVariants.{Oversize}
+use Rattle.ob_types.specs.declared.refusal.Refusal.TheVariants.{Oversize, NothingFlushed, TooFar, UnknownPromise}
 use Rattle.ob_types.specs.declared.reply.Answer.{Answer}
-use Rattle.ob_types.specs.declared.reply.Answer.TheVariants.{Id, Count, Yes}
+use Rattle.ob_types.specs.declared.reply.Answer.TheVariants.{Id, Count, Yes, Done}
 use Rattle.ob_types.specs.declared.reply.Change.{Change}
 use Rattle.ob_types.specs.declared.reply.Change.TheVariants.{Unwritable, Writable}
 use Rattle.ob_types.specs.declared.reply.Reply.{Reply}
@@ -75,6 +75,33 @@ abbrev pub LongRegion : Type 0
 LongRegion =
     shown (marked 200 400) [] (Write (Region 9223372036854775808) ∷ Write (Other 7) ∷ [])
     ≡ record { answer = Err Oversize; total = 0; word = 0 } ∷ replied (Id (record { 0 = 0 })) [] None 104 0 ∷ []
+
+-- a promise that is settled in this way
+abbrev pub settles : ℕ → Outcome → List (PromiseId × Outcome)
+settles id outcome = (record { 0 = id }, outcome) ∷ []
+
+-- a cancelled entry counts until the flush voids it, and stands in line until it is removed
+abbrev pub CancelledEntry : Type 0
+CancelledEntry =
+    shown (marked 200 400) [] (block 304 ∷ block 4 ∷ Cancel (record { 0 = 0 }) ∷ Flush ∷ Remove ∷ Remove ∷ [])
+    ≡ replied (Id (record { 0 = 0 })) [] None 400 0 ∷ replied (Id (record { 0 = 1 })) [] (Some Unwritable) 500 1
+    ∷ replied (Yes true) (settles 0 Cancelled) None 500 1 ∷ replied (Count 2) [] (Some Writable) 100 0
+    ∷ replied (Yes true) [] None 100 0 ∷ replied (Yes true) (succeeds 1) None 0 0 ∷ []
+
+-- a promise that a flush has fixed stays, and an unknown one is refused
+abbrev pub FixedPromise : Type 0
+FixedPromise =
+    shown (marked 200 400) [] (block 4 ∷ Flush ∷ Cancel (record { 0 = 0 }) ∷ Cancel (record { 0 = 1 }) ∷ [])
+    ≡ replied (Id (record { 0 = 0 })) [] None 100 0 ∷ replied (Count 1) [] None 100 0 ∷ replied (Yes false) [] None 100 0
+    ∷ record { answer = Err UnknownPromise; total = 100; word = 0 } ∷ []
+
+-- progress wants something flushed, stops at its top, and a removal with a cause fails the promise
+abbrev pub ProgressTold : Type 0
+ProgressTold =
+    shown (marked 200 400) [] (block 4 ∷ Progress 3 ∷ Flush ∷ Progress 3 ∷ Progress 9223372036854775805 ∷ Progress 9223372036854775804 ∷ RemoveWith (record { 0 = 9 }) ∷ RemoveWith (record { 0 = 9 }) ∷ [])
+    ≡ replied (Id (record { 0 = 0 })) [] None 100 0 ∷ record { answer = Err NothingFlushed; total = 100; word = 0 } ∷ replied (Count 1) [] None 100 0
+    ∷ replied Done [] None 100 0 ∷ record { answer = Err TooFar; total = 100; word = 0 } ∷ replied Done [] None 100 0
+    ∷ replied (Yes true) (settles 0 (Failed (record { 0 = 9 }))) None 0 0 ∷ replied (Yes false) [] None 0 0 ∷ []
 
 -- a look at an empty buffer, and at one that is unwritable
 abbrev pub Looks : Type 0

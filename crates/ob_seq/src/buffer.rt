@@ -3,8 +3,10 @@ ghost use Rattle.ob_types.specs.Change.{change_between};
 ghost use Rattle.ob_seq.specs.Pending.{StandsFor, Answers, Follows, Accepts, takes_no_memory};
 ghost use Rattle.ob_seq.specs.Steps.{sum_of};
 
+mod cancel;
 mod flush;
 mod look;
+mod progress;
 mod remove;
 mod word;
 mod write;
@@ -77,6 +79,9 @@ impl Buffer {
             Command::Write(message) => self.write(message),
             Command::Flush => self.flush(),
             Command::Remove => self.remove(),
+            Command::RemoveWith(cause) => self.remove_with(cause),
+            Command::Progress(n) => self.progress(n),
+            Command::Cancel(id) => self.cancel(id),
         }
     }
 

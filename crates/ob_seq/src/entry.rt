@@ -9,4 +9,6 @@ pub struct Entry {
     pub size: u32,
     /// The progress that was told of it, in bytes.
     pub progress: u64,
+    /// Whether it was voided at its flush.
+    pub voided: bool,
 }

@@ -17,6 +17,9 @@ abbrev pub is_write : Command → Bool
 is_write (command.Write message) = true
 is_write command.Flush = false
 is_write command.Remove = false
+is_write (command.RemoveWith cause) = false
+is_write (command.Progress n) = false
+is_write (command.Cancel id) = false
 
 -- how many writes were accepted
 abbrev pub writes_in : List Command → ℕ

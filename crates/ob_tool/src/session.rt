@@ -112,6 +112,10 @@ fn next_byte(byte: u8, command: &Command) -> u8
 {
     match command {
         Command::Write(_) => byte.wrapping_add(1),
-        Command::Flush | Command::Remove => byte,
+        Command::Flush
+        | Command::Remove
+        | Command::RemoveWith(_)
+        | Command::Progress(_)
+        | Command::Cancel(_) => byte,
     }
 }

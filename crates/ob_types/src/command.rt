@@ -1,4 +1,5 @@
 use crate::message::Message;
+use crate::promise::{Cause, PromiseId};
 
 /// One call of a buffer.
 #[derive(Debug, Drop)]
@@ -9,4 +10,10 @@ pub enum Command {
     Flush,
     /// Takes the first flushed message away, as sent (Netty's `remove()`).
     Remove,
+    /// Takes the first flushed message away, as failed for this cause (Netty's `remove(Throwable)`).
+    RemoveWith(Cause),
+    /// Tells of so many more bytes of progress of the first flushed message (Netty's `progress`).
+    Progress(u64),
+    /// Takes a promise back, unless a flush has fixed it (Netty's `Future.cancel`).
+    Cancel(PromiseId),
 }

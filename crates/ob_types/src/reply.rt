@@ -14,9 +14,9 @@ pub struct Reply {
 pub enum Answer {
     /// Of a write: the promise of the message.
     Id(PromiseId),
-    /// Of a flush: how many messages it flushed.
+    /// Of a flush: how many messages it flushed. Of a removal of bytes: how many messages it took away.
     Count(u32),
-    /// Of a removal: whether there was a flushed message.
+    /// Of a removal: whether there was a flushed message. Of a cancellation: whether it came in time.
     Yes(bool),
     /// Of a command that has nothing more to say.
     Done,

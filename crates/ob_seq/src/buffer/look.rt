@@ -1,11 +1,12 @@
 ghost use Rattle.std.specs.Prelude.{◌≡◌};
+ghost use Rattle.std.specs.Option.{option_copied};
 ghost use Rattle.ob_seq.specs.Looks.{before_unwritable, before_writable};
-ghost use Rattle.ob_seq.specs.Pending.{Shows};
+ghost use Rattle.ob_seq.specs.Pending.{IsCurrent, Shows, Tells};
 ghost use Rattle.ob_seq.specs.Steps.{first_progress};
 
 use crate::buffer::{Buffer, total_of};
 use crate::look::Look;
-use ob_types::WaterMark;
+use ob_types::{Message, PromiseId, PromiseState, WaterMark};
 
 impl Buffer {
     /// What is pending now. It changes nothing and takes no memory.
@@ -21,6 +22,29 @@ impl Buffer {
             before_writable: before_writable(self.marks, self.word, total),
             current_progress: self.current_progress(),
         }
+    }
+
+    /// What has become of a promise, or nothing where no write was accepted under the id. It takes no memory.
+    pub fn promise(&self, id: PromiseId) -> Option<PromiseState>
+        ensures { Tells self.now id result }
+    {
+        let at = id.0 as usize;
+        if at < self.promises.len() {
+            Some(self.promises[at])
+        } else {
+            None
+        }
+    }
+
+    /// What is left of the first flushed message: the unread part of a block, which is empty where the message was
+    /// voided (Netty's `current`). It takes no memory.
+    pub fn current(&self) -> Option<&Message>
+        ensures { IsCurrent self.now (option_copied result) }
+    {
+        if self.flushed == 0 {
+            return None;
+        }
+        Some(&self.entries[0].message)
     }
 
     /// The progress of the front, or 0.

@@ -59,6 +59,7 @@ impl Buffer {
             message,
             size,
             progress: 0,
+            voided: false,
         });
         self.promises.push_reserved(PromiseState::Waiting);
         let total = total_of(&self.entries);

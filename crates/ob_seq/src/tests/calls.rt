@@ -3,7 +3,8 @@
 use crate::{Buffer, Look};
 use bytes::Bytes;
 use ob_types::{
-    Answer, Change, Command, Estimate, Message, Outcome, PromiseId, Refusal, Reply, WaterMark,
+    Answer, Cause, Change, Command, Estimate, Message, Outcome, PromiseId, PromiseState, Refusal,
+    Reply, WaterMark,
 };
 use std::alloc::{AllocError, Global};
 use std::test::Fail;
@@ -129,5 +130,66 @@ fn a_refused_write_leaves_all_as_it_was(rt: HostRuntime) -> Result<(), Fail> {
     assert_eq!(rt; buffer.remove()?.answer, Answer::Yes(false));
     assert_eq!(rt; buffer.flush()?.answer, Answer::Count(1));
     assert_eq!(rt; buffer.remove()?.answer, Answer::Yes(true));
+    Ok(())
+}
+
+#[test]
+fn cancelled_entry_is_voided_at_the_flush(rt: HostRuntime) -> Result<(), Fail> {
+    let alloc = rt.alloc();
+    let mut buffer = buffer(alloc, 200, 400)?;
+    buffer.write(block(alloc, 304)?)?;
+    buffer.write(block(alloc, 4)?)?;
+    let cancelled = buffer.cancel(PromiseId(0))?;
+    assert_eq!(rt;
+        settled_by(&cancelled),
+        Some((PromiseId(0), Outcome::Cancelled))
+    );
+    assert_eq!(rt; buffer.look().total, 500);
+    let flushed = buffer.flush()?;
+    assert_eq!(rt; flushed.change, Some(Change::Writable));
+    assert_eq!(rt; (buffer.look().total, buffer.look().size), (100, 2));
+    assert_eq!(rt; current_length(&buffer), Some(0));
+    assert_eq!(rt; settled_by(&buffer.remove()?), None);
+    assert_eq!(rt; current_length(&buffer), Some(4));
+    assert_eq!(rt;
+        settled_by(&buffer.remove()?),
+        Some((PromiseId(1), Outcome::Success))
+    );
+    assert_eq!(rt; current_length(&buffer), None);
+    Ok(())
+}
+
+/// The length of the block in front, if there is a front.
+fn current_length(buffer: &Buffer) -> Option<usize> {
+    match buffer.current() {
+        Some(Message::Block(bytes)) => Some(bytes.len()),
+        _ => None,
+    }
+}
+
+#[test]
+fn promises_go_from_waiting_to_settled(rt: HostRuntime) -> Result<(), Fail> {
+    let alloc = rt.alloc();
+    let mut buffer = buffer(alloc, 200, 400)?;
+    let id = PromiseId(0);
+    assert_eq!(rt; buffer.promise(id), None);
+    buffer.write(block(alloc, 4)?)?;
+    assert_eq!(rt; buffer.promise(id), Some(PromiseState::Waiting));
+    buffer.flush()?;
+    assert_eq!(rt; buffer.promise(id), Some(PromiseState::Fixed));
+    assert_eq!(rt; buffer.cancel(id)?.answer, Answer::Yes(false));
+    assert_eq!(rt;
+        buffer.cancel(PromiseId(1)).err(),
+        Some(Refusal::UnknownPromise)
+    );
+    buffer.progress(3)?;
+    assert_eq!(rt; buffer.look().current_progress, 3);
+    let failed = Outcome::Failed(Cause(9));
+    assert_eq!(rt;
+        settled_by(&buffer.remove_with(Cause(9))?),
+        Some((id, failed))
+    );
+    assert_eq!(rt; buffer.promise(id), Some(PromiseState::Settled(failed)));
+    assert_eq!(rt; buffer.progress(1).err(), Some(Refusal::NothingFlushed));
     Ok(())
 }

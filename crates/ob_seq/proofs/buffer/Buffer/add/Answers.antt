@@ -1,4 +1,4 @@
-use Rattle.std.proofs.Common.{◌≡◌, ◌+◌, [], ◌∷◌, ◌++◌, sym, ap, ◌∙◌, arith}
+use Rattle.std.proofs.Common.{false, ◌≡◌, ◌+◌, [], ◌∷◌, ◌++◌, sym, ap, ◌∙◌, arith}
 use Rattle.std.proofs.lemmas.List.Sums.{sum_by_push}
 use Rattle.ob_types.specs.declared.promise.PromiseState.TheVariants.{Waiting}
 use Rattle.ob_seq.specs.declared.entry.Entry.{Entry}
@@ -9,7 +9,7 @@ use Rattle.ob_seq.proofs.buffer.Buffer.add.Goals as goal
 
 pub total_of-total-requires : goal.total_of-total-requires
 total_of-total-requires c =
-    let entry : Entry = record { message = c.args.message; size = c.args.size; progress = 0 } in
+    let entry : Entry = record { message = c.args.message; size = c.args.size; progress = 0; voided = false } in
     let pending : pending_total c.args.self.now ≡ sum_of c.self.inside.entries.items =
     ap pending_total (sym c.self.view_is) ∙ sum_of_parts c.self.inside.flushed c.self.inside.entries.items in
     let sum : sum_of c.deref.result.now ≡ sum_of c.self.inside.entries.items + c.args.size =
@@ -19,7 +19,7 @@ total_of-total-requires c =
 
 pub returns-clause-ok : goal.returns-clause-ok
 returns-clause-ok c =
-    let entry : Entry = record { message = c.args.message; size = c.args.size; progress = 0 } in
+    let entry : Entry = record { message = c.args.message; size = c.args.size; progress = 0; voided = false } in
     let inside = c.self.inside in
     kept_written (record { marks = inside.marks; estimate = inside.estimate }) inside.entries.items inside.flushed inside.promises.items inside.word c.args.size c.args.message
     c.push_reserved.new.self.items c.push_reserved-2.new.self.items c.after_rise-self-inside.result c.total_of-total.result

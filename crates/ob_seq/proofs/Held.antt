@@ -1,0 +1,119 @@
+-- What a buffer holds, by the parts of the rows.
+use Rattle.std.proofs.Common.{◌≡◌, ℕ, ◌+◌, ◌-◌, true, List, [], ◌∷◌, ◌++◌, length, map, sym, ap, ◌∙◌, length-append, arith}
+use Rattle.std.specs.List.{AllByRecursion}
+use Rattle.std.proofs.lemmas.List.{length-map}
+use Rattle.ob_types.specs.declared.command.Command.{Command}
+use Rattle.ob_types.specs.declared.promise.PromiseState.{PromiseState}
+use Rattle.ob_seq.specs.Settings.{Settings}
+use Rattle.ob_seq.specs.Row.{Row}
+use Rattle.ob_seq.specs.Line.{line, unflushed}
+use Rattle.ob_seq.specs.Total.{total}
+use Rattle.ob_seq.specs.Effect.{rows_after}
+use Rattle.ob_seq.specs.Moment.{Moment, moments_after, moments_of}
+use Rattle.ob_seq.specs.Word.{word_after}
+use Rattle.ob_seq.specs.Answer.{are_accepted, refusal_of}
+use Rattle.std.specs.Prelude.{None}
+use Rattle.ob_seq.specs.Pending.{Pending, StandsFor, entry_of}
+use Rattle.ob_seq.specs.Steps.{sum_of, pending_total, unflushed_id, front_id}
+use Rattle.ob_seq.proofs.Rows.{sum_of_rows}
+use Rattle.ob_seq.proofs.History.{moments_after_more, accepted_more}
+use Rattle.ob_seq.proofs.Marks.{word_from, word_is_from}
+use Rattle.ob_seq.proofs.Order.{IsGone, IsStanding, IsFresh, layout_of}
+use Rattle.ob_seq.proofs.Parts.{line_of_parts, unflushed_of_parts}
+
+-- the promise of a row
+abbrev pub promise_of : Row → PromiseState
+promise_of row = row.promise
+
+-- a buffer holds rows of which some are gone, some stand in line and some are fresh
+pub record Held (buffer : Pending) (gone standing fresh : List Row) : Type 0 where
+  pub line : buffer.line ≡ map entry_of standing
+  pub unflushed : buffer.unflushed ≡ map entry_of fresh
+  pub promises : buffer.promises ≡ map promise_of (gone ++ (standing ++ fresh))
+  pub all_gone : AllByRecursion IsGone gone
+  pub all_standing : AllByRecursion IsStanding standing
+  pub all_fresh : AllByRecursion IsFresh fresh
+
+-- what a buffer holds that stands for a history
+pub held_of : (buffer : Pending) (commands : List Command) → StandsFor buffer commands →
+    (let layout = layout_of buffer.settings.estimate commands in Held buffer layout.gone layout.standing layout.fresh)
+held_of buffer commands stands =
+    let layout = layout_of buffer.settings.estimate commands in
+    record {
+      line = stands.line ∙ ap (λ all. map entry_of (line all)) layout.is ∙ ap (map entry_of) (line_of_parts layout.gone layout.standing layout.fresh layout.all_gone layout.all_standing layout.all_fresh);
+      unflushed = stands.unflushed ∙ ap (λ all. map entry_of (unflushed all)) layout.is ∙ ap (map entry_of) (unflushed_of_parts layout.gone layout.standing layout.fresh layout.all_gone layout.all_standing layout.all_fresh);
+      promises = stands.promises ∙ ap (map promise_of) layout.is;
+      all_gone = layout.all_gone;
+      all_standing = layout.all_standing;
+      all_fresh = layout.all_fresh;
+    }
+
+-- a buffer that holds the rows after one more command, and has their word, stands for the history with it
+pub stands_by : (buffer : Pending) (settings : Settings) (commands : List Command) (command : Command) (gone standing fresh : List Row) → buffer.settings ≡ settings →
+    are_accepted settings.estimate [] (commands ++ command ∷ []) ≡ true → Held buffer gone standing fresh → rows_after settings.estimate (commands ++ command ∷ []) ≡ gone ++ (standing ++ fresh) →
+    buffer.word ≡ word_after settings (commands ++ command ∷ []) → StandsFor buffer (commands ++ command ∷ [])
+stands_by buffer settings commands command gone standing fresh same accepted held rows word =
+    let more : rows_after buffer.settings.estimate (commands ++ command ∷ []) ≡ gone ++ (standing ++ fresh) = ap (λ (s : Settings). rows_after s.estimate (commands ++ command ∷ [])) same ∙ rows in
+    record {
+      accepted = ap (λ (s : Settings). are_accepted s.estimate [] (commands ++ command ∷ [])) same ∙ accepted;
+      line = held.line ∙ sym (ap (λ all. map entry_of (line all)) more ∙ ap (map entry_of) (line_of_parts gone standing fresh held.all_gone held.all_standing held.all_fresh));
+      unflushed = held.unflushed ∙ sym (ap (λ all. map entry_of (unflushed all)) more ∙ ap (map entry_of) (unflushed_of_parts gone standing fresh held.all_gone held.all_standing held.all_fresh));
+      promises = held.promises ∙ sym (ap (map promise_of) more);
+      word = word ∙ ap (λ (s : Settings). word_after s (commands ++ command ∷ [])) (sym same);
+    }
+
+-- a buffer stands as it is for the history with a command that changes no row and not the word
+pub stands_same : (buffer : Pending) (commands : List Command) (command : Command) → StandsFor buffer commands →
+    refusal_of buffer.settings.estimate (rows_after buffer.settings.estimate commands) command ≡ None →
+    rows_after buffer.settings.estimate (commands ++ command ∷ []) ≡ rows_after buffer.settings.estimate commands →
+    buffer.word ≡ word_after buffer.settings (commands ++ command ∷ []) → StandsFor buffer (commands ++ command ∷ [])
+stands_same buffer commands command stands accepted more word = record {
+  accepted = accepted_more buffer.settings.estimate commands command stands.accepted accepted;
+  line = stands.line ∙ sym (ap (λ all. map entry_of (line all)) more);
+  unflushed = stands.unflushed ∙ sym (ap (λ all. map entry_of (unflushed all)) more);
+  promises = stands.promises ∙ sym (ap (map promise_of) more);
+  word = word;
+}
+
+module _ (buffer : Pending) (gone standing fresh : List Row) (held : Held buffer gone standing fresh) where
+  pub line_count : length buffer.line ≡ length standing
+  line_count = ap length held.line ∙ length-map standing entry_of
+
+  pub fresh_count : length buffer.unflushed ≡ length fresh
+  fresh_count = ap length held.unflushed ∙ length-map fresh entry_of
+
+  promise_count : length buffer.promises ≡ length gone + (length standing + length fresh)
+  promise_count = ap length held.promises ∙ length-map (gone ++ (standing ++ fresh)) promise_of ∙ length-append gone (standing ++ fresh)
+      ∙ ap (λ count. length gone + count) (length-append standing fresh)
+
+  -- the front's id counts the rows that are gone
+  pub front_id_is : front_id buffer ≡ length gone
+  front_id_is = ids (length buffer.promises) (length buffer.line) (length buffer.unflushed) (length gone) (length standing) (length fresh) promise_count line_count fresh_count
+    where
+      ids : (promises line unflushed g s f : ℕ) → promises ≡ g + (s + f) → line ≡ s → unflushed ≡ f → promises - (line + unflushed) ≡ g
+      ids promises line unflushed g s f a b c = omega arith
+
+  -- and that of the first unflushed entry also those in line
+  pub unflushed_id_is : unflushed_id buffer ≡ length (gone ++ standing)
+  unflushed_id_is = ids (length buffer.promises) (length buffer.unflushed) (length gone) (length standing) (length fresh) promise_count fresh_count ∙ sym (length-append gone standing)
+    where
+      ids : (promises unflushed g s f : ℕ) → promises ≡ g + (s + f) → unflushed ≡ f → promises - unflushed ≡ g + s
+      ids promises unflushed g s f a c = omega arith
+
+  -- the bytes pending are those of the rows
+  pub pending_total_is : pending_total buffer ≡ total (gone ++ (standing ++ fresh))
+  pending_total_is =
+      ap (λ entries. sum_of entries + sum_of buffer.unflushed) (held.line ∙ sym (ap (map entry_of) (line_of_parts gone standing fresh held.all_gone held.all_standing held.all_fresh)))
+      ∙ ap (λ entries. sum_of (map entry_of (line (gone ++ (standing ++ fresh)))) + sum_of entries)
+      (held.unflushed ∙ sym (ap (map entry_of) (unflushed_of_parts gone standing fresh held.all_gone held.all_standing held.all_fresh)))
+      ∙ sum_of_rows (gone ++ (standing ++ fresh))
+
+-- the word of a buffer that stands for a history, by its moments
+pub word_by_moments : (buffer : Pending) (commands : List Command) → StandsFor buffer commands → buffer.word ≡ word_from buffer.settings.marks (moments_after buffer.settings.estimate commands)
+word_by_moments buffer commands stands = stands.word ∙ word_is_from buffer.settings commands
+
+-- the word after one more command, by its moments
+pub word_with_moments : (settings : Settings) (commands : List Command) (command : Command) (moments : List Moment) → moments_of settings.estimate (rows_after settings.estimate commands) command ≡ moments →
+    word_from settings.marks (moments_after settings.estimate commands ++ moments) ≡ word_after settings (commands ++ command ∷ [])
+word_with_moments settings commands command moments same =
+    sym (word_is_from settings (commands ++ command ∷ []) ∙ ap (word_from settings.marks) (moments_after_more settings.estimate commands command ∙ ap (λ more. moments_after settings.estimate commands ++ more) same))

@@ -1,0 +1,96 @@
+-- A buffer of whose front more progress was told stands for the history with the progress.
+use Rattle.std.proofs.Common.{◌≡◌, ℕ, ◌+◌, ◌<◌, ◌≤◌, true, List, [], ◌∷◌, ◌++◌, length, refl, sym, ap, ◌∙◌, ltb, arith}
+use Rattle.std.specs.Prelude.{Option, Some, None, if◌then◌else◌}
+use Rattle.std.proofs.lemmas.Bool.Decides.{nat_tests}
+use Rattle.std.proofs.lemmas.List.{map-append}
+use Rattle.ob_types.specs.Change.{change_between}
+use Rattle.ob_types.specs.declared.command.Command.{Command}
+use Rattle.ob_types.specs.declared.command.Command.TheVariants.{Progress}
+use Rattle.ob_types.specs.declared.refusal.Refusal.{Refusal}
+use Rattle.ob_types.specs.declared.refusal.Refusal.TheVariants.{NothingFlushed, TooFar}
+use Rattle.ob_types.specs.declared.reply.Reply.{Reply}
+use Rattle.ob_types.specs.declared.reply.Answer.TheVariants.{Done}
+use Rattle.ob_seq.specs.Row.{Row}
+use Rattle.ob_seq.specs.Total.{counted_size, total}
+use Rattle.ob_seq.specs.Effect.{rows_after, progressed_row, with_front}
+use Rattle.ob_seq.specs.Moment.{moments_along, moments_of}
+use Rattle.ob_seq.specs.Word.{word_after}
+use Rattle.ob_seq.specs.Answer.{refusal_of, refusal_of_progress, outcome_of, settlements_from, reply_of}
+use Rattle.ob_seq.specs.Pending.{Pending, StandsFor}
+use Rattle.ob_seq.specs.Steps.{first_progress, first_changed, front_changed, progressed_entry}
+use Rattle.ob_seq.proofs.Acceptance.{same_reply}
+use Rattle.ob_seq.proofs.Along.{moment_of_same, moments_of_one, settlement_same, settlements_of_one}
+use Rattle.ob_seq.proofs.Fronts.{Fronted, front_is, no_front}
+use Rattle.ob_seq.proofs.Held.{Held, promise_of, stands_by}
+use Rattle.ob_seq.proofs.History.{rows_after_more, accepted_more}
+use Rattle.ob_seq.proofs.Marks.{word_after_same}
+use Rattle.ob_seq.proofs.Order.{with_front_gone, with_front_standing, progressed_stands}
+
+module _ (buffer : Pending) (commands : List Command) (n : ℕ) (stands : StandsFor buffer commands) where
+  -- with nothing in line progress is refused
+  pub nothing_refused : length buffer.line ≡ 0 → refusal_of buffer.settings.estimate (rows_after buffer.settings.estimate commands) (Progress n) ≡ Some NothingFlushed
+  nothing_refused none = ap (λ found. refusal_of_progress found n) (no_front buffer commands stands none)
+
+  refused_by_sum : (f : Fronted buffer commands) → refusal_of buffer.settings.estimate (rows_after buffer.settings.estimate commands) (Progress n)
+      ≡ (if ltb 9223372036854775807 (first_progress buffer.line + n) then Some TooFar else None)
+  refused_by_sum f = ap (λ found. refusal_of_progress found n) (front_is buffer commands f)
+      ∙ ap (λ sum. let refusal : Option Refusal = if ltb 9223372036854775807 (sum + n) then Some TooFar else None in refusal) (sym (ap first_progress f.held.line))
+
+  -- progress past the limit is refused
+  pub far_refused : Fronted buffer commands → 9223372036854775807 < first_progress buffer.line + n →
+      refusal_of buffer.settings.estimate (rows_after buffer.settings.estimate commands) (Progress n) ≡ Some TooFar
+  far_refused f far = refused_by_sum f ∙ far_if (first_progress buffer.line + n) far
+    where
+      far_if : (sum : ℕ) → 9223372036854775807 < sum → (let refusal : Option Refusal = if ltb 9223372036854775807 sum then Some TooFar else None in refusal ≡ Some TooFar)
+      far_if sum h = grind (arith, nat_tests)
+
+  -- and else accepted
+  pub progress_accepted : Fronted buffer commands → first_progress buffer.line + n ≤ 9223372036854775807 →
+      refusal_of buffer.settings.estimate (rows_after buffer.settings.estimate commands) (Progress n) ≡ None
+  progress_accepted f near = refused_by_sum f ∙ near_if (first_progress buffer.line + n) near
+    where
+      near_if : (sum : ℕ) → sum ≤ 9223372036854775807 → (let refusal : Option Refusal = if ltb 9223372036854775807 sum then Some TooFar else None in refusal ≡ None)
+      near_if sum h = grind (arith, nat_tests)
+
+  module _ (f : Fronted buffer commands) (accepted : refusal_of buffer.settings.estimate (rows_after buffer.settings.estimate commands) (Progress n) ≡ None) where
+    abbrev changed : Row
+    changed = progressed_row n f.row
+
+    effect_of_progress : with_front (progressed_row n) (rows_after buffer.settings.estimate commands) ≡ f.gone ++ changed ∷ (f.standing ++ f.fresh)
+    effect_of_progress = ap (with_front (progressed_row n)) f.rows_are ∙ with_front_gone (progressed_row n) f.gone (f.row ∷ (f.standing ++ f.fresh)) f.held.all_gone
+        ∙ ap (λ rest. f.gone ++ rest) (with_front_standing (progressed_row n) f.row (f.standing ++ f.fresh) f.held.all_standing.0)
+
+    moments_of_progress : moments_of buffer.settings.estimate (rows_after buffer.settings.estimate commands) (Progress n) ≡ []
+    moments_of_progress =
+        ap (moments_along true [] (rows_after buffer.settings.estimate commands)) effect_of_progress
+        ∙ ap (λ before. moments_along true [] before (f.gone ++ changed ∷ (f.standing ++ f.fresh))) f.rows_are
+        ∙ moments_of_one true f.gone f.row changed (f.standing ++ f.fresh)
+        ∙ moment_of_same true (counted_size f.row) (total (f.gone ++ changed ∷ (f.standing ++ f.fresh)))
+
+    word_of_progress : buffer.word ≡ word_after buffer.settings (commands ++ Progress n ∷ [])
+    word_of_progress = stands.word ∙ sym (word_after_same buffer.settings commands (Progress n) moments_of_progress)
+
+    progressed_held : Held (front_changed (progressed_entry n) buffer) f.gone (changed ∷ f.standing) f.fresh
+    progressed_held = record {
+      line = ap (first_changed (progressed_entry n)) f.held.line;
+      unflushed = f.held.unflushed;
+      promises = f.held.promises ∙ map-append promise_of f.gone (f.row ∷ (f.standing ++ f.fresh)) ∙ sym (map-append promise_of f.gone (changed ∷ (f.standing ++ f.fresh)));
+      all_gone = f.held.all_gone;
+      all_standing = (progressed_stands n f.row f.held.all_standing.0, f.held.all_standing.1);
+      all_fresh = f.held.all_fresh;
+    }
+
+    -- the buffer stands for the history with the progress
+    pub progressed_stands_for : StandsFor (front_changed (progressed_entry n) buffer) (commands ++ Progress n ∷ [])
+    progressed_stands_for = stands_by (front_changed (progressed_entry n) buffer) buffer.settings commands (Progress n) f.gone (changed ∷ f.standing) f.fresh refl
+        (accepted_more buffer.settings.estimate commands (Progress n) stands.accepted accepted) progressed_held
+        (rows_after_more buffer.settings.estimate commands (Progress n) ∙ effect_of_progress) word_of_progress
+
+    -- its reply
+    pub reply_of_progress : (let reply : Reply = record { answer = Done; settled = []; change = change_between buffer.word buffer.word } in reply ≡ reply_of buffer.settings commands (Progress n))
+    reply_of_progress =
+        same_reply refl
+        (sym (ap (settlements_from 0 (rows_after buffer.settings.estimate commands)) effect_of_progress
+        ∙ ap (λ before. settlements_from 0 before (f.gone ++ changed ∷ (f.standing ++ f.fresh))) f.rows_are
+        ∙ settlements_of_one f.gone f.row changed (f.standing ++ f.fresh) ∙ settlement_same (length f.gone) (outcome_of f.row.promise)))
+        (ap (change_between buffer.word) word_of_progress ∙ ap (λ before. change_between before (word_after buffer.settings (commands ++ Progress n ∷ []))) stands.word)

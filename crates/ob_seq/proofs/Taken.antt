@@ -1,0 +1,105 @@
+-- A buffer whose front is taken away.
+use Rattle.std.proofs.Common.{◌≡◌, ℕ, ◌+◌, ◌-◌, Bool, true, inl, inr, List, [], ◌∷◌, ◌++◌, length, map, drop, refl, sym, ap, ◌∙◌, cond, append_assoc, arith}
+use Rattle.std.specs.Prelude.{None, slice_set, if◌then◌else◌}
+use Rattle.std.proofs.lemmas.Bool.Decides.{nat_tests}
+use Rattle.std.proofs.lemmas.List.{map-append, length-map}
+use Rattle.std.proofs.lemmas.List.Sums.{sum_by-append, sum_by-cons}
+use Rattle.std.proofs.Math.Seq.{set-append_seam}
+use Rattle.ob_types.specs.WaterMark.{Marks}
+use Rattle.ob_types.specs.declared.promise.PromiseId.{PromiseId}
+use Rattle.ob_types.specs.declared.promise.PromiseState.TheVariants.{Settled}
+use Rattle.ob_types.specs.declared.promise.Outcome.{Outcome}
+use Rattle.ob_seq.specs.Row.{Row, is_flushed, is_voided}
+use Rattle.ob_seq.specs.Total.{counted_size, total}
+use Rattle.ob_seq.specs.Effect.{taken_row}
+use Rattle.ob_seq.specs.Moment.{Moment, moment_of}
+use Rattle.ob_seq.specs.Answer.{outcome_of, settlement}
+use Rattle.ob_seq.specs.Pending.{Pending}
+use Rattle.ob_seq.specs.Steps.{pending_total, first_size, is_first_voided, front_id, front_settlement, front_taken, word_after_fall}
+use Rattle.ob_seq.proofs.Held.{Held, promise_of, front_id_is, pending_total_is}
+use Rattle.ob_seq.proofs.Marks.{word_step, word_from, word_from_more}
+use Rattle.ob_seq.proofs.Order.{IsGone, IsStanding, each_append}
+
+-- a noticed fall, seen as the step of the word
+pub fall_step : (marks : Marks) (word size sum : ℕ) → word_after_fall marks word size sum ≡ word_step marks word size 0 sum
+fall_step marks word size sum = grind (arith, nat_tests)
+
+apart : (gone counted rest all after : ℕ) → all ≡ gone + (counted + rest) → after ≡ gone + (0 + rest) → after ≡ all - counted
+apart gone counted rest all after is left = omega arith
+
+-- the bytes pending without one row
+pub total_without : (rows : List Row) (was row : Row) (behind : List Row) → counted_size row ≡ 0 → total (rows ++ row ∷ behind) ≡ total (rows ++ was ∷ behind) - counted_size was
+total_without rows was row behind nothing =
+    let after : total (rows ++ row ∷ behind) ≡ total rows + (0 + total behind) =
+    sum_by-append counted_size rows (row ∷ behind) ∙ ap (λ more. total rows + more) (sum_by-cons counted_size row behind ∙ ap (λ count. count + total behind) nothing) in
+    let before : total (rows ++ was ∷ behind) ≡ total rows + (counted_size was + total behind) =
+    sum_by-append counted_size rows (was ∷ behind) ∙ ap (λ more. total rows + more) (sum_by-cons counted_size was behind) in
+    apart (total rows) (counted_size was) (total behind) (total (rows ++ was ∷ behind)) (total (rows ++ row ∷ behind)) before after
+
+module _ (outcome : Outcome) (buffer : Pending) (gone : List Row) (row : Row) (standing fresh : List Row) (held : Held buffer gone (row ∷ standing) fresh) where
+  abbrev taken : Row
+  taken = taken_row outcome row
+
+  -- the promises, with that of the front apart
+  promises_is : buffer.promises ≡ map promise_of gone ++ row.promise ∷ map promise_of (standing ++ fresh)
+  promises_is = held.promises ∙ map-append promise_of gone (row ∷ (standing ++ fresh))
+
+  -- the promises after it is taken
+  promises_of_taken : map promise_of ((gone ++ taken ∷ []) ++ (standing ++ fresh)) ≡ map promise_of gone ++ taken.promise ∷ map promise_of (standing ++ fresh)
+  promises_of_taken = ap (map promise_of) (append_assoc gone (taken ∷ []) (standing ++ fresh)) ∙ map-append promise_of gone (taken ∷ (standing ++ fresh))
+
+  first_voided_is : is_first_voided buffer.line ≡ is_voided row.place
+  first_voided_is = ap is_first_voided held.line
+
+  promises_taken : IsStanding row → (if is_first_voided buffer.line then buffer.promises else slice_set buffer.promises (front_id buffer) (Settled outcome)) ≡ map promise_of ((gone ++ taken ∷ []) ++ (standing ++ fresh))
+  promises_taken (inl sent) =
+      ap (λ voided. cond voided buffer.promises (slice_set buffer.promises (front_id buffer) (Settled outcome))) (first_voided_is ∙ ap is_voided sent.place)
+      ∙ ap (λ id. slice_set buffer.promises id (Settled outcome)) (front_id_is buffer gone (row ∷ standing) fresh held ∙ sym (length-map gone promise_of))
+      ∙ ap (λ all. slice_set all (length (map promise_of gone)) (Settled outcome)) promises_is
+      ∙ set-append_seam (map promise_of gone) row.promise (map promise_of (standing ++ fresh)) (Settled outcome)
+      ∙ ap (λ promise. map promise_of gone ++ promise ∷ map promise_of (standing ++ fresh)) (sym (ap (λ place. cond (is_flushed place) (Settled outcome) row.promise) sent.place))
+      ∙ sym promises_of_taken
+  promises_taken (inr void) =
+      ap (λ voided. cond voided buffer.promises (slice_set buffer.promises (front_id buffer) (Settled outcome))) (first_voided_is ∙ ap is_voided void.place)
+      ∙ promises_is
+      ∙ ap (λ promise. map promise_of gone ++ promise ∷ map promise_of (standing ++ fresh)) (sym (ap (λ place. cond (is_flushed place) (Settled outcome) row.promise) void.place))
+      ∙ sym promises_of_taken
+
+  -- what the buffer holds without its front
+  pub taken_held : Held (front_taken outcome buffer) (gone ++ taken ∷ []) standing fresh
+  taken_held = record {
+    line = ap (drop 1) held.line;
+    unflushed = held.unflushed;
+    promises = promises_taken held.all_standing.0;
+    all_gone = each_append IsGone gone (taken ∷ []) held.all_gone (record { place = refl }, tt);
+    all_standing = held.all_standing.1;
+    all_fresh = held.all_fresh;
+  }
+
+  -- its word, after the moment of the removal
+  pub taken_word : (moments : List Moment) → buffer.word ≡ word_from buffer.settings.marks moments →
+      (front_taken outcome buffer).word ≡ word_from buffer.settings.marks (moments ++ moment_of true (counted_size row) 0 (total (gone ++ taken ∷ (standing ++ fresh))))
+  taken_word moments was =
+      let marks = buffer.settings.marks in
+      let size = counted_size row in
+      let sum = total (gone ++ taken ∷ (standing ++ fresh)) in
+      ap (λ first. word_after_fall marks buffer.word first (pending_total buffer - first)) (ap first_size held.line)
+      ∙ ap (λ all. word_after_fall marks buffer.word size (all - size)) (pending_total_is buffer gone (row ∷ standing) fresh held)
+      ∙ ap (word_after_fall marks buffer.word size) (sym (total_without gone row taken (standing ++ fresh) refl))
+      ∙ ap (λ word. word_after_fall marks word size sum) was
+      ∙ fall_step marks (word_from marks moments) size sum
+      ∙ sym (word_from_more marks moments size 0 sum)
+
+  -- what the removal settles
+  pub taken_settlement : front_settlement buffer outcome ≡ settlement (length gone) (outcome_of row.promise) (outcome_of taken.promise)
+  taken_settlement = by_kind held.all_standing.0
+    where
+      by_kind : IsStanding row → front_settlement buffer outcome ≡ settlement (length gone) (outcome_of row.promise) (outcome_of taken.promise)
+      by_kind (inl sent) =
+          ap (λ (voided : Bool). let settled : List (PromiseId × Outcome) = cond voided [] ((record { 0 = front_id buffer }, outcome) ∷ []) in settled) (first_voided_is ∙ ap is_voided sent.place)
+          ∙ ap (λ id. (let promise : PromiseId = record { 0 = id } in promise, outcome) ∷ []) (front_id_is buffer gone (row ∷ standing) fresh held)
+          ∙ sym (ap (λ promise. settlement (length gone) (outcome_of promise) (outcome_of taken.promise)) sent.promise
+          ∙ ap (λ place. settlement (length gone) None (outcome_of (cond (is_flushed place) (Settled outcome) row.promise))) sent.place)
+      by_kind (inr void) =
+          ap (λ (voided : Bool). let settled : List (PromiseId × Outcome) = cond voided [] ((record { 0 = front_id buffer }, outcome) ∷ []) in settled) (first_voided_is ∙ ap is_voided void.place)
+          ∙ sym (ap (λ promise. settlement (length gone) (outcome_of promise) (outcome_of taken.promise)) void.promise)

@@ -1,0 +1,107 @@
+use Rattle.std.proofs.Common.{◌≡◌, ℕ, ◌+◌, ◌<◌, ◌≤◌, min, [], ◌∷◌, ◌++◌, List, zero, suc, length, take, get_or, refl, sym, ap, ◌∙◌, subst, arith}
+use Rattle.std.specs.Prelude.{Ok, slice_set}
+use Rattle.std.proofs.lemmas.List.{length-take, get_or_read}
+use Rattle.ob_types.specs.Change.{change_between}
+use Rattle.ob_types.specs.declared.command.Command.TheVariants.{Progress}
+use Rattle.ob_types.specs.declared.refusal.Refusal.TheVariants.{NothingFlushed, TooFar}
+use Rattle.ob_seq.specs.declared.entry.Entry.{Entry}
+use Rattle.ob_seq.specs.Pending.{Pending, StandsFor}
+use Rattle.ob_seq.specs.Steps.{first_progress, front_changed, progressed_entry}
+use Rattle.ob_seq.proofs.Acceptance.{same_reply, answer_of_refused, stands_refused, answer_of_accepted, stands_accepted}
+use Rattle.ob_seq.proofs.Fronts.{fronted}
+use Rattle.ob_seq.proofs.Kept.{kept_changed}
+use Rattle.ob_seq.proofs.Progressed.{nothing_refused, far_refused, progress_accepted, progressed_stands_for, reply_of_progress}
+use Rattle.ob_seq.proofs.buffer.Buffer.progress.Goals as goal
+
+-- the progress of the first entry in line
+first_of : (entries : List Entry) (flushed : ℕ) (entry : Entry) → 0 < flushed → 0 < length entries → entry ≡ get_or entries 0 entry → first_progress (take flushed entries) ≡ entry.progress
+first_of [] flushed entry some any is = absurd (omega arith)
+first_of (e ∷ es) zero entry some any is = absurd (omega arith)
+first_of (e ∷ es) (suc n) entry some any is = ap (λ (one : Entry). one.progress) (sym is)
+
+too_far : (first read n : ℕ) → first ≡ read → (read + n ≤ 9223372036854775807 → ⊥) → 9223372036854775807 < first + n
+too_far first read n same far = omega (arith, far)
+
+pub returns-then-self-eq0-clause-answer : goal.returns-then-self-eq0-clause-answer
+returns-then-self-eq0-clause-answer c commands stands =
+    let now = c.args.self.now in
+    let inside = c.self.inside in
+    let line : length now.line ≡ min inside.flushed (length inside.entries.items) = ap (λ (held : Pending). length held.line) (sym c.self.view_is) ∙ length-take inside.flushed inside.entries.items in
+    let none : length now.line ≡ 0 = omega (arith, c.if-self-eq0.true) in
+    sym (answer_of_refused now.settings commands (Progress c.args.n) NothingFlushed (nothing_refused now commands c.args.n stands none))
+
+pub returns-then-self-eq0-clause-stands : goal.returns-then-self-eq0-clause-stands
+returns-then-self-eq0-clause-stands c commands stands =
+    let now = c.args.self.now in
+    let inside = c.self.inside in
+    let line : length now.line ≡ min inside.flushed (length inside.entries.items) = ap (λ (held : Pending). length held.line) (sym c.self.view_is) ∙ length-take inside.flushed inside.entries.items in
+    let none : length now.line ≡ 0 = omega (arith, c.if-self-eq0.true) in
+    stands_refused now.settings now commands (Progress c.args.n) NothingFlushed (nothing_refused now commands c.args.n stands none) stands
+
+pub returns-in_default-clause-answer : goal.returns-in_default-clause-answer
+returns-in_default-clause-answer c commands stands =
+    let now = c.args.self.now in
+    let inside = c.self.inside in
+    let line : length now.line ≡ min inside.flushed (length inside.entries.items) = ap (λ (held : Pending). length held.line) (sym c.self.view_is) ∙ length-take inside.flushed inside.entries.items in
+    let some : 0 < length now.line = omega (arith, c.if-self-eq0.false, c.self.invariant.line_within, inside.entries.ok) in
+    let any : 0 < length inside.entries.items = omega arith in
+    let flushed : 0 < inside.flushed = omega arith in
+    let front : first_progress now.line ≡ c.index.result.now.progress =
+    ap (λ (held : Pending). first_progress held.line) (sym c.self.view_is) ∙ first_of inside.entries.items inside.flushed c.index.result.now flushed any c.index.ensures in
+    let f = fronted now commands stands some in
+    let far : 9223372036854775807 < first_progress now.line + c.args.n = too_far (first_progress now.line) c.index.result.now.progress c.args.n front c.in_default.ensures in
+    sym (answer_of_refused now.settings commands (Progress c.args.n) TooFar (far_refused now commands c.args.n stands f far))
+
+pub returns-in_default-clause-stands : goal.returns-in_default-clause-stands
+returns-in_default-clause-stands c commands stands =
+    let now = c.args.self.now in
+    let inside = c.self.inside in
+    let line : length now.line ≡ min inside.flushed (length inside.entries.items) = ap (λ (held : Pending). length held.line) (sym c.self.view_is) ∙ length-take inside.flushed inside.entries.items in
+    let some : 0 < length now.line = omega (arith, c.if-self-eq0.false, c.self.invariant.line_within, inside.entries.ok) in
+    let any : 0 < length inside.entries.items = omega arith in
+    let flushed : 0 < inside.flushed = omega arith in
+    let front : first_progress now.line ≡ c.index.result.now.progress =
+    ap (λ (held : Pending). first_progress held.line) (sym c.self.view_is) ∙ first_of inside.entries.items inside.flushed c.index.result.now flushed any c.index.ensures in
+    let f = fronted now commands stands some in
+    let far : 9223372036854775807 < first_progress now.line + c.args.n = too_far (first_progress now.line) c.index.result.now.progress c.args.n front c.in_default.ensures in
+    stands_refused now.settings now commands (Progress c.args.n) TooFar (far_refused now commands c.args.n stands f far) stands
+
+pub returns-clause-answer : goal.returns-clause-answer
+returns-clause-answer c commands stands =
+    let now = c.args.self.now in
+    let inside = c.self.inside in
+    let line : length now.line ≡ min inside.flushed (length inside.entries.items) = ap (λ (held : Pending). length held.line) (sym c.self.view_is) ∙ length-take inside.flushed inside.entries.items in
+    let some : 0 < length now.line = omega (arith, c.if-self-eq0.false, c.self.invariant.line_within, inside.entries.ok) in
+    let any : 0 < length inside.entries.items = omega arith in
+    let flushed : 0 < inside.flushed = omega arith in
+    let front : first_progress now.line ≡ c.index.result.now.progress =
+    ap (λ (held : Pending). first_progress held.line) (sym c.self.view_is) ∙ first_of inside.entries.items inside.flushed c.index.result.now flushed any c.index.ensures in
+    let f = fronted now commands stands some in
+    let near : first_progress now.line + c.args.n ≤ 9223372036854775807 = subst (λ (p : ℕ). p + c.args.n ≤ 9223372036854775807) (sym front) c.in-Some.ensures.0 in
+    let accepted = progress_accepted now commands c.args.n stands f near in
+    ap Ok (c.reply.ensures
+    ∙ same_reply refl c.no_settlements.ensures (ap (λ (held : Pending). change_between held.word held.word) c.self.view_is)
+    ∙ reply_of_progress now commands c.args.n stands f accepted)
+    ∙ sym (answer_of_accepted now.settings commands (Progress c.args.n) accepted)
+
+pub returns-clause-stands : goal.returns-clause-stands
+returns-clause-stands c commands stands =
+    let now = c.args.self.now in
+    let inside = c.self.inside in
+    let line : length now.line ≡ min inside.flushed (length inside.entries.items) = ap (λ (held : Pending). length held.line) (sym c.self.view_is) ∙ length-take inside.flushed inside.entries.items in
+    let some : 0 < length now.line = omega (arith, c.if-self-eq0.false, c.self.invariant.line_within, inside.entries.ok) in
+    let any : 0 < length inside.entries.items = omega arith in
+    let flushed : 0 < inside.flushed = omega arith in
+    let front : first_progress now.line ≡ c.index.result.now.progress =
+    ap (λ (held : Pending). first_progress held.line) (sym c.self.view_is) ∙ first_of inside.entries.items inside.flushed c.index.result.now flushed any c.index.ensures in
+    let f = fronted now commands stands some in
+    let near : first_progress now.line + c.args.n ≤ 9223372036854775807 = subst (λ (p : ℕ). p + c.args.n ≤ 9223372036854775807) (sym front) c.in-Some.ensures.0 in
+    let accepted = progress_accepted now commands c.args.n stands f near in
+    let after = kept_changed (record { marks = inside.marks; estimate = inside.estimate }) inside.entries.items inside.flushed inside.promises.items inside.word (progressed_entry c.args.n)
+    (slice_set inside.entries.items 0 (record c.index_mut.result.now { progress = c.in-Some.sum })) flushed any
+    (λ d. ap (λ sum. slice_set inside.entries.items 0 (record c.index_mut.result.now { progress = sum })) c.in-Some.ensures.1
+    ∙ ap (λ (e : Entry). slice_set inside.entries.items 0 (record e { progress = c.index.result.now.progress + c.args.n })) (get_or_read inside.entries.items 0 c.index_mut.result.now any c.index_mut.ensures.value d)
+    ∙ ap (λ (e : Entry). slice_set inside.entries.items 0 (record (get_or inside.entries.items 0 d) { progress = e.progress + c.args.n })) (get_or_read inside.entries.items 0 c.index.result.now any c.index.ensures d))
+    ∙ ap (front_changed (progressed_entry c.args.n)) c.self.view_is in
+    stands_accepted now.settings _ commands (Progress c.args.n) accepted
+    (subst (λ (held : Pending). StandsFor held (commands ++ Progress c.args.n ∷ [])) (sym after) (progressed_stands_for now commands c.args.n stands f accepted))
