@@ -58,7 +58,7 @@ is_waiting (Some Fixed) = false
 is_waiting (Some (Settled outcome)) = false
 
 -- what an accepted command answers: a write its promise; a flush how many rows it reached; a removal whether there was
--- a front, and one of bytes how many rows it took away; a cancellation whether the promise still waited
+-- a front; a cancellation whether the promise still waited
 abbrev pub answer_of : List Row → Command → Answer
 answer_of rows (Write message) = Id (record { 0 = length rows })
 answer_of rows Flush = Count (length (unflushed rows))

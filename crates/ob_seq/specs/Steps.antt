@@ -56,7 +56,7 @@ abbrev pub reached_entry : Bool → Entry → Entry
 reached_entry true entry = record { message = Block []; size = 0; progress = entry.progress; voided = true }
 reached_entry false entry = entry
 
--- the first entry, or none where there is none
+-- the bytes that the first entry counts, or 0
 abbrev pub first_size : List Entry → ℕ
 first_size [] = 0
 first_size (entry ∷ entries) = entry.size
