@@ -1,6 +1,11 @@
 pub mod LinesLemmas
 pub mod NumbersLemmas
 pub mod LineLemmas
+pub mod CoreNumbersLemmas
+pub mod CoreSessionLemmas
 pub mod SessionLemmas
 pub mod TraceLemmas
+pub mod CoreTraceLemmas
+pub mod EntryLemmas
+mod CoreRows
 mod Rows

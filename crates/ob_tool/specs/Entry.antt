@@ -1,10 +1,11 @@
 -- How the program ends.
-use Rattle.std.specs.Prelude.{ℕ, List, Option}
+use Rattle.std.specs.Prelude.{◌≡◌, ℕ, List, Option}
 use Rattle.std.specs.Io.KnownBytes.{Appends}
-use Rattle.ob_seq.specs.Settings.{Settings}
-use Rattle.ob_tool.specs.Trace.{trace_of}
+use Rattle.ob_tool.specs.Request.{requested_trace, requested_fault}
 use Rattle.ob_tool.specs.Outcome.{status_of}
 use Rattle.ob_tool.specs.declared.entry_fault.EntryFault.{EntryFault}
+use Rattle.ob_tool.specs.declared.line_fault.LineFault.{LineFault}
+use Rattle.ob_tool.specs.declared.request.Request.{Request}
 use Rattle.ob_tool.specs.declared.entry_fault.EntryFault.TheVariants.{CommandLine, BadMarks, Run}
 
 -- the status with which the program ends after a fault
@@ -13,6 +14,8 @@ exit_status_of (CommandLine error) = 1
 exit_status_of BadMarks = 1
 exit_status_of (Run fault) = status_of fault
 
--- for some settings, the trace of the script is written and nothing else
-abbrev pub WritesTrace : List ℕ → Option (List ℕ) → Option (List ℕ) → Type 0
-WritesTrace script old new = (settings : Settings) × Appends old new (trace_of settings script)
+-- for something that the program may be asked for, the trace of the script is written and nothing else, and the fault
+-- that ends the script is this one
+abbrev pub WritesTrace : List ℕ → Option (ℕ × LineFault) → Option (List ℕ) → Option (List ℕ) → Type 0
+WritesTrace script fault old new =
+    (request : Request) × Appends old new (requested_trace request script) × (requested_fault request script ≡ fault)

@@ -1,3 +1,11 @@
+pub mod CoreLine
+pub mod CoreQuiet
+pub mod CoreScript
+pub mod CoreSession
+pub mod CoreStage
+pub mod CoreTable
+pub mod CoreText
+pub mod CoreTrace
 pub mod Ending
 pub mod Entry
 pub mod Fault
@@ -6,6 +14,7 @@ pub mod Lines
 pub mod Numbers
 pub mod Options
 pub mod Outcome
+pub mod Request
 pub mod Script
 pub mod Session
 pub mod Table

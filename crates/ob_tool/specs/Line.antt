@@ -1,25 +1,17 @@
 -- What one line of a script says: what it asks, or its fault.
-use Rattle.std.specs.Prelude.{ℕ, List, [], ◌∷◌, length, nat_lt, if◌then◌else◌, Option, None, Some, Result, Ok, Err}
+use Rattle.std.specs.Prelude.{ℕ, List, [], ◌∷◌, length, nat_lt, if◌then◌else◌, Option, None, Some, Result, Err}
 use Rattle.ob_tool.specs.Lines.{words_of}
-use Rattle.ob_tool.specs.Numbers.{numbers_in}
+use Rattle.ob_tool.specs.Numbers.{all_numbers_in, asked_by}
 use Rattle.ob_tool.specs.Table.{ranges_of, line_asked, word_named}
 use Rattle.ob_tool.specs.declared.line_word.LineWord.{LineWord}
 use Rattle.ob_tool.specs.declared.script_line.ScriptLine.{ScriptLine}
 use Rattle.ob_tool.specs.declared.line_fault.LineFault.{LineFault}
-use Rattle.ob_tool.specs.declared.line_fault.LineFault.TheVariants.{UnknownWord, TooFewWords, TooManyWords, LongLine}
-
--- what a line asks by its first word, unless its numbers have a fault
-abbrev pub with_numbers : LineWord → Result (List ℕ) LineFault → Result ScriptLine LineFault
-with_numbers word (Ok numbers) = Ok (line_asked word numbers)
-with_numbers word (Err fault) = Err fault
+use Rattle.ob_tool.specs.declared.line_fault.LineFault.TheVariants.{UnknownWord, LongLine}
 
 -- what a line says whose first word is this one, by the words that follow
 abbrev pub with_word : Option LineWord → List (List ℕ) → Result ScriptLine LineFault
 with_word None words = Err UnknownWord
-with_word (Some word) words =
-    if nat_lt (length words) (length (ranges_of word)) then Err TooFewWords
-    else (if nat_lt (length (ranges_of word)) (length words) then Err TooManyWords
-    else with_numbers word (numbers_in (ranges_of word) words))
+with_word (Some word) words = asked_by (line_asked word) (all_numbers_in (ranges_of word) words)
 
 -- what the words of a line say; a line has at least one word
 abbrev pub words_reading : List (List ℕ) → Result ScriptLine LineFault

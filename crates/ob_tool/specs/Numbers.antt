@@ -1,11 +1,11 @@
 -- The numbers of a script line.
-use Rattle.std.specs.Prelude.{◌≡◌, ◌==◌, ◌&&◌, ℕ, Bool, not, List, [], ◌∷◌, length, nat_le, slice_index, if◌then◌else◌, Result, Ok, Err}
+use Rattle.std.specs.Prelude.{◌≡◌, ◌==◌, ◌&&◌, ℕ, Bool, not, List, [], ◌∷◌, length, nat_le, nat_lt, slice_index, if◌then◌else◌, Result, Ok, Err}
 use Rattle.std.specs.List.{list_all}
 use Rattle.std.specs.Char.{is_ascii_digit}
 use Rattle.std.specs.Str.Parse.{digits_value}
 use Rattle.ob_tool.specs.declared.range.Range.{Range}
 use Rattle.ob_tool.specs.declared.line_fault.LineFault.{LineFault}
-use Rattle.ob_tool.specs.declared.line_fault.LineFault.TheVariants.{NotANumber, OutOfRange}
+use Rattle.ob_tool.specs.declared.line_fault.LineFault.TheVariants.{NotANumber, OutOfRange, TooFewWords, TooManyWords}
 
 -- a number is one or more decimal digits, and zeros may lead
 abbrev pub is_number : List ℕ → Bool
@@ -32,6 +32,18 @@ abbrev pub numbers_in : List Range → List (List ℕ) → Result (List ℕ) Lin
 numbers_in [] words = Ok []
 numbers_in (range ∷ ranges) [] = Ok []
 numbers_in (range ∷ ranges) (word ∷ words) = before_numbers (number_in range word) (numbers_in ranges words)
+
+-- the numbers of the words that follow a first word: there are as many words as ranges
+abbrev pub all_numbers_in : List Range → List (List ℕ) → Result (List ℕ) LineFault
+all_numbers_in ranges words =
+    if nat_lt (length words) (length ranges) then Err TooFewWords
+    else (if nat_lt (length ranges) (length words) then Err TooManyWords
+    else numbers_in ranges words)
+
+-- what a line asks by its numbers, unless these have a fault
+abbrev pub asked_by : {L : Type 0} → (List ℕ → L) → Result (List ℕ) LineFault → Result L LineFault
+asked_by asked (Ok numbers) = Ok (asked numbers)
+asked_by asked (Err fault) = Err fault
 
 -- an array holds the numbers that were read, with zeros behind them, or the fault is the one that was found
 abbrev pub HoldsNumbers : Result (List ℕ) LineFault → Result (List ℕ) LineFault → Type 0

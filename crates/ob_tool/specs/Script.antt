@@ -6,13 +6,13 @@ use Rattle.ob_tool.specs.declared.script_line.ScriptLine.{ScriptLine}
 use Rattle.ob_tool.specs.declared.line_fault.LineFault.{LineFault}
 
 -- the lines before the first faulty one
-abbrev pub before_fault : List (Result ScriptLine LineFault) → List ScriptLine
+abbrev pub before_fault : {L : Type 0} → List (Result L LineFault) → List L
 before_fault [] = []
 before_fault (Ok line ∷ readings) = line ∷ before_fault readings
 before_fault (Err fault ∷ readings) = []
 
 -- the first fault, with the number of its line, where the first of these lines has the number given
-abbrev pub first_fault : ℕ → List (Result ScriptLine LineFault) → Option (ℕ × LineFault)
+abbrev pub first_fault : {L : Type 0} → ℕ → List (Result L LineFault) → Option (ℕ × LineFault)
 first_fault number [] = None
 first_fault number (Ok line ∷ readings) = first_fault (suc number) readings
 first_fault number (Err fault ∷ readings) = Some (number, fault)

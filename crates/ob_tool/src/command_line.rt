@@ -4,6 +4,7 @@ ghost use Rattle.ob_tool.specs.Entry.{exit_status_of};
 
 use crate::entry_fault::EntryFault;
 use crate::options::Options;
+use crate::request::Request;
 use clap::{Arg, ArgAction, ArgMatches, Command, value_parser};
 use ob_types::{Estimate, WaterMark};
 use std::alloc::{AllocError, Global};
@@ -24,23 +25,31 @@ const OVERHEAD: u16 = 96;
 /// The bytes of a message of unknown size where no number is given.
 const UNKNOWN: u16 = 8;
 
-/// The options of a run, by the program's words: its name, `run`, and the options.
+/// What the program's words ask for: its name, a subcommand, and the options of that.
 ///
 /// `CommandLine` comes where `clap` refuses the words, or is asked for help, `BadMarks` where the low mark is above the
 /// high one, and `NoMemory` where the allocator refuses.
-pub fn options_of<'a, S: AsStr>(alloc: Global, words: &'a [S]) -> Result<Options, EntryFault>
+pub fn request_of<'a, S: AsStr>(alloc: Global, words: &'a [S]) -> Result<Request, EntryFault>
     ensures { IfErr result (λ fault. exit_status_of fault ≢ 2) }
 {
     let matches = command(alloc)?.try_get_matches_from(words)?;
+    if let Some(given) = matches.subcommand_matches("core") {
+        let marks = marks(
+            given.get_one("low").unwrap_or(LOW),
+            given.get_one("high").unwrap_or(HIGH),
+        )?;
+        return Ok(Request::Core(marks));
+    }
     let Some(given) = matches.subcommand_matches("run") else {
-        return options(LOW, HIGH, OVERHEAD, UNKNOWN);
+        return Ok(Request::Run(options(LOW, HIGH, OVERHEAD, UNKNOWN)?));
     };
-    options(
+    let options = options(
         given.get_one("low").unwrap_or(LOW),
         given.get_one("high").unwrap_or(HIGH),
         given.get_one("overhead").unwrap_or(OVERHEAD),
         given.get_one("unknown").unwrap_or(UNKNOWN),
-    )
+    )?;
+    Ok(Request::Run(options))
 }
 
 /// The options of these numbers, in bytes.
@@ -52,14 +61,24 @@ fn options(low: u32, high: u32, overhead: u16, unknown: u16) -> Result<Options, 
     ensures err { IfErr result (λ fault. exit_status_of fault ≡ 1) }
     ensures accepted { IsOk result ↔ (low ≤ high × high ≤ 2147483647) }
 {
-    let Ok(marks) = WaterMark::new(low, high) else {
-        return Err(EntryFault::BadMarks);
-    };
+    let marks = marks(low, high)?;
     let estimate = Estimate {
         overhead: u32::from(overhead),
         unknown: u32::from(unknown),
     };
     Ok(Options { marks, estimate })
+}
+
+/// The marks of these numbers, in bytes.
+fn marks(low: u32, high: u32) -> Result<WaterMark, EntryFault>
+    ensures ok { IfOk result (λ marks. marks ≡ record { low = low; high = high }) }
+    ensures err { IfErr result (λ fault. exit_status_of fault ≡ 1) }
+    ensures accepted { IsOk result ↔ (low ≤ high × high ≤ 2147483647) }
+{
+    match WaterMark::new(low, high) {
+        Ok(marks) => Ok(marks),
+        Err(_) => Err(EntryFault::BadMarks),
+    }
 }
 
 /// What the program takes.
@@ -69,7 +88,8 @@ fn command<'a>(alloc: Global) -> Result<Command<'a>, AllocError> {
             "Carries out scripts of commands on the outbound buffer of a channel, and shows what each command does",
         )
         .subcommand_required(true)
-        .subcommand(run_command(alloc)?)
+        .subcommand(run_command(alloc)?)?
+        .subcommand(core_command(alloc)?)
 }
 
 /// The subcommand `run`.
@@ -78,16 +98,8 @@ fn run_command<'a>(alloc: Global) -> Result<Command<'a>, AllocError> {
         .about(
             "Reads a script from standard input, and writes one line for each of its lines to standard output",
         )
-        .arg(mark(
-            alloc,
-            "low",
-            "Writers may go on once fewer bytes than this are pending (32768 where it is not given)",
-        ))?
-        .arg(mark(
-            alloc,
-            "high",
-            "Writers should stop once more bytes than this are pending (65536 where it is not given)",
-        ))?
+        .arg(low_mark(alloc))?
+        .arg(high_mark(alloc))?
         .arg(size(
             alloc,
             "overhead",
@@ -98,6 +110,34 @@ fn run_command<'a>(alloc: Global) -> Result<Command<'a>, AllocError> {
             "unknown",
             "Bytes that a message of unknown size counts (8 where it is not given)",
         ))
+}
+
+/// The subcommand `core`.
+fn core_command<'a>(alloc: Global) -> Result<Command<'a>, AllocError> {
+    Command::new(alloc, "core")
+        .about(
+            "Reads a script of lanes and turns from standard input, and writes one line for each to standard output",
+        )
+        .arg(low_mark(alloc))?
+        .arg(high_mark(alloc))
+}
+
+/// The option `--low`.
+fn low_mark<'a>(alloc: Global) -> Arg<'a> {
+    mark(
+        alloc,
+        "low",
+        "Writers may go on once fewer bytes than this are pending (32768 where it is not given)",
+    )
+}
+
+/// The option `--high`.
+fn high_mark<'a>(alloc: Global) -> Arg<'a> {
+    mark(
+        alloc,
+        "high",
+        "Writers should stop once more bytes than this are pending (65536 where it is not given)",
+    )
 }
 
 /// An option that is a mark.

@@ -1,11 +1,17 @@
-ghost use Rattle.std.specs.Prelude.{◌≡◌, ◌≤◌, None, IfSome, IsSome, IfErr, OnOk};
-ghost use Rattle.std.specs.Io.KnownBytes.{Keeps};
-ghost use Rattle.ob_tool.specs.Script.{script_fault};
+ghost use Rattle.std.specs.Prelude.{◌≡◌, ◌≤◌, ℕ, None, Some, IfSome, IfErr, OnOk};
+ghost use Rattle.std.specs.Io.KnownBytes.{Appends, Keeps};
+ghost use Rattle.ob_tool.specs.declared.line_fault.LineFault.{LineFault};
+ghost use Rattle.ob_tool.specs.Outcome.{WentThrough, fault_told};
+ghost use Rattle.ob_tool.specs.Request.{requested_fault, requested_trace};
 ghost use Rattle.ob_tool.specs.Entry.{WritesTrace, exit_status_of};
 
-use crate::command_line::options_of;
+use crate::command_line::request_of;
+use crate::core_run::core;
 use crate::entry_fault::EntryFault;
+use crate::request::Request;
 use crate::run::run;
+use crate::run_fault::RunFault;
+use std::alloc::Global;
 use std::convert::AsStr;
 use std::io::{Read, Write};
 
@@ -20,8 +26,7 @@ pub fn entry<H: AllocGlobal, S: AsStr, R: Read, W: Write, E: Write>(
 ) -> u8
     // Status 0: the trace of a script without a fault, and nothing on `errors`.
     ensures traced { result ≡ 0 → IfSome (R.remaining reader.old) (λ script.
-        WritesTrace script (W.contents writer.old) (W.contents writer.new)) }
-    ensures faultless { result ≡ 0 → IfSome (R.remaining reader.old) (λ script. script_fault script ≡ None) }
+        WritesTrace script None (W.contents writer.old) (W.contents writer.new)) }
     ensures quiet { result ≡ 0 → Keeps (E.contents errors.old) (E.contents errors.new) }
 
     // Status 1: the command line is refused before the script is carried out.
@@ -29,8 +34,7 @@ pub fn entry<H: AllocGlobal, S: AsStr, R: Read, W: Write, E: Write>(
 
     // Status 2: the trace up to the faulty line.
     ensures cut_short { result ≡ 2 → IfSome (R.remaining reader.old) (λ script.
-        WritesTrace script (W.contents writer.old) (W.contents writer.new)) }
-    ensures faulty { result ≡ 2 → IfSome (R.remaining reader.old) (λ script. IsSome (script_fault script)) }
+        (fault : ℕ × LineFault) × WritesTrace script (Some fault) (W.contents writer.old) (W.contents writer.new)) }
     ensures within { result ≤ 4 }
 {
     match start(rt, words, reader, writer) {
@@ -50,21 +54,35 @@ fn start<H: AllocGlobal, S: AsStr, R: Read, W: Write>(
     writer: &mut W,
 ) -> Result<(), EntryFault>
     ensures traced { OnOk result (IfSome (R.remaining reader.old) (λ script.
-        WritesTrace script (W.contents writer.old) (W.contents writer.new))) }
-    ensures faultless { OnOk result (IfSome (R.remaining reader.old) (λ script. script_fault script ≡ None)) }
+        WritesTrace script None (W.contents writer.old) (W.contents writer.new))) }
     ensures refused { IfErr result (λ fault. exit_status_of fault ≡ 1 → Keeps (W.contents writer.old) (W.contents writer.new)) }
     ensures cut_short { IfErr result (λ fault. exit_status_of fault ≡ 2 → IfSome (R.remaining reader.old) (λ script.
-        WritesTrace script (W.contents writer.old) (W.contents writer.new))) }
-    ensures faulty { IfErr result (λ fault. exit_status_of fault ≡ 2 → IfSome (R.remaining reader.old) (λ script.
-        IsSome (script_fault script))) }
+        (fault : ℕ × LineFault) × WritesTrace script (Some fault) (W.contents writer.old) (W.contents writer.new))) }
 {
-    let options = match options_of(rt.alloc(), words) {
-        Ok(options) => options,
+    let request = match request_of(rt.alloc(), words) {
+        Ok(request) => request,
         Err(fault) => return Err(fault),
     };
-    match run(rt.alloc(), reader, writer, options) {
+    match carry_out(rt.alloc(), reader, writer, request) {
         Ok(()) => Ok(()),
         Err(fault) => Err(EntryFault::Run(fault)),
+    }
+}
+
+/// Does what was asked for, at the end of the script or at its first faulty line with the trace of what was read.
+fn carry_out<R: Read, W: Write>(
+    alloc: Global,
+    reader: &mut R,
+    writer: &mut W,
+    request: Request,
+) -> Result<(), RunFault>
+    ensures trace { WentThrough result → IfSome (R.remaining reader.old) (λ script.
+        Appends (W.contents writer.old) (W.contents writer.new) (requested_trace request script)) }
+    ensures fault { WentThrough result → IfSome (R.remaining reader.old) (λ script. fault_told result ≡ requested_fault request script) }
+{
+    match request {
+        Request::Run(options) => run(alloc, reader, writer, options),
+        Request::Core(marks) => core(alloc, reader, writer, marks),
     }
 }
 

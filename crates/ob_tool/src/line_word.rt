@@ -47,7 +47,7 @@ impl LineWord {
     /// The ranges of the numbers that follow the word.
     pub fn ranges(self) -> &'static [Range]
         ensures value { result.now ≡ ranges_of self }
-        ensures few { length result.now ≤ 2 }
+        ensures few { length result.now ≤ 3 }
     {
         match self {
             LineWord::Block => &BLOCK_NUMBERS,
@@ -63,7 +63,7 @@ impl LineWord {
     }
 
     /// What a line with this first word asks, by its numbers.
-    pub fn line(self, numbers: [u64; 2]) -> ScriptLine
+    pub fn line(self, numbers: [u64; 3]) -> ScriptLine
         ensures { result ≡ line_asked self numbers }
     {
         match self {

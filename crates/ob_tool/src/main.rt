@@ -1,16 +1,25 @@
-//! Runs scripts of buffer commands, and writes a line of trace for each.
+//! Runs scripts of buffer commands, or of the turns of lanes, and writes a line of trace for each.
 #![tactic(auto)]
 
 mod block;
 mod command_line;
+mod core_line;
+mod core_reading;
+mod core_run;
+mod core_session;
+mod core_text;
+mod core_trace;
+mod core_word;
 mod entry;
 mod entry_fault;
 mod line;
 mod line_fault;
 mod line_word;
 mod line_words;
+mod numbers;
 mod options;
 mod range;
+mod request;
 mod run;
 mod run_fault;
 mod script;

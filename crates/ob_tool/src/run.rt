@@ -15,7 +15,7 @@ use std::alloc::Global;
 use std::io::{Read, Write};
 
 /// The most reads of a script. Our own limit.
-const MAX_READS: u32 = 33554432;
+pub const MAX_READS: u32 = 33554432;
 
 /// Reads a script to its end, carries out its lines on an empty buffer, and writes a line of trace for each. The first
 /// faulty line ends the script; the lines before it are carried out and traced.

@@ -1,3 +1,5 @@
+mod core_faults;
+mod core_rows;
 mod doubles;
 mod faults;
 mod rows;

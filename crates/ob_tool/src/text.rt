@@ -1,6 +1,6 @@
 ghost use Rattle.std.specs.Prelude.{◌≡◌, ◌++◌, OnOk, Ok, Err, string_bytes};
 ghost use Rattle.std.specs.List.{flat_map};
-ghost use Rattle.ob_tool.specs.Text.{answer_text, change_text, command_text, levels_text, look_text, outcome_text, settlement_text};
+ghost use Rattle.ob_tool.specs.Text.{answer_text, change_text, command_text, levels_text, look_text, outcome_text, settlement_text, words_text};
 
 use ob_seq::Look;
 use ob_types::{Answer, Change, Outcome, PromiseId, Refusal, Reply};
@@ -45,7 +45,14 @@ pub fn push_look(text: &mut String, look: &Look) -> Result<(), AllocError>
 fn push_levels(text: &mut String, look: &Look) -> Result<(), AllocError>
     ensures { OnOk result (string_bytes text.new ≡ string_bytes text.old ++ levels_text look.now) }
 {
-    write!(text, " t={} w={:08x}", look.total, look.word)
+    push_words(text, look.total, look.word)
+}
+
+/// Adds a total and a word.
+pub fn push_words(text: &mut String, total: u32, word: u32) -> Result<(), AllocError>
+    ensures { OnOk result (string_bytes text.new ≡ string_bytes text.old ++ words_text total word) }
+{
+    write!(text, " t={total} w={word:08x}")
 }
 
 /// Adds the answer of a command.
@@ -62,7 +69,7 @@ fn push_answer(text: &mut String, answer: Answer) -> Result<(), AllocError>
 }
 
 /// Adds the change of writability, if there is one.
-fn push_change(text: &mut String, change: Option<Change>) -> Result<(), AllocError>
+pub fn push_change(text: &mut String, change: Option<Change>) -> Result<(), AllocError>
     ensures { OnOk result (string_bytes text.new ≡ string_bytes text.old ++ change_text change) }
 {
     match change {

@@ -73,7 +73,7 @@ fn trace_line(
 }
 
 /// Writes what waits, once there is enough of it.
-fn spill<W: io::Write>(waiting: &mut Vec<u8>, writer: &mut W) -> Result<(), RunFault>
+pub fn spill<W: io::Write>(waiting: &mut Vec<u8>, writer: &mut W) -> Result<(), RunFault>
     ensures kept { OnOk result (Keeps (append_known (W.contents writer.old) waiting.old.items)
         (append_known (W.contents writer.new) waiting.new.items)) }
     ensures fault { IfErr result (λ fault. fault ≡ Write) }

@@ -4,7 +4,7 @@ use Rattle.ob_tool.specs.Lines.{words_after}
 use Rattle.ob_tool.specs.Numbers.{numbers_in, before_numbers}
 use Rattle.ob_tool.proofs.LinesLemmas.{words_after-space, bytes_of_words}
 use Rattle.ob_tool.proofs.NumbersLemmas.{behind, behind-Ok, numbers_in-drop}
-use Rattle.ob_tool.proofs.line.read_numbers.Goals as goal
+use Rattle.ob_tool.proofs.numbers.read_numbers.Goals as goal
 
 pub loop-place-preserved : goal.loop-place-preserved
 loop-place-preserved c =

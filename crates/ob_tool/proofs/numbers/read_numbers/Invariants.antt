@@ -2,13 +2,13 @@ use Rattle.std.proofs.Common.{◌≡◌, ℕ, ◌+◌, ◌<◌, ◌≤◌, lengt
 use Rattle.ob_tool.specs.Lines.{words_after}
 use Rattle.ob_tool.specs.Numbers.{numbers_in}
 use Rattle.ob_tool.proofs.NumbersLemmas.{behind}
-use Rattle.ob_tool.proofs.line.read_numbers.Given as goal
+use Rattle.ob_tool.proofs.numbers.read_numbers.Given as goal
 
 abbrev pub invariant-loop-place : goal.invariant-loop-place
 invariant-loop-place l = record {
   so_far : numbers_in l.ranges (words_after l.after) ≡ behind (take l.place l.numbers) (numbers_in (drop l.place l.ranges) (words_after l.rest));
   space : 0 < length l.rest → get_or l.rest 0 0 ≡ 32;
   left : l.place + length (words_after l.rest) ≡ length l.ranges;
-  array : length l.numbers ≡ 2;
+  array : length l.numbers ≡ 3;
   zeros : (k : ℕ) → l.place ≤ k → get_or l.numbers k 0 ≡ 0;
 }

@@ -1,0 +1,20 @@
+-- What the program makes of a script, by what it is asked for.
+use Rattle.std.specs.Prelude.{ℕ, List, Option}
+use Rattle.ob_tool.specs.CoreScript.{core_fault}
+use Rattle.ob_tool.specs.CoreTrace.{core_trace}
+use Rattle.ob_tool.specs.Options.{settings_of}
+use Rattle.ob_tool.specs.Script.{script_fault}
+use Rattle.ob_tool.specs.Trace.{trace_of}
+use Rattle.ob_tool.specs.declared.line_fault.LineFault.{LineFault}
+use Rattle.ob_tool.specs.declared.request.Request.{Request}
+use Rattle.ob_tool.specs.declared.request.Request.TheVariants.{Run, Core}
+
+-- the trace that is asked for
+abbrev pub requested_trace : Request → List ℕ → List ℕ
+requested_trace (Run options) script = trace_of (settings_of options) script
+requested_trace (Core marks) script = core_trace marks script
+
+-- the fault that ends the script
+abbrev pub requested_fault : Request → List ℕ → Option (ℕ × LineFault)
+requested_fault (Run options) script = script_fault script
+requested_fault (Core marks) script = core_fault marks script

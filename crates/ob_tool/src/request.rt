@@ -1,0 +1,11 @@
+use crate::options::Options;
+use ob_types::WaterMark;
+
+/// What the words of the command line ask for.
+#[derive(Clone, Copy, Debug, PartialEq, Eq)]
+pub enum Request {
+    /// A run of a script on a buffer.
+    Run(Options),
+    /// A core script, with these marks.
+    Core(WaterMark),
+}
