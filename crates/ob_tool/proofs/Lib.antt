@@ -1,6 +1,7 @@
 pub mod LinesLemmas
 pub mod NumbersLemmas
 pub mod LineLemmas
+pub mod RangesLemmas
 pub mod CoreNumbersLemmas
 pub mod CoreSessionLemmas
 pub mod SessionLemmas

@@ -29,8 +29,13 @@ all_numbers_in-exact ranges words e =
 -- a line asks the same by the same numbers
 pub line_asked-same : (w : LineWord) (array numbers : List ℕ) → ((k : ℕ) → slice_index array k ≡ slice_index numbers k) → line_asked w array ≡ line_asked w numbers
 line_asked-same word.Block array numbers same = ap (λ n. line_asked word.Block (n ∷ [])) (same 0)
+line_asked-same word.Region array numbers same = ap (λ n. line_asked word.Region (n ∷ [])) (same 0)
+line_asked-same word.Other array numbers same = ap (λ n. line_asked word.Other (n ∷ [])) (same 0)
 line_asked-same word.Flush array numbers same = refl
 line_asked-same word.Remove array numbers same = refl
+line_asked-same word.RemoveWith array numbers same = ap (λ n. line_asked word.RemoveWith (n ∷ [])) (same 0)
+line_asked-same word.Progress array numbers same = ap (λ n. line_asked word.Progress (n ∷ [])) (same 0)
+line_asked-same word.Cancel array numbers same = ap (λ n. line_asked word.Cancel (n ∷ [])) (same 0)
 line_asked-same word.Look array numbers same = refl
 
 pub core_line_asked-same : (w : CoreWord) (array numbers : List ℕ) → ((k : ℕ) → slice_index array k ≡ slice_index numbers k) → core_line_asked w array ≡ core_line_asked w numbers

@@ -5,8 +5,8 @@ use Rattle.ob_seq.specs.Settings.{Settings}
 use Rattle.ob_seq.specs.Word.{user_bits}
 use Rattle.ob_tool.specs.Script.{script_lines, script_fault}
 use Rattle.ob_tool.specs.Trace.{trace_of}
-use Rattle.ob_tool.specs.declared.script_line.ScriptLine.TheVariants.{Block, Flush, Remove}
-use Rattle.ob_tool.specs.declared.line_fault.LineFault.TheVariants.{TooFewWords}
+use Rattle.ob_tool.specs.declared.script_line.ScriptLine.TheVariants.{Block, Region, Other, Flush, Remove, RemoveWith, Progress, Cancel}
+use Rattle.ob_tool.specs.declared.line_fault.LineFault.TheVariants.{OutOfRange, TooFewWords}
 
 -- the options of most rows
 abbrev settings : Settings
@@ -20,9 +20,19 @@ the_lines : script_lines (codes "b 304" ++ newline ++ codes "b 0" ++ newline ++ 
     ≡ Block 304 ∷ Block 0 ∷ Flush ∷ Remove ∷ []
 the_lines = refl
 
+-- and of another, with the greatest numbers
+the_greatest_numbers : script_lines (codes "r 18446744073709551615" ++ newline ++ codes "o 4294967295" ++ newline ++ codes "rc 4294967295" ++ newline
+    ++ codes "p 18446744073709551615" ++ newline ++ codes "x 4294967295" ++ newline)
+    ≡ Region 18446744073709551615 ∷ Other 4294967295 ∷ RemoveWith (record { 0 = 4294967295 }) ∷ Progress 18446744073709551615 ∷ Cancel (record { 0 = 4294967295 }) ∷ []
+the_greatest_numbers = refl
+
 -- the fault of a script
 the_fault : script_fault (codes "b 1" ++ newline ++ codes "b" ++ newline) ≡ Some (2, TooFewWords)
 the_fault = refl
+
+-- an id of more than 32 bits
+too_great_an_id : script_fault (codes "f" ++ newline ++ codes "x 4294967296") ≡ Some (2, OutOfRange)
+too_great_an_id = refl
 
 -- a script of no bytes has an empty trace
 empty_script : trace_of settings [] ≡ []
@@ -47,3 +57,19 @@ looks_at_a_full_buffer : trace_of settings (codes "b 304" ++ newline ++ codes "b
     ≡ codes "id 0 t=400 w=00000000" ++ newline ++ codes "id 1 t=496 w=00000001 -" ++ newline ++ codes "size=0 cur=0 bu=0 bw=297 t=496 w=00000001" ++ newline
 unfolding user_bits digits padded_integral char_count
 looks_at_a_full_buffer = refl
+
+-- a cancelled entry is voided at the flush
+cancelled_entry_is_voided_at_the_flush : trace_of settings (codes "b 304" ++ newline ++ codes "b 4" ++ newline ++ codes "x 0" ++ newline ++ codes "f" ++ newline
+    ++ codes "rm" ++ newline ++ codes "rm" ++ newline)
+    ≡ codes "id 0 t=400 w=00000000" ++ newline ++ codes "id 1 t=500 w=00000001 -" ++ newline ++ codes "yes t=500 w=00000001 0:x" ++ newline
+    ++ codes "n 2 t=100 w=00000000 +" ++ newline ++ codes "yes t=100 w=00000000" ++ newline ++ codes "yes t=0 w=00000000 1:ok" ++ newline
+unfolding user_bits digits padded_integral char_count
+cancelled_entry_is_voided_at_the_flush = refl
+
+-- regions and other messages, progress, and a removal with a cause
+regions_and_other_messages : trace_of settings (codes "r 9" ++ newline ++ codes "o 7" ++ newline ++ codes "f" ++ newline ++ codes "p 5" ++ newline ++ codes "?" ++ newline
+    ++ codes "rc 9" ++ newline)
+    ≡ codes "id 0 t=96 w=00000000" ++ newline ++ codes "id 1 t=200 w=00000000" ++ newline ++ codes "n 2 t=200 w=00000000" ++ newline
+    ++ codes "ok t=200 w=00000000" ++ newline ++ codes "size=2 cur=5 bu=201 bw=0 t=200 w=00000000" ++ newline ++ codes "yes t=104 w=00000000 0:f9" ++ newline
+unfolding user_bits digits padded_integral char_count
+regions_and_other_messages = refl

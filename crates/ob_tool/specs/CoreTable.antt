@@ -2,6 +2,7 @@
 use Rattle.std.specs.Prelude.{ℕ, ◌==◌, List, [], ◌∷◌, Option, find, codes, slice_index}
 use Rattle.std.specs.Str.{bytes_eq}
 use Rattle.ob_core.specs.declared.ask.Ask.TheVariants as ask
+use Rattle.ob_tool.specs.Numbers.{up_to}
 use Rattle.ob_tool.specs.declared.range.Range.{Range}
 use Rattle.ob_tool.specs.declared.core_word.CoreWord.{CoreWord}
 use Rattle.ob_tool.specs.declared.core_word.CoreWord.TheVariants as word
@@ -21,10 +22,6 @@ core_word_text word.Bit = codes "u"
 core_word_text word.Word = codes "w"
 core_word_text word.Total = codes "t"
 core_word_text word.Go = codes "k"
-
--- the numbers from 0 to this one
-abbrev pub up_to : ℕ → Range
-up_to greatest = record { least = 0; greatest = greatest }
 
 -- the ranges of the numbers that follow a first word
 abbrev pub core_ranges_of : CoreWord → List Range

@@ -1,5 +1,5 @@
 -- The numbers of a script line.
-use Rattle.std.specs.Prelude.{◌≡◌, ◌==◌, ◌&&◌, ℕ, Bool, not, List, [], ◌∷◌, length, nat_le, nat_lt, slice_index, if◌then◌else◌, Result, Ok, Err}
+use Rattle.std.specs.Prelude.{◌≡◌, ◌==◌, ◌≤◌, ◌&&◌, ℕ, zero, suc, Bool, not, List, [], ◌∷◌, length, nat_le, nat_lt, slice_index, if◌then◌else◌, Result, Ok, Err}
 use Rattle.std.specs.List.{list_all}
 use Rattle.std.specs.Char.{is_ascii_digit}
 use Rattle.std.specs.Str.Parse.{digits_value}
@@ -10,6 +10,10 @@ use Rattle.ob_tool.specs.declared.line_fault.LineFault.TheVariants.{NotANumber, 
 -- a number is one or more decimal digits, and zeros may lead
 abbrev pub is_number : List ℕ → Bool
 is_number word = not (length word == 0) && list_all is_ascii_digit word
+
+-- the numbers from 0 to this one
+abbrev pub up_to : ℕ → Range
+up_to greatest = record { least = 0; greatest = greatest }
 
 -- whether a range holds a number
 abbrev pub holds : Range → ℕ → Bool
@@ -51,3 +55,13 @@ HoldsNumbers (Ok array) (Ok numbers) = (k : ℕ) → slice_index array k ≡ sli
 HoldsNumbers (Ok array) (Err fault) = ⊥
 HoldsNumbers (Err found) (Ok numbers) = ⊥
 HoldsNumbers (Err found) (Err fault) = found ≡ fault
+
+-- the greatest number that may stand at a place, counted from 0: that of its range, and 0 behind all ranges
+abbrev pub greatest_at : List Range → ℕ → ℕ
+greatest_at [] place = 0
+greatest_at (range ∷ ranges) zero = range.greatest
+greatest_at (range ∷ ranges) (suc place) = greatest_at ranges place
+
+-- no number is above its range, and behind all ranges stand zeros
+abbrev pub AreWithin : List Range → List ℕ → Type 0
+AreWithin ranges numbers = (place : ℕ) → slice_index numbers place ≤ greatest_at ranges place

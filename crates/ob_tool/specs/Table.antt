@@ -1,6 +1,7 @@
 -- The table of script lines: the first words, the numbers that follow each, and what the line asks.
 use Rattle.std.specs.Prelude.{ℕ, List, [], ◌∷◌, Option, find, codes, slice_index}
 use Rattle.std.specs.Str.{bytes_eq}
+use Rattle.ob_tool.specs.Numbers.{up_to}
 use Rattle.ob_tool.specs.declared.range.Range.{Range}
 use Rattle.ob_tool.specs.declared.line_word.LineWord.{LineWord}
 use Rattle.ob_tool.specs.declared.line_word.LineWord.TheVariants as word
@@ -9,27 +10,43 @@ use Rattle.ob_tool.specs.declared.script_line.ScriptLine.TheVariants as line
 
 -- the first words that there are
 abbrev pub line_words : List LineWord
-line_words = word.Block ∷ word.Flush ∷ word.Remove ∷ word.Look ∷ []
+line_words =
+    word.Block ∷ word.Region ∷ word.Other ∷ word.Flush ∷ word.Remove ∷ word.RemoveWith ∷ word.Progress ∷ word.Cancel ∷ word.Look ∷ []
 
 -- how a script writes a first word
 abbrev pub word_text : LineWord → List ℕ
 word_text word.Block = codes "b"
+word_text word.Region = codes "r"
+word_text word.Other = codes "o"
 word_text word.Flush = codes "f"
 word_text word.Remove = codes "rm"
+word_text word.RemoveWith = codes "rc"
+word_text word.Progress = codes "p"
+word_text word.Cancel = codes "x"
 word_text word.Look = codes "?"
 
 -- the ranges of the numbers that follow a first word
 abbrev pub ranges_of : LineWord → List Range
-ranges_of word.Block = record { least = 0; greatest = 1048576 } ∷ []
+ranges_of word.Block = up_to 1048576 ∷ []
+ranges_of word.Region = up_to 18446744073709551615 ∷ []
+ranges_of word.Other = up_to 4294967295 ∷ []
 ranges_of word.Flush = []
 ranges_of word.Remove = []
+ranges_of word.RemoveWith = up_to 4294967295 ∷ []
+ranges_of word.Progress = up_to 18446744073709551615 ∷ []
+ranges_of word.Cancel = up_to 4294967295 ∷ []
 ranges_of word.Look = []
 
 -- what a line asks, by its first word and its numbers
 abbrev pub line_asked : LineWord → List ℕ → ScriptLine
 line_asked word.Block numbers = line.Block (slice_index numbers 0)
+line_asked word.Region numbers = line.Region (slice_index numbers 0)
+line_asked word.Other numbers = line.Other (slice_index numbers 0)
 line_asked word.Flush numbers = line.Flush
 line_asked word.Remove numbers = line.Remove
+line_asked word.RemoveWith numbers = line.RemoveWith (record { 0 = slice_index numbers 0 })
+line_asked word.Progress numbers = line.Progress (slice_index numbers 0)
+line_asked word.Cancel numbers = line.Cancel (record { 0 = slice_index numbers 0 })
 line_asked word.Look numbers = line.Look
 
 -- the first word that a text writes, if it is one

@@ -32,8 +32,13 @@ block_bytes accepted size = map (λ k. (accepted + k) % 256) (range_with_len 0 s
 -- the command that a line asks for, if it asks for one, where so many writes were accepted before it
 abbrev pub command_of : ℕ → ScriptLine → Option Command
 command_of accepted (line.Block size) = Some (command.Write (message.Block (block_bytes accepted size)))
+command_of accepted (line.Region length) = Some (command.Write (message.Region length))
+command_of accepted (line.Other number) = Some (command.Write (message.Other number))
 command_of accepted line.Flush = Some command.Flush
 command_of accepted line.Remove = Some command.Remove
+command_of accepted (line.RemoveWith cause) = Some (command.RemoveWith cause)
+command_of accepted (line.Progress count) = Some (command.Progress count)
+command_of accepted (line.Cancel id) = Some (command.Cancel id)
 command_of accepted line.Look = None
 
 -- the text of a command after a history of accepted commands, or of a look where there is no command

@@ -1,27 +1,44 @@
 ghost use Rattle.std.specs.Prelude.{◌≡◌, ◌≤◌, length};
+ghost use Rattle.ob_tool.specs.Numbers.{AreWithin};
 ghost use Rattle.ob_tool.specs.Table.{word_text, ranges_of, line_asked, word_named};
 
 use crate::range::Range;
 use crate::script_line::ScriptLine;
+use ob_types::{Cause, PromiseId};
 
 /// The first word of a script line: it says which numbers follow, and what the line asks.
 #[derive(Clone, Copy, Debug, PartialEq, Eq)]
 pub enum LineWord {
     /// `b N`: write a block of N bytes.
     Block,
+    /// `r N`: write a region of N bytes.
+    Region,
+    /// `o N`: write another message, with the number N.
+    Other,
     /// `f`: flush.
     Flush,
     /// `rm`: remove.
     Remove,
+    /// `rc C`: remove with the cause C.
+    RemoveWith,
+    /// `p N`: tell of N more bytes of progress.
+    Progress,
+    /// `x ID`: cancel the promise ID.
+    Cancel,
     /// `?`: look at the buffer.
     Look,
 }
 
 /// The first words that there are.
-static LINE_WORDS: [LineWord; 4] = [
+static LINE_WORDS: [LineWord; 9] = [
     LineWord::Block,
+    LineWord::Region,
+    LineWord::Other,
     LineWord::Flush,
     LineWord::Remove,
+    LineWord::RemoveWith,
+    LineWord::Progress,
+    LineWord::Cancel,
     LineWord::Look,
 ];
 
@@ -31,6 +48,18 @@ static BLOCK_NUMBERS: [Range; 1] = [Range {
     greatest: 1048576,
 }];
 
+/// Any number of 32 bits: what another message means, a cause, or an id.
+static NUMBER_OF_32_BITS: [Range; 1] = [Range {
+    least: 0,
+    greatest: 4294967295,
+}];
+
+/// Any number of 64 bits: the bytes of a region, or of progress.
+static NUMBER_OF_64_BITS: [Range; 1] = [Range {
+    least: 0,
+    greatest: 18446744073709551615,
+}];
+
 impl LineWord {
     /// How a script writes the word.
     pub fn text(self) -> &'static [u8]
@@ -38,8 +67,13 @@ impl LineWord {
     {
         match self {
             LineWord::Block => b"b",
+            LineWord::Region => b"r",
+            LineWord::Other => b"o",
             LineWord::Flush => b"f",
             LineWord::Remove => b"rm",
+            LineWord::RemoveWith => b"rc",
+            LineWord::Progress => b"p",
+            LineWord::Cancel => b"x",
             LineWord::Look => b"?",
         }
     }
@@ -51,6 +85,8 @@ impl LineWord {
     {
         match self {
             LineWord::Block => &BLOCK_NUMBERS,
+            LineWord::Region | LineWord::Progress => &NUMBER_OF_64_BITS,
+            LineWord::Other | LineWord::RemoveWith | LineWord::Cancel => &NUMBER_OF_32_BITS,
             LineWord::Flush | LineWord::Remove | LineWord::Look => &[],
         }
     }
@@ -64,12 +100,18 @@ impl LineWord {
 
     /// What a line with this first word asks, by its numbers.
     pub fn line(self, numbers: [u64; 3]) -> ScriptLine
+        requires { AreWithin (ranges_of self) numbers }
         ensures { result ≡ line_asked self numbers }
     {
         match self {
             LineWord::Block => ScriptLine::Block(numbers[0]),
+            LineWord::Region => ScriptLine::Region(numbers[0]),
+            LineWord::Other => ScriptLine::Other(numbers[0] as u32),
             LineWord::Flush => ScriptLine::Flush,
             LineWord::Remove => ScriptLine::Remove,
+            LineWord::RemoveWith => ScriptLine::RemoveWith(Cause(numbers[0] as u32)),
+            LineWord::Progress => ScriptLine::Progress(numbers[0]),
+            LineWord::Cancel => ScriptLine::Cancel(PromiseId(numbers[0] as u32)),
             LineWord::Look => ScriptLine::Look,
         }
     }

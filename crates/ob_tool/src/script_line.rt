@@ -1,12 +1,24 @@
+use ob_types::{Cause, PromiseId};
+
 /// What one line of a script asks.
 #[derive(Clone, Copy, Debug, PartialEq, Eq)]
 pub enum ScriptLine {
     /// Write a block of so many bytes.
     Block(u64),
+    /// Write a region of so many bytes.
+    Region(u64),
+    /// Write a message that is neither, by the number that means something to the application.
+    Other(u32),
     /// Flush.
     Flush,
     /// Remove.
     Remove,
+    /// Remove with a cause.
+    RemoveWith(Cause),
+    /// Tell of so many more bytes of progress.
+    Progress(u64),
+    /// Cancel a promise.
+    Cancel(PromiseId),
     /// Look at the buffer.
     Look,
 }

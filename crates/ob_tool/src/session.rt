@@ -69,8 +69,13 @@ impl Session {
                 let bytes = block(alloc, self.next_byte, size)?;
                 Ok(Some(Command::Write(Message::Block(bytes))))
             }
+            ScriptLine::Region(length) => Ok(Some(Command::Write(Message::Region(length)))),
+            ScriptLine::Other(number) => Ok(Some(Command::Write(Message::Other(number)))),
             ScriptLine::Flush => Ok(Some(Command::Flush)),
             ScriptLine::Remove => Ok(Some(Command::Remove)),
+            ScriptLine::RemoveWith(cause) => Ok(Some(Command::RemoveWith(cause))),
+            ScriptLine::Progress(count) => Ok(Some(Command::Progress(count))),
+            ScriptLine::Cancel(id) => Ok(Some(Command::Cancel(id))),
             ScriptLine::Look => Ok(None),
         }
     }

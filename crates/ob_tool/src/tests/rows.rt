@@ -19,6 +19,17 @@ static LOW_200_HIGH_400: [&str; 6] = ["ob_tool", "run", "--low", "200", "--high"
 
 static LOW_0_HIGH_400: [&str; 6] = ["ob_tool", "run", "--low", "0", "--high", "400"];
 
+static LOW_0_HIGH_0_OVERHEAD_0: [&str; 8] = [
+    "ob_tool",
+    "run",
+    "--low",
+    "0",
+    "--high",
+    "0",
+    "--overhead",
+    "0",
+];
+
 static NO_OPTIONS: [&str; 2] = ["ob_tool", "run"];
 
 /// Runs the program on a row, and compares all that it leaves.
@@ -111,4 +122,66 @@ fn nothing_to_flush_or_remove(rt: HostRuntime) {
         "rm\nf\n",
         "no t=0 w=00000000\nn 0 t=0 w=00000000\n",
     );
+}
+
+/// A cancelled entry counts until the flush, and then keeps its place in the line.
+#[test]
+fn cancelled_entry_is_voided_at_the_flush(rt: HostRuntime) {
+    let trace = "id 0 t=400 w=00000000\nid 1 t=500 w=00000001 -\nyes t=500 w=00000001 0:x\n\
+        n 2 t=100 w=00000000 +\nyes t=100 w=00000000\nyes t=0 w=00000000 1:ok\n";
+    let script = "b 304\nb 4\nx 0\nf\nrm\nrm\n";
+    traces(&rt, &LOW_200_HIGH_400, script, trace);
+}
+
+/// Nor can a settled one, and an unknown one is refused.
+#[test]
+fn a_fixed_promise_cannot_be_cancelled(rt: HostRuntime) {
+    let fixed = "id 0 t=100 w=00000000\nn 1 t=100 w=00000000\nno t=100 w=00000000\n";
+    traces(&rt, &LOW_200_HIGH_400, "b 4\nf\nx 0\n", fixed);
+    let settled = "id 0 t=100 w=00000000\nyes t=100 w=00000000 0:x\nno t=100 w=00000000\n";
+    traces(&rt, &LOW_200_HIGH_400, "b 4\nx 0\nx 0\n", settled);
+    let unknown =
+        "!10 t=0 w=00000000\nid 0 t=97 w=00000000\n!10 t=97 w=00000000\n!10 t=97 w=00000000\n";
+    traces(&rt, &NO_OPTIONS, "x 0\nb 1\nx 1\nx 4294967295\n", unknown);
+}
+
+#[test]
+fn progress_stops_at_its_top(rt: HostRuntime) {
+    let script = "b 4\np 3\nf\np 3\np 9223372036854775805\np 9223372036854775804\n?\nrc 9\nrc 9\n\
+        r 9223372036854775808\n";
+    let trace =
+        "id 0 t=100 w=00000000\n!5 t=100 w=00000000\nn 1 t=100 w=00000000\nok t=100 w=00000000\n\
+        !6 t=100 w=00000000\nok t=100 w=00000000\n\
+        size=1 cur=9223372036854775807 bu=301 bw=0 t=100 w=00000000\n\
+        yes t=0 w=00000000 0:f9\nno t=0 w=00000000\n!1 t=0 w=00000000\n";
+    traces(&rt, &LOW_200_HIGH_400, script, trace);
+}
+
+/// A message that counts nothing changes nothing, and no total falls below 0.
+#[test]
+fn marks_of_zero(rt: HostRuntime) {
+    let trace = "id 0 t=0 w=00000000\nid 1 t=1 w=00000001 -\nn 2 t=1 w=00000001\n\
+        yes t=1 w=00000001 0:ok\nyes t=0 w=00000001 1:ok\n";
+    let script = "b 0\nb 1\nf\nrm\nrm\n";
+    traces(&rt, &LOW_0_HIGH_0_OVERHEAD_0, script, trace);
+}
+
+/// A region counts its overhead alone, another message the bytes of an unknown size besides.
+#[test]
+fn regions_and_other_messages(rt: HostRuntime) {
+    let script = "r 9\no 7\nf\np 18446744073709551615\np 5\n?\nrc 4294967295\nrm\n";
+    let trace = "id 0 t=96 w=00000000\nid 1 t=200 w=00000000\nn 2 t=200 w=00000000\n\
+        !6 t=200 w=00000000\nok t=200 w=00000000\nsize=2 cur=5 bu=201 bw=0 t=200 w=00000000\n\
+        yes t=104 w=00000000 0:f4294967295\nyes t=0 w=00000000 1:ok\n";
+    traces(&rt, &LOW_200_HIGH_400, script, trace);
+}
+
+/// A region may be longer than any file, but no longer than a signed number of 64 bits; a refused one takes no id.
+#[test]
+fn the_longest_region(rt: HostRuntime) {
+    let script =
+        "r 18446744073709551615\nr 9223372036854775808\nr 9223372036854775807\no 4294967295\n";
+    let trace =
+        "!1 t=0 w=00000000\n!1 t=0 w=00000000\nid 0 t=96 w=00000000\nid 1 t=200 w=00000000\n";
+    traces(&rt, &NO_OPTIONS, script, trace);
 }

@@ -1,7 +1,11 @@
 use Rattle.std.proofs.Common.{ap, Ok, ◌∙◌}
-use Rattle.ob_tool.specs.Table.{line_asked}
+use Rattle.ob_tool.specs.Table.{line_asked, ranges_of}
+use Rattle.ob_tool.proofs.RangesLemmas.{held-within}
 use Rattle.ob_tool.proofs.LineLemmas.{line_asked-same, asked_by-Ok, asked_by-Err}
 use Rattle.ob_tool.proofs.line.read_words.Goals as goal
+
+pub line-requires : goal.line-requires
+line-requires c = let held = rw c.ranges-2.ensures.value at c.in-Ok.ensures in held-within (ranges_of c.args.word) _ _ held
 
 pub returns-in-Ok : goal.returns-in-Ok
 returns-in-Ok c =
