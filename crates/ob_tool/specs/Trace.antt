@@ -1,5 +1,5 @@
 -- The trace of a script: a line of text for each line that is carried out.
-use Rattle.std.specs.Prelude.{ℕ, ◌+◌, ◌%◌, Bool, true, false, List, [], ◌∷◌, ◌++◌, map, fold, count_by, Option, None, Some}
+use Rattle.std.specs.Prelude.{ℕ, ◌+◌, ◌%◌, Bool, true, false, List, [], ◌∷◌, ◌++◌, map, fold, count_by}
 use Rattle.std.specs.List.{range_with_len}
 use Rattle.ob_types.specs.declared.message.Message.TheVariants as message
 use Rattle.ob_types.specs.declared.command.Command.{Command}
@@ -9,6 +9,8 @@ use Rattle.ob_seq.specs.Answer.{answer_to, commands_after}
 use Rattle.ob_seq.specs.Looks.{look_after}
 use Rattle.ob_tool.specs.Script.{script_lines}
 use Rattle.ob_tool.specs.Text.{command_text, look_text}
+use Rattle.ob_tool.specs.declared.asked.Asked.{Asked}
+use Rattle.ob_tool.specs.declared.asked.Asked.TheVariants as asked
 use Rattle.ob_tool.specs.declared.script_line.ScriptLine.{ScriptLine}
 use Rattle.ob_tool.specs.declared.script_line.ScriptLine.TheVariants as line
 
@@ -29,36 +31,36 @@ writes_in commands = count_by is_write commands
 abbrev pub block_bytes : ℕ → ℕ → List ℕ
 block_bytes accepted size = map (λ k. (accepted + k) % 256) (range_with_len 0 size)
 
--- the command that a line asks for, if it asks for one, where so many writes were accepted before it
-abbrev pub command_of : ℕ → ScriptLine → Option Command
-command_of accepted (line.Block size) = Some (command.Write (message.Block (block_bytes accepted size)))
-command_of accepted (line.Region length) = Some (command.Write (message.Region length))
-command_of accepted (line.Other number) = Some (command.Write (message.Other number))
-command_of accepted line.Flush = Some command.Flush
-command_of accepted line.Remove = Some command.Remove
-command_of accepted (line.RemoveWith cause) = Some (command.RemoveWith cause)
-command_of accepted (line.Progress count) = Some (command.Progress count)
-command_of accepted (line.Cancel id) = Some (command.Cancel id)
-command_of accepted line.Look = None
+-- what a line asks of the buffer, where so many writes were accepted before it
+abbrev pub asked_of : ℕ → ScriptLine → Asked
+asked_of accepted (line.Block size) = asked.Command (command.Write (message.Block (block_bytes accepted size)))
+asked_of accepted (line.Region length) = asked.Command (command.Write (message.Region length))
+asked_of accepted (line.Other number) = asked.Command (command.Write (message.Other number))
+asked_of accepted line.Flush = asked.Command command.Flush
+asked_of accepted line.Remove = asked.Command command.Remove
+asked_of accepted (line.RemoveWith cause) = asked.Command (command.RemoveWith cause)
+asked_of accepted (line.Progress count) = asked.Command (command.Progress count)
+asked_of accepted (line.Cancel id) = asked.Command (command.Cancel id)
+asked_of accepted line.Look = asked.Look
 
--- the text of a command after a history of accepted commands, or of a look where there is no command
-abbrev pub text_after : Settings → List Command → Option Command → List ℕ
-text_after settings commands None = look_text (look_after settings commands)
-text_after settings commands (Some command) =
+-- the text of what is asked after a history of accepted commands
+abbrev pub text_after : Settings → List Command → Asked → List ℕ
+text_after settings commands (asked.Command command) =
     command_text (answer_to settings commands command) (look_after settings (commands_after settings commands command))
+text_after settings commands asked.Look = look_text (look_after settings commands)
 
--- the history after one more command, or the same where there is none
-abbrev pub with_command : Settings → List Command → Option Command → List Command
-with_command settings commands None = commands
-with_command settings commands (Some command) = commands_after settings commands command
+-- the history after what is asked: a look leaves it as it is
+abbrev pub history_with : Settings → List Command → Asked → List Command
+history_with settings commands (asked.Command command) = commands_after settings commands command
+history_with settings commands asked.Look = commands
 
 -- the trace line of a script line after a history
 abbrev pub line_trace : Settings → List Command → ScriptLine → List ℕ
-line_trace settings commands line = text_after settings commands (command_of (writes_in commands) line)
+line_trace settings commands line = text_after settings commands (asked_of (writes_in commands) line)
 
 -- the history after a script line
 abbrev pub history_after : Settings → List Command → ScriptLine → List Command
-history_after settings commands line = with_command settings commands (command_of (writes_in commands) line)
+history_after settings commands line = history_with settings commands (asked_of (writes_in commands) line)
 
 -- the history after script lines
 abbrev pub history_from : Settings → List Command → List ScriptLine → List Command

@@ -1,6 +1,7 @@
 //! Runs scripts of buffer commands, or of the turns of lanes, and writes a line of trace for each.
 #![tactic(auto)]
 
+mod asked;
 mod block;
 mod command_line;
 mod core_line;

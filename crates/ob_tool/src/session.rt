@@ -1,6 +1,7 @@
-ghost use Rattle.std.specs.Prelude.{◌≡◌, ◌≢◌, ◌+◌, ◌++◌, ◌%◌, ◌≤◌, [], ◌∷◌, Some, Err, IfOk, OnOk, OnErr, string_bytes};
+ghost use Rattle.std.specs.Prelude.{◌≡◌, ◌≢◌, ◌+◌, ◌++◌, ◌%◌, ◌≤◌, [], ◌∷◌, Err, IfOk, OnOk, OnErr, string_bytes};
 ghost use Rattle.ob_tool.specs.Trace.{writes_in};
 
+use crate::asked::Asked;
 use crate::block::block;
 use crate::script_line::ScriptLine;
 use crate::text::{push_look, push_refusal, push_reply};
@@ -19,10 +20,11 @@ pub struct Session {
 impl Session {
     ghost use Rattle.ob_types.specs.declared.command.Command.{Command};
     ghost use Rattle.std.specs.Prelude.{List};
-    ghost use Rattle.ob_tool.specs.Trace.{command_of, history_after, line_trace, text_after, with_command, writes_in};
+    ghost use Rattle.ob_tool.specs.Trace.{asked_of, history_after, line_trace, text_after, writes_in};
     ghost use Rattle.ob_tool.specs.Session.{IsAfter};
     ghost use Rattle.ob_tool.specs.Text.{command_text};
     ghost use Rattle.ob_seq.specs.Pending.{StandsFor};
+    ghost use Rattle.ob_seq.specs.Answer.{commands_after};
     ghost use Rattle.ob_seq.specs.Looks.{look_after};
     ghost use Rattle.ob_types.specs.declared.refusal.Refusal.TheVariants.{NoMemory};
 
@@ -53,30 +55,34 @@ impl Session {
         ensures text { OnOk result ((commands : List Command) → IsAfter self.old commands
             → string_bytes text.new ≡ string_bytes text.old ++ line_trace self.old.buffer.settings commands line) }
     {
-        match self.command(alloc, line)? {
-            Some(command) => self.give(command, text),
-            None => push_look(text, &self.buffer.look()),
+        match self.asked(alloc, line)? {
+            Asked::Command(command) => self.give(command, text),
+            Asked::Look => push_look(text, &self.buffer.look()),
         }
     }
 
-    /// The command that a line asks for, if it asks for one.
-    fn command(&self, alloc: Global, line: ScriptLine) -> Result<Option<Command>, AllocError>
-        ensures { IfOk result (λ command. (commands : List Command) → IsAfter self.now commands
-            → command ≡ command_of (writes_in commands) line) }
+    /// What a line asks of the buffer.
+    fn asked(&self, alloc: Global, line: ScriptLine) -> Result<Asked, AllocError>
+        ensures { IfOk result (λ asked. (commands : List Command) → IsAfter self.now commands
+            → asked ≡ asked_of (writes_in commands) line) }
     {
         match line {
             ScriptLine::Block(size) => {
                 let bytes = block(alloc, self.next_byte, size)?;
-                Ok(Some(Command::Write(Message::Block(bytes))))
+                Ok(Asked::Command(Command::Write(Message::Block(bytes))))
             }
-            ScriptLine::Region(length) => Ok(Some(Command::Write(Message::Region(length)))),
-            ScriptLine::Other(number) => Ok(Some(Command::Write(Message::Other(number)))),
-            ScriptLine::Flush => Ok(Some(Command::Flush)),
-            ScriptLine::Remove => Ok(Some(Command::Remove)),
-            ScriptLine::RemoveWith(cause) => Ok(Some(Command::RemoveWith(cause))),
-            ScriptLine::Progress(count) => Ok(Some(Command::Progress(count))),
-            ScriptLine::Cancel(id) => Ok(Some(Command::Cancel(id))),
-            ScriptLine::Look => Ok(None),
+            ScriptLine::Region(length) => {
+                Ok(Asked::Command(Command::Write(Message::Region(length))))
+            }
+            ScriptLine::Other(number) => {
+                Ok(Asked::Command(Command::Write(Message::Other(number))))
+            }
+            ScriptLine::Flush => Ok(Asked::Command(Command::Flush)),
+            ScriptLine::Remove => Ok(Asked::Command(Command::Remove)),
+            ScriptLine::RemoveWith(cause) => Ok(Asked::Command(Command::RemoveWith(cause))),
+            ScriptLine::Progress(count) => Ok(Asked::Command(Command::Progress(count))),
+            ScriptLine::Cancel(id) => Ok(Asked::Command(Command::Cancel(id))),
+            ScriptLine::Look => Ok(Asked::Look),
         }
     }
 
@@ -84,9 +90,9 @@ impl Session {
     fn give(&mut self, command: Command, text: &mut String) -> Result<(), AllocError>
         ensures settings { self.new.buffer.settings ≡ self.old.buffer.settings }
         ensures after { OnOk result ((commands : List Command) → IsAfter self.old commands
-            → IsAfter self.new (with_command self.old.buffer.settings commands (Some command))) }
+            → IsAfter self.new (commands_after self.old.buffer.settings commands command)) }
         ensures text { OnOk result ((commands : List Command) → IsAfter self.old commands
-            → string_bytes text.new ≡ string_bytes text.old ++ text_after self.old.buffer.settings commands (Some command)) }
+            → string_bytes text.new ≡ string_bytes text.old ++ text_after self.old.buffer.settings commands (Asked.Command command)) }
     {
         let next_byte = next_byte(self.next_byte, &command);
         match self.buffer.apply(command) {
