@@ -33,7 +33,7 @@ settlements_from_same id (row ∷ same) before after =
     ∙ settlements_from_same (suc id) same before after ∙ ap (λ at. settlements_from at before after) (omega arith)
 
 -- rows behind that stay give no moment
-moments_behind : (notice : Bool) (passed rows : List Row) → moments_along notice passed rows rows ≡ []
+pub moments_behind : (notice : Bool) (passed rows : List Row) → moments_along notice passed rows rows ≡ []
 moments_behind notice passed rows = ap (λ all. moments_along notice passed all all) (sym (append-nil rows)) ∙ moments_along_same notice passed rows [] []
 
 -- where one row changes, its moment is the only one
@@ -46,7 +46,7 @@ moments_of_one notice rows was row behind =
     ∙ append-nil (moment_of notice (counted_size was) (counted_size row) sum)
 
 -- rows behind that stay settle nothing
-settlements_behind : (id : ℕ) (rows : List Row) → settlements_from id rows rows ≡ []
+pub settlements_behind : (id : ℕ) (rows : List Row) → settlements_from id rows rows ≡ []
 settlements_behind id rows = ap (λ all. settlements_from id all all) (sym (append-nil rows)) ∙ settlements_from_same id rows [] []
 
 -- where one row changes, its settlement is the only one

@@ -3,8 +3,13 @@ use Rattle.std.proofs.Common.{◌≡◌, ℕ, ◌+◌, List, take, drop, sym, ap
 use Rattle.std.proofs.lemmas.List.{take-append-drop}
 use Rattle.std.proofs.lemmas.List.Sums.{sum_by-append}
 use Rattle.ob_seq.specs.declared.entry.Entry.{Entry}
+use Rattle.ob_seq.specs.Pending.{Pending}
 use Rattle.ob_seq.specs.Steps.{sum_of}
 
 -- two parts of a list count together what the list counts
 pub sum_of_parts : (n : ℕ) (entries : List Entry) → sum_of (take n entries) + sum_of (drop n entries) ≡ sum_of entries
 sum_of_parts n entries = sym (sum_by-append (λ entry. entry.size) (take n entries) (drop n entries)) ∙ ap sum_of (take-append-drop n entries)
+
+-- the entries that are looked at are those in line
+pub seen : (held : Pending) (read items : List Entry) (flushed : ℕ) → read ≡ items → held.line ≡ take flushed items → take flushed read ≡ held.line
+seen held read items flushed same line = ap (take flushed) same ∙ sym line

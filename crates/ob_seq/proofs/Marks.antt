@@ -6,7 +6,7 @@ use Rattle.std.proofs.lemmas.List.{reverse-append}
 use Rattle.std.proofs.lemmas.List.Sums.{sum_by-cons}
 use Rattle.ob_types.specs.WaterMark.{Marks}
 use Rattle.ob_types.specs.declared.command.Command.{Command}
-use Rattle.ob_types.specs.declared.command.Command.TheVariants.{Write, Flush, Remove, RemoveWith, Progress, Cancel}
+use Rattle.ob_types.specs.declared.command.Command.TheVariants.{Write, Flush, Remove, RemoveWith, RemoveBytes, Progress, Cancel}
 use Rattle.ob_seq.specs.Settings.{Settings}
 use Rattle.ob_seq.specs.Effect.{rows_after}
 use Rattle.ob_seq.specs.Moment.{Moment, Rise, NoticedFall, moment_of, moments_of, moments_after}
@@ -41,6 +41,7 @@ no_requests index (Write message ∷ commands) = no_requests index commands
 no_requests index (Flush ∷ commands) = no_requests index commands
 no_requests index (Remove ∷ commands) = no_requests index commands
 no_requests index (RemoveWith cause ∷ commands) = no_requests index commands
+no_requests index (RemoveBytes n ∷ commands) = no_requests index commands
 no_requests index (Progress n ∷ commands) = no_requests index commands
 no_requests index (Cancel id ∷ commands) = no_requests index commands
 

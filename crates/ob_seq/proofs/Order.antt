@@ -1,17 +1,18 @@
 -- The order of the rows: those that are gone, then those in line, then those that no flush has reached.
-use Rattle.std.proofs.Common.{◌≡◌, true, false, ◌||◌, List, [], ◌∷◌, ◌++◌, map, refl, sym, ap, ◌∙◌, cond, append_assoc, append-nil, subst, ◌⊎◌, inl, inr, zero, suc, ℕ}
+use Rattle.std.proofs.Common.{◌≡◌, true, false, ◌||◌, List, [], ◌∷◌, ◌++◌, map, refl, sym, ap, ◌∙◌, cond, append_assoc, append-nil, subst, ◌⊎◌, inl, inr, zero, suc, ℕ, Bool, ltb}
 use Rattle.std.specs.List.{AllByRecursion}
 use Rattle.std.proofs.lemmas.List.{map-append}
 use Rattle.std.specs.Prelude.{fold}
 use Rattle.ob_types.specs.declared.estimate.Estimate.{Estimate}
 use Rattle.ob_types.specs.declared.command.Command.{Command}
-use Rattle.ob_types.specs.declared.command.Command.TheVariants.{Write, Flush, Remove, RemoveWith, Progress, Cancel}
+use Rattle.ob_types.specs.declared.command.Command.TheVariants.{Write, Flush, Remove, RemoveWith, RemoveBytes, Progress, Cancel}
 use Rattle.ob_types.specs.declared.promise.PromiseState.TheVariants.{Waiting, Fixed, Settled}
 use Rattle.ob_types.specs.declared.promise.Outcome.TheVariants.{Success, Failed, Cancelled}
 use Rattle.ob_seq.specs.Row.{Row, Unflushed, Flushed, Gone, is_unflushed, is_flushed, is_voided, new_row, Voided, is_cancelled}
 use Rattle.ob_seq.specs.Line.{is_in_line}
-use Rattle.ob_seq.specs.Effect.{effect, flushed_row, taken_row, with_front, rows_after, reached_row, progressed_row, cancelled, with_cancelled}
+use Rattle.ob_seq.specs.Effect.{effect, flushed_row, taken_row, with_front, rows_after, reached_row, progressed_row, skipped_row, with_fronts_sent, with_skipped, cancelled, with_cancelled}
 use Rattle.ob_types.specs.declared.promise.Outcome.{Outcome}
+use Rattle.ob_seq.specs.ByteRun.{whole_rows, bytes_left_over}
 
 -- the row is no longer in the buffer
 pub record IsGone (row : Row) : Type 0 where
@@ -234,6 +235,22 @@ layout_of_removal outcome rows gone (row ∷ standing) fresh is all_gone all_sta
   all_fresh = all_fresh;
 }
 
+layout_of_fronts : (count : ℕ) (rows : List Row) → Layout rows → Layout (with_fronts_sent count rows)
+layout_of_fronts zero rows layout = layout
+layout_of_fronts (suc count) rows layout =
+    layout_of_fronts count (with_front (taken_row Success) rows) (layout_of_removal Success rows layout.gone layout.standing layout.fresh layout.is layout.all_gone layout.all_standing layout.all_fresh)
+
+pub skipped_stands : (n : ℕ) (row : Row) → IsStanding row → IsStanding (skipped_row n row)
+skipped_stands n row (inl sent) = inl (record { place = sent.place; promise = sent.promise })
+skipped_stands n row (inr void) = inr (record { place = void.place; promise = void.promise })
+
+layout_of_skip : (n : ℕ) (rows : List Row) → Layout rows → Layout (with_skipped n rows)
+layout_of_skip n rows layout = by_test (ltb 0 n)
+  where
+    by_test : (some : Bool) → Layout (cond some (with_front (skipped_row n) rows) rows)
+    by_test true = layout_of_change (skipped_row n) (skipped_stands n) rows layout.gone layout.standing layout.fresh layout.is layout.all_gone layout.all_standing layout.all_fresh
+    by_test false = layout
+
 -- each command keeps the order
 layout_of_effect : (estimate : Estimate) (rows : List Row) (command : Command) → Layout rows → Layout (effect estimate rows command)
 layout_of_effect estimate rows (Write message) layout = record {
@@ -258,6 +275,7 @@ layout_of_effect estimate rows Flush layout = record {
 }
 layout_of_effect estimate rows Remove layout = layout_of_removal Success rows layout.gone layout.standing layout.fresh layout.is layout.all_gone layout.all_standing layout.all_fresh
 layout_of_effect estimate rows (RemoveWith cause) layout = layout_of_removal (Failed cause) rows layout.gone layout.standing layout.fresh layout.is layout.all_gone layout.all_standing layout.all_fresh
+layout_of_effect estimate rows (RemoveBytes n) layout = layout_of_skip (bytes_left_over n rows) (with_fronts_sent (whole_rows n rows) rows) (layout_of_fronts (whole_rows n rows) rows layout)
 layout_of_effect estimate rows (Progress n) layout =
     layout_of_change (progressed_row n) (progressed_stands n) rows layout.gone layout.standing layout.fresh layout.is layout.all_gone layout.all_standing layout.all_fresh
 layout_of_effect estimate rows (Cancel id) layout =

@@ -1,5 +1,5 @@
 -- A flush, one row after another.
-use Rattle.std.proofs.Common.{◌≡◌, ℕ, zero, suc, ◌-◌, Bool, true, false, ◌||◌, List, [], ◌∷◌, ◌++◌, length, map, drop, get_or, refl, sym, ap, ◌∙◌, cond, append_assoc, append-nil, subst}
+use Rattle.std.proofs.Common.{◌≡◌, ℕ, suc, ◌-◌, Bool, true, false, ◌||◌, List, [], ◌∷◌, ◌++◌, length, map, drop, get_or, refl, sym, ap, ◌∙◌, cond, append_assoc, append-nil, subst}
 use Rattle.std.specs.Prelude.{Option, Some, None, slice_set}
 use Rattle.std.proofs.lemmas.List.{map-append, length-map}
 use Rattle.std.proofs.Math.Seq.{set-append_seam}
@@ -20,6 +20,7 @@ use Rattle.ob_seq.proofs.Held.{Held, promise_of, unflushed_id_is, pending_total_
 use Rattle.ob_seq.proofs.Marks.{word_from, word_from_more}
 use Rattle.ob_seq.proofs.Order.{IsStanding, each_append, reached_stands}
 use Rattle.ob_seq.proofs.Taken.{fall_step, total_without}
+use Rattle.ob_seq.proofs.Times.{times_first}
 
 -- a row that a flush reaches, by whether its promise was taken back
 abbrev reached_by : Bool → Row → Row
@@ -117,11 +118,6 @@ module _ (buffer : Pending) (gone standing : List Row) (row : Row) (fresh : List
           was ∙ ap (word_from buffer.settings.marks) (sym (ap (λ more. moments ++ more)
           (ap (λ after. moment_of true (counted_size row) after sum) (counted_by false row held.all_fresh.0.place) ∙ moment_of_same true (counted_size row) sum) ∙ append-nil moments))
 
--- a step taken first or last
-times_first : (n : ℕ) (buffer : Pending) → times n next_flushed (next_flushed buffer) ≡ next_flushed (times n next_flushed buffer)
-times_first zero buffer = refl
-times_first (suc n) buffer = ap next_flushed (times_first n buffer)
-
 -- a flush of all fresh rows, one after another
 pub all_reached : (fresh : List Row) (buffer : Pending) (gone standing : List Row) (moments : List Moment) → Held buffer gone standing fresh → buffer.word ≡ word_from buffer.settings.marks moments →
     (let after = times (length fresh) next_flushed buffer in
@@ -133,7 +129,7 @@ all_reached [] buffer gone standing moments held word =
 all_reached (row ∷ fresh) buffer gone standing moments held word =
     let one = moment_of true (counted_size row) (counted_size (reached_row row)) (total ((gone ++ standing) ++ reached_row row ∷ fresh)) in
     let rest = all_reached fresh (next_flushed buffer) gone (standing ++ reached_row row ∷ []) (moments ++ one) (next_held buffer gone standing row fresh held) (next_word buffer gone standing row fresh held moments word) in
-    let same = times_first (length fresh) buffer in (
+    let same = times_first next_flushed (length fresh) buffer in (
       subst (λ (after : Pending). Held after gone (standing ++ reached_row row ∷ map reached_row fresh) []) same
           (subst (λ (line : List Row). Held (times (length fresh) next_flushed (next_flushed buffer)) gone line []) (append_assoc standing (reached_row row ∷ []) (map reached_row fresh)) rest.0),
       ap (λ (after : Pending). after.word) (sym same) ∙ rest.1

@@ -1,9 +1,10 @@
--- What stays and what goes while a flush takes its steps.
+-- What stays and what goes while a flush or a removal takes its steps.
 use Rattle.std.proofs.Common.{◌≡◌, ℕ, zero, suc, ◌-◌, List, [], ◌∷◌, length, drop, refl, ap, ◌∙◌}
 use Rattle.std.proofs.lemmas.List.{length-drop}
+use Rattle.ob_types.specs.declared.promise.Outcome.{Outcome}
 use Rattle.ob_seq.specs.declared.entry.Entry.{Entry}
 use Rattle.ob_seq.specs.Pending.{Pending}
-use Rattle.ob_seq.specs.Steps.{next_flushed, times}
+use Rattle.ob_seq.specs.Steps.{front_taken, next_flushed, times}
 
 drop_one_more : (n : ℕ) (entries : List Entry) → drop 1 (drop n entries) ≡ drop (suc n) entries
 drop_one_more zero entries = refl
@@ -18,7 +19,17 @@ unflushed_of_times (suc n) old = ap (drop 1) (unflushed_of_times n old) ∙ drop
 pub unflushed_left : (n : ℕ) (old : Pending) → length (times n next_flushed old).unflushed ≡ length old.unflushed - n
 unflushed_left n old = ap length (unflushed_of_times n old) ∙ length-drop n old.unflushed
 
--- the settings stay
-pub settings_of_times : (n : ℕ) (old : Pending) → (times n next_flushed old).settings ≡ old.settings
-settings_of_times zero old = refl
-settings_of_times (suc n) old = settings_of_times n old
+-- the line that is left when so many fronts are taken
+pub line_of_times : (outcome : Outcome) (n : ℕ) (old : Pending) → (times n (front_taken outcome) old).line ≡ drop n old.line
+line_of_times outcome zero old = refl
+line_of_times outcome (suc n) old = ap (drop 1) (line_of_times outcome n old) ∙ drop_one_more n old.line
+
+-- the settings stay where a step leaves them
+pub settings_of_times : (step : Pending → Pending) → ((old : Pending) → (step old).settings ≡ old.settings) → (n : ℕ) (old : Pending) → (times n step old).settings ≡ old.settings
+settings_of_times step keeps zero old = refl
+settings_of_times step keeps (suc n) old = keeps (times n step old) ∙ settings_of_times step keeps n old
+
+-- a step taken first or last
+pub times_first : (step : Pending → Pending) (n : ℕ) (old : Pending) → times n step (step old) ≡ step (times n step old)
+times_first step zero old = refl
+times_first step (suc n) old = ap step (times_first step n old)

@@ -4,7 +4,7 @@ use Rattle.ob_types.specs.PendingSize.{counted_bytes, is_oversize}
 use Rattle.ob_types.specs.Change.{change_between}
 use Rattle.ob_types.specs.declared.estimate.Estimate.{Estimate}
 use Rattle.ob_types.specs.declared.command.Command.{Command}
-use Rattle.ob_types.specs.declared.command.Command.TheVariants.{Write, Flush, Remove, RemoveWith, Progress, Cancel}
+use Rattle.ob_types.specs.declared.command.Command.TheVariants.{Write, Flush, Remove, RemoveWith, RemoveBytes, Progress, Cancel}
 use Rattle.ob_types.specs.declared.promise.PromiseId.{PromiseId}
 use Rattle.ob_types.specs.declared.promise.Outcome.{Outcome}
 use Rattle.ob_types.specs.declared.promise.PromiseState.{PromiseState}
@@ -13,10 +13,12 @@ use Rattle.ob_types.specs.declared.reply.Reply.{Reply}
 use Rattle.ob_types.specs.declared.reply.Answer.{Answer}
 use Rattle.ob_types.specs.declared.reply.Answer.TheVariants.{Id, Count, Yes, Done}
 use Rattle.ob_types.specs.declared.refusal.Refusal.{Refusal}
-use Rattle.ob_types.specs.declared.refusal.Refusal.TheVariants.{Oversize, TooMuch, NothingFlushed, TooFar, UnknownPromise}
+use Rattle.ob_types.specs.declared.refusal.Refusal.TheVariants.{Oversize, TooMuch, NothingFlushed, TooFar, TooManyBytes, UnknownPromise}
 use Rattle.ob_seq.specs.Settings.{Settings}
 use Rattle.ob_seq.specs.Row.{Row}
 use Rattle.ob_seq.specs.Line.{front, unflushed}
+use Rattle.ob_seq.specs.Pieces.{bytes_in}
+use Rattle.ob_seq.specs.ByteRun.{byte_run, whole_rows}
 use Rattle.ob_seq.specs.Total.{total}
 use Rattle.ob_seq.specs.Effect.{effect, rows_after}
 use Rattle.ob_seq.specs.Word.{word_after}
@@ -38,6 +40,7 @@ refusal_of estimate rows (Write message) =
 refusal_of estimate rows Flush = None
 refusal_of estimate rows Remove = None
 refusal_of estimate rows (RemoveWith cause) = None
+refusal_of estimate rows (RemoveBytes n) = if nat_lt (bytes_in (byte_run rows)) n then Some TooManyBytes else None
 refusal_of estimate rows (Progress n) = refusal_of_progress (front rows) n
 refusal_of estimate rows (Cancel id) = if nat_lt id.0 (length rows) then None else Some UnknownPromise
 
@@ -58,12 +61,13 @@ is_waiting (Some Fixed) = false
 is_waiting (Some (Settled outcome)) = false
 
 -- what an accepted command answers: a write its promise; a flush how many rows it reached; a removal whether there was
--- a front; a cancellation whether the promise still waited
+-- a front; a removal of bytes how many rows it took away; a cancellation whether the promise still waited
 abbrev pub answer_of : List Row → Command → Answer
 answer_of rows (Write message) = Id (record { 0 = length rows })
 answer_of rows Flush = Count (length (unflushed rows))
 answer_of rows Remove = Yes (is_some (front rows))
 answer_of rows (RemoveWith cause) = Yes (is_some (front rows))
+answer_of rows (RemoveBytes n) = Count (whole_rows n rows)
 answer_of rows (Progress n) = Done
 answer_of rows (Cancel id) = Yes (is_waiting (promise_at rows id.0))
 

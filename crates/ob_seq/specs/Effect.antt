@@ -1,13 +1,14 @@
 -- What an accepted command does to the rows.
-use Rattle.std.specs.Prelude.{List, [], ◌∷◌, ◌++◌, map, fold, if◌then◌else◌, ℕ, zero, suc, ◌+◌}
+use Rattle.std.specs.Prelude.{List, [], ◌∷◌, ◌++◌, map, fold, if◌then◌else◌, ℕ, zero, suc, ◌+◌, min, nat_lt}
 use Rattle.ob_types.specs.declared.estimate.Estimate.{Estimate}
 use Rattle.ob_types.specs.declared.command.Command.{Command}
-use Rattle.ob_types.specs.declared.command.Command.TheVariants.{Write, Flush, Remove, RemoveWith, Progress, Cancel}
+use Rattle.ob_types.specs.declared.command.Command.TheVariants.{Write, Flush, Remove, RemoveWith, RemoveBytes, Progress, Cancel}
 use Rattle.ob_types.specs.declared.promise.Outcome.{Outcome}
 use Rattle.ob_types.specs.declared.promise.Outcome.TheVariants.{Success, Failed, Cancelled}
 use Rattle.ob_types.specs.declared.promise.PromiseState.TheVariants.{Fixed, Settled, Waiting}
 use Rattle.ob_seq.specs.Row.{Row, Flushed, Gone, new_row, is_unflushed, is_flushed, Voided, is_cancelled}
 use Rattle.ob_seq.specs.Line.{is_in_line}
+use Rattle.ob_seq.specs.ByteRun.{whole_rows, bytes_left_over}
 use Rattle.ob_types.specs.declared.promise.PromiseState.{PromiseState}
 
 -- a row that a flush reaches: it stands in line, voided where its promise was cancelled, and else with its promise fixed
@@ -26,6 +27,19 @@ taken_row outcome row = record row { place = Gone; promise = if is_flushed row.p
 abbrev pub with_front : (Row → Row) → List Row → List Row
 with_front change [] = []
 with_front change (row ∷ rows) = if is_in_line row then change row ∷ rows else row ∷ with_front change rows
+
+-- the rows when so many of the line are taken away as sent, one after another
+abbrev pub with_fronts_sent : ℕ → List Row → List Row
+with_fronts_sent zero rows = rows
+with_fronts_sent (suc count) rows = with_fronts_sent count (with_front (taken_row Success) rows)
+
+-- a row of which so many more bytes are skipped, and told as progress, which stops at 9223372036854775807
+abbrev pub skipped_row : ℕ → Row → Row
+skipped_row n row = record row { skipped = row.skipped + n; progress = min (row.progress + n) 9223372036854775807 }
+
+-- the rows with so many bytes skipped in the front, and unchanged where that is none
+abbrev pub with_skipped : ℕ → List Row → List Row
+with_skipped n rows = if nat_lt 0 n then with_front (skipped_row n) rows else rows
 
 -- a row of which so much more progress was told
 abbrev pub progressed_row : ℕ → Row → Row
@@ -49,6 +63,7 @@ effect estimate rows (Write message) = rows ++ new_row estimate message ∷ []
 effect estimate rows Flush = map flushed_row rows
 effect estimate rows Remove = with_front (taken_row Success) rows
 effect estimate rows (RemoveWith cause) = with_front (taken_row (Failed cause)) rows
+effect estimate rows (RemoveBytes n) = with_skipped (bytes_left_over n rows) (with_fronts_sent (whole_rows n rows) rows)
 effect estimate rows (Progress n) = with_front (progressed_row n) rows
 effect estimate rows (Cancel id) = with_cancelled id.0 rows
 

@@ -1,11 +1,14 @@
 pub mod Answer
+pub mod ByteRun
 pub mod Effect
+pub mod Gathering
 pub mod Inside
 pub mod Line
 pub mod Looks
 pub mod Mark
 pub mod Moment
 pub mod Pending
+pub mod Pieces
 pub mod Row
 pub mod Settings
 pub mod Steps

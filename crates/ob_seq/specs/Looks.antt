@@ -1,11 +1,11 @@
 -- What a look at a buffer shows.
-use Rattle.std.specs.Prelude.{ℕ, ◌+◌, ◌-◌, ◌&&◌, not, List, length, min, nat_le, if◌then◌else◌, Option, Some, None, option_map}
+use Rattle.std.specs.Prelude.{ℕ, ◌+◌, ◌-◌, ◌&&◌, not, List, length, map, filter, min, nat_le, if◌then◌else◌, Option, Some, None, option_map}
 use Rattle.ob_types.specs.Change.{is_writable}
 use Rattle.ob_types.specs.WaterMark.{Marks}
 use Rattle.ob_types.specs.declared.command.Command.{Command}
 use Rattle.ob_seq.specs.declared.look.Look.{Look}
 use Rattle.ob_seq.specs.Settings.{Settings}
-use Rattle.ob_seq.specs.Row.{Row, unread_part}
+use Rattle.ob_seq.specs.Row.{Row, is_flushed, unread_part}
 use Rattle.ob_seq.specs.Line.{line, front}
 use Rattle.ob_seq.specs.Total.{total}
 use Rattle.ob_seq.specs.Effect.{rows_after}
@@ -49,3 +49,8 @@ promise_after settings commands id = promise_at (rows_after settings.estimate co
 -- the unread part of the front after a history, or nothing where nothing stands in line (Netty's `current`)
 abbrev pub current_after : Settings → List Command → Option Message
 current_after settings commands = option_map unread_part (front (rows_after settings.estimate commands))
+
+-- the unread part of each flushed message after a history, but of those that were voided, oldest first (Netty's
+-- `forEachFlushedMessage`)
+abbrev pub flushed_after : Settings → List Command → List Message
+flushed_after settings commands = map unread_part (filter (λ row. is_flushed row.place) (rows_after settings.estimate commands))

@@ -1,7 +1,7 @@
 -- What a contract sees of a buffer, and the history that it stands for.
-use Rattle.std.specs.Prelude.{◌≡◌, ℕ, Bool, true, false, List, map, Result, [], None, Option}
+use Rattle.std.specs.Prelude.{◌≡◌, ℕ, Bool, true, false, not, nat_le, count_by, filter, List, map, take, Result, [], None, Option}
 use Rattle.ob_types.specs.declared.command.Command.{Command}
-use Rattle.ob_types.specs.declared.command.Command.TheVariants.{Write, Flush, Remove, RemoveWith, Progress, Cancel}
+use Rattle.ob_types.specs.declared.command.Command.TheVariants.{Write, Flush, Remove, RemoveWith, RemoveBytes, Progress, Cancel}
 use Rattle.ob_types.specs.declared.promise.PromiseState.{PromiseState}
 use Rattle.ob_types.specs.declared.reply.Reply.{Reply}
 use Rattle.ob_types.specs.declared.refusal.Refusal.{Refusal}
@@ -10,11 +10,14 @@ use Rattle.ob_seq.specs.Settings.{Settings}
 use Rattle.ob_seq.specs.Row.{Row, unread_part, is_voided}
 use Rattle.ob_seq.specs.Line.{line, unflushed}
 use Rattle.ob_seq.specs.Total.{counted_size}
+use Rattle.ob_seq.specs.Pieces.{pieces_within}
+use Rattle.ob_seq.specs.ByteRun.{blocks_in_front}
 use Rattle.ob_seq.specs.Effect.{rows_after}
 use Rattle.ob_seq.specs.Word.{word_after}
 use Rattle.ob_seq.specs.Answer.{answer_to, commands_after, are_accepted, refusal_of}
 use Rattle.ob_seq.specs.declared.look.Look.{Look}
-use Rattle.ob_seq.specs.Looks.{look_after, promise_after, current_after}
+use Rattle.ob_seq.specs.Looks.{look_after, promise_after, current_after, flushed_after}
+use Rattle.ob_seq.specs.Gathering.{gathered_after}
 use Rattle.ob_types.specs.declared.promise.PromiseId.{PromiseId}
 use Rattle.ob_types.specs.declared.message.Message.{Message}
 
@@ -63,11 +66,33 @@ Tells buffer id state = (commands : List Command) → StandsFor buffer commands 
 abbrev pub IsCurrent : Pending → Option Message → Type 0
 IsCurrent buffer message = (commands : List Command) → StandsFor buffer commands → message ≡ current_after buffer.settings commands
 
--- whether a command to a buffer is answered without any memory of the allocator
+-- what is left of each entry that was not voided
+abbrev pub messages_to_send : List Entry → List Message
+messages_to_send entries = map (λ entry. entry.message) (filter (λ entry. not entry.voided) entries)
+
+-- whatever history the buffer stands for, these are the unread parts of the flushed messages after it
+abbrev pub AreFlushed : Pending → List Message → Type 0
+AreFlushed buffer messages = (commands : List Command) → StandsFor buffer commands → messages ≡ flushed_after buffer.settings commands
+
+-- whatever history the buffer stands for, these blocks are what is gathered after it
+abbrev pub AreGathered : Pending → ℕ → ℕ → List (List ℕ) → Type 0
+AreGathered buffer max_count max_bytes blocks = (commands : List Command) → StandsFor buffer commands → blocks ≡ gathered_after buffer.settings commands max_count max_bytes
+
+-- the bytes left in each entry in line before the first that is no block
+abbrev pub blocks_left : List Entry → List (List ℕ)
+blocks_left entries = blocks_in_front (map (λ entry. entry.message) entries)
+
+-- how many promises a removal of n bytes settles: those of the entries that it takes away whole and that were not voided
+abbrev pub settled_by_bytes : ℕ → List Entry → ℕ
+settled_by_bytes n line = count_by (λ entry. not entry.voided) (take (pieces_within n (blocks_left line)) line)
+
+-- whether a command to a buffer is answered without any memory of the allocator: a removal of bytes is where it
+-- settles at most four promises
 abbrev pub takes_no_memory : Pending → Command → Bool
 takes_no_memory buffer (Write message) = false
 takes_no_memory buffer Flush = true
 takes_no_memory buffer Remove = true
 takes_no_memory buffer (RemoveWith cause) = true
+takes_no_memory buffer (RemoveBytes n) = nat_le (settled_by_bytes n buffer.line) 4
 takes_no_memory buffer (Progress n) = true
 takes_no_memory buffer (Cancel id) = true

@@ -1,17 +1,21 @@
 -- What one call does to what a buffer holds, step by step. No public clause cites this module.
-use Rattle.std.specs.Prelude.{ℕ, ◌+◌, ◌-◌, ◌*◌, ◌/◌, ◌&&◌, Bool, true, false, List, [], ◌∷◌, ◌++◌, length, drop, sum_by, slice_set, nat_lt, if◌then◌else◌, zero, suc, slice_index_or}
+use Rattle.std.specs.Prelude.{ℕ, ◌+◌, ◌-◌, ◌*◌, ◌/◌, ◌&&◌, Bool, true, false, List, [], ◌∷◌, ◌++◌, length, drop, sum_by, slice_set, nat_lt, if◌then◌else◌, zero, suc, slice_index_or, take, min, Option, Some, None}
 use Rattle.ob_types.specs.WaterMark.{Marks}
 use Rattle.ob_types.specs.declared.message.Message.{Message}
 use Rattle.ob_types.specs.declared.promise.Outcome.{Outcome}
+use Rattle.ob_types.specs.declared.promise.Outcome.TheVariants.{Success}
 use Rattle.ob_types.specs.declared.promise.PromiseState.TheVariants.{Waiting, Fixed, Settled}
 use Rattle.ob_seq.specs.declared.entry.Entry.{Entry}
+use Rattle.ob_seq.specs.declared.buffer.cut.Cut.{Cut}
 use Rattle.ob_seq.specs.Word.{bit_value}
 use Rattle.ob_seq.specs.Pending.{Pending}
-use Rattle.ob_seq.specs.Row.{is_cancelled}
+use Rattle.ob_seq.specs.Row.{is_cancelled, without_skipped}
+use Rattle.ob_seq.specs.Pieces.{bytes_in, pieces_within}
+use Rattle.ob_seq.specs.ByteRun.{block_bytes}
 use Rattle.ob_types.specs.declared.message.Message.TheVariants.{Block}
 use Rattle.ob_types.specs.declared.promise.PromiseId.{PromiseId}
 use Rattle.ob_types.specs.declared.reply.Reply.{Reply}
-use Rattle.ob_types.specs.declared.reply.Answer.TheVariants.{Yes}
+use Rattle.ob_types.specs.declared.reply.Answer.TheVariants.{Yes, Count}
 use Rattle.ob_types.specs.Change.{change_between}
 use Rattle.ob_types.specs.declared.promise.PromiseState.{PromiseState}
 
@@ -136,3 +140,43 @@ removal_reply outcome old = record {
 -- a buffer with the state of one promise set
 abbrev pub promise_set : ℕ → PromiseState → Pending → Pending
 promise_set id state old = record old { promises = slice_set old.promises id state }
+
+-- where a removal of n bytes from these pieces ends, or nothing where they hold fewer
+abbrev pub cut_of : ℕ → List (List ℕ) → Option Cut
+cut_of n pieces =
+    if nat_lt (bytes_in pieces) n then None
+    else Some (record { whole = pieces_within n pieces; rest = n - bytes_in (take (pieces_within n pieces) pieces) })
+
+-- how many bytes the block of the first entry has left, or 0
+abbrev pub first_length : List Entry → ℕ
+first_length [] = 0
+first_length (entry ∷ entries) = length (block_bytes entry.message)
+
+-- an entry of which so many more bytes are skipped, which count as progress
+abbrev pub skipped_entry : ℕ → Entry → Entry
+skipped_entry n entry = record entry { message = without_skipped n entry.message; progress = min (entry.progress + n) 9223372036854775807 }
+
+-- a buffer with so many bytes skipped in its front, and unchanged where that is none
+abbrev pub front_skipped : ℕ → Pending → Pending
+front_skipped n old = if nat_lt 0 n then front_changed (skipped_entry n) old else old
+
+-- a buffer after a removal of bytes that ends there
+abbrev pub bytes_removed : Cut → Pending → Pending
+bytes_removed cut old = front_skipped cut.rest (times cut.whole (front_taken Success) old)
+
+-- what an entry settles when it is taken away as sent: its promise, unless it was voided
+abbrev pub success_of : ℕ → Entry → List (PromiseId × Outcome)
+success_of id entry = if entry.voided then [] else (record { 0 = id }, Success) ∷ []
+
+-- what entries settle when they are taken away as sent, where their ids go on from this one
+abbrev pub successes_from : ℕ → List Entry → List (PromiseId × Outcome)
+successes_from id [] = []
+successes_from id (entry ∷ entries) = success_of id entry ++ successes_from (suc id) entries
+
+-- what a removal of bytes replies that ends there
+abbrev pub bytes_reply : Cut → Pending → Reply
+bytes_reply cut old = record {
+  answer = Count cut.whole;
+  settled = successes_from (front_id old) (take cut.whole old.line);
+  change = change_between old.word (bytes_removed cut old).word;
+}

@@ -1,7 +1,7 @@
 -- User-defined writability (Netty's `setUserDefinedWritability`).
 use Rattle.std.specs.Prelude.{ℕ, Bool, false, List, filter_map, reverse, slice_get, unwrap_or, Option, None}
 use Rattle.ob_types.specs.declared.command.Command.{Command}
-use Rattle.ob_types.specs.declared.command.Command.TheVariants.{Write, Flush, Remove, RemoveWith, Progress, Cancel}
+use Rattle.ob_types.specs.declared.command.Command.TheVariants.{Write, Flush, Remove, RemoveWith, RemoveBytes, Progress, Cancel}
 
 -- what a command asks of a user bit: to be set, to be clear, or nothing
 abbrev pub bit_request : ℕ → Command → Option Bool
@@ -9,6 +9,7 @@ bit_request index (Write message) = None
 bit_request index Flush = None
 bit_request index Remove = None
 bit_request index (RemoveWith cause) = None
+bit_request index (RemoveBytes n) = None
 bit_request index (Progress n) = None
 bit_request index (Cancel id) = None
 

@@ -1,13 +1,13 @@
 -- The definitions on small histories, computed by hand beforehand.
-use Rattle.std.specs.Prelude.{◌≡◌, ℕ, true, false, List, [], ◌∷◌, replicate, Option, Some, None, Result, Ok, Err}
+use Rattle.std.specs.Prelude.{◌≡◌, ℕ, true, false, List, [], ◌∷◌, ◌++◌, replicate, Option, Some, None, Result, Ok, Err}
 use Rattle.ob_types.specs.declared.command.Command.{Command}
-use Rattle.ob_types.specs.declared.command.Command.TheVariants.{Write, Flush, Remove, RemoveWith, Progress, Cancel}
+use Rattle.ob_types.specs.declared.command.Command.TheVariants.{Write, Flush, Remove, RemoveWith, RemoveBytes, Progress, Cancel}
 use Rattle.ob_types.specs.declared.message.Message.TheVariants.{Block, Region, Other}
 use Rattle.ob_types.specs.declared.promise.PromiseId.{PromiseId}
 use Rattle.ob_types.specs.declared.promise.Outcome.{Outcome}
 use Rattle.ob_types.specs.declared.promise.Outcome.TheVariants.{Success, Failed, Cancelled}
 use Rattle.ob_types.specs.declared.refusal.Refusal.{Refusal}
-use Rattle.ob_types.specs.declared.refusal.Refusal.TheVariants.{Oversize, NothingFlushed, TooFar, UnknownPromise}
+use Rattle.ob_types.specs.declared.refusal.Refusal.TheVariants.{Oversize, NothingFlushed, TooFar, TooManyBytes, UnknownPromise}
 use Rattle.ob_types.specs.declared.reply.Answer.{Answer}
 use Rattle.ob_types.specs.declared.reply.Answer.TheVariants.{Id, Count, Yes, Done}
 use Rattle.ob_types.specs.declared.reply.Change.{Change}
@@ -18,7 +18,8 @@ use Rattle.ob_seq.specs.Total.{total}
 use Rattle.ob_seq.specs.Effect.{rows_after}
 use Rattle.ob_seq.specs.Word.{word_after}
 use Rattle.ob_seq.specs.Answer.{answer_to, commands_after}
-use Rattle.ob_seq.specs.Looks.{look_after}
+use Rattle.ob_seq.specs.Looks.{look_after, flushed_after}
+use Rattle.ob_seq.specs.Gathering.{gathered_after}
 
 -- marks low and high, 96 bytes for each entry and 8 for an unknown message
 abbrev pub marked : ℕ → ℕ → Settings
@@ -108,3 +109,53 @@ abbrev pub Looks : Type 0
 Looks =
     (look_after (marked 32768 65536) [] ≡ record { total = 0; word = 0; size = 0; before_unwritable = 65537; before_writable = 0; current_progress = 0 })
     × (look_after (marked 200 400) (block 304 ∷ block 0 ∷ []) ≡ record { total = 496; word = 1; size = 0; before_unwritable = 0; before_writable = 297; current_progress = 0 })
+
+-- a removal of bytes takes the empty block behind the last whole one along, and skips the rest in the next
+abbrev pub RemovedBytes : Type 0
+RemovedBytes =
+    (shown (marked 200 400) [] (block 3 ∷ block 0 ∷ block 5 ∷ Flush ∷ RemoveBytes 3 ∷ RemoveBytes 2 ∷ [])
+    ≡ replied (Id (record { 0 = 0 })) [] None 99 0 ∷ replied (Id (record { 0 = 1 })) [] None 195 0 ∷ replied (Id (record { 0 = 2 })) [] None 296 0
+    ∷ replied (Count 3) [] None 296 0 ∷ replied (Count 2) (settles 0 Success ++ settles 1 Success) None 101 0 ∷ replied (Count 0) [] None 101 0 ∷ [])
+    × (look_after (marked 200 400) (block 3 ∷ block 0 ∷ block 5 ∷ Flush ∷ RemoveBytes 3 ∷ RemoveBytes 2 ∷ [])
+    ≡ record { total = 101; word = 0; size = 1; before_unwritable = 300; before_writable = 0; current_progress = 2 })
+
+-- no bytes at all remove an empty block in front
+abbrev pub EmptyFront : Type 0
+EmptyFront =
+    shown (marked 200 400) [] (block 0 ∷ Flush ∷ RemoveBytes 0 ∷ RemoveBytes 0 ∷ [])
+    ≡ replied (Id (record { 0 = 0 })) [] None 96 0 ∷ replied (Count 1) [] None 96 0 ∷ replied (Count 1) (succeeds 0) None 0 0 ∷ replied (Count 0) [] None 0 0 ∷ []
+
+-- a region ends the byte run, and so does any other message
+abbrev pub EndOfTheByteRun : Type 0
+EndOfTheByteRun =
+    (shown (marked 200 400) [] (block 3 ∷ Write (Region 9) ∷ Flush ∷ RemoveBytes 4 ∷ [])
+    ≡ replied (Id (record { 0 = 0 })) [] None 99 0 ∷ replied (Id (record { 0 = 1 })) [] None 195 0 ∷ replied (Count 2) [] None 195 0
+    ∷ record { answer = Err TooManyBytes; total = 195; word = 0 } ∷ [])
+    × (shown (marked 200 400) [] (Write (Other 5) ∷ Flush ∷ RemoveBytes 0 ∷ RemoveBytes 1 ∷ Remove ∷ [])
+    ≡ replied (Id (record { 0 = 0 })) [] None 104 0 ∷ replied (Count 1) [] None 104 0 ∷ replied (Count 0) [] None 104 0
+    ∷ record { answer = Err TooManyBytes; total = 104; word = 0 } ∷ replied (Yes true) (succeeds 0) None 0 0 ∷ [])
+
+-- marks of 0, and no overhead
+abbrev pub bare : Settings
+bare = record { marks = record { low = 0; high = 0 }; estimate = record { overhead = 0; unknown = 8 } }
+
+-- with marks of 0 one byte makes a buffer unwritable for good, and an empty block counts nothing
+abbrev pub MarksOfZero : Type 0
+MarksOfZero =
+    shown bare [] (block 0 ∷ block 1 ∷ Flush ∷ RemoveBytes 1 ∷ [])
+    ≡ replied (Id (record { 0 = 0 })) [] None 0 0 ∷ replied (Id (record { 0 = 1 })) [] (Some Unwritable) 1 1 ∷ replied (Count 2) [] None 1 1
+    ∷ replied (Count 2) (settles 0 Success ++ settles 1 Success) None 0 1 ∷ []
+
+-- three blocks in line, of which the second was voided
+abbrev pub one_voided : List Command
+one_voided = block 3 ∷ block 4 ∷ block 5 ∷ Cancel (record { 0 = 1 }) ∷ Flush ∷ []
+
+-- what is gathered, and what is flushed, passes over a voided entry
+abbrev pub GatheredBlocks : Type 0
+GatheredBlocks =
+    (gathered_after (marked 200 400) one_voided 8 6 ≡ replicate 3 0 ∷ [])
+    × (gathered_after (marked 200 400) one_voided 8 8 ≡ replicate 3 0 ∷ replicate 5 0 ∷ [])
+    × (gathered_after (marked 200 400) one_voided 1 100 ≡ replicate 3 0 ∷ [])
+    × (gathered_after (marked 200 400) one_voided 8 1 ≡ replicate 3 0 ∷ [])
+    × (gathered_after (marked 200 400) one_voided 0 100 ≡ [])
+    × (flushed_after (marked 200 400) one_voided ≡ Block (replicate 3 0) ∷ Block (replicate 5 0) ∷ [])

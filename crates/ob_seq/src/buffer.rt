@@ -4,10 +4,13 @@ ghost use Rattle.ob_seq.specs.Pending.{StandsFor, Answers, Follows, Accepts, tak
 ghost use Rattle.ob_seq.specs.Steps.{sum_of};
 
 mod cancel;
+mod cut;
 mod flush;
+mod gather;
 mod look;
 mod progress;
 mod remove;
+mod remove_bytes;
 mod word;
 mod write;
 
@@ -63,7 +66,8 @@ impl Buffer {
 
     /// Gives one command: the call of the same name.
     ///
-    /// A refused command leaves the buffer as it was. `NoMemory` comes for a write alone, where the allocator refused.
+    /// A refused command leaves the buffer as it was. `NoMemory` comes for a write, and for a removal of bytes that
+    /// settles more than four promises, where the allocator refused.
     pub fn apply(&mut self, command: Command) -> Result<Reply, Refusal>
         ensures answer { ¬ IsErrOf result Refusal.NoMemory → Answers self.old command result }
         ensures stands { ¬ IsErrOf result Refusal.NoMemory → Follows self.old command self.new }
@@ -80,6 +84,7 @@ impl Buffer {
             Command::Flush => self.flush(),
             Command::Remove => self.remove(),
             Command::RemoveWith(cause) => self.remove_with(cause),
+            Command::RemoveBytes(n) => self.remove_bytes(n),
             Command::Progress(n) => self.progress(n),
             Command::Cancel(id) => self.cancel(id),
         }

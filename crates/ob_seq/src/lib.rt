@@ -3,9 +3,11 @@
 
 mod buffer;
 mod entry;
+mod flushed;
 mod look;
 #[cfg(test)]
 mod tests;
 
 pub use buffer::Buffer;
+pub use flushed::Flushed;
 pub use look::Look;

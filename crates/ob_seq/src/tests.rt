@@ -1,2 +1,3 @@
+mod byte_run;
 mod calls;
 mod worked;

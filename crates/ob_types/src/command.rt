@@ -12,6 +12,8 @@ pub enum Command {
     Remove,
     /// Takes the first flushed message away, as failed for this cause (Netty's `remove(Throwable)`).
     RemoveWith(Cause),
+    /// Takes so many bytes off the front of the flushed messages, as sent (Netty's `removeBytes`).
+    RemoveBytes(u64),
     /// Tells of so many more bytes of progress of the first flushed message (Netty's `progress`).
     Progress(u64),
     /// Takes a promise back, unless a flush has fixed it (Netty's `Future.cancel`).

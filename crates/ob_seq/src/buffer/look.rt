@@ -1,10 +1,11 @@
 ghost use Rattle.std.specs.Prelude.{◌≡◌};
 ghost use Rattle.std.specs.Option.{option_copied};
 ghost use Rattle.ob_seq.specs.Looks.{before_unwritable, before_writable};
-ghost use Rattle.ob_seq.specs.Pending.{IsCurrent, Shows, Tells};
+ghost use Rattle.ob_seq.specs.Pending.{AreFlushed, IsCurrent, Shows, Tells};
 ghost use Rattle.ob_seq.specs.Steps.{first_progress};
 
 use crate::buffer::{Buffer, total_of};
+use crate::flushed::Flushed;
 use crate::look::Look;
 use ob_types::{Message, PromiseId, PromiseState, WaterMark};
 
@@ -45,6 +46,14 @@ impl Buffer {
             return None;
         }
         Some(&self.entries[0].message)
+    }
+
+    /// What is left of each flushed message that was not voided, oldest first (Netty's `forEachFlushedMessage`). It
+    /// takes no memory.
+    pub fn flushed(&self) -> Flushed<'_>
+        ensures { AreFlushed self.now result }
+    {
+        Flushed::new(&self.entries[..self.flushed])
     }
 
     /// The progress of the front, or 0.

@@ -7,7 +7,7 @@ use crate::buffer::Buffer;
 use ob_types::{Answer, Refusal, Reply};
 
 /// The most progress of one message, in bytes: `Long.MAX_VALUE`. Our own limit.
-const MAX_PROGRESS: u64 = 9223372036854775807;
+pub const MAX_PROGRESS: u64 = 9223372036854775807;
 
 impl Buffer {
     /// Tells of so many more bytes of progress of the first flushed message (Netty's `progress`). It takes no memory.

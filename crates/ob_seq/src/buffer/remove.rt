@@ -49,7 +49,7 @@ impl Buffer {
     }
 
     /// Takes the front away, and settles its promise unless it was voided.
-    fn take_front(&mut self, outcome: Outcome) -> Option<PromiseId>
+    pub(crate) fn take_front(&mut self, outcome: Outcome) -> Option<PromiseId>
         requires { 0 < length self.old.line }
         ensures settled { option_to_list (option_map (λ id. (id, outcome)) result) ≡ front_settlement self.old outcome }
         ensures taken { self.new ≡ front_taken outcome self.old }

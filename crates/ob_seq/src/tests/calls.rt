@@ -9,7 +9,7 @@ use ob_types::{
 use std::alloc::{AllocError, Global};
 use std::test::Fail;
 
-fn buffer(alloc: Global, low: u32, high: u32) -> Result<Buffer, Refusal> {
+pub fn buffer(alloc: Global, low: u32, high: u32) -> Result<Buffer, Refusal> {
     let estimate = Estimate {
         overhead: 96,
         unknown: 8,
@@ -17,7 +17,7 @@ fn buffer(alloc: Global, low: u32, high: u32) -> Result<Buffer, Refusal> {
     Ok(Buffer::new(alloc, WaterMark::new(low, high)?, estimate))
 }
 
-fn block(alloc: Global, length: usize) -> Result<Message, AllocError> {
+pub fn block(alloc: Global, length: usize) -> Result<Message, AllocError> {
     Ok(Message::Block(Bytes::from_vec(vec![in alloc; 0u8; length]?)?))
 }
 

@@ -1,6 +1,6 @@
 //! The definitions, computed on small histories.
 
-ghost use Rattle.ob_seq.specs.Worked.{TheFirstRun, EqualityWithLow, LowZero, LongRegion, CancelledEntry, FixedPromise, ProgressTold, Looks};
+ghost use Rattle.ob_seq.specs.Worked.{TheFirstRun, EqualityWithLow, LowZero, LongRegion, CancelledEntry, FixedPromise, ProgressTold, RemovedBytes, EmptyFront, EndOfTheByteRun, MarksOfZero, GatheredBlocks, Looks};
 
 #[tactic(auto, unfolding(crate::specs::Word::user_bits))]
 fn worked_rows()
@@ -11,6 +11,11 @@ fn worked_rows()
     ensures cancelled_entry { CancelledEntry }
     ensures fixed_promise { FixedPromise }
     ensures progress_told { ProgressTold }
+    ensures removed_bytes { RemovedBytes }
+    ensures empty_front { EmptyFront }
+    ensures end_of_the_byte_run { EndOfTheByteRun }
+    ensures marks_of_zero { MarksOfZero }
+    ensures gathered_blocks { GatheredBlocks }
     ensures looks { Looks }
 {}
 

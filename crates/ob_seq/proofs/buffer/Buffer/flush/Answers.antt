@@ -1,4 +1,4 @@
-use Rattle.std.proofs.Common.{◌≡◌, ◌-◌, [], ◌∷◌, ◌++◌, length, ap, sym, ◌∙◌, subst}
+use Rattle.std.proofs.Common.{◌≡◌, ◌-◌, [], ◌∷◌, ◌++◌, length, refl, ap, sym, ◌∙◌, subst}
 use Rattle.std.specs.Prelude.{Ok}
 use Rattle.std.proofs.lemmas.List.{length-drop}
 use Rattle.ob_types.specs.Change.{change_between}
@@ -7,7 +7,7 @@ use Rattle.ob_types.specs.declared.reply.Answer.TheVariants.{Count}
 use Rattle.ob_seq.specs.Pending.{Pending, StandsFor}
 use Rattle.ob_seq.specs.Steps.{next_flushed, times}
 use Rattle.ob_seq.proofs.Acceptance.{same_reply}
-use Rattle.ob_seq.proofs.Flushed.{flushed_stands, reply_of_flush}
+use Rattle.ob_seq.proofs.Flushing.{flushed_stands, reply_of_flush}
 use Rattle.ob_seq.proofs.Times.{settings_of_times}
 use Rattle.ob_seq.proofs.buffer.Buffer.flush.Goals as goal
 
@@ -33,4 +33,4 @@ returns-clause-stands c commands stands =
     subst (λ (held : Pending). StandsFor held (commands ++ Flush ∷ [])) (sym after) (flushed_stands now commands stands)
 
 pub returns-clause-settings : goal.returns-clause-settings
-returns-clause-settings c = ap (λ (held : Pending). held.settings) c.flush_all.ensures ∙ settings_of_times (c.len.result - c.self.inside.flushed) c.args.self.now
+returns-clause-settings c = ap (λ (held : Pending). held.settings) c.flush_all.ensures ∙ settings_of_times next_flushed (λ old. refl) (c.len.result - c.self.inside.flushed) c.args.self.now

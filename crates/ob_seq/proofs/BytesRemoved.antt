@@ -1,0 +1,173 @@
+-- A buffer after a removal of bytes stands for the history with the removal.
+use Rattle.std.proofs.Common.{◌≡◌, ℕ, ◌+◌, ◌-◌, ◌≤◌, Bool, true, false, List, [], ◌∷◌, ◌++◌, length, map, take, drop, refl, sym, ap, ◌∙◌, cond, append_assoc, subst, ltb, zero-add}
+use Rattle.std.specs.Prelude.{Option, Some, None}
+use Rattle.std.specs.List.{AllByRecursion}
+use Rattle.std.proofs.lemmas.List.{length-take-le, take-append-drop, map-append, length-map}
+use Rattle.std.proofs.Math.Seq.{take-append_seam}
+use Rattle.std.proofs.lemmas.Simd.{map-map}
+use Rattle.ob_types.specs.Change.{change_between}
+use Rattle.ob_types.specs.declared.command.Command.{Command}
+use Rattle.ob_types.specs.declared.command.Command.TheVariants.{RemoveBytes}
+use Rattle.ob_types.specs.declared.promise.Outcome.TheVariants.{Success}
+use Rattle.ob_types.specs.declared.refusal.Refusal.{Refusal}
+use Rattle.ob_types.specs.declared.refusal.Refusal.TheVariants.{TooManyBytes}
+use Rattle.ob_types.specs.declared.reply.Answer.TheVariants.{Count}
+use Rattle.ob_seq.specs.declared.buffer.cut.Cut.{Cut}
+use Rattle.ob_seq.specs.Row.{Row}
+use Rattle.ob_seq.specs.Line.{line}
+use Rattle.ob_seq.specs.Pieces.{bytes_in, pieces_within}
+use Rattle.ob_seq.specs.ByteRun.{blocks_in_front, byte_run, whole_rows, bytes_left_over}
+use Rattle.ob_seq.specs.Effect.{effect, rows_after, with_fronts_sent, with_skipped}
+use Rattle.ob_seq.specs.Moment.{moments_along, moments_of, moments_after}
+use Rattle.ob_seq.specs.Word.{word_after}
+use Rattle.ob_seq.specs.Answer.{refusal_of, settlements_from, reply_of}
+use Rattle.ob_seq.specs.Pending.{Pending, StandsFor, blocks_left, entry_of}
+use Rattle.ob_seq.specs.Steps.{bytes_removed, bytes_reply, cut_of, front_id, front_skipped, front_taken, successes_from, times}
+use Rattle.ob_seq.proofs.Acceptance.{same_reply}
+use Rattle.ob_seq.proofs.Along.{moments_along_same, settlements_from_same}
+use Rattle.ob_seq.proofs.Held.{Held, held_of, front_id_is, line_count, stands_by, word_by_moments, word_with_moments}
+use Rattle.ob_seq.proofs.History.{rows_after_more, accepted_more}
+use Rattle.ob_seq.proofs.Order.{IsGone, IsStanding, each_append, layout_of}
+use Rattle.ob_seq.proofs.Sent.{sent, with_fronts_sent_is, all_sent_gone, all_taken, moments_of_sent, settlements_of_sent}
+use Rattle.ob_seq.proofs.Skipped.{rows_skipped, with_skipped_is, moments_of_skipped, settlements_of_skipped, skipped_held, skipped_word, skipped_settings}
+
+-- the byte run is what the entries in line have left
+pub run_is : (buffer : Pending) (commands : List Command) → StandsFor buffer commands → byte_run (rows_after buffer.settings.estimate commands) ≡ blocks_left buffer.line
+run_is buffer commands stands =
+    ap blocks_in_front (sym (map-map (λ entry. entry.message) entry_of (line (rows_after buffer.settings.estimate commands))))
+    ∙ ap blocks_left (sym stands.line)
+
+refused_by : (few : Bool) (cut : Cut) → (let found : Option Cut = cond few None (Some cut) in found ≡ None) → (let refusal : Option Refusal = cond few (Some TooManyBytes) None in refusal ≡ Some TooManyBytes)
+refused_by true cut none = refl
+refused_by false cut none = absurd (cc)
+
+accepted_by : (few : Bool) (cut found : Cut) → (let one : Option Cut = cond few None (Some cut) in one ≡ Some found) → (let refusal : Option Refusal = cond few (Some TooManyBytes) None in refusal ≡ None) × (cut ≡ found)
+accepted_by true cut found some = absurd (cc)
+accepted_by false cut found some = (refl, cc)
+
+-- how many entries are taken away whole
+pub whole_of_cut : (n : ℕ) (pieces : List (List ℕ)) (cut : Cut) → cut_of n pieces ≡ Some cut → pieces_within n pieces ≡ cut.whole
+whole_of_cut n pieces cut is =
+    ap (λ (c : Cut). c.whole) (accepted_by (ltb (bytes_in pieces) n) (record { whole = pieces_within n pieces; rest = n - bytes_in (take (pieces_within n pieces) pieces) }) cut is).1
+
+module _ (buffer : Pending) (commands : List Command) (n : ℕ) (stands : StandsFor buffer commands) where
+  abbrev rows : List Row
+  rows = rows_after buffer.settings.estimate commands
+
+  abbrev pieces : List (List ℕ)
+  pieces = blocks_left buffer.line
+
+  abbrev found : Cut
+  found = record { whole = pieces_within n pieces; rest = n - bytes_in (take (pieces_within n pieces) pieces) }
+
+  -- where nothing is found the removal is refused
+  pub bytes_refused : cut_of n (blocks_left buffer.line) ≡ None → refusal_of buffer.settings.estimate (rows_after buffer.settings.estimate commands) (RemoveBytes n) ≡ Some TooManyBytes
+  bytes_refused none =
+      ap (λ run. let refusal : Option Refusal = cond (ltb (bytes_in run) n) (Some TooManyBytes) None in refusal) (run_is buffer commands stands)
+      ∙ refused_by (ltb (bytes_in pieces) n) found none
+
+  module _ (cut : Cut) (is : cut_of n (blocks_left buffer.line) ≡ Some cut) where
+    -- and else accepted
+    pub bytes_accepted : refusal_of buffer.settings.estimate (rows_after buffer.settings.estimate commands) (RemoveBytes n) ≡ None
+    bytes_accepted =
+        ap (λ run. let refusal : Option Refusal = cond (ltb (bytes_in run) n) (Some TooManyBytes) None in refusal) (run_is buffer commands stands)
+        ∙ (accepted_by (ltb (bytes_in pieces) n) found cut is).0
+
+    found_is : found ≡ cut
+    found_is = (accepted_by (ltb (bytes_in pieces) n) found cut is).1
+
+    whole_is : whole_rows n rows ≡ cut.whole
+    whole_is = ap (pieces_within n) (run_is buffer commands stands) ∙ ap (λ (c : Cut). c.whole) found_is
+
+    rest_is : bytes_left_over n rows ≡ cut.rest
+    rest_is = ap (λ run. n - bytes_in (take (pieces_within n run) run)) (run_is buffer commands stands) ∙ ap (λ (c : Cut). c.rest) found_is
+
+    module _ (gone first rest fresh : List Row) (rows_are : rows ≡ gone ++ ((first ++ rest) ++ fresh)) (held : Held buffer gone (first ++ rest) fresh) (count : length first ≡ cut.whole)
+        (standing_first : AllByRecursion IsStanding first) (standing_rest : AllByRecursion IsStanding rest) where
+      abbrev passed : List Row
+      passed = gone ++ map sent first
+
+      abbrev behind : List Row
+      behind = rest ++ fresh
+
+      abbrev after : List Row
+      after = rows_skipped cut.rest rest ++ fresh
+
+      rows_split : rows ≡ gone ++ (first ++ behind)
+      rows_split = rows_are ∙ ap (λ more. gone ++ more) (append_assoc first rest fresh)
+
+      passed_gone : AllByRecursion IsGone passed
+      passed_gone = each_append IsGone gone (map sent first) held.all_gone (all_sent_gone first)
+
+      effect_is : effect buffer.settings.estimate rows (RemoveBytes n) ≡ passed ++ after
+      effect_is =
+          ap (λ k. with_skipped (bytes_left_over n rows) (with_fronts_sent k rows)) (whole_is ∙ sym count)
+          ∙ ap (λ r. with_skipped r (with_fronts_sent (length first) rows)) rest_is
+          ∙ ap (λ all. with_skipped cut.rest (with_fronts_sent (length first) all)) rows_split
+          ∙ ap (with_skipped cut.rest) (with_fronts_sent_is first gone behind held.all_gone standing_first ∙ sym (append_assoc gone (map sent first) behind))
+          ∙ with_skipped_is cut.rest passed fresh passed_gone held.all_fresh rest standing_rest
+
+      moments_are : moments_of buffer.settings.estimate rows (RemoveBytes n) ≡ moments_along true gone (first ++ behind) (map sent first ++ behind)
+      moments_are =
+          ap (moments_along true [] rows) (effect_is ∙ append_assoc gone (map sent first) after)
+          ∙ ap (λ before. moments_along true [] before (gone ++ (map sent first ++ after))) rows_split
+          ∙ moments_along_same true [] gone (first ++ behind) (map sent first ++ after)
+          ∙ moments_of_sent first gone behind after (moments_of_skipped cut.rest passed rest fresh)
+
+      settlements_are : settlements_from 0 rows (effect buffer.settings.estimate rows (RemoveBytes n)) ≡ successes_from (front_id buffer) (take cut.whole buffer.line)
+      settlements_are =
+          ap (settlements_from 0 rows) (effect_is ∙ append_assoc gone (map sent first) after)
+          ∙ ap (λ before. settlements_from 0 before (gone ++ (map sent first ++ after))) rows_split
+          ∙ settlements_from_same 0 gone (first ++ behind) (map sent first ++ after)
+          ∙ ap (λ id. settlements_from id (first ++ behind) (map sent first ++ after)) (zero-add (length gone))
+          ∙ settlements_of_sent (length gone) first behind after standing_first (settlements_of_skipped cut.rest (length gone + length first) rest fresh)
+          ∙ ap (λ id. successes_from id (map entry_of first)) (sym (front_id_is buffer gone (first ++ rest) fresh held))
+          ∙ ap (successes_from (front_id buffer)) (sym (ap (take cut.whole) (held.line ∙ map-append entry_of first rest) ∙ first_of_line))
+        where
+          first_of_line : take cut.whole (map entry_of first ++ map entry_of rest) ≡ map entry_of first
+          first_of_line = ap (λ k. take k (map entry_of first ++ map entry_of rest)) (sym count ∙ sym (length-map first entry_of)) ∙ take-append_seam (map entry_of first) (map entry_of rest)
+
+      taken : (let now = times (length first) (front_taken Success) buffer in
+          Held now passed rest fresh
+          × (now.word ≡ word_after buffer.settings (commands ++ RemoveBytes n ∷ []))
+          × (now.settings ≡ buffer.settings))
+      taken =
+          let all = all_taken first buffer gone rest fresh (moments_after buffer.settings.estimate commands) held (word_by_moments buffer commands stands) in
+          (all.0, all.1 ∙ word_with_moments buffer.settings commands (RemoveBytes n) (moments_along true gone (first ++ behind) (map sent first ++ behind)) moments_are, all.2)
+
+      word_is : (bytes_removed cut buffer).word ≡ word_after buffer.settings (commands ++ RemoveBytes n ∷ [])
+      word_is =
+          skipped_word cut.rest (times cut.whole (front_taken Success) buffer)
+          ∙ ap (λ k. (times k (front_taken Success) buffer).word) (sym count) ∙ taken.1
+
+      removed_held : Held (bytes_removed cut buffer) passed (rows_skipped cut.rest rest) fresh
+      removed_held = subst (λ (k : ℕ). Held (front_skipped cut.rest (times k (front_taken Success) buffer)) passed (rows_skipped cut.rest rest) fresh) count
+          (skipped_held cut.rest (times (length first) (front_taken Success) buffer) passed rest fresh taken.0)
+
+      settings_stay : (bytes_removed cut buffer).settings ≡ buffer.settings
+      settings_stay = skipped_settings cut.rest (times cut.whole (front_taken Success) buffer) ∙ ap (λ k. (times k (front_taken Success) buffer).settings) (sym count) ∙ taken.2
+
+      removed_by : StandsFor (bytes_removed cut buffer) (commands ++ RemoveBytes n ∷ []) × (bytes_reply cut buffer ≡ reply_of buffer.settings commands (RemoveBytes n))
+      removed_by = (
+        stands_by (bytes_removed cut buffer) buffer.settings commands (RemoveBytes n) passed (rows_skipped cut.rest rest) fresh settings_stay
+            (accepted_more buffer.settings.estimate commands (RemoveBytes n) stands.accepted bytes_accepted) removed_held
+            (rows_after_more buffer.settings.estimate commands (RemoveBytes n) ∙ effect_is) word_is,
+        same_reply (ap Count (sym whole_is)) (sym settlements_are)
+            (ap (change_between buffer.word) word_is ∙ ap (λ before. change_between before (word_after buffer.settings (commands ++ RemoveBytes n ∷ []))) stands.word),
+      )
+
+    -- the buffer stands for the history with the removal, and replies as it does
+    pub bytes_removed_stand : cut.whole ≤ length buffer.line →
+        StandsFor (bytes_removed cut buffer) (commands ++ RemoveBytes n ∷ []) × (bytes_reply cut buffer ≡ reply_of buffer.settings commands (RemoveBytes n))
+    bytes_removed_stand within =
+        let layout = layout_of buffer.settings.estimate commands in
+        let held = held_of buffer commands stands in
+        let parts = take-append-drop cut.whole layout.standing in
+        let whole = subst (λ (standing : List Row). (rows ≡ layout.gone ++ (standing ++ layout.fresh)) × Held buffer layout.gone standing layout.fresh × AllByRecursion IsStanding standing) (sym parts) (layout.is, held, layout.all_standing) in
+        let each = split_each (take cut.whole layout.standing) (drop cut.whole layout.standing) whole.2 in
+        let size : cut.whole ≤ length layout.standing = subst (λ (size : ℕ). cut.whole ≤ size) (line_count buffer layout.gone layout.standing layout.fresh held) within in
+        removed_by layout.gone (take cut.whole layout.standing) (drop cut.whole layout.standing) layout.fresh whole.0 whole.1 (length-take-le cut.whole layout.standing size) each.0 each.1
+      where
+        split_each : (xs ys : List Row) → AllByRecursion IsStanding (xs ++ ys) → AllByRecursion IsStanding xs × AllByRecursion IsStanding ys
+        split_each [] ys all = (tt, all)
+        split_each (x ∷ xs) ys all = let rest = split_each xs ys all.1 in ((all.0, rest.0), rest.1)

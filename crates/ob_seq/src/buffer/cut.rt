@@ -1,0 +1,40 @@
+ghost use Rattle.std.specs.Prelude.{◌≡◌, ◌≤◌, length, drop, IfSome};
+ghost use Rattle.ob_seq.specs.Pending.{blocks_left};
+ghost use Rattle.ob_seq.specs.Steps.{cut_of, first_length};
+
+use crate::entry::Entry;
+use ob_types::Message;
+
+/// Where a removal of bytes ends.
+#[derive(Clone, Copy, Debug, PartialEq, Eq)]
+pub struct Cut {
+    /// How many entries it takes away whole.
+    pub whole: usize,
+    /// How many bytes of the next entry it skips.
+    pub rest: u64,
+}
+
+/// Where the removal of so many bytes ends, or nothing where the blocks in front hold fewer.
+pub fn find_cut(line: &[Entry], n: u64) -> Option<Cut>
+    ensures value { result ≡ cut_of n (blocks_left line.now) }
+    ensures within { IfSome result (λ cut. cut.whole ≤ length line.now) }
+    ensures rest { IfSome result (λ cut. cut.rest ≤ first_length (drop cut.whole line.now)) }
+{
+    let mut whole = 0;
+    let mut rest = n;
+    for entry in line {
+        let Message::Block(bytes) = &entry.message else {
+            break;
+        };
+        let left = bytes.len() as u64;
+        if left > rest {
+            return Some(Cut { whole, rest });
+        }
+        whole += 1;
+        rest -= left;
+    }
+    if rest > 0 {
+        return None;
+    }
+    Some(Cut { whole, rest })
+}

@@ -1,0 +1,45 @@
+ghost use Rattle.std.specs.Prelude.{◌≡◌, [], nat_le, nat_lt, ◌||◌, ◌&&◌, IfOk, IfErr, IsOk};
+ghost use Rattle.ob_seq.specs.Gathering.{with_bytes};
+ghost use Rattle.ob_seq.specs.Pending.{AreGathered, blocks_left};
+
+use crate::buffer::Buffer;
+use bytes::Bytes;
+use ob_types::{Message, Refusal};
+
+impl Buffer {
+    /// The flushed blocks in front that can be sent at once (Netty's `nioBuffers`): those that hold a byte, up to the
+    /// first message that is no block, at most `max_count` of them, and together at most `max_bytes` bytes; but the
+    /// first of them in any case. They share their memory with the buffer, which stays as it is.
+    ///
+    /// It takes memory for the list alone. `NoMemory` comes where the allocator refused, and not where there is no such
+    /// block.
+    pub fn gather(&self, max_count: u32, max_bytes: u32) -> Result<Vec<Bytes>, Refusal>
+        ensures blocks { IfOk result (λ blocks. AreGathered self.now max_count max_bytes blocks.items) }
+        ensures no_memory { IfErr result (λ refusal. refusal ≡ Refusal.NoMemory) }
+        ensures frugal { with_bytes (blocks_left self.now.line) ≡ [] → IsOk result }
+    {
+        let mut gathered = Vec::new(*self.entries.allocator());
+        let mut room = u64::from(max_bytes);
+        for entry in &self.entries[..self.flushed] {
+            let Message::Block(bytes) = &entry.message else {
+                break;
+            };
+            let length = bytes.len() as u64;
+            if length > 0 {
+                if !has_room(gathered.len(), max_count, length, room) {
+                    break;
+                }
+                gathered.push(bytes.clone()?)?;
+                room = room.saturating_sub(length);
+            }
+        }
+        Ok(gathered)
+    }
+}
+
+/// Whether one more block goes along with so many others, which left this much room: the first does in any case.
+fn has_room(count: usize, max_count: u32, length: u64, room: u64) -> bool
+    ensures { result ≡ (nat_lt count max_count && (nat_le count 0 || nat_le length room)) }
+{
+    count < max_count as usize && (count == 0 || length <= room)
+}

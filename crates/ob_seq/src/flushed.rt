@@ -1,0 +1,56 @@
+ghost use Rattle.std.specs.Prelude.{◌≡◌};
+ghost use Rattle.std.specs.Iterator.{YieldsFirstRef, item_count};
+ghost use Rattle.ob_seq.specs.Pending.{messages_to_send};
+
+use crate::entry::Entry;
+use ob_types::Message;
+use std::iter::FusedIterator;
+use std::marker::Model;
+
+/// The flushed messages that were not voided, oldest first, each as what is left of it (Netty's
+/// `forEachFlushedMessage`). It ends, and takes no memory.
+#[derive(Drop)]
+pub struct Flushed<'a> {
+    /// What stands in line behind the messages that were handed out.
+    entries: &'a [Entry],
+}
+
+impl<'a> Model for Flushed<'a> {
+    ghost use Rattle.std.specs.Prelude.{List};
+    ghost use Rattle.ob_types.specs.declared.message.Message.{Message};
+
+    ghost Value = { List Message };
+
+    ghost use Rattle.ob_seq.specs.Pending.{messages_to_send};
+
+    ghost view = { λ flushed. messages_to_send flushed.entries.now };
+}
+
+impl<'a> Flushed<'a> {
+    /// The messages of these entries.
+    pub(crate) fn new(entries: &'a [Entry]) -> Flushed<'a>
+        ensures { result ≡ messages_to_send entries.now }
+    {
+        Flushed { entries }
+    }
+}
+
+impl<'a> Iterator for Flushed<'a> {
+    type Item = &'a Message;
+
+    ghost next_gives = { YieldsFirstRef (λ rest. rest) };
+
+    ghost remaining = { item_count (λ rest. rest) };
+
+    fn next(&mut self) -> Option<&'a Message> {
+        while let Some((first, others)) = self.entries.split_first() {
+            self.entries = others;
+            if !first.voided {
+                return Some(&first.message);
+            }
+        }
+        None
+    }
+}
+
+impl<'a> FusedIterator for Flushed<'a> {}
