@@ -1,4 +1,4 @@
-ghost use Rattle.std.specs.Prelude.{◌≡◌, ◌++◌, ◌≤◌, [], List, OnOk, OnErr, IfErr, length};
+ghost use Rattle.std.specs.Prelude.{◌≡◌, ◌++◌, ◌<◌, ◌≤◌, [], List, IsOk, OnOk, OnErr, IfErr, length};
 ghost use Rattle.std.specs.Io.KnownBytes.{Keeps, append_known};
 ghost use Rattle.ob_types.specs.declared.command.Command.{Command};
 ghost use Rattle.ob_tool.specs.Trace.{history_after, line_trace};
@@ -77,6 +77,7 @@ pub fn spill<W: io::Write>(waiting: &mut Vec<u8>, writer: &mut W) -> Result<(), 
     ensures kept { OnOk result (Keeps (append_known (W.contents writer.old) waiting.old.items)
         (append_known (W.contents writer.new) waiting.new.items)) }
     ensures fault { IfErr result (λ fault. fault ≡ Write) }
+    ensures in_large_pieces { length waiting.old.items < 65536 → IsOk result }
 {
     if waiting.len() < PIECE {
         return Ok(());

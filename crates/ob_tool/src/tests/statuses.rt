@@ -32,12 +32,15 @@ fn tells_bad_marks_before_it_reads(rt: HostRuntime) {
 
 #[test]
 fn takes_the_greatest_options(rt: HostRuntime) {
-    let mut reader: &[u8] = b"b 1\n";
+    let mut reader: &[u8] = b"b 1\no 7\n";
     let mut written: Vec<u8> = Vec::new(rt.alloc());
     let mut told: Vec<u8> = Vec::new(rt.alloc());
     let status = entry(&rt, &GREATEST, &mut reader, &mut written, &mut told);
     assert_eq!(rt; status, 0);
-    assert_eq!(rt; written.as_slice(), b"id 0 t=65536 w=00000000\n".as_slice());
+    assert_eq!(rt;
+        written.as_slice(),
+        b"id 0 t=65536 w=00000000\nid 1 t=196606 w=00000000\n".as_slice()
+    );
 }
 
 /// Words that are refused, or ask for help: status 1, a text that ends with one byte 10, and no trace.
