@@ -34,9 +34,11 @@ line_asked-same word.Other array numbers same = ap (λ n. line_asked word.Other 
 line_asked-same word.Flush array numbers same = refl
 line_asked-same word.Remove array numbers same = refl
 line_asked-same word.RemoveWith array numbers same = ap (λ n. line_asked word.RemoveWith (n ∷ [])) (same 0)
+line_asked-same word.RemoveBytes array numbers same = ap (λ n. line_asked word.RemoveBytes (n ∷ [])) (same 0)
 line_asked-same word.Progress array numbers same = ap (λ n. line_asked word.Progress (n ∷ [])) (same 0)
 line_asked-same word.Cancel array numbers same = ap (λ n. line_asked word.Cancel (n ∷ [])) (same 0)
 line_asked-same word.Look array numbers same = refl
+line_asked-same word.Gather array numbers same = simp (same 0, same 1)
 
 pub core_line_asked-same : (w : CoreWord) (array numbers : List ℕ) → ((k : ℕ) → slice_index array k ≡ slice_index numbers k) → core_line_asked w array ≡ core_line_asked w numbers
 core_line_asked-same core.Lane array numbers same = simp (same 0, same 1)

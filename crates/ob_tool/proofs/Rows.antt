@@ -73,3 +73,11 @@ regions_and_other_messages : trace_of settings (codes "r 9" ++ newline ++ codes 
     ++ codes "ok t=200 w=00000000" ++ newline ++ codes "size=2 cur=5 bu=201 bw=0 t=200 w=00000000" ++ newline ++ codes "yes t=104 w=00000000 0:f9" ++ newline
 unfolding user_bits digits padded_integral char_count
 regions_and_other_messages = refl
+
+-- bytes are removed from the front
+bytes_are_removed_from_the_front : trace_of settings (codes "b 3" ++ newline ++ codes "b 0" ++ newline ++ codes "b 5" ++ newline ++ codes "f" ++ newline ++ codes "rb 3" ++ newline
+    ++ codes "rb 2" ++ newline ++ codes "rb 4" ++ newline)
+    ≡ codes "id 0 t=99 w=00000000" ++ newline ++ codes "id 1 t=195 w=00000000" ++ newline ++ codes "id 2 t=296 w=00000000" ++ newline ++ codes "n 3 t=296 w=00000000" ++ newline
+    ++ codes "n 2 t=101 w=00000000 0:ok 1:ok" ++ newline ++ codes "n 0 t=101 w=00000000" ++ newline ++ codes "!7 t=101 w=00000000" ++ newline
+unfolding user_bits digits padded_integral char_count
+bytes_are_removed_from_the_front = refl

@@ -11,7 +11,7 @@ use Rattle.ob_tool.specs.declared.script_line.ScriptLine.TheVariants as line
 -- the first words that there are
 abbrev pub line_words : List LineWord
 line_words =
-    word.Block ∷ word.Region ∷ word.Other ∷ word.Flush ∷ word.Remove ∷ word.RemoveWith ∷ word.Progress ∷ word.Cancel ∷ word.Look ∷ []
+    word.Block ∷ word.Region ∷ word.Other ∷ word.Flush ∷ word.Remove ∷ word.RemoveWith ∷ word.RemoveBytes ∷ word.Progress ∷ word.Cancel ∷ word.Look ∷ word.Gather ∷ []
 
 -- how a script writes a first word
 abbrev pub word_text : LineWord → List ℕ
@@ -21,9 +21,11 @@ word_text word.Other = codes "o"
 word_text word.Flush = codes "f"
 word_text word.Remove = codes "rm"
 word_text word.RemoveWith = codes "rc"
+word_text word.RemoveBytes = codes "rb"
 word_text word.Progress = codes "p"
 word_text word.Cancel = codes "x"
 word_text word.Look = codes "?"
+word_text word.Gather = codes "g"
 
 -- the ranges of the numbers that follow a first word
 abbrev pub ranges_of : LineWord → List Range
@@ -33,9 +35,11 @@ ranges_of word.Other = up_to 4294967295 ∷ []
 ranges_of word.Flush = []
 ranges_of word.Remove = []
 ranges_of word.RemoveWith = up_to 4294967295 ∷ []
+ranges_of word.RemoveBytes = up_to 18446744073709551615 ∷ []
 ranges_of word.Progress = up_to 18446744073709551615 ∷ []
 ranges_of word.Cancel = up_to 4294967295 ∷ []
 ranges_of word.Look = []
+ranges_of word.Gather = record { least = 1; greatest = 1024 } ∷ record { least = 1; greatest = 2147483647 } ∷ []
 
 -- what a line asks, by its first word and its numbers
 abbrev pub line_asked : LineWord → List ℕ → ScriptLine
@@ -45,9 +49,11 @@ line_asked word.Other numbers = line.Other (slice_index numbers 0)
 line_asked word.Flush numbers = line.Flush
 line_asked word.Remove numbers = line.Remove
 line_asked word.RemoveWith numbers = line.RemoveWith (record { 0 = slice_index numbers 0 })
+line_asked word.RemoveBytes numbers = line.RemoveBytes (slice_index numbers 0)
 line_asked word.Progress numbers = line.Progress (slice_index numbers 0)
 line_asked word.Cancel numbers = line.Cancel (record { 0 = slice_index numbers 0 })
 line_asked word.Look numbers = line.Look
+line_asked word.Gather numbers = line.Gather (slice_index numbers 0) (slice_index numbers 1)
 
 -- the first word that a text writes, if it is one
 abbrev pub word_named : List ℕ → Option LineWord

@@ -1,5 +1,5 @@
 -- The text of a trace line.
-use Rattle.std.specs.Prelude.{ℕ, ◌^◌, ◌-◌, true, false, List, [], ◌∷◌, ◌++◌, codes, Option, None, Some, Result, Ok, Err}
+use Rattle.std.specs.Prelude.{ℕ, ◌^◌, ◌-◌, true, false, List, [], ◌∷◌, ◌++◌, length, codes, Option, None, Some, Result, Ok, Err}
 use Rattle.std.specs.List.{flat_map}
 use Rattle.std.specs.Fmt.{decimal, digits, padded_integral, format_spec}
 use Rattle.ob_types.specs.Refusal.{number_of}
@@ -61,3 +61,11 @@ abbrev pub look_text : Look → List ℕ
 look_text look =
     codes "size=" ++ decimal look.size ++ codes " cur=" ++ decimal look.current_progress ++
     codes " bu=" ++ decimal look.before_unwritable ++ codes " bw=" ++ decimal look.before_writable ++ levels_text look ++ 10 ∷ []
+
+-- the length of one gathered block
+abbrev pub length_text : List ℕ → List ℕ
+length_text block = codes " " ++ decimal (length block)
+
+-- the line of a gathering: the length of each block, and the look
+abbrev pub gathered_text : List (List ℕ) → Look → List ℕ
+gathered_text blocks look = codes "g" ++ flat_map length_text blocks ++ levels_text look ++ 10 ∷ []

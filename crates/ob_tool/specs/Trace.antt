@@ -6,9 +6,10 @@ use Rattle.ob_types.specs.declared.command.Command.{Command}
 use Rattle.ob_types.specs.declared.command.Command.TheVariants as command
 use Rattle.ob_seq.specs.Settings.{Settings}
 use Rattle.ob_seq.specs.Answer.{answer_to, commands_after}
+use Rattle.ob_seq.specs.Gathering.{gathered_after}
 use Rattle.ob_seq.specs.Looks.{look_after}
 use Rattle.ob_tool.specs.Script.{script_lines}
-use Rattle.ob_tool.specs.Text.{command_text, look_text}
+use Rattle.ob_tool.specs.Text.{command_text, gathered_text, look_text}
 use Rattle.ob_tool.specs.declared.asked.Asked.{Asked}
 use Rattle.ob_tool.specs.declared.asked.Asked.TheVariants as asked
 use Rattle.ob_tool.specs.declared.script_line.ScriptLine.{ScriptLine}
@@ -20,6 +21,7 @@ is_write (command.Write message) = true
 is_write command.Flush = false
 is_write command.Remove = false
 is_write (command.RemoveWith cause) = false
+is_write (command.RemoveBytes n) = false
 is_write (command.Progress n) = false
 is_write (command.Cancel id) = false
 
@@ -39,20 +41,25 @@ asked_of accepted (line.Other number) = asked.Command (command.Write (message.Ot
 asked_of accepted line.Flush = asked.Command command.Flush
 asked_of accepted line.Remove = asked.Command command.Remove
 asked_of accepted (line.RemoveWith cause) = asked.Command (command.RemoveWith cause)
+asked_of accepted (line.RemoveBytes count) = asked.Command (command.RemoveBytes count)
 asked_of accepted (line.Progress count) = asked.Command (command.Progress count)
 asked_of accepted (line.Cancel id) = asked.Command (command.Cancel id)
 asked_of accepted line.Look = asked.Look
+asked_of accepted (line.Gather max_count max_bytes) = asked.Gather max_count max_bytes
 
 -- the text of what is asked after a history of accepted commands
 abbrev pub text_after : Settings → List Command → Asked → List ℕ
 text_after settings commands (asked.Command command) =
     command_text (answer_to settings commands command) (look_after settings (commands_after settings commands command))
 text_after settings commands asked.Look = look_text (look_after settings commands)
+text_after settings commands (asked.Gather max_count max_bytes) =
+    gathered_text (gathered_after settings commands max_count max_bytes) (look_after settings commands)
 
--- the history after what is asked: a look leaves it as it is
+-- the history after what is asked: only a command can change it
 abbrev pub history_with : Settings → List Command → Asked → List Command
 history_with settings commands (asked.Command command) = commands_after settings commands command
 history_with settings commands asked.Look = commands
+history_with settings commands (asked.Gather max_count max_bytes) = commands
 
 -- the trace line of a script line after a history
 abbrev pub line_trace : Settings → List Command → ScriptLine → List ℕ

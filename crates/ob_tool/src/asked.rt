@@ -7,4 +7,7 @@ pub enum Asked {
     Command(Command),
     /// To show itself. Nothing changes, and no history tells of it.
     Look,
+    /// To show which blocks in front can be sent at once, at most so many, and of at most so many bytes. Nothing
+    /// changes here either.
+    Gather(u32, u32),
 }

@@ -21,25 +21,31 @@ pub enum LineWord {
     Remove,
     /// `rc C`: remove with the cause C.
     RemoveWith,
+    /// `rb N`: remove N bytes.
+    RemoveBytes,
     /// `p N`: tell of N more bytes of progress.
     Progress,
     /// `x ID`: cancel the promise ID.
     Cancel,
     /// `?`: look at the buffer.
     Look,
+    /// `g C N`: gather at most C blocks of at most N bytes.
+    Gather,
 }
 
 /// The first words that there are.
-static LINE_WORDS: [LineWord; 9] = [
+static LINE_WORDS: [LineWord; 11] = [
     LineWord::Block,
     LineWord::Region,
     LineWord::Other,
     LineWord::Flush,
     LineWord::Remove,
     LineWord::RemoveWith,
+    LineWord::RemoveBytes,
     LineWord::Progress,
     LineWord::Cancel,
     LineWord::Look,
+    LineWord::Gather,
 ];
 
 /// The number of a block's bytes.
@@ -54,11 +60,23 @@ static NUMBER_OF_32_BITS: [Range; 1] = [Range {
     greatest: 4294967295,
 }];
 
-/// Any number of 64 bits: the bytes of a region, or of progress.
+/// Any number of 64 bits: the bytes of a region, or how many are removed, or told of as progress.
 static NUMBER_OF_64_BITS: [Range; 1] = [Range {
     least: 0,
     greatest: 18446744073709551615,
 }];
+
+/// How many blocks, and of how many bytes, a transport takes at most.
+static GATHER_NUMBERS: [Range; 2] = [
+    Range {
+        least: 1,
+        greatest: 1024,
+    },
+    Range {
+        least: 1,
+        greatest: 2147483647,
+    },
+];
 
 impl LineWord {
     /// How a script writes the word.
@@ -72,9 +90,11 @@ impl LineWord {
             LineWord::Flush => b"f",
             LineWord::Remove => b"rm",
             LineWord::RemoveWith => b"rc",
+            LineWord::RemoveBytes => b"rb",
             LineWord::Progress => b"p",
             LineWord::Cancel => b"x",
             LineWord::Look => b"?",
+            LineWord::Gather => b"g",
         }
     }
 
@@ -85,8 +105,9 @@ impl LineWord {
     {
         match self {
             LineWord::Block => &BLOCK_NUMBERS,
-            LineWord::Region | LineWord::Progress => &NUMBER_OF_64_BITS,
+            LineWord::Region | LineWord::RemoveBytes | LineWord::Progress => &NUMBER_OF_64_BITS,
             LineWord::Other | LineWord::RemoveWith | LineWord::Cancel => &NUMBER_OF_32_BITS,
+            LineWord::Gather => &GATHER_NUMBERS,
             LineWord::Flush | LineWord::Remove | LineWord::Look => &[],
         }
     }
@@ -110,9 +131,11 @@ impl LineWord {
             LineWord::Flush => ScriptLine::Flush,
             LineWord::Remove => ScriptLine::Remove,
             LineWord::RemoveWith => ScriptLine::RemoveWith(Cause(numbers[0] as u32)),
+            LineWord::RemoveBytes => ScriptLine::RemoveBytes(numbers[0]),
             LineWord::Progress => ScriptLine::Progress(numbers[0]),
             LineWord::Cancel => ScriptLine::Cancel(PromiseId(numbers[0] as u32)),
             LineWord::Look => ScriptLine::Look,
+            LineWord::Gather => ScriptLine::Gather(numbers[0] as u32, numbers[1] as u32),
         }
     }
 }

@@ -15,10 +15,14 @@ pub enum ScriptLine {
     Remove,
     /// Remove with a cause.
     RemoveWith(Cause),
+    /// Remove so many bytes.
+    RemoveBytes(u64),
     /// Tell of so many more bytes of progress.
     Progress(u64),
     /// Cancel a promise.
     Cancel(PromiseId),
     /// Look at the buffer.
     Look,
+    /// Gather blocks from the front: at most so many, and of at most so many bytes.
+    Gather(u32, u32),
 }

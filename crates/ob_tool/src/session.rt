@@ -4,7 +4,7 @@ ghost use Rattle.ob_tool.specs.Trace.{writes_in};
 use crate::asked::Asked;
 use crate::block::block;
 use crate::script_line::ScriptLine;
-use crate::text::{push_look, push_refusal, push_reply};
+use crate::text::{push_gathered, push_look, push_refusal, push_reply};
 use ob_seq::Buffer;
 use ob_types::{Command, Estimate, Message, Refusal, WaterMark};
 use std::alloc::{AllocError, Global};
@@ -58,6 +58,7 @@ impl Session {
         match self.asked(alloc, line)? {
             Asked::Command(command) => self.give(command, text),
             Asked::Look => push_look(text, &self.buffer.look()),
+            Asked::Gather(max_count, max_bytes) => self.gather(max_count, max_bytes, text),
         }
     }
 
@@ -80,9 +81,22 @@ impl Session {
             ScriptLine::Flush => Ok(Asked::Command(Command::Flush)),
             ScriptLine::Remove => Ok(Asked::Command(Command::Remove)),
             ScriptLine::RemoveWith(cause) => Ok(Asked::Command(Command::RemoveWith(cause))),
+            ScriptLine::RemoveBytes(count) => Ok(Asked::Command(Command::RemoveBytes(count))),
             ScriptLine::Progress(count) => Ok(Asked::Command(Command::Progress(count))),
             ScriptLine::Cancel(id) => Ok(Asked::Command(Command::Cancel(id))),
             ScriptLine::Look => Ok(Asked::Look),
+            ScriptLine::Gather(max_count, max_bytes) => Ok(Asked::Gather(max_count, max_bytes)),
+        }
+    }
+
+    /// Adds the trace of a gathering to the text.
+    fn gather(&self, max_count: u32, max_bytes: u32, text: &mut String) -> Result<(), AllocError>
+        ensures { OnOk result ((commands : List Command) → IsAfter self.now commands
+            → string_bytes text.new ≡ string_bytes text.old ++ text_after self.now.buffer.settings commands (Asked.Gather max_count max_bytes)) }
+    {
+        match self.buffer.gather(max_count, max_bytes) {
+            Ok(blocks) => push_gathered(text, &blocks, &self.buffer.look()),
+            Err(_) => Err(AllocError),
         }
     }
 
@@ -126,6 +140,7 @@ fn next_byte(byte: u8, command: &Command) -> u8
         Command::Flush
         | Command::Remove
         | Command::RemoveWith(_)
+        | Command::RemoveBytes(_)
         | Command::Progress(_)
         | Command::Cancel(_) => byte,
     }

@@ -1,7 +1,8 @@
 ghost use Rattle.std.specs.Prelude.{◌≡◌, ◌++◌, OnOk, Ok, Err, string_bytes};
 ghost use Rattle.std.specs.List.{flat_map};
-ghost use Rattle.ob_tool.specs.Text.{answer_text, change_text, command_text, levels_text, look_text, outcome_text, settlement_text, words_text};
+ghost use Rattle.ob_tool.specs.Text.{answer_text, change_text, command_text, gathered_text, length_text, levels_text, look_text, outcome_text, settlement_text, words_text};
 
+use bytes::Bytes;
 use ob_seq::Look;
 use ob_types::{Answer, Change, Outcome, PromiseId, Refusal, Reply};
 use std::alloc::AllocError;
@@ -39,6 +40,26 @@ pub fn push_look(text: &mut String, look: &Look) -> Result<(), AllocError>
     )?;
     push_levels(text, look)?;
     text.push('\n')
+}
+
+/// Adds the trace line of a gathering, by its blocks and the look.
+pub fn push_gathered(text: &mut String, blocks: &[Bytes], look: &Look) -> Result<(), AllocError>
+    ensures { OnOk result (string_bytes text.new ≡ string_bytes text.old ++ gathered_text blocks.now look.now) }
+{
+    text.push('g')?;
+    push_lengths(text, blocks)?;
+    push_levels(text, look)?;
+    text.push('\n')
+}
+
+/// Adds the length of each block.
+fn push_lengths(text: &mut String, blocks: &[Bytes]) -> Result<(), AllocError>
+    ensures { OnOk result (string_bytes text.new ≡ string_bytes text.old ++ flat_map length_text blocks.now) }
+{
+    for block in blocks {
+        write!(text, " {}", block.len())?;
+    }
+    Ok(())
 }
 
 /// Adds the pending bytes and the word.

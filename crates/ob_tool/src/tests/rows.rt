@@ -164,6 +164,14 @@ fn marks_of_zero(rt: HostRuntime) {
         yes t=1 w=00000001 0:ok\nyes t=0 w=00000001 1:ok\n";
     let script = "b 0\nb 1\nf\nrm\nrm\n";
     traces(&rt, &LOW_0_HIGH_0_OVERHEAD_0, script, trace);
+    let at_once =
+        "id 0 t=0 w=00000000\nid 1 t=1 w=00000001 -\nn 2 t=1 w=00000001\nn 2 t=0 w=00000001 0:ok 1:ok\n";
+    traces(
+        &rt,
+        &LOW_0_HIGH_0_OVERHEAD_0,
+        "b 0\nb 1\nf\nrb 1\n",
+        at_once,
+    );
 }
 
 /// A region counts its overhead alone, another message the bytes of an unknown size besides.
@@ -184,4 +192,48 @@ fn the_longest_region(rt: HostRuntime) {
     let trace =
         "!1 t=0 w=00000000\n!1 t=0 w=00000000\nid 0 t=96 w=00000000\nid 1 t=200 w=00000000\n";
     traces(&rt, &NO_OPTIONS, script, trace);
+}
+
+/// An empty block goes with the one before it, and what is left over counts as progress of the next.
+#[test]
+fn bytes_are_removed_from_the_front(rt: HostRuntime) {
+    let script = "b 3\nb 0\nb 5\nf\nrb 3\nrb 2\n?\nrb 4\nrb 3\nrb 0\n";
+    let trace =
+        "id 0 t=99 w=00000000\nid 1 t=195 w=00000000\nid 2 t=296 w=00000000\nn 3 t=296 w=00000000\n\
+        n 2 t=101 w=00000000 0:ok 1:ok\nn 0 t=101 w=00000000\n\
+        size=1 cur=2 bu=300 bw=0 t=101 w=00000000\n\
+        !7 t=101 w=00000000\nn 1 t=0 w=00000000 2:ok\nn 0 t=0 w=00000000\n";
+    traces(&rt, &LOW_200_HIGH_400, script, trace);
+    let empty = "id 0 t=96 w=00000000\nn 1 t=96 w=00000000\nn 1 t=0 w=00000000 0:ok\n";
+    traces(&rt, &LOW_200_HIGH_400, "b 0\nf\nrb 0\n", empty);
+}
+
+/// The bytes of a region are none of the buffer's.
+#[test]
+fn no_bytes_behind_a_region(rt: HostRuntime) {
+    let trace =
+        "id 0 t=99 w=00000000\nid 1 t=195 w=00000000\nn 2 t=195 w=00000000\n!7 t=195 w=00000000\n";
+    traces(&rt, &LOW_200_HIGH_400, "b 3\nr 9\nf\nrb 4\n", trace);
+}
+
+/// A voided entry is passed over, and the first block comes in any case.
+#[test]
+fn blocks_are_gathered_from_the_front(rt: HostRuntime) {
+    let script = "b 3\nb 4\nb 5\nx 1\nf\ng 8 6\ng 8 8\ng 1 100\ng 8 1\ng 1024 2147483647\n";
+    let trace = "id 0 t=99 w=00000000\nid 1 t=199 w=00000000\nid 2 t=300 w=00000000\n\
+        yes t=300 w=00000000 1:x\nn 3 t=200 w=00000000\n\
+        g 3 t=200 w=00000000\ng 3 5 t=200 w=00000000\ng 3 t=200 w=00000000\ng 3 t=200 w=00000000\n\
+        g 3 5 t=200 w=00000000\n";
+    traces(&rt, &LOW_200_HIGH_400, script, trace);
+}
+
+/// A block that no flush has reached, or behind a region, is not gathered.
+#[test]
+fn nothing_to_gather(rt: HostRuntime) {
+    let script = "b 3\ng 8 8\nf\nr 9\nb 2\nf\nrb 1\ng 8 8\nrm\ng 8 8\n";
+    let trace =
+        "id 0 t=99 w=00000000\ng t=99 w=00000000\nn 1 t=99 w=00000000\nid 1 t=195 w=00000000\n\
+        id 2 t=293 w=00000000\nn 2 t=293 w=00000000\nn 0 t=293 w=00000000\ng 2 t=293 w=00000000\n\
+        yes t=194 w=00000000 0:ok\ng t=194 w=00000000\n";
+    traces(&rt, &LOW_200_HIGH_400, script, trace);
 }
