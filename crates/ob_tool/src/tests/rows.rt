@@ -196,7 +196,7 @@ fn the_longest_region(rt: HostRuntime) {
 
 /// An empty block goes with the one before it, and what is left over counts as progress of the next.
 #[test]
-fn bytes_are_removed_from_the_front(rt: HostRuntime) {
+fn remove_bytes_takes_empty_blocks_along(rt: HostRuntime) {
     let script = "b 3\nb 0\nb 5\nf\nrb 3\nrb 2\n?\nrb 4\nrb 3\nrb 0\n";
     let trace =
         "id 0 t=99 w=00000000\nid 1 t=195 w=00000000\nid 2 t=296 w=00000000\nn 3 t=296 w=00000000\n\
@@ -204,21 +204,35 @@ fn bytes_are_removed_from_the_front(rt: HostRuntime) {
         size=1 cur=2 bu=300 bw=0 t=101 w=00000000\n\
         !7 t=101 w=00000000\nn 1 t=0 w=00000000 2:ok\nn 0 t=0 w=00000000\n";
     traces(&rt, &LOW_200_HIGH_400, script, trace);
-    let empty = "id 0 t=96 w=00000000\nn 1 t=96 w=00000000\nn 1 t=0 w=00000000 0:ok\n";
-    traces(&rt, &LOW_200_HIGH_400, "b 0\nf\nrb 0\n", empty);
+}
+
+/// With nothing flushed they remove nothing.
+#[test]
+fn zero_bytes_remove_an_empty_front(rt: HostRuntime) {
+    let trace = "n 0 t=0 w=00000000\nid 0 t=96 w=00000000\nn 1 t=96 w=00000000\n\
+        n 1 t=0 w=00000000 0:ok\n";
+    traces(&rt, &LOW_200_HIGH_400, "rb 0\nb 0\nf\nrb 0\n", trace);
 }
 
 /// The bytes of a region are none of the buffer's.
 #[test]
-fn no_bytes_behind_a_region(rt: HostRuntime) {
+fn a_region_ends_the_byte_run(rt: HostRuntime) {
     let trace =
         "id 0 t=99 w=00000000\nid 1 t=195 w=00000000\nn 2 t=195 w=00000000\n!7 t=195 w=00000000\n";
     traces(&rt, &LOW_200_HIGH_400, "b 3\nr 9\nf\nrb 4\n", trace);
 }
 
+/// Another message ends the byte run too, and is removed as a whole.
+#[test]
+fn another_message_in_front(rt: HostRuntime) {
+    let trace = "id 0 t=104 w=00000000\nn 1 t=104 w=00000000\nn 0 t=104 w=00000000\n\
+        !7 t=104 w=00000000\nyes t=0 w=00000000 0:ok\n";
+    traces(&rt, &LOW_200_HIGH_400, "o 5\nf\nrb 0\nrb 1\nrm\n", trace);
+}
+
 /// A voided entry is passed over, and the first block comes in any case.
 #[test]
-fn blocks_are_gathered_from_the_front(rt: HostRuntime) {
+fn gather_skips_voided_entries(rt: HostRuntime) {
     let script = "b 3\nb 4\nb 5\nx 1\nf\ng 8 6\ng 8 8\ng 1 100\ng 8 1\ng 1024 2147483647\n";
     let trace = "id 0 t=99 w=00000000\nid 1 t=199 w=00000000\nid 2 t=300 w=00000000\n\
         yes t=300 w=00000000 1:x\nn 3 t=200 w=00000000\n\
