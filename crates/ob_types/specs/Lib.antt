@@ -1,4 +1,5 @@
 pub mod Change
+pub mod Copy
 pub mod PendingSize
 pub mod Refusal
 pub mod WaterMark
