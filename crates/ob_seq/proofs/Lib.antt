@@ -15,6 +15,7 @@ mod Progressed
 mod Reached
 mod Removed
 mod Rows
+mod Settled
 mod Sizes
 mod Taken
 mod Times

@@ -8,6 +8,7 @@ pub mod Moment
 pub mod Pending
 pub mod Row
 pub mod Settings
+pub mod Settles
 pub mod Steps
 pub mod Total
 pub mod UserBit

@@ -8,6 +8,7 @@ mod flush;
 mod look;
 mod progress;
 mod remove;
+mod settles;
 mod word;
 mod write;
 

@@ -1,0 +1,42 @@
+ghost use Rattle.std.specs.Prelude.{◌≡◌, length, if◌then◌else◌};
+ghost use Rattle.ob_types.specs.declared.promise.Outcome.TheVariants.{Success};
+ghost use Rattle.ob_seq.specs.Answer.{is_waiting};
+ghost use Rattle.ob_seq.specs.Settles.{Settles};
+ghost use Rattle.ob_seq.specs.Steps.{removal_reply};
+
+use crate::buffer::Buffer;
+use ob_types::{Command, PromiseState};
+
+impl Buffer {
+    /// How many promises a command would settle: the number of settlements in its reply, and 0 where it would be
+    /// refused. It changes nothing and takes no memory. Our own.
+    pub fn settles(&self, command: &Command) -> u32
+        ensures { Settles self.now command.now result }
+    {
+        match command {
+            Command::Write(_) => 0,
+            Command::Flush => 0,
+            Command::Remove => self.removal_settles(),
+            Command::RemoveWith(_) => self.removal_settles(),
+            Command::Progress(_) => 0,
+            Command::Cancel(id) => waiting(self.promise(*id)),
+        }
+    }
+
+    /// How many promises a removal of the front would settle: none where it was voided, or where nothing is in line.
+    fn removal_settles(&self) -> u32
+        ensures { result ≡ length (removal_reply Success self.now).settled }
+    {
+        if self.flushed == 0 || self.entries[0].voided {
+            return 0;
+        }
+        1
+    }
+}
+
+/// 1 where nothing has become of a promise yet, and else 0.
+fn waiting(state: Option<PromiseState>) -> u32
+    ensures { result ≡ (if is_waiting state then 1 else 0) }
+{
+    u32::from(matches!(state, Some(PromiseState::Waiting)))
+}
