@@ -1,0 +1,4 @@
+pub mod Accepted
+pub mod Legal
+pub mod Settlements
+pub mod Worked
