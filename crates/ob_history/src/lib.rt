@@ -1,12 +1,15 @@
 //! The stored history of a buffer: each call stays as a record, and its caller gets a receipt of it.
 #![tactic(auto)]
 
+mod answer;
 mod receipt;
 mod record;
+mod recorded;
 mod seen;
 #[cfg(test)]
 mod tests;
 
 pub use receipt::Receipt;
 pub use record::Record;
+pub use recorded::Recorded;
 pub use seen::Seen;

@@ -3,3 +3,4 @@ pub mod Copy
 pub mod PendingSize
 pub mod Refusal
 pub mod WaterMark
+pub mod Write
