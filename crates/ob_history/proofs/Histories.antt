@@ -1,6 +1,6 @@
 -- One more record at the end of a history.
-use Rattle.std.proofs.Common.{◌≡◌, ℕ, zero, suc, Bool, true, false, List, [], ◌∷◌, ◌++◌, ◌⊎◌, inl, inr, length, take, refl, sym, ap, ◌∙◌, cond, append-nil}
-use Rattle.std.specs.Prelude.{Some, Result, is_ok, slice_get, filter, map}
+use Rattle.std.proofs.Common.{◌≡◌, ℕ, zero, suc, ◌<◌, Bool, true, false, List, [], ◌∷◌, ◌++◌, ◌⊎◌, inl, inr, length, take, refl, sym, ap, ◌∙◌, cond, append-nil, arith}
+use Rattle.std.specs.Prelude.{Some, Result, is_ok, slice_get, slice_index_or, filter, map}
 use Rattle.std.proofs.lemmas.List.{map-append}
 use Rattle.std.proofs.lemmas.List.Elements.{filter-append}
 use Rattle.ob_types.specs.declared.command.Command.{Command}
@@ -90,3 +90,35 @@ pub same_history : (settings : Settings) (limit : ℕ) {records records' : List 
 same_history settings limit {records} {records'} {reserved} {reserved'} all ahead =
     ap (λ first. let one : History = record { settings = settings; limit = limit; records = first; reserved = reserved } in one) all
     ∙ ap (λ second. let one : History = record { settings = settings; limit = limit; records = records'; reserved = second } in one) ahead
+
+-- the record at an index of a list: it is found there, and comes last among those up to it
+pub found_at : (records : List Record) (index : ℕ) (one : Record) → index < length records → one ≡ slice_index_or records index one →
+    (slice_get records index ≡ Some one) × (take (suc index) records ≡ take index records ++ one ∷ [])
+found_at [] index one within is = absurd (omega arith)
+found_at (first ∷ records) zero one within is = (ap Some (sym is), ap (λ other. other ∷ []) (sym is))
+found_at (first ∷ records) (suc index) one within is =
+    let rest = found_at records index one (omega arith) is in
+    (rest.0, ap (λ more. first ∷ more) rest.1)
+
+-- all of a list
+pub take_all : (records : List Record) → take (length records) records ≡ records
+take_all [] = refl
+take_all (first ∷ records) = ap (λ rest. first ∷ rest) (take_all records)
+
+-- what stands at an index of a beginning stands there in the whole, behind the same records
+in_beginning : (records : List Record) (count index : ℕ) (one : Record) → slice_get (take count records) index ≡ Some one →
+    (slice_get records index ≡ Some one) × (take index (take count records) ≡ take index records)
+in_beginning [] zero index one is = absurd (cc)
+in_beginning [] (suc count) index one is = absurd (cc)
+in_beginning (first ∷ records) zero index one is = absurd (cc)
+in_beginning (first ∷ records) (suc count) zero one is = (is, refl)
+in_beginning (first ∷ records) (suc count) (suc index) one is =
+    let rest = in_beginning records count index one is in
+    (rest.0, ap (λ more. first ∷ more) rest.1)
+
+-- a beginning of a legal history is legal
+pub legal_beginning : (settings : Settings) (records : List Record) (count : ℕ) → IsLegal settings records → IsLegal settings (take count records)
+legal_beginning settings records count legal index one is =
+    let there = in_beginning records count index one is in
+    let at = legal index one there.0 in
+    record { place = at.place; reply = at.reply ∙ ap (λ before. answer_to settings (accepted_commands before) one.command) (sym there.1) }

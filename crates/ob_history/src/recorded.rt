@@ -5,7 +5,10 @@ ghost use Rattle.ob_history.specs.Legal.{IsLegal};
 ghost use Rattle.ob_history.specs.History.{new_history};
 
 mod call;
+mod check;
 mod copies;
+mod look;
+mod reserve;
 
 use crate::record::Record;
 use ob_seq::Buffer;
