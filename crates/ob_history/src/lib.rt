@@ -2,6 +2,7 @@
 #![tactic(auto)]
 
 mod answer;
+mod booked;
 mod receipt;
 mod record;
 mod recorded;
@@ -9,6 +10,7 @@ mod seen;
 #[cfg(test)]
 mod tests;
 
+pub use booked::{As, Booked};
 pub use receipt::Receipt;
 pub use record::Record;
 pub use recorded::Recorded;

@@ -60,7 +60,7 @@ impl Recorded {
         }
     }
 
-    /// The records, oldest first. They are a legal history.
+    /// The records, oldest first. They are a legal history. It takes no memory.
     pub fn records(&self) -> &[Record]
         ensures value { result.now ≡ self.now.records }
         ensures legal { IsLegal self.now.settings self.now.records }
@@ -68,10 +68,11 @@ impl Recorded {
         self.records.as_slice()
     }
 
-    /// The buffer after the accepted commands of the records.
+    /// The buffer after the accepted commands of the records, which are a legal history. It takes no memory.
     pub fn buffer(&self) -> &Buffer
         ensures stands { StandsFor result.now (accepted_commands self.now.records) }
         ensures settings { result.now.settings ≡ self.now.settings }
+        ensures legal { IsLegal self.now.settings self.now.records }
     {
         &self.buffer
     }
