@@ -9,6 +9,7 @@ mod History
 mod Kept
 mod Looks
 mod Marks
+mod Once
 mod Order
 mod Parts
 mod Progressed

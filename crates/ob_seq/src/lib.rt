@@ -3,9 +3,11 @@
 
 mod buffer;
 mod entry;
+mod laws;
 mod look;
 #[cfg(test)]
 mod tests;
 
 pub use buffer::Buffer;
+pub use laws::no_promise_is_settled_twice;
 pub use look::Look;
