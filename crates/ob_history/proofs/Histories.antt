@@ -51,7 +51,8 @@ legal_with_next settings records one legal place reply index found is =
       }
     ]
 
-abbrev command_of : Record → Command
+-- what a record asked
+abbrev pub command_of : Record → Command
 command_of one = one.command
 
 -- one more record adds its command to the accepted ones, if it was accepted

@@ -1,1 +1,2 @@
 mod Histories
+mod Settling

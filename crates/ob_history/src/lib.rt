@@ -3,6 +3,7 @@
 
 mod answer;
 mod booked;
+mod laws;
 mod receipt;
 mod record;
 mod recorded;
@@ -11,6 +12,7 @@ mod seen;
 mod tests;
 
 pub use booked::{As, Booked};
+pub use laws::a_history_settles_each_promise_once;
 pub use receipt::Receipt;
 pub use record::Record;
 pub use recorded::Recorded;
