@@ -1,5 +1,5 @@
 -- What a contract sees of a stored history, and one more call of it.
-use Rattle.std.specs.Prelude.{◌≡◌, ℕ, ◌-◌, ◌<◌, ◌≤◌, false, List, [], ◌∷◌, ◌++◌, length, max}
+use Rattle.std.specs.Prelude.{◌≡◌, ℕ, ◌+◌, ◌-◌, ◌<◌, ◌≤◌, false, List, [], ◌∷◌, ◌++◌, length, max}
 use Rattle.ob_types.specs.Write.{is_write}
 use Rattle.ob_types.specs.declared.command.Command.{Command}
 use Rattle.ob_seq.specs.Settings.{Settings}
@@ -24,6 +24,10 @@ new_history settings limit = record { settings = settings; limit = limit; record
 abbrev pub IsFull : History → Type 0
 IsFull history = length history.records ≡ history.limit
 
+-- a history lacks so many places where its limit is below the number of its records with them
+abbrev pub LacksPlaces : History → ℕ → Type 0
+LacksPlaces history count = history.limit < length history.records + count
+
 -- the record of one more call: the next place, what was asked and by whom, and the answer after the accepted commands
 abbrev pub next_record : History → ℕ → Command → Record
 next_record history caller command = record {
@@ -36,6 +40,10 @@ next_record history caller command = record {
 -- a history with one more record, which uses a reserved call up, if there is one
 abbrev pub with_record : History → Record → History
 with_record history one = record history { records = history.records ++ one ∷ []; reserved = history.reserved - 1 }
+
+-- the history after one more call
+abbrev pub history_after : History → ℕ → Command → History
+history_after history caller command = with_record history (next_record history caller command)
 
 -- a history with at least so many calls reserved
 abbrev pub with_reserved : History → ℕ → History

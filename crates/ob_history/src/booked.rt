@@ -1,9 +1,9 @@
-ghost use Rattle.std.specs.Prelude.{◌≡◌, ℕ, ◌+◌, ◌<◌, ◌≤◌, ◌↔◌, length, IsErrOf, IsOk, IsOkUnless, IfOk, OnOk, OnErr};
+ghost use Rattle.std.specs.Prelude.{◌≡◌, ℕ, ◌≤◌, ◌↔◌, IsErrOf, IsOk, IsOkUnless, IfOk, OnOk, OnErr};
 ghost use Rattle.ob_seq.specs.Pending.{StandsFor};
 ghost use Rattle.ob_history.specs.Accepted.{accepted_commands};
-ghost use Rattle.ob_history.specs.History.{History, IsCovered, IsFull, next_record, with_record, with_reserved};
+ghost use Rattle.ob_history.specs.History.{History, IsCovered, IsFull, LacksPlaces, history_after, with_reserved};
 ghost use Rattle.ob_history.specs.Legal.{IsLegal};
-ghost use Rattle.ob_history.specs.Receipt.{receipt_of};
+ghost use Rattle.ob_history.specs.Receipt.{next_receipt};
 
 use crate::receipt::Receipt;
 use crate::recorded::Recorded;
@@ -20,8 +20,8 @@ pub trait Booked {
 
     /// Gives the buffer one command, records the call, and answers the receipt of the record, as `Recorded::call`.
     fn call(&mut self, command: Command) -> Result<Receipt, Refusal>
-        ensures receipt { IfOk result (λ receipt. receipt ≡ receipt_of (next_record (history self.old) (caller self.old) command)) }
-        ensures recorded { OnOk result (history self.new ≡ with_record (history self.old) (next_record (history self.old) (caller self.old) command)) }
+        ensures receipt { IfOk result (λ receipt. receipt ≡ next_receipt (history self.old) (caller self.old) command) }
+        ensures recorded { OnOk result (history self.new ≡ history_after (history self.old) (caller self.old) command) }
         ensures caller { caller self.new ≡ caller self.old }
 
         ensures full { IsErrOf result Refusal.HistoryFull ↔ IsFull (history self.old) }
@@ -34,8 +34,8 @@ pub trait Booked {
         ensures reserved { OnOk result (history self.new ≡ with_reserved (history self.old) count) }
         ensures caller { caller self.new ≡ caller self.old }
 
-        ensures full { IsErrOf result Refusal.HistoryFull ↔ ((history self.old).limit < length (history self.old).records + count) }
-        ensures no_memory { length (history self.old).records + count ≤ (history self.old).limit → IsOkUnless result Refusal.NoMemory }
+        ensures full { IsErrOf result Refusal.HistoryFull ↔ LacksPlaces (history self.old) count }
+        ensures no_memory { ¬ LacksPlaces (history self.old) count → IsOkUnless result Refusal.NoMemory }
         ensures frugal { count ≤ (history self.old).reserved → IsOk result }
         ensures refused { OnErr result (history self.new ≡ history self.old) };
 

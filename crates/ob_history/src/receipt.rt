@@ -24,7 +24,8 @@ impl Receipt {
     /// where the command is no write and its reply settles at most four promises.
     pub fn copy(&self) -> Result<Receipt, AllocError>
         ensures same { IfOk result (λ copy. copy ≡ self.now) }
-        ensures succeeds { is_write self.now.command ≡ false → length (settled_by self.now.reply) ≤ 4 → IsOk result }
+        ensures succeeds { is_write self.now.command ≡ false → length (settled_by self.now.reply) ≤ 4
+            → IsOk result }
     {
         Ok(Receipt {
             place: self.place,

@@ -1,6 +1,6 @@
 ghost use Rattle.std.specs.Prelude.{◌≡◌, ◌↔◌, IsErrOf, IsOk, IsOkUnless, IfOk, OnOk, OnErr};
-ghost use Rattle.ob_history.specs.History.{IsCovered, IsFull, next_record, with_record};
-ghost use Rattle.ob_history.specs.Receipt.{receipt_of};
+ghost use Rattle.ob_history.specs.History.{IsCovered, IsFull, history_after};
+ghost use Rattle.ob_history.specs.Receipt.{next_receipt};
 
 use crate::answer;
 use crate::receipt::Receipt;
@@ -17,8 +17,8 @@ impl Recorded {
     /// would have answered. `NoMemory` comes where the allocator refused, and not to a reserved call of a command that
     /// is no write and settles at most four promises. Then there is no record, and all is as it was.
     pub fn call(&mut self, caller: u32, command: Command) -> Result<Receipt, Refusal>
-        ensures receipt { IfOk result (λ receipt. receipt ≡ receipt_of (next_record self.old caller command)) }
-        ensures recorded { OnOk result (self.new ≡ with_record self.old (next_record self.old caller command)) }
+        ensures receipt { IfOk result (λ receipt. receipt ≡ next_receipt self.old caller command) }
+        ensures recorded { OnOk result (self.new ≡ history_after self.old caller command) }
 
         ensures full { IsErrOf result Refusal.HistoryFull ↔ IsFull self.old }
         ensures no_memory { ¬ IsFull self.old → IsOkUnless result Refusal.NoMemory }

@@ -55,7 +55,8 @@ fn is_of(receipt: &Receipt, kept: &Record) -> bool
 
 /// Whether a buffer shows a look.
 fn shows(buffer: &Buffer, look: Look) -> bool
-    ensures { (commands : List Command) → StandsFor buffer.now commands → IsTrue result ↔ (look ≡ look_after buffer.now.settings commands) }
+    ensures { (commands : List Command) → StandsFor buffer.now commands
+        → IsTrue result ↔ (look ≡ look_after buffer.now.settings commands) }
 {
     buffer.look() == look
 }

@@ -1,5 +1,5 @@
-ghost use Rattle.std.specs.Prelude.{◌≡◌, ◌+◌, ◌<◌, ◌≤◌, ◌↔◌, length, IsErrOf, IsOk, IsOkUnless, OnOk, OnErr};
-ghost use Rattle.ob_history.specs.History.{with_reserved};
+ghost use Rattle.std.specs.Prelude.{◌≡◌, ◌≤◌, ◌↔◌, IsErrOf, IsOk, IsOkUnless, OnOk, OnErr};
+ghost use Rattle.ob_history.specs.History.{LacksPlaces, with_reserved};
 
 use crate::recorded::Recorded;
 use ob_types::Refusal;
@@ -13,8 +13,8 @@ impl Recorded {
     pub fn reserve(&mut self, count: u32) -> Result<(), Refusal>
         ensures reserved { OnOk result (self.new ≡ with_reserved self.old count) }
 
-        ensures full { IsErrOf result Refusal.HistoryFull ↔ (self.old.limit < length self.old.records + count) }
-        ensures no_memory { length self.old.records + count ≤ self.old.limit → IsOkUnless result Refusal.NoMemory }
+        ensures full { IsErrOf result Refusal.HistoryFull ↔ LacksPlaces self.old count }
+        ensures no_memory { ¬ LacksPlaces self.old count → IsOkUnless result Refusal.NoMemory }
         ensures frugal { count ≤ self.old.reserved → IsOk result }
         ensures refused { OnErr result (self.new ≡ self.old) }
     {
