@@ -1,7 +1,7 @@
 //! The answer of a buffer, and what is done with it.
 
 ghost use Rattle.std.specs.Prelude.{◌≡◌, ◌≤◌, ◌↔◌, length, IsOk, IsTrue, IfOk, OnOk, OnErr};
-ghost use Rattle.ob_seq.specs.Pending.{Answers, Follows, takes_no_memory};
+ghost use Rattle.ob_seq.specs.Pending.{Accepts, Answers, Follows, takes_no_memory};
 ghost use Rattle.ob_seq.specs.Settles.{settled_by};
 
 use ob_seq::Buffer;
@@ -14,6 +14,7 @@ pub fn give(buffer: &mut Buffer, command: Command) -> Result<Result<Reply, Refus
     ensures stands { OnOk result (Follows buffer.old command buffer.new) }
     ensures settings { buffer.new.settings ≡ buffer.old.settings }
     ensures err { OnErr result (buffer.new ≡ buffer.old) }
+    ensures last { OnErr result (Accepts buffer.old command) }
     ensures frugal { IsTrue (takes_no_memory buffer.old command) → IsOk result }
 {
     match buffer.apply(command) {

@@ -1,8 +1,9 @@
-ghost use Rattle.std.specs.Prelude.{◌≡◌, ◌≤◌, false, length, if◌then◌else◌, IsTrue};
+ghost use Rattle.std.specs.Prelude.{◌≡◌, ◌≤◌, false, List, length, if◌then◌else◌, IsTrue};
+ghost use Rattle.ob_types.specs.declared.command.Command.{Command};
 ghost use Rattle.ob_types.specs.declared.promise.Outcome.TheVariants.{Success};
 ghost use Rattle.ob_types.specs.Write.{is_write};
 ghost use Rattle.ob_seq.specs.Answer.{is_waiting};
-ghost use Rattle.ob_seq.specs.Pending.{takes_no_memory};
+ghost use Rattle.ob_seq.specs.Pending.{Accepts, StandsFor, takes_no_memory};
 ghost use Rattle.ob_seq.specs.Settles.{Settles};
 ghost use Rattle.ob_seq.specs.Steps.{removal_reply};
 
@@ -11,11 +12,12 @@ use ob_types::{Command, PromiseState};
 
 impl Buffer {
     /// How many promises a command would settle: the number of settlements in its reply, and 0 where it would be
-    /// refused. It changes nothing and takes no memory. A command that is no write and settles at most four promises
-    /// takes none either. Our own.
+    /// refused. It changes nothing and takes no memory. An accepted command that is no write and settles at most four
+    /// promises takes none either. Our own.
     pub fn settles(&self, command: &Command) -> u32
         ensures count { Settles self.now command.now result }
-        ensures frugal { is_write command.now ≡ false → result ≤ 4 → IsTrue (takes_no_memory self.now command.now) }
+        ensures frugal { (commands : List Command) → StandsFor self.now commands → Accepts self.now command.now
+            → is_write command.now ≡ false → result ≤ 4 → IsTrue (takes_no_memory self.now command.now) }
     {
         match command {
             Command::Write(_) => 0,
