@@ -12,6 +12,7 @@ mod History
 mod Kept
 mod Looks
 mod Marks
+mod Once
 mod Order
 mod Parts
 mod Pieces
@@ -21,6 +22,7 @@ mod Removed
 mod Rows
 mod Sending
 mod Sent
+mod Settled
 mod Sizes
 mod Skipped
 mod Successes

@@ -79,10 +79,10 @@ with_front_fresh change (row ∷ fresh) all =
 pub with_front_standing : (change : Row → Row) (row : Row) (rows : List Row) → IsStanding row → with_front change (row ∷ rows) ≡ change row ∷ rows
 with_front_standing change row rows standing = ap (λ first. cond first (change row ∷ rows) (row ∷ with_front change rows)) (standing_in_line row standing)
 
-flushed_gone : (row : Row) → IsGone row → flushed_row row ≡ row
+pub flushed_gone : (row : Row) → IsGone row → flushed_row row ≡ row
 flushed_gone row gone = ap (λ place. cond (is_unflushed place) (reached_row row) row) gone.place
 
-flushed_standing : (row : Row) → IsStanding row → flushed_row row ≡ row
+pub flushed_standing : (row : Row) → IsStanding row → flushed_row row ≡ row
 flushed_standing row (inl sent) = ap (λ place. cond (is_unflushed place) (reached_row row) row) sent.place
 flushed_standing row (inr void) = ap (λ place. cond (is_unflushed place) (reached_row row) row) void.place
 

@@ -60,7 +60,7 @@ abbrev pub fitting : ℕ → List (List ℕ) → ℕ
 fitting limit [] = 0
 fitting limit (piece ∷ pieces) = cond (leb (length piece) limit) (suc (fitting (limit - length piece) pieces)) 0
 
-fitting_few : (limit : ℕ) (pieces : List (List ℕ)) → fitting limit pieces ≤ length pieces
+pub fitting_few : (limit : ℕ) (pieces : List (List ℕ)) → fitting limit pieces ≤ length pieces
 fitting_few limit [] = omega arith
 fitting_few limit (piece ∷ pieces) = by_test (fitting_few (limit - length piece) pieces) (leb (length piece) limit)
   where

@@ -11,6 +11,7 @@ pub mod Pending
 pub mod Pieces
 pub mod Row
 pub mod Settings
+pub mod Settles
 pub mod Steps
 pub mod Total
 pub mod UserBit

@@ -8,7 +8,7 @@ use Rattle.ob_types.specs.declared.promise.PromiseState.TheVariants.{Waiting, Fi
 use Rattle.ob_seq.specs.declared.entry.Entry.{Entry}
 use Rattle.ob_seq.specs.declared.buffer.cut.Cut.{Cut}
 use Rattle.ob_seq.specs.Word.{bit_value}
-use Rattle.ob_seq.specs.Pending.{Pending}
+use Rattle.ob_seq.specs.Pending.{Pending, blocks_left, settled_by_bytes}
 use Rattle.ob_seq.specs.Row.{is_cancelled, without_skipped}
 use Rattle.ob_seq.specs.Pieces.{bytes_in, pieces_within}
 use Rattle.ob_seq.specs.ByteRun.{block_bytes}
@@ -180,3 +180,7 @@ bytes_reply cut old = record {
   settled = successes_from (front_id old) (take cut.whole old.line);
   change = change_between old.word (bytes_removed cut old).word;
 }
+
+-- how many promises a removal of n bytes settles: none where the blocks in front hold fewer
+abbrev pub bytes_settled : ℕ → List Entry → ℕ
+bytes_settled n line = if nat_lt (bytes_in (blocks_left line)) n then 0 else settled_by_bytes n line

@@ -11,6 +11,7 @@ mod look;
 mod progress;
 mod remove;
 mod remove_bytes;
+mod settles;
 mod word;
 mod write;
 

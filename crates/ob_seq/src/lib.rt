@@ -4,10 +4,12 @@
 mod buffer;
 mod entry;
 mod flushed;
+mod laws;
 mod look;
 #[cfg(test)]
 mod tests;
 
 pub use buffer::Buffer;
 pub use flushed::Flushed;
+pub use laws::no_promise_is_settled_twice;
 pub use look::Look;

@@ -1,9 +1,10 @@
 -- The trace of a script: a line of text for each line that is carried out.
-use Rattle.std.specs.Prelude.{ℕ, ◌+◌, ◌%◌, Bool, true, false, List, [], ◌∷◌, ◌++◌, map, fold, count_by}
+use Rattle.std.specs.Prelude.{ℕ, ◌+◌, ◌%◌, List, [], ◌∷◌, ◌++◌, map, fold, count_by}
 use Rattle.std.specs.List.{range_with_len}
 use Rattle.ob_types.specs.declared.message.Message.TheVariants as message
 use Rattle.ob_types.specs.declared.command.Command.{Command}
 use Rattle.ob_types.specs.declared.command.Command.TheVariants as command
+use Rattle.ob_types.specs.Write.{is_write}
 use Rattle.ob_seq.specs.Settings.{Settings}
 use Rattle.ob_seq.specs.Answer.{answer_to, commands_after}
 use Rattle.ob_seq.specs.Gathering.{gathered_after}
@@ -14,16 +15,6 @@ use Rattle.ob_tool.specs.declared.asked.Asked.{Asked}
 use Rattle.ob_tool.specs.declared.asked.Asked.TheVariants as asked
 use Rattle.ob_tool.specs.declared.script_line.ScriptLine.{ScriptLine}
 use Rattle.ob_tool.specs.declared.script_line.ScriptLine.TheVariants as line
-
--- whether a command is a write
-abbrev pub is_write : Command → Bool
-is_write (command.Write message) = true
-is_write command.Flush = false
-is_write command.Remove = false
-is_write (command.RemoveWith cause) = false
-is_write (command.RemoveBytes n) = false
-is_write (command.Progress n) = false
-is_write (command.Cancel id) = false
 
 -- how many writes were accepted
 abbrev pub writes_in : List Command → ℕ

@@ -2,7 +2,7 @@ use crate::message::Message;
 use crate::promise::{Cause, PromiseId};
 
 /// One call of a buffer.
-#[derive(Debug, Drop)]
+#[derive(Debug, Drop, PartialEq, Eq)]
 pub enum Command {
     /// Adds a message behind all others (Netty's `addMessage`).
     Write(Message),

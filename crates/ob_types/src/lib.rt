@@ -2,11 +2,13 @@
 #![tactic(auto)]
 
 mod command;
+mod copy;
 mod estimate;
 mod message;
 mod promise;
 mod refusal;
 mod reply;
+mod same;
 mod settlements;
 #[cfg(test)]
 mod tests;
@@ -18,5 +20,5 @@ pub use message::Message;
 pub use promise::{Cause, Outcome, PromiseId, PromiseState};
 pub use refusal::Refusal;
 pub use reply::{Answer, Change, Reply};
-pub use settlements::Settlements;
+pub use settlements::{Settlements, Spare};
 pub use water_mark::WaterMark;

@@ -1,7 +1,7 @@
 use bytes::Bytes;
 
 /// What an application writes to a channel.
-#[derive(Debug, Drop)]
+#[derive(Debug, Drop, PartialEq, Eq)]
 pub enum Message {
     /// Bytes to be sent. The memory is shared with whoever else holds the `Bytes`.
     Block(Bytes),

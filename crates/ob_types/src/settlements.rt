@@ -1,7 +1,10 @@
 ghost use Rattle.std.specs.Prelude.{◌≡◌, ◌<◌, ◌≤◌, [], ◌∷◌, ◌++◌, length, IsOk, OnOk, OnErr};
 
+mod spare;
+
 use crate::promise::{Outcome, PromiseId};
 use smallvec::SmallVec;
+pub use spare::Spare;
 use std::alloc::{AllocError, Global};
 use std::marker::Model;
 

@@ -1,0 +1,9 @@
+pub mod Accepted
+pub mod Copies
+pub mod History
+pub mod Inside
+pub mod Legal
+pub mod Receipt
+pub mod Seen
+pub mod Settlements
+pub mod Worked

@@ -1,0 +1,13 @@
+-- Looks at the buffer of a history.
+use Rattle.std.specs.Prelude.{◌≡◌, ◌≤◌, List, length, take}
+use Rattle.ob_seq.specs.Settings.{Settings}
+use Rattle.ob_seq.specs.Looks.{look_after}
+use Rattle.ob_history.specs.Accepted.{accepted_commands}
+use Rattle.ob_history.specs.declared.record.Record.{Record}
+use Rattle.ob_history.specs.declared.seen.Seen.{Seen}
+
+-- a look is of a history where its place is at most the number of records, and it shows what a new buffer shows after
+-- the accepted commands of so many first records
+pub record IsSeenIn (settings : Settings) (records : List Record) (seen : Seen) : Type 0 where
+  pub within : seen.place ≤ length records
+  pub look : seen.look ≡ look_after settings (accepted_commands (take seen.place records))

@@ -1,0 +1,11 @@
+-- What a history settles.
+use Rattle.std.specs.Prelude.{List}
+use Rattle.std.specs.List.{flat_map}
+use Rattle.ob_types.specs.declared.promise.PromiseId.{PromiseId}
+use Rattle.ob_types.specs.declared.promise.Outcome.{Outcome}
+use Rattle.ob_seq.specs.Settles.{settled_by}
+use Rattle.ob_history.specs.declared.record.Record.{Record}
+
+-- the settlements of a history: the promises and outcomes in its replies, in order
+abbrev pub settlements_in : List Record → List (PromiseId × Outcome)
+settlements_in records = flat_map (λ one. settled_by one.reply) records

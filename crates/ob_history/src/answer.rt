@@ -1,0 +1,62 @@
+//! The answer of a buffer, and what is done with it.
+
+ghost use Rattle.std.specs.Prelude.{◌≡◌, ◌≤◌, ◌↔◌, length, IsOk, IsTrue, IfOk, OnOk, OnErr};
+ghost use Rattle.ob_seq.specs.Pending.{Accepts, Answers, Follows, takes_no_memory};
+ghost use Rattle.ob_seq.specs.Settles.{settled_by};
+
+use ob_seq::Buffer;
+use ob_types::{Command, Refusal, Reply, Spare};
+use std::alloc::AllocError;
+
+/// Gives a buffer one command. Want of memory is no answer: it leaves the buffer as it was.
+pub fn give(buffer: &mut Buffer, command: Command) -> Result<Result<Reply, Refusal>, AllocError>
+    ensures answer { IfOk result (λ answer. Answers buffer.old command answer) }
+    ensures stands { OnOk result (Follows buffer.old command buffer.new) }
+    ensures settings { buffer.new.settings ≡ buffer.old.settings }
+    ensures err { OnErr result (buffer.new ≡ buffer.old) }
+    ensures last { OnErr result (Accepts buffer.old command) }
+    ensures frugal { IsTrue (takes_no_memory buffer.old command) → IsOk result }
+{
+    match buffer.apply(command) {
+        Err(Refusal::NoMemory) => Err(AllocError),
+        answer => Ok(answer),
+    }
+}
+
+/// The same answer. It fails for want of memory alone, and not where at most four promises are settled.
+pub fn copy(answer: &Result<Reply, Refusal>) -> Result<Result<Reply, Refusal>, AllocError>
+    ensures same { IfOk result (λ copy. copy ≡ answer.now) }
+    ensures succeeds { length (settled_by answer.now) ≤ 4 → IsOk result }
+{
+    match answer {
+        Ok(reply) => Ok(Ok(reply.copy()?)),
+        Err(refusal) => Ok(Err(*refusal)),
+    }
+}
+
+/// The same answer, in memory that was taken before.
+pub fn copy_in(answer: &Result<Reply, Refusal>, spare: Spare) -> Result<Reply, Refusal>
+    requires { length (settled_by answer.now) ≤ spare }
+    ensures { result ≡ answer.now }
+{
+    match answer {
+        Ok(reply) => Ok(reply.copy_in(spare)),
+        Err(refusal) => Err(*refusal),
+    }
+}
+
+/// Whether two answers are the same.
+pub fn is_same(one: &Result<Reply, Refusal>, other: &Result<Reply, Refusal>) -> bool
+    ensures { IsTrue result ↔ (one.now ≡ other.now) }
+{
+    match one {
+        Ok(reply) => match other {
+            Ok(other) => reply.is_same(other),
+            Err(_) => false,
+        },
+        Err(refusal) => match other {
+            Ok(_) => false,
+            Err(other) => refusal == other,
+        },
+    }
+}

@@ -1,0 +1,72 @@
+ghost use Rattle.std.specs.Prelude.{◌≡◌, ℕ, ◌≤◌, ◌↔◌, IsErrOf, IsOk, IsOkUnless, IfOk, OnOk, OnErr};
+ghost use Rattle.ob_seq.specs.Pending.{StandsFor};
+ghost use Rattle.ob_history.specs.Accepted.{accepted_commands};
+ghost use Rattle.ob_history.specs.History.{History, IsCovered, IsFull, LacksPlaces, history_after, with_reserved};
+ghost use Rattle.ob_history.specs.Legal.{IsLegal};
+ghost use Rattle.ob_history.specs.Receipt.{next_receipt};
+
+use crate::receipt::Receipt;
+use crate::recorded::Recorded;
+use ob_seq::Buffer;
+use ob_types::{Command, Refusal};
+
+/// A buffer whose calls are recorded, in the hands of one caller.
+pub trait Booked {
+    /// The history of the buffer, and how many more calls are reserved.
+    ghost history: { Self → History };
+
+    /// Who makes the calls.
+    ghost caller: { Self → ℕ };
+
+    /// Gives the buffer one command, records the call, and answers the receipt of the record, as `Recorded::call`.
+    fn call(&mut self, command: Command) -> Result<Receipt, Refusal>
+        ensures receipt { IfOk result (λ receipt. receipt ≡ next_receipt (history self.old) (caller self.old) command) }
+        ensures recorded { OnOk result (history self.new ≡ history_after (history self.old) (caller self.old) command) }
+        ensures caller { caller self.new ≡ caller self.old }
+
+        ensures full { IsErrOf result Refusal.HistoryFull ↔ IsFull (history self.old) }
+        ensures no_memory { ¬ IsFull (history self.old) → IsOkUnless result Refusal.NoMemory }
+        ensures frugal { IsCovered (history self.old) command → IsOk result }
+        ensures refused { OnErr result (history self.new ≡ history self.old) };
+
+    /// Reserves so many calls, as `Recorded::reserve`.
+    fn reserve(&mut self, count: u32) -> Result<(), Refusal>
+        ensures reserved { OnOk result (history self.new ≡ with_reserved (history self.old) count) }
+        ensures caller { caller self.new ≡ caller self.old }
+
+        ensures full { IsErrOf result Refusal.HistoryFull ↔ LacksPlaces (history self.old) count }
+        ensures no_memory { ¬ LacksPlaces (history self.old) count → IsOkUnless result Refusal.NoMemory }
+        ensures frugal { count ≤ (history self.old).reserved → IsOk result }
+        ensures refused { OnErr result (history self.new ≡ history self.old) };
+
+    /// The buffer after the accepted commands of the records. It takes no memory.
+    fn buffer(&self) -> &Buffer
+        ensures stands { StandsFor result.now (accepted_commands (history self.now).records) }
+        ensures settings { result.now.settings ≡ (history self.now).settings }
+        ensures legal { IsLegal (history self.now).settings (history self.now).records };
+}
+
+/// A recorded buffer, all of whose calls are made in the name of one caller.
+#[derive(Debug, Drop)]
+pub struct As {
+    pub recorded: Recorded,
+    pub caller: u32,
+}
+
+impl Booked for As {
+    ghost history = { λ booked. booked.recorded };
+
+    ghost caller = { λ booked. booked.caller };
+
+    fn call(&mut self, command: Command) -> Result<Receipt, Refusal> {
+        self.recorded.call(self.caller, command)
+    }
+
+    fn reserve(&mut self, count: u32) -> Result<(), Refusal> {
+        self.recorded.reserve(count)
+    }
+
+    fn buffer(&self) -> &Buffer {
+        self.recorded.buffer()
+    }
+}

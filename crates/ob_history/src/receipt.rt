@@ -1,0 +1,37 @@
+ghost use Rattle.std.specs.Prelude.{◌≡◌, ◌≤◌, false, length, IsOk, IfOk};
+ghost use Rattle.ob_types.specs.Write.{is_write};
+ghost use Rattle.ob_seq.specs.Settles.{settled_by};
+
+use crate::answer;
+use ob_types::{Command, Refusal, Reply};
+use std::alloc::AllocError;
+
+/// What the caller of a buffer is given for a call: the same as the record that stays in the history.
+#[derive(Debug, Drop)]
+pub struct Receipt {
+    /// The place of the record.
+    pub place: u32,
+    /// Who made the call.
+    pub caller: u32,
+    /// What was asked.
+    pub command: Command,
+    /// What the buffer answered: a reply, or a refusal.
+    pub reply: Result<Reply, Refusal>,
+}
+
+impl Receipt {
+    /// The same receipt, of which a written block shares its memory. It fails for want of memory alone, and not
+    /// where the command is no write and its reply settles at most four promises.
+    pub fn copy(&self) -> Result<Receipt, AllocError>
+        ensures same { IfOk result (λ copy. copy ≡ self.now) }
+        ensures succeeds { is_write self.now.command ≡ false → length (settled_by self.now.reply) ≤ 4
+            → IsOk result }
+    {
+        Ok(Receipt {
+            place: self.place,
+            caller: self.caller,
+            command: self.command.copy()?,
+            reply: answer::copy(&self.reply)?,
+        })
+    }
+}

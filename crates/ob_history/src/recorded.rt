@@ -1,0 +1,79 @@
+ghost use Rattle.std.specs.Prelude.{◌≡◌, ◌<◌, ◌≤◌};
+ghost use Rattle.ob_seq.specs.Pending.{StandsFor};
+ghost use Rattle.ob_history.specs.Accepted.{accepted_commands};
+ghost use Rattle.ob_history.specs.Legal.{IsLegal};
+ghost use Rattle.ob_history.specs.History.{new_history};
+
+mod call;
+mod check;
+mod copies;
+mod look;
+mod reserve;
+
+use crate::record::Record;
+use ob_seq::Buffer;
+use ob_types::{Estimate, WaterMark};
+use std::alloc::Global;
+use std::marker::Model;
+
+/// A buffer with the record of each call, oldest first. Contracts see its history, which determines the buffer.
+#[derive(Debug, Drop)]
+pub struct Recorded {
+    marks: WaterMark,
+    estimate: Estimate,
+    limit: u32,
+    records: Vec<Record>,
+    /// How many more calls have a place and memory for their record.
+    reserved: usize,
+    buffer: Buffer,
+}
+
+impl Model for Recorded {
+    ghost use Rattle.ob_history.specs.History.{History};
+
+    ghost Value = { History };
+
+    ghost use Rattle.ob_history.specs.Inside.{history_of, IsSound};
+
+    ghost view = { history_of };
+
+    ghost invariant = { IsSound };
+}
+
+impl Recorded {
+    /// An empty buffer with no record, which may have up to `limit` of them. It takes no memory. The overhead and the
+    /// size of unknown messages are at most 65535 bytes, and the limit is 1 to 1048576 records.
+    pub fn new(alloc: Global, marks: WaterMark, estimate: Estimate, limit: u32) -> Recorded
+        requires overhead { estimate.overhead ≤ 65535 }
+        requires unknown { estimate.unknown ≤ 65535 }
+        requires some_record { 0 < limit }
+        requires few_records { limit ≤ 1048576 }
+        ensures { result ≡ new_history (record { marks = marks; estimate = estimate }) limit }
+    {
+        Recorded {
+            marks,
+            estimate,
+            limit,
+            records: Vec::new(alloc),
+            reserved: 0,
+            buffer: Buffer::new(alloc, marks, estimate),
+        }
+    }
+
+    /// The records, oldest first. They are a legal history. It takes no memory.
+    pub fn records(&self) -> &[Record]
+        ensures value { result.now ≡ self.now.records }
+        ensures legal { IsLegal self.now.settings self.now.records }
+    {
+        self.records.as_slice()
+    }
+
+    /// The buffer after the accepted commands of the records, which are a legal history. It takes no memory.
+    pub fn buffer(&self) -> &Buffer
+        ensures stands { StandsFor result.now (accepted_commands self.now.records) }
+        ensures settings { result.now.settings ≡ self.now.settings }
+        ensures legal { IsLegal self.now.settings self.now.records }
+    {
+        &self.buffer
+    }
+}

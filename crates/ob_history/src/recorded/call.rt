@@ -1,0 +1,54 @@
+ghost use Rattle.std.specs.Prelude.{◌≡◌, ◌↔◌, IsErrOf, IsOk, IsOkUnless, IfOk, OnOk, OnErr};
+ghost use Rattle.ob_history.specs.History.{IsCovered, IsFull, history_after};
+ghost use Rattle.ob_history.specs.Receipt.{next_receipt};
+
+use crate::answer;
+use crate::receipt::Receipt;
+use crate::record::Record;
+use crate::recorded::Recorded;
+use crate::recorded::copies::Copies;
+use ob_types::{Command, Refusal};
+
+impl Recorded {
+    /// Gives the buffer one command, records the call, and answers the receipt of the record. A command that the
+    /// buffer refuses is recorded too, with the refusal as its reply.
+    ///
+    /// `HistoryFull` comes first, and just where the history holds as many records as it may, whatever the buffer
+    /// would have answered. `NoMemory` comes where the allocator refused, and not to a reserved call of a command that
+    /// is no write and settles at most four promises. Then there is no record, and all is as it was.
+    pub fn call(&mut self, caller: u32, command: Command) -> Result<Receipt, Refusal>
+        ensures receipt { IfOk result (λ receipt. receipt ≡ next_receipt self.old caller command) }
+        ensures recorded { OnOk result (self.new ≡ history_after self.old caller command) }
+
+        ensures full { IsErrOf result Refusal.HistoryFull ↔ IsFull self.old }
+        ensures no_memory { ¬ IsFull self.old → IsOkUnless result Refusal.NoMemory }
+        ensures frugal { IsCovered self.old command → IsOk result }
+        ensures refused { OnErr result (self.new ≡ self.old) }
+    {
+        if self.records.len() == self.limit as usize {
+            return Err(Refusal::HistoryFull);
+        }
+        self.records.reserve(1)?;
+        let Copies { asked, told, spare } = Copies::new(
+            *self.records.allocator(),
+            &self.buffer,
+            &command,
+        )?;
+        let reply = answer::give(&mut self.buffer, command)?;
+        let place = self.records.len() as u32;
+        let receipt = Receipt {
+            place,
+            caller,
+            command: told,
+            reply: answer::copy_in(&reply, spare),
+        };
+        self.records.push_reserved(Record {
+            place,
+            caller,
+            command: asked,
+            reply,
+        });
+        self.reserved = self.reserved.saturating_sub(1);
+        Ok(receipt)
+    }
+}

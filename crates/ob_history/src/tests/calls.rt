@@ -1,0 +1,122 @@
+//! The calls of a recorded buffer with memory at hand.
+
+ghost use Rattle.std.specs.Prelude.{◌<◌, ◌≤◌};
+
+use crate::{As, Booked, Recorded, Seen};
+use bytes::Bytes;
+use ob_types::{Answer, Command, Estimate, Message, Outcome, PromiseId, Refusal, WaterMark};
+use std::alloc::{AllocError, Global};
+use std::test::Fail;
+
+fn recorded(alloc: Global, limit: u32) -> Result<Recorded, Refusal>
+    requires some_record { 0 < limit }
+    requires few_records { limit ≤ 1048576 }
+{
+    let estimate = Estimate {
+        overhead: 96,
+        unknown: 8,
+    };
+    Ok(Recorded::new(alloc, WaterMark::new(32768, 65536)?, estimate, limit))
+}
+
+fn block(alloc: Global, length: usize) -> Result<Command, AllocError> {
+    let bytes = Bytes::from_vec(vec![in alloc; 0u8; length]?)?;
+    Ok(Command::Write(Message::Block(bytes)))
+}
+
+#[test]
+fn a_recorded_history_at_its_limit(rt: HostRuntime) -> Result<(), Fail> {
+    let mut recorded = recorded(rt.alloc(), 3)?;
+    assert_eq!(rt; recorded.reserve(4), Err(Refusal::HistoryFull));
+    let first = recorded.look();
+    assert_eq!(rt; (first.place, first.look.total), (0, 0));
+
+    let mut receipt = recorded.call(7, block(rt.alloc(), 4)?)?;
+    assert_eq!(rt; receipt.place, 0);
+    let refused = recorded.call(2, Command::Cancel(PromiseId(5)))?;
+    assert_eq!(rt; refused.place, 1);
+    assert_eq!(rt; refused.reply.err(), Some(Refusal::UnknownPromise));
+    assert_eq!(rt; recorded.reserve(2), Err(Refusal::HistoryFull));
+    assert_eq!(rt; recorded.reserve(1), Ok(()));
+    assert_eq!(rt; recorded.call(7, Command::Flush)?.place, 2);
+    let full = recorded.call(7, Command::Flush).err();
+    assert_eq!(rt; full, Some(Refusal::HistoryFull));
+
+    assert!(rt; recorded.check(&receipt));
+    receipt.place = 1;
+    assert!(rt; !recorded.check(&receipt));
+    receipt.place = 3;
+    assert!(rt; !recorded.check(&receipt));
+
+    let Seen { look, .. } = first;
+    assert_eq!(rt; recorded.check_seen(&first), Ok(true));
+    assert_eq!(rt; recorded.check_seen(&Seen { place: 1, look }), Ok(false));
+    assert_eq!(rt; recorded.check_seen(&Seen { place: 4, look }), Ok(false));
+    Ok(())
+}
+
+#[test]
+fn a_refused_command_is_recorded(rt: HostRuntime) -> Result<(), Fail> {
+    let mut recorded = recorded(rt.alloc(), 4)?;
+    let before = recorded.look().look;
+    let receipt = recorded.call(1, Command::Progress(3))?;
+    assert!(rt; recorded.check(&receipt));
+    assert!(rt; recorded.check(&receipt.copy()?));
+    assert_eq!(rt; receipt.reply.err(), Some(Refusal::NothingFlushed));
+    assert_eq!(rt;
+        recorded.look(),
+        Seen {
+            place: 1,
+            look: before
+        }
+    );
+    assert_eq!(rt; recorded.records().len(), 1);
+    assert_eq!(rt; recorded.records()[0].caller, 1);
+    Ok(())
+}
+
+/// Writes a message, flushes it and removes it, by any booked buffer: the promise that the removal settles.
+fn send<B: Booked>(booked: &mut B, message: Message) -> Result<Option<PromiseId>, Refusal> {
+    booked.reserve(3)?;
+    booked.call(Command::Write(message))?;
+    booked.call(Command::Flush)?;
+    let reply = booked.call(Command::Remove)?.reply?;
+    Ok(reply.settled.as_slice().first().map(|(id, _)| *id))
+}
+
+#[test]
+fn one_caller_makes_all_calls(rt: HostRuntime) -> Result<(), Fail> {
+    let mut booked = As {
+        recorded: recorded(rt.alloc(), 3)?,
+        caller: 9,
+    };
+    assert_eq!(rt;
+        send(&mut booked, Message::Other(1)),
+        Ok(Some(PromiseId(0)))
+    );
+    assert_eq!(rt; booked.buffer().look().total, 0);
+    for kept in booked.recorded.records() {
+        assert_eq!(rt; kept.caller, 9);
+    }
+    Ok(())
+}
+
+#[test]
+fn a_removal_settles_one_promise(rt: HostRuntime) -> Result<(), Fail> {
+    let mut recorded = recorded(rt.alloc(), 3)?;
+    recorded.call(0, block(rt.alloc(), 1)?)?;
+    let cancel = Command::Cancel(PromiseId(0));
+    assert_eq!(rt; recorded.buffer().settles(&cancel), 1);
+    assert_eq!(rt; recorded.buffer().settles(&Command::Remove), 0);
+    recorded.call(0, Command::Flush)?;
+    assert_eq!(rt; recorded.buffer().settles(&cancel), 0);
+    assert_eq!(rt; recorded.buffer().settles(&Command::Remove), 1);
+    let receipt = recorded.call(0, Command::Remove)?;
+    let reply = receipt.reply?;
+    assert_eq!(rt; reply.answer, Answer::Yes(true));
+    assert_eq!(rt;
+        reply.settled.as_slice(),
+        [(PromiseId(0), Outcome::Success)].as_slice()
+    );
+    Ok(())
+}

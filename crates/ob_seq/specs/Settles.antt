@@ -1,0 +1,33 @@
+-- What commands settle.
+use Rattle.std.specs.Prelude.{◌≡◌, ◌==◌, ℕ, List, [], ◌∷◌, ◌++◌, count_by, length, Result, Ok, Err}
+use Rattle.ob_types.specs.declared.command.Command.{Command}
+use Rattle.ob_types.specs.declared.promise.PromiseId.{PromiseId}
+use Rattle.ob_types.specs.declared.promise.Outcome.{Outcome}
+use Rattle.ob_types.specs.declared.reply.Reply.{Reply}
+use Rattle.ob_types.specs.declared.refusal.Refusal.{Refusal}
+use Rattle.ob_seq.specs.Settings.{Settings}
+use Rattle.ob_seq.specs.Answer.{answer_to, commands_after}
+use Rattle.ob_seq.specs.Pending.{Pending, StandsFor}
+
+-- what an answer settles: the settlements of a reply, and nothing where the command was refused
+abbrev pub settled_by : Result Reply Refusal → List (PromiseId × Outcome)
+settled_by (Ok reply) = reply.settled
+settled_by (Err refusal) = []
+
+-- how many promises one more command settles after a history
+abbrev pub settled_after : Settings → List Command → Command → ℕ
+settled_after settings commands command = length (settled_by (answer_to settings commands command))
+
+-- whatever history the buffer stands for, one more command settles so many promises after it
+abbrev pub Settles : Pending → Command → ℕ → Type 0
+Settles buffer command count = (commands : List Command) → StandsFor buffer commands → count ≡ settled_after buffer.settings commands command
+
+-- what commands settle that are given one after another after a history; a refused one settles nothing and has no effect
+abbrev pub settled_along : Settings → List Command → List Command → List (PromiseId × Outcome)
+settled_along settings earlier [] = []
+settled_along settings earlier (command ∷ commands) =
+    settled_by (answer_to settings earlier command) ++ settled_along settings (commands_after settings earlier command) commands
+
+-- how often a promise stands among settlements
+abbrev pub times_settled : PromiseId → List (PromiseId × Outcome) → ℕ
+times_settled id settlements = count_by (λ settlement. settlement.0.0 == id.0) settlements
