@@ -187,10 +187,10 @@ taken_stays false outcome (Settled earlier) = refl
 -- what stays settled twice stays settled
 stays_both : (before between after : Option Outcome) → StaysSettled before between → StaysSettled between after → StaysSettled before after
 stays_both None between after first second = tt
-stays_both (Some outcome) None after first second = absurd (nothing_counted first)
+stays_both (Some outcome) None after first second = absurd (nothing_is_one (count_of None) refl first)
   where
-    nothing_counted : 0 ≡ 1 → ⊥
-    nothing_counted is = omega arith
+    nothing_is_one : (n : ℕ) → n ≡ 0 → n ≡ 1 → ⊥
+    nothing_is_one n none one = omega arith
 stays_both (Some outcome) (Some other) after first second = second
 
 stay_both : (before between after : List Row) → StaySettled before between → StaySettled between after → StaySettled before after
