@@ -1,5 +1,5 @@
 ghost use Rattle.std.specs.Prelude.{◌≡◌, ◌≤◌, false, length, IsOk, IfOk};
-ghost use Rattle.ob_types.specs.Write.{is_write};
+ghost use Rattle.ob_types.specs.Copy.{carries_shared};
 ghost use Rattle.ob_seq.specs.Settles.{settled_by};
 
 use crate::answer;
@@ -21,10 +21,10 @@ pub struct Receipt {
 
 impl Receipt {
     /// The same receipt, of which a written block shares its memory. It fails for want of memory alone, and not
-    /// where the command is no write and its reply settles at most four promises.
+    /// where the command writes no block and its reply settles at most four promises.
     pub fn copy(&self) -> Result<Receipt, AllocError>
         ensures same { IfOk result (λ copy. copy ≡ self.now) }
-        ensures succeeds { is_write self.now.command ≡ false → length (settled_by self.now.reply) ≤ 4
+        ensures succeeds { carries_shared self.now.command ≡ false → length (settled_by self.now.reply) ≤ 4
             → IsOk result }
     {
         Ok(Receipt {

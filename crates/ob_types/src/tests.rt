@@ -52,6 +52,36 @@ fn settlements_grow_past_the_first_four(rt: HostRuntime) -> Result<(), Fail> {
     Ok(())
 }
 
+/// Copies of a block and of a long list want memory, and have it here.
+#[test]
+fn copies_equal_their_sources(rt: HostRuntime) -> Result<(), Fail> {
+    let block = Message::Block(Bytes::copy_from_slice(rt.alloc(), b"four")?);
+    assert!(rt; block.copy()? == block);
+    let commands = [
+        Command::Write(block),
+        Command::Flush,
+        Command::Remove,
+        Command::RemoveWith(Cause(3)),
+        Command::RemoveBytes(5),
+        Command::Progress(7),
+        Command::Cancel(PromiseId(1)),
+    ];
+    for command in &commands {
+        assert!(rt; command.copy()? == *command);
+    }
+    let mut settled = Settlements::new(rt.alloc());
+    for id in 0..5 {
+        settled.push(PromiseId(id), Outcome::Success)?;
+    }
+    let reply = Reply {
+        answer: Answer::Count(5),
+        settled,
+        change: Some(Change::Writable),
+    };
+    assert!(rt; reply.copy()?.is_same(&reply));
+    Ok(())
+}
+
 #[test]
 fn counts_messages_by_their_kind(rt: HostRuntime) -> Result<(), Fail> {
     let estimate = Estimate {

@@ -1,4 +1,4 @@
-ghost use Rattle.std.specs.Prelude.{◌≡◌, ◌↔◌, List, [], IsTrue, IfOk, IsOkUnless, OnOk};
+ghost use Rattle.std.specs.Prelude.{◌≡◌, ◌<◌, ◌↔◌, List, [], length, IsTrue, IfOk, IsOk, IsOkUnless, OnOk};
 ghost use Rattle.ob_types.specs.declared.command.Command.{Command};
 ghost use Rattle.ob_seq.specs.Looks.{look_after};
 ghost use Rattle.ob_seq.specs.Pending.{StandsFor};
@@ -28,10 +28,12 @@ impl Recorded {
     }
 
     /// Whether the look is that of a new buffer after the first `place` records, and so many records are there. It
-    /// gives a new buffer their commands, and changes nothing here. `NoMemory` comes where the allocator refused.
+    /// gives a new buffer their commands, and changes nothing here. `NoMemory` comes where the allocator refused, and not where
+    /// fewer records are there.
     pub fn check_seen(&self, seen: &Seen) -> Result<bool, Refusal>
         ensures answer { IfOk result (λ answer. IsTrue answer ↔ IsSeenIn self.now.settings self.now.records seen.now) }
         ensures no_memory { IsOkUnless result Refusal.NoMemory }
+        ensures frugal { length self.now.records < seen.now.place → IsOk result }
     {
         let place = seen.place as usize;
         if place > self.records.len() {

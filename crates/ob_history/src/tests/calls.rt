@@ -101,6 +101,24 @@ fn one_caller_makes_all_calls(rt: HostRuntime) -> Result<(), Fail> {
     Ok(())
 }
 
+/// More settlements than fit without the allocator, and copies of what shares memory.
+#[test]
+fn a_removal_settles_five_promises(rt: HostRuntime) -> Result<(), Fail> {
+    let mut recorded = recorded(rt.alloc(), 7)?;
+    let written = recorded.call(3, block(rt.alloc(), 1)?)?;
+    for _ in 0..4 {
+        recorded.call(3, block(rt.alloc(), 1)?)?;
+    }
+    recorded.call(3, Command::Flush)?;
+    assert_eq!(rt; recorded.buffer().settles(&Command::RemoveBytes(5)), 5);
+    let removed = recorded.call(4, Command::RemoveBytes(5))?;
+    assert!(rt; recorded.check(&written.copy()?));
+    assert!(rt; recorded.check(&removed.copy()?));
+    assert_eq!(rt; removed.reply?.settled.as_slice().len(), 5);
+    assert_eq!(rt; recorded.check_seen(&recorded.look()), Ok(true));
+    Ok(())
+}
+
 #[test]
 fn a_removal_settles_one_promise(rt: HostRuntime) -> Result<(), Fail> {
     let mut recorded = recorded(rt.alloc(), 3)?;

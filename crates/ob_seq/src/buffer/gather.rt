@@ -1,5 +1,5 @@
 ghost use Rattle.std.specs.Prelude.{◌≡◌, [], nat_le, nat_lt, ◌||◌, ◌&&◌, IfOk, IfErr, IsOk};
-ghost use Rattle.ob_seq.specs.Gathering.{with_bytes};
+ghost use Rattle.ob_seq.specs.Gathering.{first_blocks, with_bytes};
 ghost use Rattle.ob_seq.specs.Pending.{AreGathered, blocks_left};
 
 use crate::buffer::Buffer;
@@ -11,12 +11,12 @@ impl Buffer {
     /// first message that is no block, at most `max_count` of them, and together at most `max_bytes` bytes; but the
     /// first of them in any case. They share their memory with the buffer, which stays as it is.
     ///
-    /// It takes memory for the list alone. `NoMemory` comes where the allocator refused, and not where there is no such
-    /// block.
+    /// It takes memory for the list alone. `NoMemory` comes where the allocator refused, and not where nothing is
+    /// gathered.
     pub fn gather(&self, max_count: u32, max_bytes: u32) -> Result<Vec<Bytes>, Refusal>
         ensures blocks { IfOk result (λ blocks. AreGathered self.now max_count max_bytes blocks.items) }
         ensures no_memory { IfErr result (λ refusal. refusal ≡ Refusal.NoMemory) }
-        ensures frugal { with_bytes (blocks_left self.now.line) ≡ [] → IsOk result }
+        ensures frugal { first_blocks max_count max_bytes (with_bytes (blocks_left self.now.line)) ≡ [] → IsOk result }
     {
         let mut gathered = Vec::new(*self.entries.allocator());
         let mut room = u64::from(max_bytes);

@@ -152,18 +152,39 @@ fn many_promises_in_one_removal(rt: HostRuntime) -> Result<(), Fail> {
     let mut buffer = buffer(alloc, 200, 400)?;
     flushed_blocks(&mut buffer, alloc, &[1, 1, 1, 1, 1, 1, 1])?;
     let before = buffer.look();
-    match buffer.remove_bytes(6) {
-        Ok(reply) => {
-            assert_eq!(rt; reply.answer, Answer::Count(6));
-            assert_eq!(rt; reply.settled.as_slice().len(), 6);
-            assert_eq!(rt; buffer.look().total, 97);
-            let first = buffer.promise(PromiseId(5));
-            assert_eq!(rt; first, Some(PromiseState::Settled(Outcome::Success)));
-        }
-        Err(refusal) => {
-            assert_eq!(rt; refusal, Refusal::NoMemory);
-            assert_eq!(rt; buffer.look(), before);
-        }
+    let removed = buffer.remove_bytes(6);
+    if removed.is_err() {
+        assert_eq!(rt; buffer.look(), before);
     }
+    let reply = removed?;
+    assert_eq!(rt; reply.answer, Answer::Count(6));
+    assert_eq!(rt; reply.settled.as_slice().len(), 6);
+    assert_eq!(rt; buffer.look().total, 97);
+    let last = buffer.promise(PromiseId(5));
+    assert_eq!(rt; last, Some(PromiseState::Settled(Outcome::Success)));
+    Ok(())
+}
+
+#[test]
+fn skipped_bytes_stop_at_the_top_of_progress(rt: HostRuntime) -> Result<(), Fail> {
+    let alloc = rt.alloc();
+    let mut buffer = buffer(alloc, 200, 400)?;
+    flushed_blocks(&mut buffer, alloc, &[4])?;
+    buffer.progress(9223372036854775806)?;
+    assert_eq!(rt; buffer.remove_bytes(3)?.answer, Answer::Count(0));
+    assert_eq!(rt; buffer.look().current_progress, 9223372036854775807);
+    assert_eq!(rt; flushed_lengths(&buffer, alloc)?.as_slice(), [1].as_slice());
+    Ok(())
+}
+
+#[test]
+fn many_blocks_are_gathered(rt: HostRuntime) -> Result<(), Fail> {
+    let alloc = rt.alloc();
+    let mut buffer = buffer(alloc, 200, 400)?;
+    flushed_blocks(&mut buffer, alloc, &[1, 2, 3, 0, 4, 5])?;
+    let all = [1, 2, 3, 4, 5];
+    assert_eq!(rt; gathered(&buffer, alloc, 8, 15)?.as_slice(), all.as_slice());
+    assert_eq!(rt; gathered(&buffer, alloc, 4, 15)?.as_slice(), &all[..4]);
+    assert_eq!(rt; gathered(&buffer, alloc, 8, 14)?.as_slice(), &all[..4]);
     Ok(())
 }

@@ -150,6 +150,10 @@ fn cancelled_entry_is_voided_at_the_flush(rt: HostRuntime) -> Result<(), Fail> {
     assert_eq!(rt; (buffer.look().total, buffer.look().size), (100, 2));
     assert_eq!(rt; current_length(&buffer), Some(0));
     assert_eq!(rt; settled_by(&buffer.remove()?), None);
+    assert_eq!(rt;
+        buffer.promise(PromiseId(0)),
+        Some(PromiseState::Settled(Outcome::Cancelled))
+    );
     assert_eq!(rt; current_length(&buffer), Some(4));
     assert_eq!(rt;
         settled_by(&buffer.remove()?),

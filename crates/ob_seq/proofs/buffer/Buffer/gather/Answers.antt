@@ -17,24 +17,12 @@ block_seen : (line slice : List Entry) (i : ℕ) (entry : Entry) (bytes : List �
 block_seen line slice i entry bytes same inside is block =
     ap (λ entries. blocks_left (drop i entries)) (sym same) ∙ left_from_block slice i entry inside is bytes block ∙ ap (λ entries. bytes ∷ blocks_left (drop (i + 1) entries)) same
 
--- a block that holds a byte is among those that do
-holds_one : (block : List ℕ) (blocks : List (List ℕ)) → 0 < length block → with_bytes (block ∷ blocks) ≡ [] → ⊥
-holds_one block blocks some none = wrong (ltb 0 (length block)) (holds (length block) some) none
-  where
-    holds : (n : ℕ) → 0 < n → ltb 0 n ≡ true
-    holds n h = grind (arith, nat_tests)
+holds : (n : ℕ) → 0 < n → ltb 0 n ≡ true
+holds n some = grind (arith, nat_tests)
 
-    wrong : (b : Bool) → b ≡ true → cond b (block ∷ with_bytes blocks) (with_bytes blocks) ≡ [] → ⊥
-    wrong true h e = absurd (cc)
-    wrong false h e = absurd (cc)
-
--- with none that does, none stands behind it
-none_behind : (block : List ℕ) (blocks : List (List ℕ)) → with_bytes (block ∷ blocks) ≡ [] → with_bytes blocks ≡ []
-none_behind block blocks none = by_test (ltb 0 (length block)) none
-  where
-    by_test : (b : Bool) → cond b (block ∷ with_bytes blocks) (with_bytes blocks) ≡ [] → with_bytes blocks ≡ []
-    by_test true e = absurd (cc)
-    by_test false e = e
+-- a list with a block in it is not empty
+not_empty : (whole items more : List (List ℕ)) (block : List ℕ) → whole ≡ items ++ block ∷ more → whole ≡ [] → ⊥
+not_empty whole items more block is none = let size = length-append items (block ∷ more) in let same = ap length is in let zero = ap length none in omega arith
 
 module _ (max_count count room : ℕ) (block : List ℕ) (blocks : List (List ℕ)) where
   -- one more is gathered, passed over, or ends the walk
@@ -42,9 +30,6 @@ module _ (max_count count room : ℕ) (block : List ℕ) (blocks : List (List �
   one_more some fits =
       ap (λ holds. cond holds (cond (ltb count max_count && (leb count 0 || leb (length block) room)) (block ∷ gather_from max_count (count + 1) (room - length block) blocks) []) (gather_from max_count count room blocks)) (holds (length block) some)
       ∙ ap (λ goes. cond goes (block ∷ gather_from max_count (count + 1) (room - length block) blocks) []) fits
-    where
-      holds : (n : ℕ) → 0 < n → ltb 0 n ≡ true
-      holds n h = grind (arith, nat_tests)
 
   passed : length block ≤ 0 → gather_from max_count count room (block ∷ blocks) ≡ gather_from max_count count room blocks
   passed none =
@@ -57,21 +42,6 @@ module _ (max_count count room : ℕ) (block : List ℕ) (blocks : List (List �
   ended some over =
       ap (λ holds. cond holds (cond (ltb count max_count && (leb count 0 || leb (length block) room)) (block ∷ gather_from max_count (count + 1) (room - length block) blocks) []) (gather_from max_count count room blocks)) (holds (length block) some)
       ∙ ap (λ goes. cond goes (block ∷ gather_from max_count (count + 1) (room - length block) blocks) []) over
-    where
-      holds : (n : ℕ) → 0 < n → ltb 0 n ≡ true
-      holds n h = grind (arith, nat_tests)
-
-pub returns-in_err-clone-clause-frugal : goal.returns-in_err-clone-clause-frugal
-returns-in_err-clone-clause-frugal c none =
-    let line = seen c.args.self.now c.deref.result.now c.self.inside.entries.items c.self.inside.flushed c.deref.ensures.value (ap (λ (held : Pending). held.line) (sym c.self.view_is)) in
-    let left = block_seen c.args.self.now.line (take c.self.inside.flushed c.deref.result.now) c.loop-entry.entry-index c.entry-item.result c.in-Block.bytes line c.loop-entry-test.true c.entry-item.is c.in-Block.is in
-    absurd (holds_one c.in-Block.bytes (blocks_left (drop (c.loop-entry.entry-index + 1) c.args.self.now.line)) (omega (arith, c.len-length.ensures.value, c.if-length-gt0.true)) (ap with_bytes (sym left) ∙ c.loop-entry.invariant.none none))
-
-pub returns-in_err-push-clause-frugal : goal.returns-in_err-push-clause-frugal
-returns-in_err-push-clause-frugal c none =
-    let line = seen c.args.self.now c.deref.result.now c.self.inside.entries.items c.self.inside.flushed c.deref.ensures.value (ap (λ (held : Pending). held.line) (sym c.self.view_is)) in
-    let left = block_seen c.args.self.now.line (take c.self.inside.flushed c.deref.result.now) c.loop-entry.entry-index c.entry-item.result c.in-Block.bytes line c.loop-entry-test.true c.entry-item.is c.in-Block.is in
-    absurd (holds_one c.in-Block.bytes (blocks_left (drop (c.loop-entry.entry-index + 1) c.args.self.now.line)) (omega (arith, c.len-length.ensures.value, c.if-length-gt0.true)) (ap with_bytes (sym left) ∙ c.loop-entry.invariant.none none))
 
 -- the test of the code is the one of the definition
 same_test : (max_count count count' room size size' : ℕ) (answer expected : Bool) → answer ≡ (ltb count max_count && (leb count 0 || leb size room)) → count ≡ count' → size ≡ size' → answer ≡ expected →
@@ -88,31 +58,50 @@ pushed max_count room room' items items' block blocks same left =
     ∙ ap (λ all. all ++ gather_from max_count (length all) (room - length block) blocks) (sym same)
     ∙ ap (λ r. items' ++ gather_from max_count (length items') r blocks) (sym left)
 
+pub returns-in_err-clone-clause-frugal : goal.returns-in_err-clone-clause-frugal
+returns-in_err-clone-clause-frugal c none =
+    let line = seen c.args.self.now c.deref.result.now c.self.inside.entries.items c.self.inside.flushed c.deref.ensures.value (ap (λ (held : Pending). held.line) (sym c.self.view_is)) in
+    let left = block_seen c.args.self.now.line (take c.self.inside.flushed c.deref.result.now) c.loop-entry.entry-index c.entry-item.result c.in-Block.bytes line c.loop-entry-test.true c.entry-item.is c.in-Block.is in
+    let items = c.loop-entry.gathered.items in
+    let behind = blocks_left (drop (c.loop-entry.entry-index + 1) c.args.self.now.line) in
+    let fits = same_test c.args.max_count c.len.result (length items) c.loop-entry.room c.len-length.result (length c.in-Block.bytes) c.has_room.result true c.has_room.ensures (c.len.ensures ∙ c.loop-entry.gathered.ok.0) c.len-length.ensures.value c.if-not-has_room.false in
+    let whole = c.loop-entry.invariant ∙ ap (λ rest. items ++ gather_from c.args.max_count (length items) c.loop-entry.room rest) left
+    ∙ ap (λ more. items ++ more) (one_more c.args.max_count (length items) c.loop-entry.room c.in-Block.bytes behind (omega (arith, c.len-length.ensures.value, c.if-length-gt0.true)) fits) in
+    absurd (not_empty (gather_from c.args.max_count 0 c.args.max_bytes (blocks_left c.args.self.now.line)) items (gather_from c.args.max_count (length items + 1) (c.loop-entry.room - length c.in-Block.bytes) behind) c.in-Block.bytes whole
+    (first_blocks_are c.args.max_count c.args.max_bytes (blocks_left c.args.self.now.line) ∙ none))
+
+pub returns-in_err-push-clause-frugal : goal.returns-in_err-push-clause-frugal
+returns-in_err-push-clause-frugal c none =
+    let line = seen c.args.self.now c.deref.result.now c.self.inside.entries.items c.self.inside.flushed c.deref.ensures.value (ap (λ (held : Pending). held.line) (sym c.self.view_is)) in
+    let left = block_seen c.args.self.now.line (take c.self.inside.flushed c.deref.result.now) c.loop-entry.entry-index c.entry-item.result c.in-Block.bytes line c.loop-entry-test.true c.entry-item.is c.in-Block.is in
+    let items = c.loop-entry.gathered.items in
+    let behind = blocks_left (drop (c.loop-entry.entry-index + 1) c.args.self.now.line) in
+    let fits = same_test c.args.max_count c.len.result (length items) c.loop-entry.room c.len-length.result (length c.in-Block.bytes) c.has_room.result true c.has_room.ensures (c.len.ensures ∙ c.loop-entry.gathered.ok.0) c.len-length.ensures.value c.if-not-has_room.false in
+    let whole = c.loop-entry.invariant ∙ ap (λ rest. items ++ gather_from c.args.max_count (length items) c.loop-entry.room rest) left
+    ∙ ap (λ more. items ++ more) (one_more c.args.max_count (length items) c.loop-entry.room c.in-Block.bytes behind (omega (arith, c.len-length.ensures.value, c.if-length-gt0.true)) fits) in
+    absurd (not_empty (gather_from c.args.max_count 0 c.args.max_bytes (blocks_left c.args.self.now.line)) items (gather_from c.args.max_count (length items + 1) (c.loop-entry.room - length c.in-Block.bytes) behind) c.in-Block.bytes whole
+    (first_blocks_are c.args.max_count c.args.max_bytes (blocks_left c.args.self.now.line) ∙ none))
+
 pub loop-entry-preserved : goal.loop-entry-preserved
 loop-entry-preserved c =
     let line = seen c.args.self.now c.deref.result.now c.self.inside.entries.items c.self.inside.flushed c.deref.ensures.value (ap (λ (held : Pending). held.line) (sym c.self.view_is)) in
     let left = block_seen c.args.self.now.line (take c.self.inside.flushed c.deref.result.now) c.loop-entry.entry-index c.entry-item.result c.in-Block.bytes line c.loop-entry-test.true c.entry-item.is c.in-Block.is in
     let behind = blocks_left (drop (c.loop-entry.entry-index + 1) c.args.self.now.line) in
-    let none : with_bytes (blocks_left c.args.self.now.line) ≡ [] → with_bytes behind ≡ [] = λ e. none_behind c.in-Block.bytes behind (ap with_bytes (sym left) ∙ c.loop-entry.invariant.none e) in
     elim c.if-length-gt0.branch [
-      | then-length-gt0+else-not-has_room+in_ok-clone+in_ok-push w ↦ record {
-        so_far = c.loop-entry.invariant.so_far
-            ∙ ap (λ rest. c.loop-entry.gathered.items ++ gather_from c.args.max_count (length c.loop-entry.gathered.items) c.loop-entry.room rest) left
-            ∙ ap (λ more. c.loop-entry.gathered.items ++ more) (one_more c.args.max_count (length c.loop-entry.gathered.items) c.loop-entry.room c.in-Block.bytes behind (omega (arith, c.len-length.ensures.value, w.if-length-gt0.true))
-            (same_test c.args.max_count w.len.result (length c.loop-entry.gathered.items) c.loop-entry.room c.len-length.result (length c.in-Block.bytes) w.has_room.result true w.has_room.ensures (w.len.ensures ∙ c.loop-entry.gathered.ok.0) c.len-length.ensures.value w.if-not-has_room.false))
-            ∙ pushed c.args.max_count c.loop-entry.room c.if-length-gt0.room c.loop-entry.gathered.items c.if-length-gt0.gathered.items c.in-Block.bytes behind
-            (ap (λ held. held.items) w.gathered-is ∙ w.in_ok-push.ensures.items ∙ ap (λ block. c.loop-entry.gathered.items ++ block ∷ []) w.in_ok-clone.ensures.cases)
-            (w.room-is ∙ w.saturating_sub-room.ensures ∙ ap (λ l. c.loop-entry.room - l) c.len-length.ensures.value);
-        none = none;
-      }
-      | else-length-gt0 w ↦ record {
-        so_far = c.loop-entry.invariant.so_far
-            ∙ ap (λ rest. c.loop-entry.gathered.items ++ gather_from c.args.max_count (length c.loop-entry.gathered.items) c.loop-entry.room rest) left
-            ∙ ap (λ more. c.loop-entry.gathered.items ++ more) (passed c.args.max_count (length c.loop-entry.gathered.items) c.loop-entry.room c.in-Block.bytes behind (omega (arith, c.len-length.ensures.value, w.if-length-gt0.false)))
-            ∙ ap (λ r. c.loop-entry.gathered.items ++ gather_from c.args.max_count (length c.loop-entry.gathered.items) r behind) (sym w.room-is)
-            ∙ ap (λ all. all ++ gather_from c.args.max_count (length all) c.if-length-gt0.room behind) (sym (ap (λ held. held.items) w.gathered-is));
-        none = none;
-      }
+      | then-length-gt0+else-not-has_room+in_ok-clone+in_ok-push w ↦
+          c.loop-entry.invariant
+          ∙ ap (λ rest. c.loop-entry.gathered.items ++ gather_from c.args.max_count (length c.loop-entry.gathered.items) c.loop-entry.room rest) left
+          ∙ ap (λ more. c.loop-entry.gathered.items ++ more) (one_more c.args.max_count (length c.loop-entry.gathered.items) c.loop-entry.room c.in-Block.bytes behind (omega (arith, c.len-length.ensures.value, w.if-length-gt0.true))
+          (same_test c.args.max_count w.len.result (length c.loop-entry.gathered.items) c.loop-entry.room c.len-length.result (length c.in-Block.bytes) w.has_room.result true w.has_room.ensures (w.len.ensures ∙ c.loop-entry.gathered.ok.0) c.len-length.ensures.value w.if-not-has_room.false))
+          ∙ pushed c.args.max_count c.loop-entry.room c.if-length-gt0.room c.loop-entry.gathered.items c.if-length-gt0.gathered.items c.in-Block.bytes behind
+          (ap (λ held. held.items) w.gathered-is ∙ w.in_ok-push.ensures.items ∙ ap (λ block. c.loop-entry.gathered.items ++ block ∷ []) w.in_ok-clone.ensures.cases)
+          (w.room-is ∙ w.saturating_sub-room.ensures ∙ ap (λ l. c.loop-entry.room - l) c.len-length.ensures.value)
+      | else-length-gt0 w ↦
+          c.loop-entry.invariant
+          ∙ ap (λ rest. c.loop-entry.gathered.items ++ gather_from c.args.max_count (length c.loop-entry.gathered.items) c.loop-entry.room rest) left
+          ∙ ap (λ more. c.loop-entry.gathered.items ++ more) (passed c.args.max_count (length c.loop-entry.gathered.items) c.loop-entry.room c.in-Block.bytes behind (omega (arith, c.len-length.ensures.value, w.if-length-gt0.false)))
+          ∙ ap (λ r. c.loop-entry.gathered.items ++ gather_from c.args.max_count (length c.loop-entry.gathered.items) r behind) (sym w.room-is)
+          ∙ ap (λ all. all ++ gather_from c.args.max_count (length all) c.if-length-gt0.room behind) (sym (ap (λ held. held.items) w.gathered-is))
     ]
 
 pub returns-clause-blocks : goal.returns-clause-blocks
@@ -134,6 +123,6 @@ returns-clause-blocks c commands stands = elim c.loop-entry-test.branch [
     whole : gather_from c.args.max_count (length c.loop-entry.gathered.items) c.loop-entry.room (blocks_left (drop c.loop-entry.entry-index c.args.self.now.line)) ≡ [] →
         c.loop-entry.gathered.items ≡ gathered_after c.args.self.now.settings commands c.args.max_count c.args.max_bytes
     whole none =
-        sym (c.loop-entry.invariant.so_far ∙ ap (λ more. c.loop-entry.gathered.items ++ more) none ∙ append-nil c.loop-entry.gathered.items)
+        sym (c.loop-entry.invariant ∙ ap (λ more. c.loop-entry.gathered.items ++ more) none ∙ append-nil c.loop-entry.gathered.items)
         ∙ first_blocks_are c.args.max_count c.args.max_bytes (blocks_left c.args.self.now.line)
         ∙ ap (λ run. first_blocks c.args.max_count c.args.max_bytes (with_bytes run)) (sym (run_is c.args.self.now commands stands))
