@@ -1,4 +1,4 @@
--- The byte run: the front of the line, as far as it is made of bytes.
+-- The byte run: the beginning of the line, as far as it is made of bytes.
 use Rattle.std.specs.Prelude.{ℕ, ◌-◌, Bool, true, false, List, [], map, take}
 use Rattle.std.specs.List.{take_while}
 use Rattle.ob_types.specs.declared.message.Message.{Message}

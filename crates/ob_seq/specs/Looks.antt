@@ -19,8 +19,9 @@ use Rattle.ob_seq.specs.Answer.{promise_at}
 abbrev pub before_unwritable : Marks → ℕ → ℕ → ℕ
 before_unwritable marks word sum = if is_writable word && nat_le sum marks.high then marks.high - sum + 1 else 0
 
--- how many bytes fewer make an unwritable buffer writable (Netty's `bytesBeforeWritable`), at most 4294967295;
--- 0 where it is writable, or where the pending bytes are below the low mark
+-- how many bytes fewer bring the pending bytes of an unwritable buffer below the low mark (Netty's
+-- `bytesBeforeWritable`), one more than there are where that mark is 0, at most 4294967295; 0 where the buffer is
+-- writable, or its pending bytes are below the low mark
 abbrev pub before_writable : Marks → ℕ → ℕ → ℕ
 before_writable marks word sum = if not (is_writable word) && nat_le marks.low sum then min (sum - marks.low + 1) 4294967295 else 0
 

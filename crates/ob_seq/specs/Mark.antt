@@ -1,4 +1,4 @@
--- The mark: whether the pending bytes were above the high mark more lately than below the low mark.
+-- The mark: set where the last crossing of a water mark was a rise.
 use Rattle.std.specs.Prelude.{Bool, true, false, List, find, reverse, nat_lt, Option, Some, None}
 use Rattle.ob_types.specs.WaterMark.{Marks}
 use Rattle.ob_types.specs.declared.command.Command.{Command}

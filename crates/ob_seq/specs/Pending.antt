@@ -82,7 +82,8 @@ AreGathered buffer max_count max_bytes blocks = (commands : List Command) → St
 abbrev pub blocks_left : List Entry → List (List ℕ)
 blocks_left entries = blocks_in_front (map (λ entry. entry.message) entries)
 
--- how many promises a removal of n bytes settles: those of the entries that it takes away whole and that were not voided
+-- how many promises a removal of n bytes settles where it is accepted: those of the entries that it takes away whole
+-- and that were not voided
 abbrev pub settled_by_bytes : ℕ → List Entry → ℕ
 settled_by_bytes n line = count_by (λ entry. not entry.voided) (take (pieces_within n (blocks_left line)) line)
 

@@ -43,7 +43,7 @@ is_unflushed Flushed = false
 is_unflushed Voided = false
 is_unflushed Gone = false
 
--- whether the row waits for the transport
+-- whether the row is flushed, and neither voided nor removed
 abbrev pub is_flushed : Place → Bool
 is_flushed Unflushed = false
 is_flushed Flushed = true

@@ -36,7 +36,7 @@ pub enum Refusal {
     /// No write was accepted under this promise.
     #[error("no write has this promise")]
     UnknownPromise,
-    /// The history holds as many records as it may.
+    /// The history holds as many records as it may, or has fewer places left than are to be reserved.
     #[error("the history is full")]
     HistoryFull,
     /// The allocator refused memory.

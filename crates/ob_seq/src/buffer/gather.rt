@@ -11,8 +11,8 @@ impl Buffer {
     /// first message that is no block, at most `max_count` of them, and together at most `max_bytes` bytes; but the
     /// first of them in any case. They share their memory with the buffer, which stays as it is.
     ///
-    /// It takes memory for the list alone. `NoMemory` comes where the allocator refused, and not where nothing is
-    /// gathered.
+    /// It takes memory for the list alone. `NoMemory` comes where the allocator refused or a block has more
+    /// owners than can be counted, and not where nothing is gathered.
     pub fn gather(&self, max_count: u32, max_bytes: u32) -> Result<Vec<Bytes>, Refusal>
         ensures blocks { IfOk result (λ blocks. AreGathered self.now max_count max_bytes blocks.items) }
         ensures no_memory { IfErr result (λ refusal. refusal ≡ Refusal.NoMemory) }
