@@ -1,9 +1,11 @@
 //! What holds of the answers to every list of commands. The calls of a buffer answer by the definitions that these
 //! laws speak of.
 
-ghost use Rattle.std.specs.Prelude.{◌≤◌, List, []};
+ghost use Rattle.std.specs.Prelude.{◌+◌, ◌-◌, ◌<◌, ◌≤◌, ◌↔◌, ℕ, List, []};
+ghost use Rattle.ob_types.specs.WaterMark.{Marks};
 ghost use Rattle.ob_types.specs.declared.command.Command.{Command};
 ghost use Rattle.ob_types.specs.declared.promise.PromiseId.{PromiseId};
+ghost use Rattle.ob_seq.specs.Looks.{before_unwritable, before_writable};
 ghost use Rattle.ob_seq.specs.Settings.{Settings};
 ghost use Rattle.ob_seq.specs.Settles.{settled_along, times_settled};
 
@@ -11,4 +13,18 @@ ghost use Rattle.ob_seq.specs.Settles.{settled_along, times_settled};
 pub fn no_promise_is_settled_twice()
     ensures once { (settings : Settings) (commands : List Command) (id : PromiseId) →
         times_settled id (settled_along settings [] commands) ≤ 1 }
+{}
+
+/// The look's `before_unwritable`, where it is not 0, is the least rise that brings the pending bytes above the high
+/// mark.
+pub fn before_unwritable_is_the_least_rise()
+    ensures least { (marks : Marks) (word sum rise : ℕ) → 0 < before_unwritable marks word sum →
+        before_unwritable marks word sum ≤ rise ↔ marks.high < sum + rise }
+{}
+
+/// Under a positive low mark the look's `before_writable`, where it is not 0, is the least fall that brings the pending
+/// bytes below the low mark. No buffer has more than 4294967295 of them.
+pub fn before_writable_is_the_least_fall()
+    ensures least { (marks : Marks) (word sum fall : ℕ) → 0 < marks.low → sum ≤ 4294967295 → fall ≤ sum
+        → 0 < before_writable marks word sum → before_writable marks word sum ≤ fall ↔ sum - fall < marks.low }
 {}

@@ -11,5 +11,8 @@ mod tests;
 
 pub use buffer::Buffer;
 pub use flushed::Flushed;
-pub use laws::no_promise_is_settled_twice;
+pub use laws::{
+    before_unwritable_is_the_least_rise, before_writable_is_the_least_fall,
+    no_promise_is_settled_twice,
+};
 pub use look::Look;

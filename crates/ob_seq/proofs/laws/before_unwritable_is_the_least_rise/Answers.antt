@@ -1,0 +1,14 @@
+use Rattle.std.proofs.Common.{◌≡◌, ℕ, ◌+◌, ◌-◌, ◌<◌, ◌≤◌, Bool, true, false, ◌&&◌, ◌==◌, refl, cond, leb, arith}
+use Rattle.std.specs.Prelude.{◌↔◌}
+use Rattle.std.proofs.lemmas.Bool.Decides.{nat_tests}
+use Rattle.ob_types.specs.Change.{is_writable}
+use Rattle.ob_seq.proofs.laws.before_unwritable_is_the_least_rise.Goals as goal
+
+least_by : (high sum rise : ℕ) (writable below : Bool) → leb sum high ≡ below → 0 < cond (writable && below) (high - sum + 1) 0 →
+    cond (writable && below) (high - sum + 1) 0 ≤ rise ↔ high < sum + rise
+least_by high sum rise true true is some = let within : sum ≤ high = grind (arith, nat_tests) in (λ enough. omega arith, λ above. omega arith)
+least_by high sum rise true false is some = absurd (omega arith)
+least_by high sum rise false below is some = absurd (omega arith)
+
+pub returns : goal.returns
+returns c = record { least = λ marks word sum rise some. least_by marks.high sum rise (is_writable word) (leb sum marks.high) refl some }
