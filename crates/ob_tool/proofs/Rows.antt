@@ -1,16 +1,20 @@
 -- The definitions at worked rows, by computation.
 use Rattle.std.proofs.Common.{◌≡◌, ℕ, List, [], ◌∷◌, ◌++◌, refl, codes, Some}
 use Rattle.std.specs.Fmt.{digits, padded_integral, char_count}
-use Rattle.ob_seq.specs.Settings.{Settings}
+use Rattle.ob_history.specs.History.{History, new_history}
 use Rattle.ob_seq.specs.Word.{user_bits}
 use Rattle.ob_tool.specs.Script.{script_lines, script_fault}
 use Rattle.ob_tool.specs.Trace.{trace_of}
 use Rattle.ob_tool.specs.declared.script_line.ScriptLine.TheVariants.{Block, Region, Other, Flush, Remove, RemoveWith, Progress, Cancel}
 use Rattle.ob_tool.specs.declared.line_fault.LineFault.TheVariants.{OutOfRange, TooFewWords}
 
--- the options of most rows
-abbrev settings : Settings
-settings = record { marks = record { low = 200; high = 400 }; estimate = record { overhead = 96; unknown = 8 } }
+-- the history with the options of most rows
+abbrev history : History
+history = new_history (record { marks = record { low = 200; high = 400 }; estimate = record { overhead = 96; unknown = 8 } }) 1048576
+
+-- Netty's marks and sizes, and at most three records
+abbrev limited : History
+limited = new_history (record { marks = record { low = 32768; high = 65536 }; estimate = record { overhead = 96; unknown = 8 } }) 3
 
 abbrev newline : List ℕ
 newline = 10 ∷ []
@@ -35,31 +39,31 @@ too_great_an_id : script_fault (codes "f" ++ newline ++ codes "x 4294967296") �
 too_great_an_id = refl
 
 -- a script of no bytes has an empty trace
-empty_script : trace_of settings [] ≡ []
+empty_script : trace_of history [] ≡ []
 empty_script = refl
 
 -- the first run, line by line
-the_first_run : trace_of settings (codes "b 304" ++ newline ++ codes "b 0" ++ newline ++ codes "f" ++ newline ++ codes "rm" ++ newline)
+the_first_run : trace_of history (codes "b 304" ++ newline ++ codes "b 0" ++ newline ++ codes "f" ++ newline ++ codes "rm" ++ newline)
     ≡ codes "id 0 t=400 w=00000000" ++ newline ++ codes "id 1 t=496 w=00000001 -" ++ newline
     ++ codes "n 2 t=496 w=00000001" ++ newline ++ codes "yes t=96 w=00000000 + 0:ok" ++ newline
 unfolding user_bits digits padded_integral char_count
 the_first_run = refl
 
 -- equality with the low mark clears nothing
-equality_with_low_clears_nothing : trace_of settings (codes "b 204" ++ newline ++ codes "b 104" ++ newline ++ codes "f" ++ newline ++ codes "rm" ++ newline ++ codes "rm" ++ newline)
+equality_with_low_clears_nothing : trace_of history (codes "b 204" ++ newline ++ codes "b 104" ++ newline ++ codes "f" ++ newline ++ codes "rm" ++ newline ++ codes "rm" ++ newline)
     ≡ codes "id 0 t=300 w=00000000" ++ newline ++ codes "id 1 t=500 w=00000001 -" ++ newline ++ codes "n 2 t=500 w=00000001" ++ newline
     ++ codes "yes t=200 w=00000001 0:ok" ++ newline ++ codes "yes t=0 w=00000000 + 1:ok" ++ newline
 unfolding user_bits digits padded_integral char_count
 equality_with_low_clears_nothing = refl
 
 -- looks at an empty and a full buffer
-looks_at_a_full_buffer : trace_of settings (codes "b 304" ++ newline ++ codes "b 0" ++ newline ++ codes "?")
+looks_at_a_full_buffer : trace_of history (codes "b 304" ++ newline ++ codes "b 0" ++ newline ++ codes "?")
     ≡ codes "id 0 t=400 w=00000000" ++ newline ++ codes "id 1 t=496 w=00000001 -" ++ newline ++ codes "size=0 cur=0 bu=0 bw=297 t=496 w=00000001" ++ newline
 unfolding user_bits digits padded_integral char_count
 looks_at_a_full_buffer = refl
 
 -- a cancelled entry is voided at the flush
-cancelled_entry_is_voided_at_the_flush : trace_of settings (codes "b 304" ++ newline ++ codes "b 4" ++ newline ++ codes "x 0" ++ newline ++ codes "f" ++ newline
+cancelled_entry_is_voided_at_the_flush : trace_of history (codes "b 304" ++ newline ++ codes "b 4" ++ newline ++ codes "x 0" ++ newline ++ codes "f" ++ newline
     ++ codes "rm" ++ newline ++ codes "rm" ++ newline)
     ≡ codes "id 0 t=400 w=00000000" ++ newline ++ codes "id 1 t=500 w=00000001 -" ++ newline ++ codes "yes t=500 w=00000001 0:x" ++ newline
     ++ codes "n 2 t=100 w=00000000 +" ++ newline ++ codes "yes t=100 w=00000000" ++ newline ++ codes "yes t=0 w=00000000 1:ok" ++ newline
@@ -67,7 +71,7 @@ unfolding user_bits digits padded_integral char_count
 cancelled_entry_is_voided_at_the_flush = refl
 
 -- regions and other messages, progress, and a removal with a cause
-regions_and_other_messages : trace_of settings (codes "r 9" ++ newline ++ codes "o 7" ++ newline ++ codes "f" ++ newline ++ codes "p 5" ++ newline ++ codes "?" ++ newline
+regions_and_other_messages : trace_of history (codes "r 9" ++ newline ++ codes "o 7" ++ newline ++ codes "f" ++ newline ++ codes "p 5" ++ newline ++ codes "?" ++ newline
     ++ codes "rc 9" ++ newline)
     ≡ codes "id 0 t=96 w=00000000" ++ newline ++ codes "id 1 t=200 w=00000000" ++ newline ++ codes "n 2 t=200 w=00000000" ++ newline
     ++ codes "ok t=200 w=00000000" ++ newline ++ codes "size=2 cur=5 bu=201 bw=0 t=200 w=00000000" ++ newline ++ codes "yes t=104 w=00000000 0:f9" ++ newline
@@ -75,9 +79,32 @@ unfolding user_bits digits padded_integral char_count
 regions_and_other_messages = refl
 
 -- bytes are removed from the front
-bytes_are_removed_from_the_front : trace_of settings (codes "b 3" ++ newline ++ codes "b 0" ++ newline ++ codes "b 5" ++ newline ++ codes "f" ++ newline ++ codes "rb 3" ++ newline
+bytes_are_removed_from_the_front : trace_of history (codes "b 3" ++ newline ++ codes "b 0" ++ newline ++ codes "b 5" ++ newline ++ codes "f" ++ newline ++ codes "rb 3" ++ newline
     ++ codes "rb 2" ++ newline ++ codes "rb 4" ++ newline)
     ≡ codes "id 0 t=99 w=00000000" ++ newline ++ codes "id 1 t=195 w=00000000" ++ newline ++ codes "id 2 t=296 w=00000000" ++ newline ++ codes "n 3 t=296 w=00000000" ++ newline
     ++ codes "n 2 t=101 w=00000000 0:ok 1:ok" ++ newline ++ codes "n 0 t=101 w=00000000" ++ newline ++ codes "!7 t=101 w=00000000" ++ newline
 unfolding user_bits digits padded_integral char_count
 bytes_are_removed_from_the_front = refl
+
+-- a command after three records is refused, and leaves no record
+the_history_limit : trace_of limited (codes "b 1" ++ newline ++ codes "b 1" ++ newline ++ codes "f" ++ newline ++ codes "rm" ++ newline)
+    ≡ codes "id 0 t=97 w=00000000" ++ newline ++ codes "id 1 t=194 w=00000000" ++ newline ++ codes "n 2 t=194 w=00000000" ++ newline
+    ++ codes "!11 t=194 w=00000000" ++ newline
+unfolding user_bits digits padded_integral char_count
+the_history_limit = refl
+
+-- a refused command leaves a record too
+a_refused_command_is_recorded : trace_of limited (codes "x 5" ++ newline ++ codes "b 1" ++ newline ++ codes "f" ++ newline ++ codes "f" ++ newline)
+    ≡ codes "!10 t=0 w=00000000" ++ newline ++ codes "id 0 t=97 w=00000000" ++ newline ++ codes "n 1 t=97 w=00000000" ++ newline
+    ++ codes "!11 t=97 w=00000000" ++ newline
+unfolding user_bits digits padded_integral char_count
+a_refused_command_is_recorded = refl
+
+-- a look and a gathering leave no record, and answer a full history too
+looks_leave_no_record : trace_of limited (codes "?" ++ newline ++ codes "b 3" ++ newline ++ codes "g 8 8" ++ newline ++ codes "f" ++ newline ++ codes "rb 1" ++ newline
+    ++ codes "rm" ++ newline ++ codes "?" ++ newline ++ codes "g 8 8" ++ newline)
+    ≡ codes "size=0 cur=0 bu=65537 bw=0 t=0 w=00000000" ++ newline ++ codes "id 0 t=99 w=00000000" ++ newline ++ codes "g t=99 w=00000000" ++ newline
+    ++ codes "n 1 t=99 w=00000000" ++ newline ++ codes "n 0 t=99 w=00000000" ++ newline ++ codes "!11 t=99 w=00000000" ++ newline
+    ++ codes "size=1 cur=1 bu=65438 bw=0 t=99 w=00000000" ++ newline ++ codes "g 2 t=99 w=00000000" ++ newline
+unfolding user_bits digits padded_integral char_count
+looks_leave_no_record = refl

@@ -1,31 +1,30 @@
 -- The trace of some first lines of a script, one line after another.
 use Rattle.std.proofs.Common.{◌≡◌, ◌∙◌, ℕ, zero, suc, ◌+◌, ◌++◌, List, [], ◌∷◌, length, take, drop, Ok, Err, Option, None, Some, refl, ap, sym, arith, append_assoc, append-nil, add-one, take-append-drop}
 use Rattle.std.specs.Prelude.{map}
-use Rattle.ob_types.specs.declared.command.Command.{Command}
-use Rattle.ob_seq.specs.Settings.{Settings}
+use Rattle.ob_history.specs.History.{History}
 use Rattle.ob_tool.specs.Script.{before_fault, first_fault, readings_of, script_lines}
 use Rattle.ob_tool.specs.Lines.{lines_of}
 use Rattle.ob_tool.specs.Line.{line_reading}
 use Rattle.ob_tool.specs.Outcome.{trace_of_first}
 use Rattle.ob_tool.specs.Session.{HasTraced}
 use Rattle.std.specs.Io.KnownBytes.{Keeps, append_known}
-use Rattle.ob_tool.specs.Trace.{history_after, history_from, line_trace, trace_from}
+use Rattle.ob_tool.specs.Trace.{history_after_line, history_after_lines, line_trace, trace_from}
 use Rattle.ob_tool.specs.declared.script_line.ScriptLine.{ScriptLine}
 use Rattle.ob_tool.specs.declared.line_fault.LineFault.{LineFault}
 
 -- the trace of two runs of lines, one after the other
-pub trace_from-append : (settings : Settings) (commands : List Command) (xs ys : List ScriptLine)
-    → trace_from settings commands (xs ++ ys) ≡ trace_from settings commands xs ++ trace_from settings (history_from settings commands xs) ys
-trace_from-append settings commands [] ys = refl
-trace_from-append settings commands (x ∷ xs) ys =
-    ap (λ t. line_trace settings commands x ++ t) (trace_from-append settings (history_after settings commands x) xs ys)
-    ∙ sym (append_assoc (line_trace settings commands x) _ _)
+pub trace_from-append : (history : History) (xs ys : List ScriptLine)
+    → trace_from history (xs ++ ys) ≡ trace_from history xs ++ trace_from (history_after_lines history xs) ys
+trace_from-append history [] ys = refl
+trace_from-append history (x ∷ xs) ys =
+    ap (λ t. line_trace history x ++ t) (trace_from-append (history_after_line history x) xs ys)
+    ∙ sym (append_assoc (line_trace history x) _ _)
 
 -- the history after two runs of lines
-pub history_from-append : (settings : Settings) (commands : List Command) (xs ys : List ScriptLine)
-    → history_from settings commands (xs ++ ys) ≡ history_from settings (history_from settings commands xs) ys
-history_from-append settings commands [] ys = refl
-history_from-append settings commands (x ∷ xs) ys = history_from-append settings (history_after settings commands x) xs ys
+pub history_after_lines-append : (history : History) (xs ys : List ScriptLine)
+    → history_after_lines history (xs ++ ys) ≡ history_after_lines (history_after_lines history xs) ys
+history_after_lines-append history [] ys = refl
+history_after_lines-append history (x ∷ xs) ys = history_after_lines-append (history_after_line history x) xs ys
 
 -- one line more of a list whose rest is known
 pub take-one_more : {A : Type 0} (n : ℕ) (xs ys : List A) (y : A) → drop n xs ≡ y ∷ ys → (take (n + 1) xs ≡ take n xs ++ y ∷ []) × (drop (n + 1) xs ≡ ys)
@@ -75,20 +74,20 @@ first_fault-nil number [] e = refl
 first_fault-nil number (byte ∷ script) e = absurd (omega arith)
 
 -- the trace of one line more
-pub trace_of_first-more : (n : ℕ) (settings : Settings) (script : List ℕ) (asked : ScriptLine) (rest : List ScriptLine) → drop n (script_lines script) ≡ asked ∷ rest
-    → trace_of_first (n + 1) settings script ≡ trace_of_first n settings script ++ line_trace settings (history_from settings [] (take n (script_lines script))) asked
-trace_of_first-more n settings script asked rest left =
-    let history = history_from settings [] (take n (script_lines script)) in
-    ap (trace_from settings []) (take-one_more n (script_lines script) rest asked left).0
-    ∙ trace_from-append settings [] (take n (script_lines script)) (asked ∷ [])
-    ∙ ap (λ t. trace_of_first n settings script ++ t) (append-nil (line_trace settings history asked))
+pub trace_of_first-more : (n : ℕ) (history : History) (script : List ℕ) (asked : ScriptLine) (rest : List ScriptLine) → drop n (script_lines script) ≡ asked ∷ rest
+    → trace_of_first (n + 1) history script ≡ trace_of_first n history script ++ line_trace (history_after_lines history (take n (script_lines script))) asked
+trace_of_first-more n history script asked rest left =
+    let after = history_after_lines history (take n (script_lines script)) in
+    ap (trace_from history) (take-one_more n (script_lines script) rest asked left).0
+    ∙ trace_from-append history (take n (script_lines script)) (asked ∷ [])
+    ∙ ap (λ t. trace_of_first n history script ++ t) (append-nil (line_trace after asked))
 
 -- the history after one line more
-pub history_from-more : (n : ℕ) (settings : Settings) (script : List ℕ) (asked : ScriptLine) (rest : List ScriptLine) → drop n (script_lines script) ≡ asked ∷ rest
-    → history_after settings (history_from settings [] (take n (script_lines script))) asked ≡ history_from settings [] (take (n + 1) (script_lines script))
-history_from-more n settings script asked rest left =
-    sym (ap (history_from settings []) (take-one_more n (script_lines script) rest asked left).0
-    ∙ history_from-append settings [] (take n (script_lines script)) (asked ∷ []))
+pub history_after_lines-more : (n : ℕ) (history : History) (script : List ℕ) (asked : ScriptLine) (rest : List ScriptLine) → drop n (script_lines script) ≡ asked ∷ rest
+    → history_after_line (history_after_lines history (take n (script_lines script))) asked ≡ history_after_lines history (take (n + 1) (script_lines script))
+history_after_lines-more n history script asked rest left =
+    sym (ap (history_after_lines history) (take-one_more n (script_lines script) rest asked left).0
+    ∙ history_after_lines-append history (take n (script_lines script)) (asked ∷ []))
 
 -- what waits grows with the trace
 pub HasTraced-more : (start held : Option (List ℕ)) (waiting text more grown : List ℕ) → HasTraced start held waiting text → grown ≡ waiting ++ more

@@ -1,7 +1,7 @@
 -- How the work on a script ends. No public clause cites this module.
 use Rattle.std.specs.Prelude.{◌≡◌, ℕ, List, Option, Some, None, Result, Ok, Err}
 use Rattle.ob_types.specs.WaterMark.{Marks}
-use Rattle.ob_seq.specs.Settings.{Settings}
+use Rattle.ob_history.specs.History.{History}
 use Rattle.ob_tool.specs.CoreScript.{core_lines, core_fault}
 use Rattle.ob_tool.specs.CoreStage.{first_stage}
 use Rattle.ob_tool.specs.CoreTrace.{core_trace, core_trace_from, core_trace_of_first}
@@ -22,9 +22,9 @@ EndsWith whole of_first fault Shows (Err Write) = Unit {0}
 EndsWith whole of_first fault Shows (Err Read) = ⊥
 EndsWith whole of_first fault Shows (Err TooLong) = ⊥
 
--- the work on a script of a run
-abbrev pub Ends : {T : Type 0} → Settings → List ℕ → (List ℕ → Type 0) → Result T RunFault → Type 0
-Ends settings script Shows result = EndsWith (trace_of settings script) (λ count. trace_of_first count settings script) (script_fault script) Shows result
+-- the work on a script of a run, after a history
+abbrev pub Ends : {T : Type 0} → History → List ℕ → (List ℕ → Type 0) → Result T RunFault → Type 0
+Ends history script Shows result = EndsWith (trace_of history script) (λ count. trace_of_first count history script) (script_fault script) Shows result
 
 -- the work on the lines of a core script, before the last line of its trace
 abbrev pub CoreLinesEnd : {T : Type 0} → Marks → List ℕ → (List ℕ → Type 0) → Result T RunFault → Type 0

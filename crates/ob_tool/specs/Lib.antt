@@ -1,3 +1,4 @@
+pub mod Call
 pub mod CoreLine
 pub mod CoreQuiet
 pub mod CoreScript

@@ -2,7 +2,7 @@
 use Rattle.std.specs.Prelude.{ℕ, List, Option}
 use Rattle.ob_tool.specs.CoreScript.{core_fault}
 use Rattle.ob_tool.specs.CoreTrace.{core_trace}
-use Rattle.ob_tool.specs.Options.{settings_of}
+use Rattle.ob_tool.specs.Options.{first_history}
 use Rattle.ob_tool.specs.Script.{script_fault}
 use Rattle.ob_tool.specs.Trace.{trace_of}
 use Rattle.ob_tool.specs.declared.line_fault.LineFault.{LineFault}
@@ -11,7 +11,7 @@ use Rattle.ob_tool.specs.declared.request.Request.TheVariants.{Run, Core}
 
 -- the trace that is asked for
 abbrev pub requested_trace : Request → List ℕ → List ℕ
-requested_trace (Run options) script = trace_of (settings_of options) script
+requested_trace (Run options) script = trace_of (first_history options) script
 requested_trace (Core marks) script = core_trace marks script
 
 -- the fault that ends the script

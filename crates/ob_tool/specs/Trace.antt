@@ -5,10 +5,10 @@ use Rattle.ob_types.specs.declared.message.Message.TheVariants as message
 use Rattle.ob_types.specs.declared.command.Command.{Command}
 use Rattle.ob_types.specs.declared.command.Command.TheVariants as command
 use Rattle.ob_types.specs.Write.{is_write}
-use Rattle.ob_seq.specs.Settings.{Settings}
-use Rattle.ob_seq.specs.Answer.{answer_to, commands_after}
 use Rattle.ob_seq.specs.Gathering.{gathered_after}
-use Rattle.ob_seq.specs.Looks.{look_after}
+use Rattle.ob_history.specs.Accepted.{accepted_commands}
+use Rattle.ob_history.specs.History.{History}
+use Rattle.ob_tool.specs.Call.{call_answer, history_after_call, look_at}
 use Rattle.ob_tool.specs.Script.{script_lines}
 use Rattle.ob_tool.specs.Text.{command_text, gathered_text, look_text}
 use Rattle.ob_tool.specs.declared.asked.Asked.{Asked}
@@ -16,7 +16,7 @@ use Rattle.ob_tool.specs.declared.asked.Asked.TheVariants as asked
 use Rattle.ob_tool.specs.declared.script_line.ScriptLine.{ScriptLine}
 use Rattle.ob_tool.specs.declared.script_line.ScriptLine.TheVariants as line
 
--- how many writes were accepted
+-- how many of these commands are writes
 abbrev pub writes_in : List Command → ℕ
 writes_in commands = count_by is_write commands
 
@@ -38,38 +38,40 @@ asked_of accepted (line.Cancel id) = asked.Command (command.Cancel id)
 asked_of accepted line.Look = asked.Look
 asked_of accepted (line.Gather max_count max_bytes) = asked.Gather max_count max_bytes
 
--- the text of what is asked after a history of accepted commands
-abbrev pub text_after : Settings → List Command → Asked → List ℕ
-text_after settings commands (asked.Command command) =
-    command_text (answer_to settings commands command) (look_after settings (commands_after settings commands command))
-text_after settings commands asked.Look = look_text (look_after settings commands)
-text_after settings commands (asked.Gather max_count max_bytes) =
-    gathered_text (gathered_after settings commands max_count max_bytes) (look_after settings commands)
+-- the text of what is asked of the buffer of a history
+abbrev pub text_after : History → Asked → List ℕ
+text_after history (asked.Command command) = command_text (call_answer history command) (look_at (history_after_call history command))
+text_after history asked.Look = look_text (look_at history)
+text_after history (asked.Gather max_count max_bytes) =
+    gathered_text (gathered_after history.settings (accepted_commands history.records) max_count max_bytes) (look_at history)
 
--- the history after what is asked: only a command can change it
-abbrev pub history_with : Settings → List Command → Asked → List Command
-history_with settings commands (asked.Command command) = commands_after settings commands command
-history_with settings commands asked.Look = commands
-history_with settings commands (asked.Gather max_count max_bytes) = commands
+-- the history after what is asked: only a command leaves a record
+abbrev pub history_after_asked : History → Asked → History
+history_after_asked history (asked.Command command) = history_after_call history command
+history_after_asked history asked.Look = history
+history_after_asked history (asked.Gather max_count max_bytes) = history
+
+-- what a script line asks after a history
+abbrev pub asked_after : History → ScriptLine → Asked
+asked_after history line = asked_of (writes_in (accepted_commands history.records)) line
 
 -- the trace line of a script line after a history
-abbrev pub line_trace : Settings → List Command → ScriptLine → List ℕ
-line_trace settings commands line = text_after settings commands (asked_of (writes_in commands) line)
+abbrev pub line_trace : History → ScriptLine → List ℕ
+line_trace history line = text_after history (asked_after history line)
 
 -- the history after a script line
-abbrev pub history_after : Settings → List Command → ScriptLine → List Command
-history_after settings commands line = history_with settings commands (asked_of (writes_in commands) line)
+abbrev pub history_after_line : History → ScriptLine → History
+history_after_line history line = history_after_asked history (asked_after history line)
 
 -- the history after script lines
-abbrev pub history_from : Settings → List Command → List ScriptLine → List Command
-history_from settings commands lines = fold (history_after settings) commands lines
+abbrev pub history_after_lines : History → List ScriptLine → History
+history_after_lines history lines = fold history_after_line history lines
 
 -- the trace of script lines after a history: a line of text for each
-abbrev pub trace_from : Settings → List Command → List ScriptLine → List ℕ
-trace_from settings commands [] = []
-trace_from settings commands (line ∷ lines) =
-    line_trace settings commands line ++ trace_from settings (history_after settings commands line) lines
+abbrev pub trace_from : History → List ScriptLine → List ℕ
+trace_from history [] = []
+trace_from history (line ∷ lines) = line_trace history line ++ trace_from (history_after_line history line) lines
 
--- the trace of a script: that of its lines before the first faulty one, with an empty buffer before the first
-abbrev pub trace_of : Settings → List ℕ → List ℕ
-trace_of settings script = trace_from settings [] (script_lines script)
+-- the trace of a script after a history: that of its lines before the first faulty one
+abbrev pub trace_of : History → List ℕ → List ℕ
+trace_of history script = trace_from history (script_lines script)

@@ -1,5 +1,6 @@
-ghost use Rattle.std.specs.Prelude.{◌≡◌, ◌≢◌, ◌≤◌, ◌↔◌, IsOk, IfOk, IfErr};
-ghost use Rattle.ob_tool.specs.Options.{settings_of};
+ghost use Rattle.std.specs.Prelude.{◌≡◌, ◌≢◌, ◌<◌, ◌≤◌, ◌↔◌, None, IfSome, IsOk, IfOk, IfErr};
+ghost use Rattle.ob_history.specs.History.{new_history};
+ghost use Rattle.ob_tool.specs.Options.{first_history};
 ghost use Rattle.ob_tool.specs.Entry.{exit_status_of};
 
 use crate::entry_fault::EntryFault;
@@ -25,6 +26,9 @@ const OVERHEAD: u16 = 96;
 /// The bytes of a message of unknown size where no number is given.
 const UNKNOWN: u16 = 8;
 
+/// The most records of a history, which is also its limit where none is given.
+const MAX_RECORDS: u32 = 1048576;
+
 /// What the program's words ask for: its name, a subcommand, and the options of that.
 ///
 /// `CommandLine` comes where `clap` refuses the words, or is asked for help, `BadMarks` where the low mark is above the
@@ -41,23 +45,43 @@ pub fn request_of<'a, S: AsStr>(alloc: Global, words: &'a [S]) -> Result<Request
         return Ok(Request::Core(marks));
     }
     let Some(given) = matches.subcommand_matches("run") else {
-        return Ok(Request::Run(options(LOW, HIGH, OVERHEAD, UNKNOWN)?));
+        return Ok(Request::Run(options(LOW, HIGH, OVERHEAD, UNKNOWN, MAX_RECORDS)?));
     };
     let options = options(
         given.get_one("low").unwrap_or(LOW),
         given.get_one("high").unwrap_or(HIGH),
         given.get_one("overhead").unwrap_or(OVERHEAD),
         given.get_one("unknown").unwrap_or(UNKNOWN),
+        limit_of(given.get_one("limit")),
     )?;
     Ok(Request::Run(options))
 }
 
-/// The options of these numbers, in bytes.
-fn options(low: u32, high: u32, overhead: u16, unknown: u16) -> Result<Options, EntryFault>
-    ensures ok { IfOk result (λ options. settings_of options ≡ record {
+/// The limit that was given. `clap` has refused the numbers past the bounds, which no clause of it says, so the
+/// bounds here change no number.
+fn limit_of(given: Option<u32>) -> u32
+    ensures some_record { 0 < result }
+    ensures few_records { result ≤ 1048576 }
+    ensures given { IfSome given (λ limit. 0 < limit → limit ≤ 1048576 → result ≡ limit) }
+    ensures none { given ≡ None → result ≡ 1048576 }
+{
+    given.unwrap_or(MAX_RECORDS).clamp(1, MAX_RECORDS)
+}
+
+/// The options of these numbers, in bytes, and of this limit.
+fn options(
+    low: u32,
+    high: u32,
+    overhead: u16,
+    unknown: u16,
+    limit: u32,
+) -> Result<Options, EntryFault>
+    requires some_record { 0 < limit }
+    requires few_records { limit ≤ 1048576 }
+    ensures ok { IfOk result (λ options. first_history options ≡ new_history (record {
       marks = record { low = low; high = high };
       estimate = record { overhead = overhead; unknown = unknown };
-    }) }
+    }) limit) }
     ensures err { IfErr result (λ fault. exit_status_of fault ≡ 1) }
     ensures accepted { IsOk result ↔ (low ≤ high × high ≤ 2147483647) }
 {
@@ -66,7 +90,11 @@ fn options(low: u32, high: u32, overhead: u16, unknown: u16) -> Result<Options, 
         overhead: u32::from(overhead),
         unknown: u32::from(unknown),
     };
-    Ok(Options { marks, estimate })
+    Ok(Options {
+        marks,
+        estimate,
+        limit,
+    })
 }
 
 /// The marks of these numbers, in bytes.
@@ -109,7 +137,8 @@ fn run_command<'a>(alloc: Global) -> Result<Command<'a>, AllocError> {
             alloc,
             "unknown",
             "Bytes that a message of unknown size counts (8 where it is not given)",
-        ))
+        ))?
+        .arg(limit(alloc))
 }
 
 /// The subcommand `core`.
@@ -142,19 +171,30 @@ fn high_mark<'a>(alloc: Global) -> Arg<'a> {
 
 /// An option that is a mark.
 fn mark<'a>(alloc: Global, name: &'a str, help: &'a str) -> Arg<'a> {
-    option(alloc, name, help).value_parser(value_parser!(u32).range(0..=MAX_MARK))
+    option(alloc, name, "BYTES", help).value_parser(value_parser!(u32).range(0..=MAX_MARK))
 }
 
 /// An option that is a number of bytes up to 65535.
 fn size<'a>(alloc: Global, name: &'a str, help: &'a str) -> Arg<'a> {
-    option(alloc, name, help).value_parser(value_parser!(u16))
+    option(alloc, name, "BYTES", help).value_parser(value_parser!(u16))
 }
 
-/// An option with a number of bytes.
-fn option<'a>(alloc: Global, name: &'a str, help: &'a str) -> Arg<'a> {
+/// The option `--limit`.
+fn limit<'a>(alloc: Global) -> Arg<'a> {
+    option(
+        alloc,
+        "limit",
+        "RECORDS",
+        "Commands that are recorded, 1 to 1048576; further ones are refused (1048576 where it is not given)",
+    )
+    .value_parser(value_parser!(u32).range(1..=i64::from(MAX_RECORDS)))
+}
+
+/// An option with a number of these.
+fn option<'a>(alloc: Global, name: &'a str, unit: &'a str, help: &'a str) -> Arg<'a> {
     Arg::new(alloc, name)
         .long(name)
-        .value_name("BYTES")
+        .value_name(unit)
         .action(ArgAction::Set)
         .help(help)
 }

@@ -1,6 +1,6 @@
 ghost use Rattle.std.specs.Prelude.{◌≡◌, ◌≤◌, ◌<◌, ℕ, IfSome, IsErrOf, length};
 ghost use Rattle.std.specs.Io.KnownBytes.{Appends, IsAtEnd, Keeps};
-ghost use Rattle.ob_tool.specs.Options.{settings_of};
+ghost use Rattle.ob_tool.specs.Options.{first_history};
 ghost use Rattle.ob_tool.specs.Script.{script_fault};
 ghost use Rattle.ob_tool.specs.Trace.{trace_of};
 ghost use Rattle.ob_tool.specs.Outcome.{WentThrough, fault_told, trace_of_first};
@@ -17,8 +17,9 @@ use std::io::{Read, Write};
 /// The most reads of a script. Our own limit.
 pub const MAX_READS: u32 = 33554432;
 
-/// Reads a script to its end, carries out its lines on an empty buffer, and writes a line of trace for each. The first
-/// faulty line ends the script; the lines before it are carried out and traced.
+/// Reads a script to its end, carries out its lines on an empty buffer whose calls are recorded, and writes a line of
+/// trace for each. A command that finds as many records as the limit of the options is refused, and traced as refused.
+/// The first faulty line ends the script; the lines before it are carried out and traced.
 ///
 /// `Line` comes where a line is faulty, `Read` where the reader fails or 33554432 reads do not bring the script to its
 /// end, `TooLong` where it has more than 16777216 bytes, `Write` where the writer fails, and `NoMemory` where the
@@ -31,14 +32,14 @@ pub fn run<R: Read, W: Write>(
 ) -> Result<(), RunFault>
     // At the end of the script or at its first faulty line, the trace of what was read is written and nothing else.
     ensures trace { WentThrough result → IfSome (R.remaining reader.old) (λ script.
-        Appends (W.contents writer.old) (W.contents writer.new) (trace_of (settings_of options) script)) }
+        Appends (W.contents writer.old) (W.contents writer.new) (trace_of (first_history options) script)) }
     ensures fault { WentThrough result → IfSome (R.remaining reader.old) (λ script. fault_told result ≡ script_fault script) }
     ensures end { WentThrough result → IsAtEnd (R.remaining reader.new) }
     ensures within { WentThrough result → IfSome (R.remaining reader.old) (λ script. length script ≤ 16777216) }
 
     // Where memory runs out, the trace of some first lines is written and nothing else.
     ensures no_memory { IsErrOf result RunFault.NoMemory → IfSome (R.remaining reader.old) (λ script.
-        (count : ℕ) × Appends (W.contents writer.old) (W.contents writer.new) (trace_of_first count (settings_of options) script)) }
+        (count : ℕ) × Appends (W.contents writer.old) (W.contents writer.new) (trace_of_first count (first_history options) script)) }
 
     // A script that was not read leaves the writer alone.
     ensures unread { IsErrOf result RunFault.Read → Keeps (W.contents writer.old) (W.contents writer.new) }
@@ -57,9 +58,9 @@ fn write_trace<W: Write>(
     options: Options,
 ) -> Result<(), RunFault>
     requires { length script.now ≤ 16777216 }
-    ensures { Ends (settings_of options) script.now (Appends (W.contents writer.old) (W.contents writer.new)) result }
+    ensures { Ends (first_history options) script.now (Appends (W.contents writer.old) (W.contents writer.new)) result }
 {
-    let mut session = Session::new(alloc, options.marks, options.estimate);
+    let mut session = Session::new(alloc, options);
     let mut waiting = Vec::new(alloc);
     let ended = trace_lines(alloc, &mut session, script, &mut waiting, writer);
     if ended == Err(RunFault::Write) {

@@ -1,71 +1,65 @@
-ghost use Rattle.std.specs.Prelude.{◌≡◌, ◌≢◌, ◌+◌, ◌++◌, ◌%◌, ◌≤◌, [], ◌∷◌, Err, IfOk, OnOk, OnErr, string_bytes};
-ghost use Rattle.ob_tool.specs.Trace.{writes_in};
+ghost use Rattle.std.specs.Prelude.{◌≡◌, ◌+◌, ◌++◌, ◌%◌, [], ◌∷◌, IfOk, OnOk, string_bytes};
+ghost use Rattle.ob_history.specs.Accepted.{accepted_commands};
+ghost use Rattle.ob_tool.specs.Call.{call_answer, history_after_call, look_at};
+ghost use Rattle.ob_tool.specs.Options.{first_history};
+ghost use Rattle.ob_tool.specs.Trace.{asked_after, history_after_line, line_trace, text_after, writes_in};
 
 use crate::asked::Asked;
 use crate::block::block;
+use crate::options::Options;
 use crate::script_line::ScriptLine;
 use crate::text::{push_gathered, push_look, push_refusal, push_reply};
-use ob_seq::Buffer;
-use ob_types::{Command, Estimate, Message, Refusal, WaterMark};
+use ob_history::{As, Booked, Recorded};
+use ob_seq::Look;
+use ob_types::{Command, Message, Refusal, Reply};
 use std::alloc::{AllocError, Global};
 
-/// A buffer that carries out the lines of a script.
+/// A recorded buffer that carries out the lines of a script, whose caller is 0.
 #[derive(Drop)]
 pub struct Session {
-    pub buffer: Buffer,
+    pub booked: As,
     /// The first byte of the next block: how many writes were accepted, modulo 256.
     pub next_byte: u8,
+    ghost caller: { booked.caller ≡ 0 },
+    ghost counted: { next_byte ≡ writes_in (accepted_commands booked.recorded.records) % 256 },
 }
 
 impl Session {
-    ghost use Rattle.ob_types.specs.declared.command.Command.{Command};
-    ghost use Rattle.std.specs.Prelude.{List};
-    ghost use Rattle.ob_tool.specs.Trace.{asked_of, history_after, line_trace, text_after, writes_in};
-    ghost use Rattle.ob_tool.specs.Session.{IsAfter};
-    ghost use Rattle.ob_tool.specs.Text.{command_text};
-    ghost use Rattle.ob_seq.specs.Pending.{StandsFor};
-    ghost use Rattle.ob_seq.specs.Answer.{commands_after};
-    ghost use Rattle.ob_seq.specs.Looks.{look_after};
-    ghost use Rattle.ob_types.specs.declared.refusal.Refusal.TheVariants.{NoMemory};
-
     /// A session before its first line.
-    pub fn new(alloc: Global, marks: WaterMark, estimate: Estimate) -> Session
-        requires overhead { estimate.overhead ≤ 65535 }
-        requires unknown { estimate.unknown ≤ 65535 }
-        ensures settings { result.buffer.settings ≡ record { marks = marks; estimate = estimate } }
-        ensures after { IsAfter result [] }
+    pub fn new(alloc: Global, options: Options) -> Session
+        ensures { result.booked.recorded ≡ first_history options }
     {
+        let recorded = Recorded::new(alloc, options.marks, options.estimate, options.limit);
         Session {
-            buffer: Buffer::new(alloc, marks, estimate),
+            booked: As {
+                recorded,
+                caller: 0,
+            },
             next_byte: 0,
         }
     }
 
     /// Carries out a line and adds its trace to the text. It fails for want of memory alone, and then nothing
-    /// is said of the session and the text.
+    /// is said of the text, nor whether the line was carried out.
     pub fn carry_out(
         &mut self,
         alloc: Global,
         line: ScriptLine,
         text: &mut String,
     ) -> Result<(), AllocError>
-        ensures settings { self.new.buffer.settings ≡ self.old.buffer.settings }
-        ensures after { OnOk result ((commands : List Command) → IsAfter self.old commands
-            → IsAfter self.new (history_after self.old.buffer.settings commands line)) }
-        ensures text { OnOk result ((commands : List Command) → IsAfter self.old commands
-            → string_bytes text.new ≡ string_bytes text.old ++ line_trace self.old.buffer.settings commands line) }
+        ensures after { OnOk result (self.new.booked.recorded ≡ history_after_line self.old.booked.recorded line) }
+        ensures text { OnOk result (string_bytes text.new ≡ string_bytes text.old ++ line_trace self.old.booked.recorded line) }
     {
         match self.asked(alloc, line)? {
             Asked::Command(command) => self.give(command, text),
-            Asked::Look => push_look(text, &self.buffer.look()),
+            Asked::Look => push_look(text, &self.look()),
             Asked::Gather(max_count, max_bytes) => self.gather(max_count, max_bytes, text),
         }
     }
 
     /// What a line asks of the buffer.
     fn asked(&self, alloc: Global, line: ScriptLine) -> Result<Asked, AllocError>
-        ensures { IfOk result (λ asked. (commands : List Command) → IsAfter self.now commands
-            → asked ≡ asked_of (writes_in commands) line) }
+        ensures { IfOk result (λ asked. asked ≡ asked_after self.now.booked.recorded line) }
     {
         match line {
             ScriptLine::Block(size) => {
@@ -89,44 +83,52 @@ impl Session {
         }
     }
 
+    /// A look at the buffer.
+    fn look(&self) -> Look
+        ensures { result ≡ look_at self.now.booked.recorded }
+    {
+        self.booked.buffer().look()
+    }
+
     /// Adds the trace of a gathering to the text.
     fn gather(&self, max_count: u32, max_bytes: u32, text: &mut String) -> Result<(), AllocError>
-        ensures { OnOk result ((commands : List Command) → IsAfter self.now commands
-            → string_bytes text.new ≡ string_bytes text.old ++ text_after self.now.buffer.settings commands (Asked.Gather max_count max_bytes)) }
+        ensures { OnOk result (string_bytes text.new
+            ≡ string_bytes text.old ++ text_after self.now.booked.recorded (Asked.Gather max_count max_bytes)) }
     {
-        match self.buffer.gather(max_count, max_bytes) {
-            Ok(blocks) => push_gathered(text, &blocks, &self.buffer.look()),
+        match self.booked.buffer().gather(max_count, max_bytes) {
+            Ok(blocks) => push_gathered(text, &blocks, &self.look()),
             Err(_) => Err(AllocError),
         }
     }
 
     /// Gives a command to the buffer, and adds its trace to the text.
     fn give(&mut self, command: Command, text: &mut String) -> Result<(), AllocError>
-        ensures settings { self.new.buffer.settings ≡ self.old.buffer.settings }
-        ensures after { OnOk result ((commands : List Command) → IsAfter self.old commands
-            → IsAfter self.new (commands_after self.old.buffer.settings commands command)) }
-        ensures text { OnOk result ((commands : List Command) → IsAfter self.old commands
-            → string_bytes text.new ≡ string_bytes text.old ++ text_after self.old.buffer.settings commands (Asked.Command command)) }
+        ensures after { OnOk result (self.new.booked.recorded ≡ history_after_call self.old.booked.recorded command) }
+        ensures text { OnOk result (string_bytes text.new
+            ≡ string_bytes text.old ++ text_after self.old.booked.recorded (Asked.Command command)) }
     {
-        let next_byte = next_byte(self.next_byte, &command);
-        match self.buffer.apply(command) {
-            Ok(reply) => {
-                self.next_byte = next_byte;
-                push_reply(text, &reply, &self.buffer.look())
-            }
-            Err(refusal) => self.tell_refusal(refusal, text),
+        match self.call(command)? {
+            Ok(reply) => push_reply(text, &reply, &self.look()),
+            Err(refusal) => push_refusal(text, refusal, &self.look()),
         }
     }
 
-    /// Adds the trace of a refused command to the text. It fails where the refusal is want of memory, too.
-    fn tell_refusal(&self, refusal: Refusal, text: &mut String) -> Result<(), AllocError>
-        ensures other { OnOk result (refusal ≢ NoMemory) }
-        ensures text { OnOk result ((commands : List Command) → StandsFor self.now.buffer commands
-            → string_bytes text.new ≡ string_bytes text.old ++ command_text (Err refusal) (look_after self.now.buffer.settings commands)) }
+    /// Gives a command to the buffer and answers its reply or its refusal. A full history is a refusal too, and the
+    /// script goes on. It fails for want of memory alone.
+    fn call(&mut self, command: Command) -> Result<Result<Reply, Refusal>, AllocError>
+        ensures after { OnOk result (self.new.booked.recorded ≡ history_after_call self.old.booked.recorded command) }
+        ensures answer { IfOk result (λ answer. answer ≡ call_answer self.old.booked.recorded command) }
     {
-        match refusal {
-            Refusal::NoMemory => Err(AllocError),
-            refusal => push_refusal(text, refusal, &self.buffer.look()),
+        let next_byte = next_byte(self.next_byte, &command);
+        match self.booked.call(command) {
+            Ok(receipt) => {
+                if receipt.reply.is_ok() {
+                    self.next_byte = next_byte;
+                }
+                Ok(receipt.reply)
+            }
+            Err(Refusal::HistoryFull) => Ok(Err(Refusal::HistoryFull)),
+            Err(_) => Err(AllocError),
         }
     }
 }

@@ -1,8 +1,7 @@
-ghost use Rattle.std.specs.Prelude.{◌≡◌, ◌++◌, ◌<◌, ◌≤◌, [], List, IsOk, OnOk, OnErr, IfErr, length};
+ghost use Rattle.std.specs.Prelude.{◌≡◌, ◌++◌, ◌<◌, ◌≤◌, [], IsOk, OnOk, OnErr, IfErr, length};
 ghost use Rattle.std.specs.Io.KnownBytes.{Keeps, append_known};
-ghost use Rattle.ob_types.specs.declared.command.Command.{Command};
-ghost use Rattle.ob_tool.specs.Trace.{history_after, line_trace};
-ghost use Rattle.ob_tool.specs.Session.{HasTraced, IsAfter};
+ghost use Rattle.ob_tool.specs.Trace.{history_after_line, line_trace};
+ghost use Rattle.ob_tool.specs.Session.{HasTraced};
 ghost use Rattle.ob_tool.specs.Ending.{Ends};
 ghost use Rattle.ob_tool.specs.declared.run_fault.RunFault.TheVariants.{Write};
 
@@ -27,9 +26,8 @@ pub fn trace_lines<W: io::Write>(
     writer: &mut W,
 ) -> Result<(), RunFault>
     requires small { length script.now ≤ 16777216 }
-    requires fresh { IsAfter session.old [] }
     requires empty { waiting.old.items ≡ [] }
-    ensures { Ends session.old.buffer.settings script.now (HasTraced (W.contents writer.old) (W.contents writer.new) waiting.new.items) result }
+    ensures { Ends session.old.booked.recorded script.now (HasTraced (W.contents writer.old) (W.contents writer.new) waiting.new.items) result }
 {
     let mut rest = script;
     let mut number = 0u32;
@@ -60,11 +58,8 @@ fn trace_line(
     text: &mut String,
     waiting: &mut Vec<u8>,
 ) -> Result<(), AllocError>
-    ensures settings { session.new.buffer.settings ≡ session.old.buffer.settings }
-    ensures after { OnOk result ((commands : List Command) → IsAfter session.old commands
-        → IsAfter session.new (history_after session.old.buffer.settings commands line)) }
-    ensures text { OnOk result ((commands : List Command) → IsAfter session.old commands
-        → waiting.new.items ≡ waiting.old.items ++ line_trace session.old.buffer.settings commands line) }
+    ensures after { OnOk result (session.new.booked.recorded ≡ history_after_line session.old.booked.recorded line) }
+    ensures text { OnOk result (waiting.new.items ≡ waiting.old.items ++ line_trace session.old.booked.recorded line) }
     ensures kept { OnErr result (waiting.new.items ≡ waiting.old.items) }
 {
     text.clear();

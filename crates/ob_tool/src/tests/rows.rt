@@ -32,6 +32,8 @@ static LOW_0_HIGH_0_OVERHEAD_0: [&str; 8] = [
 
 static NO_OPTIONS: [&str; 2] = ["ob_tool", "run"];
 
+static LIMIT_3: [&str; 4] = ["ob_tool", "run", "--limit", "3"];
+
 /// Runs the program on a row, and compares all that it leaves.
 fn holds<H: Abort + AllocGlobal>(rt: &H, row: Row<'_>) {
     let mut reader = row.script.as_bytes();
@@ -250,4 +252,29 @@ fn nothing_to_gather(rt: HostRuntime) {
         id 2 t=293 w=00000000\nn 2 t=293 w=00000000\nn 0 t=293 w=00000000\ng 2 t=293 w=00000000\n\
         yes t=194 w=00000000 0:ok\ng t=194 w=00000000\n";
     traces(&rt, &LOW_200_HIGH_400, script, trace);
+}
+
+/// Each write counts 1 byte and 96 more; the fourth command finds three records.
+#[test]
+fn the_history_limit(rt: HostRuntime) {
+    let trace = "id 0 t=97 w=00000000\nid 1 t=194 w=00000000\nn 2 t=194 w=00000000\n\
+        !11 t=194 w=00000000\n";
+    traces(&rt, &LIMIT_3, "b 1\nb 1\nf\nrm\n", trace);
+}
+
+#[test]
+fn a_refused_command_is_recorded(rt: HostRuntime) {
+    let trace =
+        "!10 t=0 w=00000000\nid 0 t=97 w=00000000\nn 1 t=97 w=00000000\n!11 t=97 w=00000000\n";
+    traces(&rt, &LIMIT_3, "x 5\nb 1\nf\nf\n", trace);
+}
+
+/// They answer a full history too, which stays full: what comes behind `!11` is carried out as before.
+#[test]
+fn looks_leave_no_record(rt: HostRuntime) {
+    let script = "?\nb 3\ng 8 8\nf\nrb 1\nrm\n?\ng 8 8\nx 9\n";
+    let trace = "size=0 cur=0 bu=65537 bw=0 t=0 w=00000000\nid 0 t=99 w=00000000\n\
+        g t=99 w=00000000\nn 1 t=99 w=00000000\nn 0 t=99 w=00000000\n!11 t=99 w=00000000\n\
+        size=1 cur=1 bu=65438 bw=0 t=99 w=00000000\ng 2 t=99 w=00000000\n!11 t=99 w=00000000\n";
+    traces(&rt, &LIMIT_3, script, trace);
 }

@@ -5,7 +5,7 @@ use std::test::Fail;
 
 static BAD_MARKS: [&str; 6] = ["ob_tool", "run", "--low", "5", "--high", "4"];
 
-static GREATEST: [&str; 10] = [
+static GREATEST: [&str; 12] = [
     "ob_tool",
     "run",
     "--low",
@@ -16,6 +16,8 @@ static GREATEST: [&str; 10] = [
     "65535",
     "--unknown",
     "65535",
+    "--limit",
+    "1048576",
 ];
 
 #[test]
@@ -43,10 +45,26 @@ fn takes_the_greatest_options(rt: HostRuntime) {
     );
 }
 
+/// The least limit leaves room for one record, and the flush finds none.
+#[test]
+fn takes_the_least_limit(rt: HostRuntime) {
+    let mut reader: &[u8] = b"b 1\nf\n";
+    let mut written: Vec<u8> = Vec::new(rt.alloc());
+    let mut told: Vec<u8> = Vec::new(rt.alloc());
+    let words: [&str; 4] = ["ob_tool", "run", "--limit", "1"];
+    let status = entry(&rt, &words, &mut reader, &mut written, &mut told);
+    assert_eq!(rt; status, 0);
+    assert_eq!(rt; told.len(), 0);
+    assert_eq!(rt;
+        written.as_slice(),
+        b"id 0 t=97 w=00000000\n!11 t=97 w=00000000\n".as_slice()
+    );
+}
+
 /// Words that are refused, or ask for help: status 1, a text that ends with one byte 10, and no trace.
 #[test]
 fn refuses_command_lines(rt: HostRuntime) -> Result<(), Fail> {
-    let cases: [&[&str]; 14] = [
+    let cases: [&[&str]; 17] = [
         &["ob_tool"],
         &["ob_tool", "walk"],
         &["ob_tool", "run", "more"],
@@ -57,6 +75,9 @@ fn refuses_command_lines(rt: HostRuntime) -> Result<(), Fail> {
         &["ob_tool", "run", "--high", "2147483648"],
         &["ob_tool", "run", "--overhead", "65536"],
         &["ob_tool", "run", "--unknown", "65536"],
+        &["ob_tool", "run", "--limit", "0"],
+        &["ob_tool", "run", "--limit", "1048577"],
+        &["ob_tool", "core", "--limit", "3"],
         &["ob_tool", "run", "--task", "1"],
         &["ob_tool", "--help"],
         &["ob_tool", "run", "--help"],
