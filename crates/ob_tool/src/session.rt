@@ -1,5 +1,6 @@
-ghost use Rattle.std.specs.Prelude.{◌≡◌, ◌+◌, ◌++◌, ◌%◌, [], ◌∷◌, IfOk, OnOk, string_bytes};
+ghost use Rattle.std.specs.Prelude.{◌≡◌, ◌+◌, ◌++◌, ◌%◌, [], ◌∷◌, IsOk, IfOk, OnOk, string_bytes};
 ghost use Rattle.ob_history.specs.Accepted.{accepted_commands};
+ghost use Rattle.ob_history.specs.History.{IsFull};
 ghost use Rattle.ob_tool.specs.Call.{call_answer, history_after_call, look_at};
 ghost use Rattle.ob_tool.specs.Options.{first_history};
 ghost use Rattle.ob_tool.specs.Trace.{asked_after, history_after_line, line_trace, text_after, writes_in};
@@ -113,11 +114,12 @@ impl Session {
         }
     }
 
-    /// Gives a command to the buffer and answers its reply or its refusal. A full history is a refusal too, and the
-    /// script goes on. It fails for want of memory alone.
+    /// Gives a command to the buffer and answers its reply or its refusal, that of a full history too. It fails for
+    /// want of memory alone, and so never where the history is full.
     fn call(&mut self, command: Command) -> Result<Result<Reply, Refusal>, AllocError>
         ensures after { OnOk result (self.new.booked.recorded ≡ history_after_call self.old.booked.recorded command) }
         ensures answer { IfOk result (λ answer. answer ≡ call_answer self.old.booked.recorded command) }
+        ensures full { IsFull self.old.booked.recorded → IsOk result }
     {
         let next_byte = next_byte(self.next_byte, &command);
         match self.booked.call(command) {
