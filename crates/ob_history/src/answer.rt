@@ -1,8 +1,10 @@
 //! The answer of a buffer, and what is done with it.
 
-ghost use Rattle.std.specs.Prelude.{◌≡◌, ◌≤◌, ◌↔◌, length, IsOk, IsTrue, IfOk, OnOk, OnErr};
-ghost use Rattle.ob_seq.specs.Pending.{Accepts, Answers, Follows, takes_no_memory};
+ghost use Rattle.std.specs.Prelude.{◌≡◌, ◌≤◌, ◌↔◌, List, length, IsOk, IsTrue, IfOk, OnOk, OnErr};
+ghost use Rattle.ob_seq.specs.Pending.{Accepts, Answers, Follows};
 ghost use Rattle.ob_seq.specs.Settles.{settled_by};
+ghost use Rattle.ob_types.specs.declared.command.Command.{Command};
+ghost use Rattle.ob_history.specs.Copies.{IsSmall};
 
 use ob_seq::Buffer;
 use ob_types::{Command, Refusal, Reply, Spare};
@@ -15,7 +17,7 @@ pub fn give(buffer: &mut Buffer, command: Command) -> Result<Result<Reply, Refus
     ensures settings { buffer.new.settings ≡ buffer.old.settings }
     ensures err { OnErr result (buffer.new ≡ buffer.old) }
     ensures last { OnErr result (Accepts buffer.old command) }
-    ensures frugal { IsTrue (takes_no_memory buffer.old command) → IsOk result }
+    ensures frugal { (commands : List Command) → IsSmall buffer.old command commands → IsOk result }
 {
     match buffer.apply(command) {
         Err(Refusal::NoMemory) => Err(AllocError),

@@ -17,19 +17,20 @@ use Rattle.ob_seq.specs.Row.{Row}
 use Rattle.ob_seq.specs.Line.{line}
 use Rattle.ob_seq.specs.Pieces.{bytes_in, pieces_within}
 use Rattle.ob_seq.specs.ByteRun.{blocks_in_front, byte_run, whole_rows, bytes_left_over}
-use Rattle.ob_seq.specs.Effect.{effect, rows_after, with_fronts_sent, with_skipped}
+use Rattle.ob_seq.specs.Effect.{effect, rows_after, taken_row, with_fronts_sent, with_skipped}
 use Rattle.ob_seq.specs.Moment.{moments_along, moments_of, moments_after}
 use Rattle.ob_seq.specs.Word.{word_after}
 use Rattle.ob_seq.specs.Answer.{refusal_of, settlements_from, reply_of}
 use Rattle.ob_seq.specs.Pending.{Pending, StandsFor, blocks_left, entry_of}
-use Rattle.ob_seq.specs.Steps.{bytes_removed, bytes_reply, cut_of, front_id, front_skipped, front_taken, successes_from, times}
-use Rattle.ob_seq.proofs.Acceptance.{same_reply}
+use Rattle.ob_seq.specs.Steps.{bytes_removed, bytes_reply, cut_of, front_id, front_skipped, front_taken, entry_settlements, times}
+use Rattle.ob_seq.proofs.Acceptance.{open_history, same_reply}
 use Rattle.ob_seq.proofs.Along.{moments_along_same, settlements_from_same}
-use Rattle.ob_seq.proofs.Held.{Held, held_of, front_id_is, line_count, stands_by, word_by_moments, word_with_moments}
+use Rattle.ob_seq.proofs.Held.{Held, held_of, front_id_is, line_count, stands_by, word_by_moments}
+use Rattle.ob_seq.proofs.Marks.{half_after, word_with_moments}
 use Rattle.ob_seq.proofs.History.{rows_after_more, accepted_more}
 use Rattle.ob_seq.proofs.Order.{IsGone, IsStanding, each_append, layout_of}
-use Rattle.ob_seq.proofs.Sent.{sent, with_fronts_sent_is, all_sent_gone, all_taken, moments_of_sent, settlements_of_sent}
-use Rattle.ob_seq.proofs.Skipped.{rows_skipped, with_skipped_is, moments_of_skipped, settlements_of_skipped, skipped_held, skipped_word, skipped_settings}
+use Rattle.ob_seq.proofs.Sent.{with_fronts_sent_is, all_taken_gone, all_taken, moments_of_sent, settlements_of_taken}
+use Rattle.ob_seq.proofs.Skipped.{rows_skipped, with_skipped_is, moments_of_skipped, settlements_of_skipped, skipped_held, skipped_word, skipped_settings, skipped_closed}
 
 -- the byte run is what the entries in line have left
 pub run_is : (buffer : Pending) (commands : List Command) → StandsFor buffer commands → byte_run (rows_after buffer.settings.estimate commands) ≡ blocks_left buffer.line
@@ -85,7 +86,7 @@ module _ (buffer : Pending) (commands : List Command) (n : ℕ) (stands : Stands
     module _ (gone first rest fresh : List Row) (rows_are : rows ≡ gone ++ ((first ++ rest) ++ fresh)) (held : Held buffer gone (first ++ rest) fresh) (count : length first ≡ cut.whole)
         (standing_first : AllByRecursion IsStanding first) (standing_rest : AllByRecursion IsStanding rest) where
       abbrev passed : List Row
-      passed = gone ++ map sent first
+      passed = gone ++ map (taken_row Success) first
 
       abbrev behind : List Row
       behind = rest ++ fresh
@@ -97,76 +98,80 @@ module _ (buffer : Pending) (commands : List Command) (n : ℕ) (stands : Stands
       rows_split = rows_are ∙ ap (λ more. gone ++ more) (append_assoc first rest fresh)
 
       passed_gone : AllByRecursion IsGone passed
-      passed_gone = each_append IsGone gone (map sent first) held.all_gone (all_sent_gone first)
+      passed_gone = each_append IsGone gone (map (taken_row Success) first) held.all_gone (all_taken_gone Success first)
 
       effect_is : effect buffer.settings.estimate rows (RemoveBytes n) ≡ passed ++ after
       effect_is =
           ap (λ k. with_skipped (bytes_left_over n rows) (with_fronts_sent k rows)) (whole_is ∙ sym count)
           ∙ ap (λ r. with_skipped r (with_fronts_sent (length first) rows)) rest_is
           ∙ ap (λ all. with_skipped cut.rest (with_fronts_sent (length first) all)) rows_split
-          ∙ ap (with_skipped cut.rest) (with_fronts_sent_is first gone behind held.all_gone standing_first ∙ sym (append_assoc gone (map sent first) behind))
+          ∙ ap (with_skipped cut.rest) (with_fronts_sent_is first gone behind held.all_gone standing_first ∙ sym (append_assoc gone (map (taken_row Success) first) behind))
           ∙ with_skipped_is cut.rest passed fresh passed_gone held.all_fresh rest standing_rest
 
-      moments_are : moments_of buffer.settings.estimate rows (RemoveBytes n) ≡ moments_along true gone (first ++ behind) (map sent first ++ behind)
+      moments_are : moments_of buffer.settings.estimate rows (RemoveBytes n) ≡ moments_along true gone (first ++ behind) (map (taken_row Success) first ++ behind)
       moments_are =
-          ap (moments_along true [] rows) (effect_is ∙ append_assoc gone (map sent first) after)
-          ∙ ap (λ before. moments_along true [] before (gone ++ (map sent first ++ after))) rows_split
-          ∙ moments_along_same true [] gone (first ++ behind) (map sent first ++ after)
+          ap (moments_along true [] rows) (effect_is ∙ append_assoc gone (map (taken_row Success) first) after)
+          ∙ ap (λ before. moments_along true [] before (gone ++ (map (taken_row Success) first ++ after))) rows_split
+          ∙ moments_along_same true [] gone (first ++ behind) (map (taken_row Success) first ++ after)
           ∙ moments_of_sent first gone behind after (moments_of_skipped cut.rest passed rest fresh)
 
-      settlements_are : settlements_from 0 rows (effect buffer.settings.estimate rows (RemoveBytes n)) ≡ successes_from (front_id buffer) (take cut.whole buffer.line)
+      settlements_are : settlements_from 0 rows (effect buffer.settings.estimate rows (RemoveBytes n)) ≡ entry_settlements Success (front_id buffer) (take cut.whole buffer.line)
       settlements_are =
-          ap (settlements_from 0 rows) (effect_is ∙ append_assoc gone (map sent first) after)
-          ∙ ap (λ before. settlements_from 0 before (gone ++ (map sent first ++ after))) rows_split
-          ∙ settlements_from_same 0 gone (first ++ behind) (map sent first ++ after)
-          ∙ ap (λ id. settlements_from id (first ++ behind) (map sent first ++ after)) (zero-add (length gone))
-          ∙ settlements_of_sent (length gone) first behind after standing_first (settlements_of_skipped cut.rest (length gone + length first) rest fresh)
-          ∙ ap (λ id. successes_from id (map entry_of first)) (sym (front_id_is buffer gone (first ++ rest) fresh held))
-          ∙ ap (successes_from (front_id buffer)) (sym (ap (take cut.whole) (held.line ∙ map-append entry_of first rest) ∙ first_of_line))
+          ap (settlements_from 0 rows) (effect_is ∙ append_assoc gone (map (taken_row Success) first) after)
+          ∙ ap (λ before. settlements_from 0 before (gone ++ (map (taken_row Success) first ++ after))) rows_split
+          ∙ settlements_from_same 0 gone (first ++ behind) (map (taken_row Success) first ++ after)
+          ∙ ap (λ id. settlements_from id (first ++ behind) (map (taken_row Success) first ++ after)) (zero-add (length gone))
+          ∙ settlements_of_taken Success (length gone) first behind after standing_first (settlements_of_skipped cut.rest (length gone + length first) rest fresh)
+          ∙ ap (λ id. entry_settlements Success id (map entry_of first)) (sym (front_id_is buffer gone (first ++ rest) fresh held))
+          ∙ ap (entry_settlements Success (front_id buffer)) (sym (ap (take cut.whole) (held.line ∙ map-append entry_of first rest) ∙ first_of_line))
         where
           first_of_line : take cut.whole (map entry_of first ++ map entry_of rest) ≡ map entry_of first
           first_of_line = ap (λ k. take k (map entry_of first ++ map entry_of rest)) (sym count ∙ sym (length-map first entry_of)) ∙ take-append_seam (map entry_of first) (map entry_of rest)
 
-      taken : (let now = times (length first) (front_taken Success) buffer in
+      taken : (let now = times (length first) (front_taken true Success) buffer in
           Held now passed rest fresh
           × (now.word ≡ word_after buffer.settings (commands ++ RemoveBytes n ∷ []))
-          × (now.settings ≡ buffer.settings))
+          × (now.settings ≡ buffer.settings) × (now.closed ≡ buffer.closed))
       taken =
-          let all = all_taken first buffer gone rest fresh (moments_after buffer.settings.estimate commands) held (word_by_moments buffer commands stands) in
-          (all.0, all.1 ∙ word_with_moments buffer.settings commands (RemoveBytes n) (moments_along true gone (first ++ behind) (map sent first ++ behind)) moments_are, all.2)
+          let all = all_taken true Success first buffer gone rest fresh (half_after commands) (moments_after buffer.settings.estimate commands) held (word_by_moments buffer commands stands) in
+          (all.0, all.1 ∙ word_with_moments buffer.settings commands (RemoveBytes n) (moments_along true gone (first ++ behind) (map (taken_row Success) first ++ behind)) (λ index. refl) moments_are, all.2, all.3)
 
       word_is : (bytes_removed cut buffer).word ≡ word_after buffer.settings (commands ++ RemoveBytes n ∷ [])
       word_is =
-          skipped_word cut.rest (times cut.whole (front_taken Success) buffer)
-          ∙ ap (λ k. (times k (front_taken Success) buffer).word) (sym count) ∙ taken.1
+          skipped_word cut.rest (times cut.whole (front_taken true Success) buffer)
+          ∙ ap (λ k. (times k (front_taken true Success) buffer).word) (sym count) ∙ taken.1
 
       removed_held : Held (bytes_removed cut buffer) passed (rows_skipped cut.rest rest) fresh
-      removed_held = subst (λ (k : ℕ). Held (front_skipped cut.rest (times k (front_taken Success) buffer)) passed (rows_skipped cut.rest rest) fresh) count
-          (skipped_held cut.rest (times (length first) (front_taken Success) buffer) passed rest fresh taken.0)
+      removed_held = subst (λ (k : ℕ). Held (front_skipped cut.rest (times k (front_taken true Success) buffer)) passed (rows_skipped cut.rest rest) fresh) count
+          (skipped_held cut.rest (times (length first) (front_taken true Success) buffer) passed rest fresh taken.0)
 
       settings_stay : (bytes_removed cut buffer).settings ≡ buffer.settings
-      settings_stay = skipped_settings cut.rest (times cut.whole (front_taken Success) buffer) ∙ ap (λ k. (times k (front_taken Success) buffer).settings) (sym count) ∙ taken.2
+      settings_stay = skipped_settings cut.rest (times cut.whole (front_taken true Success) buffer) ∙ ap (λ k. (times k (front_taken true Success) buffer).settings) (sym count) ∙ taken.2
 
-      removed_by : StandsFor (bytes_removed cut buffer) (commands ++ RemoveBytes n ∷ []) × (bytes_reply cut buffer ≡ reply_of buffer.settings commands (RemoveBytes n))
-      removed_by = (
+      closed_stays : (bytes_removed cut buffer).closed ≡ buffer.closed
+      closed_stays = skipped_closed cut.rest (times cut.whole (front_taken true Success) buffer) ∙ ap (λ k. (times k (front_taken true Success) buffer).closed) (sym count) ∙ taken.3
+
+      removed_by : buffer.closed ≡ false → StandsFor (bytes_removed cut buffer) (commands ++ RemoveBytes n ∷ []) × (bytes_reply cut buffer ≡ reply_of buffer.settings commands (RemoveBytes n))
+      removed_by unclosed = (
         stands_by (bytes_removed cut buffer) buffer.settings commands (RemoveBytes n) passed (rows_skipped cut.rest rest) fresh settings_stay
-            (accepted_more buffer.settings.estimate commands (RemoveBytes n) stands.accepted bytes_accepted) removed_held
+            (open_history buffer.settings commands (RemoveBytes n) buffer stands unclosed) (closed_stays ∙ unclosed)
+            (accepted_more buffer.settings.estimate commands (RemoveBytes n) (open_history buffer.settings commands (RemoveBytes n) buffer stands unclosed) stands.accepted bytes_accepted) removed_held
             (rows_after_more buffer.settings.estimate commands (RemoveBytes n) ∙ effect_is) word_is,
         same_reply (ap Count (sym whole_is)) (sym settlements_are)
             (ap (change_between buffer.word) word_is ∙ ap (λ before. change_between before (word_after buffer.settings (commands ++ RemoveBytes n ∷ []))) stands.word),
       )
 
     -- the buffer stands for the history with the removal, and replies as it does
-    pub bytes_removed_stand : cut.whole ≤ length buffer.line →
+    pub bytes_removed_stand : buffer.closed ≡ false → cut.whole ≤ length buffer.line →
         StandsFor (bytes_removed cut buffer) (commands ++ RemoveBytes n ∷ []) × (bytes_reply cut buffer ≡ reply_of buffer.settings commands (RemoveBytes n))
-    bytes_removed_stand within =
+    bytes_removed_stand unclosed within =
         let layout = layout_of buffer.settings.estimate commands in
         let held = held_of buffer commands stands in
         let parts = take-append-drop cut.whole layout.standing in
         let whole = subst (λ (standing : List Row). (rows ≡ layout.gone ++ (standing ++ layout.fresh)) × Held buffer layout.gone standing layout.fresh × AllByRecursion IsStanding standing) (sym parts) (layout.is, held, layout.all_standing) in
         let each = split_each (take cut.whole layout.standing) (drop cut.whole layout.standing) whole.2 in
         let size : cut.whole ≤ length layout.standing = subst (λ (size : ℕ). cut.whole ≤ size) (line_count buffer layout.gone layout.standing layout.fresh held) within in
-        removed_by layout.gone (take cut.whole layout.standing) (drop cut.whole layout.standing) layout.fresh whole.0 whole.1 (length-take-le cut.whole layout.standing size) each.0 each.1
+        removed_by layout.gone (take cut.whole layout.standing) (drop cut.whole layout.standing) layout.fresh whole.0 whole.1 (length-take-le cut.whole layout.standing size) each.0 each.1 unclosed
       where
         split_each : (xs ys : List Row) → AllByRecursion IsStanding (xs ++ ys) → AllByRecursion IsStanding xs × AllByRecursion IsStanding ys
         split_each [] ys all = (tt, all)

@@ -23,10 +23,10 @@ use Rattle.ob_seq.specs.Word.{word_after}
 use Rattle.ob_seq.specs.Answer.{refusal_of, outcome_of, settlement, settlements_from, promise_at, is_waiting, reply_of}
 use Rattle.ob_seq.specs.Pending.{Pending, StandsFor, entry_of}
 use Rattle.ob_seq.specs.Steps.{promise_set}
-use Rattle.ob_seq.proofs.Acceptance.{same_reply}
+use Rattle.ob_seq.proofs.Acceptance.{open_history, same_reply}
 use Rattle.ob_seq.proofs.Along.{moment_of_same, moments_of_one, settlements_of_one}
 use Rattle.ob_seq.proofs.Held.{promise_of}
-use Rattle.ob_seq.proofs.History.{rows_after_more, accepted_more}
+use Rattle.ob_seq.proofs.History.{rows_after_more, accepted_more, closed_more}
 use Rattle.ob_seq.proofs.Marks.{word_after_same}
 
 -- a row with its promise taken back
@@ -78,7 +78,7 @@ slice_get_seam : (before : List Row) (row : Row) (behind : List Row) → slice_g
 slice_get_seam [] row behind = refl
 slice_get_seam (first ∷ before) row behind = slice_get_seam before row behind
 
-module _ (buffer : Pending) (commands : List Command) (id : PromiseId) (stands : StandsFor buffer commands) where
+module _ (buffer : Pending) (commands : List Command) (id : PromiseId) (stands : StandsFor buffer commands) (unclosed : buffer.closed ≡ false) where
   abbrev rows : List Row
   rows = rows_after buffer.settings.estimate commands
 
@@ -123,7 +123,7 @@ module _ (buffer : Pending) (commands : List Command) (id : PromiseId) (stands :
         ∙ moments_of_one true at.before at.row (taken_back at.row) at.behind ∙ moment_of_same true (counted_size at.row) (total (at.before ++ taken_back at.row ∷ at.behind))
 
     word_of_cancel : buffer.word ≡ word_after buffer.settings (commands ++ Cancel id ∷ [])
-    word_of_cancel = stands.word ∙ sym (word_after_same buffer.settings commands (Cancel id) moments_of_cancel)
+    word_of_cancel = stands.word ∙ sym (word_after_same buffer.settings commands (Cancel id) (λ index. refl) moments_of_cancel)
 
     more : rows_after buffer.settings.estimate (commands ++ Cancel id ∷ []) ≡ with_cancelled id.0 rows
     more = rows_after_more buffer.settings.estimate commands (Cancel id)
@@ -137,7 +137,8 @@ module _ (buffer : Pending) (commands : List Command) (id : PromiseId) (stands :
 
     stands_with : (promises : List PromiseState) → promises ≡ map promise_of (with_cancelled id.0 rows) → StandsFor (record buffer { promises = promises }) (commands ++ Cancel id ∷ [])
     stands_with promises are = record {
-      accepted = accepted_more buffer.settings.estimate commands (Cancel id) stands.accepted known_accepted;
+      accepted = accepted_more buffer.settings.estimate commands (Cancel id) (open_history buffer.settings commands (Cancel id) buffer stands unclosed) stands.accepted known_accepted;
+      closed = unclosed ∙ sym (closed_more commands (Cancel id) (open_history buffer.settings commands (Cancel id) buffer stands unclosed));
       line = stands.line ∙ sym (ap (λ all. map entry_of (line all)) more ∙ line_of_cancelled id.0 rows);
       unflushed = stands.unflushed ∙ sym (ap (λ all. map entry_of (unflushed all)) more ∙ unflushed_of_cancelled id.0 rows);
       promises = are ∙ sym (ap (map promise_of) more);

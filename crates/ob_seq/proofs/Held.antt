@@ -1,5 +1,5 @@
 -- What a buffer holds, by the parts of the rows.
-use Rattle.std.proofs.Common.{◌≡◌, ℕ, ◌+◌, ◌-◌, true, List, [], ◌∷◌, ◌++◌, length, map, sym, ap, ◌∙◌, length-append, arith}
+use Rattle.std.proofs.Common.{◌≡◌, ℕ, ◌+◌, ◌-◌, true, false, List, [], ◌∷◌, ◌++◌, length, map, sym, ap, ◌∙◌, length-append, arith}
 use Rattle.std.specs.List.{AllByRecursion}
 use Rattle.std.proofs.lemmas.List.{length-map}
 use Rattle.ob_types.specs.declared.command.Command.{Command}
@@ -9,15 +9,17 @@ use Rattle.ob_seq.specs.Row.{Row}
 use Rattle.ob_seq.specs.Line.{line, unflushed}
 use Rattle.ob_seq.specs.Total.{total}
 use Rattle.ob_seq.specs.Effect.{rows_after}
-use Rattle.ob_seq.specs.Moment.{Moment, moments_after, moments_of}
+use Rattle.ob_seq.specs.Closed.{is_close, is_closed}
+use Rattle.ob_seq.specs.Moment.{moments_after}
 use Rattle.ob_seq.specs.Word.{word_after}
 use Rattle.ob_seq.specs.Answer.{are_accepted, refusal_of}
 use Rattle.std.specs.Prelude.{None}
 use Rattle.ob_seq.specs.Pending.{Pending, StandsFor, entry_of}
 use Rattle.ob_seq.specs.Steps.{sum_of, pending_total, unflushed_id, front_id}
 use Rattle.ob_seq.proofs.Rows.{sum_of_rows}
-use Rattle.ob_seq.proofs.History.{moments_after_more, accepted_more}
-use Rattle.ob_seq.proofs.Marks.{word_from, word_is_from}
+use Rattle.ob_seq.proofs.Acceptance.{open_history}
+use Rattle.ob_seq.proofs.History.{accepted_more, closed_more}
+use Rattle.ob_seq.proofs.Marks.{half_after, word_from, word_is_from}
 use Rattle.ob_seq.proofs.Order.{IsGone, IsStanding, IsFresh, layout_of}
 use Rattle.ob_seq.proofs.Parts.{line_of_parts, unflushed_of_parts}
 
@@ -50,12 +52,13 @@ held_of buffer commands stands =
 
 -- a buffer that holds the rows after one more command, and has their word, stands for the history with it
 pub stands_by : (buffer : Pending) (settings : Settings) (commands : List Command) (command : Command) (gone standing fresh : List Row) → buffer.settings ≡ settings →
-    are_accepted settings.estimate [] (commands ++ command ∷ []) ≡ true → Held buffer gone standing fresh → rows_after settings.estimate (commands ++ command ∷ []) ≡ gone ++ (standing ++ fresh) →
+    is_closed commands ≡ false → buffer.closed ≡ is_close command → are_accepted settings.estimate [] (commands ++ command ∷ []) ≡ true → Held buffer gone standing fresh → rows_after settings.estimate (commands ++ command ∷ []) ≡ gone ++ (standing ++ fresh) →
     buffer.word ≡ word_after settings (commands ++ command ∷ []) → StandsFor buffer (commands ++ command ∷ [])
-stands_by buffer settings commands command gone standing fresh same accepted held rows word =
+stands_by buffer settings commands command gone standing fresh same unclosed closed accepted held rows word =
     let more : rows_after buffer.settings.estimate (commands ++ command ∷ []) ≡ gone ++ (standing ++ fresh) = ap (λ (s : Settings). rows_after s.estimate (commands ++ command ∷ [])) same ∙ rows in
     record {
       accepted = ap (λ (s : Settings). are_accepted s.estimate [] (commands ++ command ∷ [])) same ∙ accepted;
+      closed = closed ∙ sym (closed_more commands command unclosed);
       line = held.line ∙ sym (ap (λ all. map entry_of (line all)) more ∙ ap (map entry_of) (line_of_parts gone standing fresh held.all_gone held.all_standing held.all_fresh));
       unflushed = held.unflushed ∙ sym (ap (λ all. map entry_of (unflushed all)) more ∙ ap (map entry_of) (unflushed_of_parts gone standing fresh held.all_gone held.all_standing held.all_fresh));
       promises = held.promises ∙ sym (ap (map promise_of) more);
@@ -63,12 +66,13 @@ stands_by buffer settings commands command gone standing fresh same accepted hel
     }
 
 -- a buffer stands as it is for the history with a command that changes no row and not the word
-pub stands_same : (buffer : Pending) (commands : List Command) (command : Command) → StandsFor buffer commands →
+pub stands_same : (buffer : Pending) (commands : List Command) (command : Command) → StandsFor buffer commands → buffer.closed ≡ false → is_close command ≡ false →
     refusal_of buffer.settings.estimate (rows_after buffer.settings.estimate commands) command ≡ None →
     rows_after buffer.settings.estimate (commands ++ command ∷ []) ≡ rows_after buffer.settings.estimate commands →
     buffer.word ≡ word_after buffer.settings (commands ++ command ∷ []) → StandsFor buffer (commands ++ command ∷ [])
-stands_same buffer commands command stands accepted more word = record {
-  accepted = accepted_more buffer.settings.estimate commands command stands.accepted accepted;
+stands_same buffer commands command stands unclosed no_close accepted more word = record {
+  accepted = accepted_more buffer.settings.estimate commands command (open_history buffer.settings commands command buffer stands unclosed) stands.accepted accepted;
+  closed = unclosed ∙ sym (closed_more commands command (open_history buffer.settings commands command buffer stands unclosed) ∙ no_close);
   line = stands.line ∙ sym (ap (λ all. map entry_of (line all)) more);
   unflushed = stands.unflushed ∙ sym (ap (λ all. map entry_of (unflushed all)) more);
   promises = stands.promises ∙ sym (ap (map promise_of) more);
@@ -109,11 +113,5 @@ module _ (buffer : Pending) (gone standing fresh : List Row) (held : Held buffer
       ∙ sum_of_rows (gone ++ (standing ++ fresh))
 
 -- the word of a buffer that stands for a history, by its moments
-pub word_by_moments : (buffer : Pending) (commands : List Command) → StandsFor buffer commands → buffer.word ≡ word_from buffer.settings.marks (moments_after buffer.settings.estimate commands)
+pub word_by_moments : (buffer : Pending) (commands : List Command) → StandsFor buffer commands → buffer.word ≡ word_from buffer.settings.marks (half_after commands) (moments_after buffer.settings.estimate commands)
 word_by_moments buffer commands stands = stands.word ∙ word_is_from buffer.settings commands
-
--- the word after one more command, by its moments
-pub word_with_moments : (settings : Settings) (commands : List Command) (command : Command) (moments : List Moment) → moments_of settings.estimate (rows_after settings.estimate commands) command ≡ moments →
-    word_from settings.marks (moments_after settings.estimate commands ++ moments) ≡ word_after settings (commands ++ command ∷ [])
-word_with_moments settings commands command moments same =
-    sym (word_is_from settings (commands ++ command ∷ []) ∙ ap (word_from settings.marks) (moments_after_more settings.estimate commands command ∙ ap (λ more. moments_after settings.estimate commands ++ more) same))

@@ -1,6 +1,7 @@
 -- One more command at the end of a history.
-use Rattle.std.proofs.Common.{◌≡◌, List, [], ◌∷◌, ◌++◌, sym, ap, ◌∙◌, append_assoc, append-nil, Bool, true, false, ◌&&◌, refl}
-use Rattle.std.specs.Prelude.{fold, Option, None, is_none}
+use Rattle.std.proofs.Common.{◌≡◌, List, [], ◌∷◌, ◌++◌, sym, ap, ◌∙◌, append_assoc, append-nil, Bool, true, false, ◌&&◌, ◌||◌, cond, refl}
+use Rattle.std.specs.Prelude.{fold, Option, Some, None, is_none}
+use Rattle.std.proofs.lemmas.List.Folds.{list_any-append}
 use Rattle.std.proofs.lemmas.List.Sums.{fold-append}
 use Rattle.ob_types.specs.declared.estimate.Estimate.{Estimate}
 use Rattle.ob_types.specs.declared.command.Command.{Command}
@@ -8,7 +9,9 @@ use Rattle.ob_seq.specs.Row.{Row}
 use Rattle.ob_seq.specs.Effect.{effect, rows_after}
 use Rattle.ob_seq.specs.Moment.{moments_of, moments_from, moments_after}
 use Rattle.ob_types.specs.declared.refusal.Refusal.{Refusal}
-use Rattle.ob_seq.specs.Answer.{refusal_of, are_accepted}
+use Rattle.ob_types.specs.declared.refusal.Refusal.TheVariants.{Closed}
+use Rattle.ob_seq.specs.Answer.{first_refusal, refusal_of, are_accepted}
+use Rattle.ob_seq.specs.Closed.{is_close, is_closed}
 
 -- the rows after one more command
 pub rows_after_more : (estimate : Estimate) (commands : List Command) (command : Command) → rows_after estimate (commands ++ command ∷ []) ≡ effect estimate (rows_after estimate commands) command
@@ -31,15 +34,28 @@ pub moments_after_more : (estimate : Estimate) (commands : List Command) (comman
     moments_after estimate (commands ++ command ∷ []) ≡ moments_after estimate commands ++ moments_of estimate (rows_after estimate commands) command
 moments_after_more estimate commands command = moments_from_more estimate [] commands command
 
-accepted_from_more : (estimate : Estimate) (rows : List Row) (commands : List Command) (command : Command) →
-    are_accepted estimate rows commands ≡ true → refusal_of estimate (fold (effect estimate) rows commands) command ≡ None → are_accepted estimate rows (commands ++ command ∷ []) ≡ true
-accepted_from_more estimate rows [] command all last = ap (λ (refusal : Option Refusal). is_none refusal && true) last
-accepted_from_more estimate rows (first ∷ commands) command all last =
-    let both = and_true (is_none (refusal_of estimate rows first)) (are_accepted estimate (effect estimate rows first) commands) all in
-    ap (λ test. test && are_accepted estimate (effect estimate rows first) (commands ++ command ∷ [])) both.0
-    ∙ accepted_from_more estimate (effect estimate rows first) commands command both.1 last
+-- a command after a history closes it where it is a close
+pub closed_more : (commands : List Command) (command : Command) → is_closed commands ≡ false → is_closed (commands ++ command ∷ []) ≡ is_close command
+closed_more commands command unclosed = list_any-append is_close commands (command ∷ []) ∙ ap (λ earlier. earlier || (is_close command || false)) unclosed ∙ or_false (is_close command)
+  where
+    or_false : (b : Bool) → (b || false) ≡ b
+    or_false true = refl
+    or_false false = refl
+
+-- no refusal comes to a buffer that is not closed but its own
+pub refusal_of_open : (estimate : Estimate) (commands : List Command) (command : Command) → is_closed commands ≡ false → first_refusal estimate commands command ≡ refusal_of estimate (rows_after estimate commands) command
+refusal_of_open estimate commands command unclosed = ap (λ closed. cond closed (Some Closed) (refusal_of estimate (rows_after estimate commands) command)) unclosed
+
+accepted_from_more : (estimate : Estimate) (earlier commands : List Command) (command : Command) →
+    are_accepted estimate earlier commands ≡ true → first_refusal estimate (earlier ++ commands) command ≡ None → are_accepted estimate earlier (commands ++ command ∷ []) ≡ true
+accepted_from_more estimate earlier [] command all last =
+    ap (λ (refusal : Option Refusal). is_none refusal && true) (ap (λ all. first_refusal estimate all command) (sym (append-nil earlier)) ∙ last)
+accepted_from_more estimate earlier (first ∷ commands) command all last =
+    let both = and_true (is_none (first_refusal estimate earlier first)) (are_accepted estimate (earlier ++ first ∷ []) commands) all in
+    ap (λ test. test && are_accepted estimate (earlier ++ first ∷ []) (commands ++ command ∷ [])) both.0
+    ∙ accepted_from_more estimate (earlier ++ first ∷ []) commands command both.1 (ap (λ all. first_refusal estimate all command) (append_assoc earlier (first ∷ []) commands) ∙ last)
 
 -- a history goes on with a command that is not refused
-pub accepted_more : (estimate : Estimate) (commands : List Command) (command : Command) →
+pub accepted_more : (estimate : Estimate) (commands : List Command) (command : Command) → is_closed commands ≡ false →
     are_accepted estimate [] commands ≡ true → refusal_of estimate (rows_after estimate commands) command ≡ None → are_accepted estimate [] (commands ++ command ∷ []) ≡ true
-accepted_more estimate commands command all last = accepted_from_more estimate [] commands command all last
+accepted_more estimate commands command unclosed all last = accepted_from_more estimate [] commands command all (refusal_of_open estimate commands command unclosed ∙ last)

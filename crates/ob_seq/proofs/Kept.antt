@@ -16,28 +16,28 @@ use Rattle.ob_seq.proofs.Entries.{sum_of_parts}
 use Rattle.ob_seq.specs.Row.{is_cancelled}
 
 -- what a buffer holds, by its parts
-abbrev pub pending_from : Settings → List Entry → List Entry → List PromiseState → ℕ → Pending
-pending_from settings line unflushed promises word = record { settings = settings; line = line; unflushed = unflushed; promises = promises; word = word }
+abbrev pub pending_from : Settings → List Entry → List Entry → List PromiseState → ℕ → Bool → Pending
+pending_from settings line unflushed promises word closed = record { settings = settings; line = line; unflushed = unflushed; promises = promises; word = word; closed = closed }
 
 -- two buffers with the same parts hold the same
-pub same_pending : (settings : Settings) {line line' unflushed unflushed' : List Entry} {promises promises' : List PromiseState} {word word' : ℕ} →
-    line ≡ line' → unflushed ≡ unflushed' → promises ≡ promises' → word ≡ word' → pending_from settings line unflushed promises word ≡ pending_from settings line' unflushed' promises' word'
-same_pending settings {line} {line'} {unflushed} {unflushed'} {promises} {promises'} {word} {word'} l u p w =
-    ap (λ x. pending_from settings x unflushed promises word) l ∙ ap (λ x. pending_from settings line' x promises word) u
-    ∙ ap (λ x. pending_from settings line' unflushed' x word) p ∙ ap (pending_from settings line' unflushed' promises') w
+pub same_pending : (settings : Settings) (closed : Bool) {line line' unflushed unflushed' : List Entry} {promises promises' : List PromiseState} {word word' : ℕ} →
+    line ≡ line' → unflushed ≡ unflushed' → promises ≡ promises' → word ≡ word' → pending_from settings line unflushed promises word closed ≡ pending_from settings line' unflushed' promises' word' closed
+same_pending settings closed {line} {line'} {unflushed} {unflushed'} {promises} {promises'} {word} {word'} l u p w =
+    ap (λ x. pending_from settings x unflushed promises word closed) l ∙ ap (λ x. pending_from settings line' x promises word closed) u
+    ∙ ap (λ x. pending_from settings line' unflushed' x word closed) p ∙ ap (λ x. pending_from settings line' unflushed' promises' x closed) w
 
 -- what is held with the first entries in line
-abbrev pub kept : Settings → List Entry → ℕ → List PromiseState → ℕ → Pending
-kept settings entries flushed promises word = pending_from settings (take flushed entries) (drop flushed entries) promises word
+abbrev pub kept : Settings → List Entry → ℕ → List PromiseState → ℕ → Bool → Pending
+kept settings entries flushed promises word closed = pending_from settings (take flushed entries) (drop flushed entries) promises word closed
 
 -- an entry behind the others is unflushed
-pub kept_written : (settings : Settings) (entries : List Entry) (flushed : ℕ) (promises : List PromiseState) (word size : ℕ) (message : Message)
+pub kept_written : (settings : Settings) (entries : List Entry) (flushed : ℕ) (promises : List PromiseState) (word : ℕ) (closed : Bool) (size : ℕ) (message : Message)
     (entries' : List Entry) (promises' : List PromiseState) (word' sum : ℕ) → flushed ≤ length entries →
     entries' ≡ entries ++ record { message = message; size = size; progress = 0; voided = false } ∷ [] → promises' ≡ promises ++ Waiting ∷ [] → sum ≡ sum_of entries' →
-    word' ≡ word_after_rise settings.marks word size sum → kept settings entries' flushed promises' word' ≡ written (kept settings entries flushed promises word) message size
-kept_written settings entries flushed promises word size message entries' promises' word' sum within pushed promised summed risen =
+    word' ≡ word_after_rise settings.marks word size sum → kept settings entries' flushed promises' word' closed ≡ written (kept settings entries flushed promises word closed) message size
+kept_written settings entries flushed promises word closed size message entries' promises' word' sum within pushed promised summed risen =
     let entry : Entry = record { message = message; size = size; progress = 0; voided = false } in
-    same_pending settings
+    same_pending settings closed
     (ap (take flushed) pushed ∙ take-append-le flushed entries (entry ∷ []) within)
     (ap (drop flushed) pushed ∙ drop-append-le flushed entries (entry ∷ []) within)
     promised
@@ -47,26 +47,26 @@ without_first : (all size rest : ℕ) → all ≡ size + rest → rest ≡ all -
 without_first all size rest is = omega arith
 
 -- without the first entry the line is shorter by one
-pub kept_taken : (settings : Settings) (entries : List Entry) (flushed : ℕ) (promises : List PromiseState) (word : ℕ) (entry : Entry) (outcome : Outcome)
-    (entries' : List Entry) (promises' : List PromiseState) (word' sum : ℕ) → 0 < flushed → flushed ≤ length entries → entry ≡ get_or entries 0 entry →
+pub kept_taken : (settings : Settings) (entries : List Entry) (flushed : ℕ) (promises : List PromiseState) (word : ℕ) (closed : Bool) (entry : Entry) (notice : Bool) (outcome : Outcome)
+    (entries' : List Entry) (promises' : List PromiseState) (word' : ℕ) → 0 < flushed → flushed ≤ length entries → entry ≡ get_or entries 0 entry →
     entries' ≡ drop 1 entries →
     promises' ≡ (if entry.voided then promises else slice_set promises (length promises - length entries) (Settled outcome)) →
-    sum ≡ sum_of entries' → word' ≡ word_after_fall settings.marks word entry.size sum →
-    kept settings entries' (flushed - 1) promises' word' ≡ front_taken outcome (kept settings entries flushed promises word)
-kept_taken settings [] flushed promises word entry outcome entries' promises' word' sum some within first taken settled summed fallen = absurd (omega arith)
-kept_taken settings (e ∷ es) zero promises word entry outcome entries' promises' word' sum some within first taken settled summed fallen = absurd (omega arith)
-kept_taken settings (e ∷ es) (suc n) promises word entry outcome entries' promises' word' sum some within first taken settled summed fallen =
+    word' ≡ (if notice then word_after_fall settings.marks word entry.size (sum_of entries') else word) →
+    kept settings entries' (flushed - 1) promises' word' closed ≡ front_taken notice outcome (kept settings entries flushed promises word closed)
+kept_taken settings [] flushed promises word closed entry notice outcome entries' promises' word' some within first taken settled fallen = absurd (omega arith)
+kept_taken settings (e ∷ es) zero promises word closed entry notice outcome entries' promises' word' some within first taken settled fallen = absurd (omega arith)
+kept_taken settings (e ∷ es) (suc n) promises word closed entry notice outcome entries' promises' word' some within first taken settled fallen =
     let less : suc n - 1 ≡ n = omega arith in
     let parts : length (e ∷ es) ≡ length (take (suc n) (e ∷ es)) + length (drop (suc n) (e ∷ es)) =
     sym (ap length (take-append-drop (suc n) (e ∷ es))) ∙ length-append (take (suc n) (e ∷ es)) (drop (suc n) (e ∷ es)) in
     let all : sum_of (take (suc n) (e ∷ es)) + sum_of (drop (suc n) (e ∷ es)) ≡ e.size + sum_of es = sum_of_parts (suc n) (e ∷ es) ∙ sum_by-cons (λ entry. entry.size) e es in
-    same_pending settings
+    same_pending settings closed
     (ap (λ count. take count entries') less ∙ ap (take n) taken)
     (ap (λ count. drop count entries') less ∙ ap (drop n) taken)
     (settled ∙ ap (λ (one : Entry). if one.voided then promises else slice_set promises (length promises - length (e ∷ es)) (Settled outcome)) first
     ∙ ap (λ count. if e.voided then promises else slice_set promises (length promises - count) (Settled outcome)) parts)
-    (fallen ∙ ap (λ size. word_after_fall settings.marks word size sum) (ap (λ (one : Entry). one.size) first)
-    ∙ ap (word_after_fall settings.marks word e.size) (summed ∙ ap sum_of taken ∙ without_first _ e.size (sum_of es) all))
+    (fallen ∙ ap (λ (one : Entry). cond notice (word_after_fall settings.marks word one.size (sum_of entries')) word) first
+    ∙ ap (λ sum. cond notice (word_after_fall settings.marks word e.size sum) word) (ap sum_of taken ∙ without_first _ e.size (sum_of es) all))
 
 -- a list with the entry at an index apart
 record Split (n : ℕ) (entries : List Entry) : Type 0 where
@@ -109,15 +109,15 @@ flag_is : (entries : List Entry) (flushed : ℕ) (promises : List PromiseState) 
 flag_is entries flushed promises back is = ap (λ n. is_cancelled (get_or promises (length promises - n) Waiting)) (length-drop flushed entries) ∙ is
 
 -- one more entry in line, by whether its promise was taken back
-pub kept_next : (settings : Settings) (entries : List Entry) (flushed : ℕ) (promises : List PromiseState) (word : ℕ) (back : Bool)
+pub kept_next : (settings : Settings) (entries : List Entry) (flushed : ℕ) (promises : List PromiseState) (word : ℕ) (closed : Bool) (back : Bool)
     (entries' : List Entry) (promises' : List PromiseState) (word' sum : ℕ) → flushed < length entries →
     is_cancelled (get_or promises (length promises - (length entries - flushed)) Waiting) ≡ back →
     ((d : Entry) → entries' ≡ (if back then slice_set entries flushed (reached_entry true (get_or entries flushed d)) else entries)) →
     promises' ≡ (if back then promises else slice_set promises (length promises - (length entries - flushed)) Fixed) →
     sum ≡ sum_of entries' →
     ((d : Entry) → word' ≡ (if back then word_after_fall settings.marks word (get_or entries flushed d).size sum else word)) →
-    kept settings entries' (flushed + 1) promises' word' ≡ next_flushed (kept settings entries flushed promises word)
-kept_next settings entries flushed promises word true entries' promises' word' sum within back_is entries_are promises_are summed word_is =
+    kept settings entries' (flushed + 1) promises' word' closed ≡ next_flushed (kept settings entries flushed promises word closed)
+kept_next settings entries flushed promises word closed true entries' promises' word' sum within back_is entries_are promises_are summed word_is =
     let s = split flushed entries within in
     let e = s.entry in
     let found : get_or entries flushed e ≡ e =
@@ -132,7 +132,7 @@ kept_next settings entries flushed promises word true entries' promises' word' s
     sums (sum_of s.before) e.size (sum_of s.behind) (sum_of (take flushed entries) + sum_of (drop flushed entries)) sum
     (ap (λ all. sum_of all + sum_of (drop flushed entries)) front ∙ ap (λ all. sum_of s.before + sum_of all) rest ∙ ap (λ n. sum_of s.before + n) (sum_by-cons (λ entry. entry.size) e s.behind))
     (summed ∙ ap sum_of now ∙ sum_by-append (λ entry. entry.size) s.before (reached_entry true e ∷ s.behind) ∙ ap (λ n. sum_of s.before + n) (sum_by-cons (λ entry. entry.size) (reached_entry true e) s.behind)) in
-    same_pending settings
+    same_pending settings closed
     (ap (take (flushed + 1)) now ∙ take_more_seam flushed s.before (reached_entry true e) s.behind s.size
     ∙ sym (ap (λ all. all ++ first_reached (is_cancelled (get_or promises (length promises - length (drop flushed entries)) Waiting)) (drop flushed entries)) front
     ∙ ap (λ fl. s.before ++ first_reached fl (drop flushed entries)) flag ∙ ap (λ all. s.before ++ first_reached true all) rest))
@@ -142,14 +142,14 @@ kept_next settings entries flushed promises word true entries' promises' word' s
     ∙ ap (word_after_fall settings.marks word e.size) less
     ∙ ap (λ size. word_after_fall settings.marks word size (sum_of (take flushed entries) + sum_of (drop flushed entries) - size)) (sym (ap first_size rest))
     ∙ sym (ap (λ fl. cond fl (word_after_fall settings.marks word (first_size (drop flushed entries)) (sum_of (take flushed entries) + sum_of (drop flushed entries) - first_size (drop flushed entries))) word) flag))
-kept_next settings entries flushed promises word false entries' promises' word' sum within back_is entries_are promises_are summed word_is =
+kept_next settings entries flushed promises word closed false entries' promises' word' sum within back_is entries_are promises_are summed word_is =
     let s = split flushed entries within in
     let e = s.entry in
     let now : entries' ≡ s.before ++ e ∷ s.behind = entries_are e ∙ s.is in
     let flag = flag_is entries flushed promises false back_is in
     let front : take flushed entries ≡ s.before = ap (take flushed) s.is ∙ take_seam flushed s.before e s.behind s.size in
     let rest : drop flushed entries ≡ e ∷ s.behind = ap (drop flushed) s.is ∙ drop_seam flushed s.before e s.behind s.size in
-    same_pending settings
+    same_pending settings closed
     (ap (take (flushed + 1)) now ∙ take_more_seam flushed s.before e s.behind s.size
     ∙ sym (ap (λ all. all ++ first_reached (is_cancelled (get_or promises (length promises - length (drop flushed entries)) Waiting)) (drop flushed entries)) front
     ∙ ap (λ fl. s.before ++ first_reached fl (drop flushed entries)) flag ∙ ap (λ all. s.before ++ first_reached false all) rest))
@@ -160,9 +160,9 @@ kept_next settings entries flushed promises word false entries' promises' word' 
     ∙ sym (ap (λ fl. cond fl (word_after_fall settings.marks word (first_size (drop flushed entries)) (sum_of (take flushed entries) + sum_of (drop flushed entries) - first_size (drop flushed entries))) word) flag))
 
 -- a changed first entry
-pub kept_changed : (settings : Settings) (entries : List Entry) (flushed : ℕ) (promises : List PromiseState) (word : ℕ) (change : Entry → Entry) (entries' : List Entry) → 0 < flushed → 0 < length entries →
-    ((d : Entry) → entries' ≡ slice_set entries 0 (change (get_or entries 0 d))) → kept settings entries' flushed promises word ≡ front_changed change (kept settings entries flushed promises word)
-kept_changed settings [] flushed promises word change entries' some any are = absurd (omega arith)
-kept_changed settings (e ∷ es) zero promises word change entries' some any are = absurd (omega arith)
-kept_changed settings (e ∷ es) (suc n) promises word change entries' some any are =
-    same_pending settings (ap (take (suc n)) (are e)) (ap (drop (suc n)) (are e)) refl refl
+pub kept_changed : (settings : Settings) (entries : List Entry) (flushed : ℕ) (promises : List PromiseState) (word : ℕ) (closed : Bool) (change : Entry → Entry) (entries' : List Entry) → 0 < flushed → 0 < length entries →
+    ((d : Entry) → entries' ≡ slice_set entries 0 (change (get_or entries 0 d))) → kept settings entries' flushed promises word closed ≡ front_changed change (kept settings entries flushed promises word closed)
+kept_changed settings [] flushed promises word closed change entries' some any are = absurd (omega arith)
+kept_changed settings (e ∷ es) zero promises word closed change entries' some any are = absurd (omega arith)
+kept_changed settings (e ∷ es) (suc n) promises word closed change entries' some any are =
+    same_pending settings closed (ap (take (suc n)) (are e)) (ap (drop (suc n)) (are e)) refl refl

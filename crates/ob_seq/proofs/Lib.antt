@@ -3,7 +3,12 @@ mod Along
 mod Blocks
 mod BytesRemoved
 mod Cancelled
+mod Closing
+mod Digits
 mod Entries
+mod EntrySettlements
+mod Failing
+mod Failures
 mod Flushing
 mod Fronts
 mod Gathered
@@ -25,8 +30,8 @@ mod Sent
 mod Settled
 mod Sizes
 mod Skipped
-mod Successes
 mod Taken
 mod Times
+mod UserBits
 mod WordBits
 mod Written

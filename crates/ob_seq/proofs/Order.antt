@@ -5,12 +5,13 @@ use Rattle.std.proofs.lemmas.List.{map-append}
 use Rattle.std.specs.Prelude.{fold}
 use Rattle.ob_types.specs.declared.estimate.Estimate.{Estimate}
 use Rattle.ob_types.specs.declared.command.Command.{Command}
-use Rattle.ob_types.specs.declared.command.Command.TheVariants.{Write, Flush, Remove, RemoveWith, RemoveBytes, Progress, Cancel}
+use Rattle.ob_types.specs.declared.command.Command.TheVariants.{Write, Flush, Remove, RemoveWith, RemoveBytes, Progress, Cancel, FailFlushed, Close, UserBit}
 use Rattle.ob_types.specs.declared.promise.PromiseState.TheVariants.{Waiting, Fixed, Settled}
 use Rattle.ob_types.specs.declared.promise.Outcome.TheVariants.{Success, Failed, Cancelled}
 use Rattle.ob_seq.specs.Row.{Row, Unflushed, Flushed, Gone, is_unflushed, is_flushed, is_voided, new_row, Voided, is_cancelled}
 use Rattle.ob_seq.specs.Line.{is_in_line}
-use Rattle.ob_seq.specs.Effect.{effect, flushed_row, taken_row, with_front, rows_after, reached_row, progressed_row, skipped_row, with_fronts_sent, with_skipped, cancelled, with_cancelled}
+use Rattle.ob_seq.specs.Effect.{effect, flushed_row, taken_row, with_front, rows_after, reached_row, progressed_row, skipped_row, with_fronts_sent, with_skipped, cancelled, with_cancelled, failed_row, closed_row}
+use Rattle.ob_types.specs.declared.promise.Cause.{Cause}
 use Rattle.ob_types.specs.declared.promise.Outcome.{Outcome}
 use Rattle.ob_seq.specs.ByteRun.{whole_rows, bytes_left_over}
 
@@ -96,16 +97,17 @@ reached_stands row fresh = elim fresh.promise [
   | inr back ↦ subst IsStanding (sym (ap (λ promise. cond (is_cancelled promise) (record row { place = Voided }) (record row { place = Flushed; promise = Fixed })) back)) (inr (record { place = refl; promise = back }))
 ]
 
+-- rows of one kind that a change leaves alone
+pub stay_by : (change : Row → Row) (P : Row → Type 0) (same : (row : Row) → P row → change row ≡ row) (rows : List Row) → AllByRecursion P rows → map change rows ≡ rows
+stay_by change P same [] all = refl
+stay_by change P same (row ∷ rows) all = ap (λ first. first ∷ map change rows) (same row all.0) ∙ ap (λ rest. row ∷ rest) (stay_by change P same rows all.1)
+
 -- a flush leaves alone what stands in line already or is gone
-pub flush_same : (P : Row → Type 0) (same : (row : Row) → P row → flushed_row row ≡ row) (rows : List Row) → AllByRecursion P rows → map flushed_row rows ≡ rows
-flush_same P same [] all = refl
-flush_same P same (row ∷ rows) all = ap (λ first. first ∷ map flushed_row rows) (same row all.0) ∙ ap (λ rest. row ∷ rest) (flush_same P same rows all.1)
+flush_gone : (rows : List Row) → AllByRecursion IsGone rows → map flushed_row rows ≡ rows
+flush_gone rows all = stay_by flushed_row IsGone flushed_gone rows all
 
-pub flush_gone : (rows : List Row) → AllByRecursion IsGone rows → map flushed_row rows ≡ rows
-flush_gone rows all = flush_same IsGone flushed_gone rows all
-
-pub flush_standing : (rows : List Row) → AllByRecursion IsStanding rows → map flushed_row rows ≡ rows
-flush_standing rows all = flush_same IsStanding flushed_standing rows all
+flush_standing : (rows : List Row) → AllByRecursion IsStanding rows → map flushed_row rows ≡ rows
+flush_standing rows all = stay_by flushed_row IsStanding flushed_standing rows all
 
 -- fresh rows are all reached by a flush
 pub flush_fresh : (rows : List Row) → AllByRecursion IsFresh rows → map flushed_row rows ≡ map reached_row rows
@@ -235,7 +237,7 @@ layout_of_removal outcome rows gone (row ∷ standing) fresh is all_gone all_sta
   all_fresh = all_fresh;
 }
 
-layout_of_fronts : (count : ℕ) (rows : List Row) → Layout rows → Layout (with_fronts_sent count rows)
+pub layout_of_fronts : (count : ℕ) (rows : List Row) → Layout rows → Layout (with_fronts_sent count rows)
 layout_of_fronts zero rows layout = layout
 layout_of_fronts (suc count) rows layout =
     layout_of_fronts count (with_front (taken_row Success) rows) (layout_of_removal Success rows layout.gone layout.standing layout.fresh layout.is layout.all_gone layout.all_standing layout.all_fresh)
@@ -250,6 +252,31 @@ layout_of_skip n rows layout = by_test (ltb 0 n)
     by_test : (some : Bool) → Layout (cond some (with_front (skipped_row n) rows) rows)
     by_test true = layout_of_change (skipped_row n) (skipped_stands n) rows layout.gone layout.standing layout.fresh layout.is layout.all_gone layout.all_standing layout.all_fresh
     by_test false = layout
+
+-- all in line taken away as failed
+failed_gone : (cause : Cause) (row : Row) → IsGone row → failed_row cause row ≡ row
+failed_gone cause row gone = ap (λ here. cond here (taken_row (Failed cause) row) row) (gone_not_in_line row gone)
+
+failed_fresh : (cause : Cause) (row : Row) → IsFresh row → failed_row cause row ≡ row
+failed_fresh cause row fresh = ap (λ here. cond here (taken_row (Failed cause) row) row) (fresh_not_in_line row fresh)
+
+failed_standing : (cause : Cause) (rows : List Row) → AllByRecursion IsStanding rows → map (failed_row cause) rows ≡ map (taken_row (Failed cause)) rows
+failed_standing cause [] all = refl
+failed_standing cause (row ∷ rows) all =
+    ap (λ here. cond here (taken_row (Failed cause) row) row ∷ map (failed_row cause) rows) (standing_in_line row all.0)
+    ∙ ap (λ rest. taken_row (Failed cause) row ∷ rest) (failed_standing cause rows all.1)
+
+pub failed_parts : (cause : Cause) (gone standing fresh : List Row) → AllByRecursion IsGone gone → AllByRecursion IsStanding standing → AllByRecursion IsFresh fresh →
+    map (failed_row cause) (gone ++ (standing ++ fresh)) ≡ gone ++ (map (taken_row (Failed cause)) standing ++ fresh)
+failed_parts cause gone standing fresh all_gone all_standing all_fresh =
+    map-append (failed_row cause) gone (standing ++ fresh)
+    ∙ ap (λ first. first ++ map (failed_row cause) (standing ++ fresh)) (stay_by (failed_row cause) IsGone (failed_gone cause) gone all_gone)
+    ∙ ap (λ rest. gone ++ rest) (map-append (failed_row cause) standing fresh ∙ ap (λ first. first ++ map (failed_row cause) fresh) (failed_standing cause standing all_standing)
+    ∙ ap (λ rest. map (taken_row (Failed cause)) standing ++ rest) (stay_by (failed_row cause) IsFresh (failed_fresh cause) fresh all_fresh))
+
+pub all_now_gone : (change : Row → Row) → ((row : Row) → (change row).place ≡ Gone) → (rows : List Row) → AllByRecursion IsGone (map change rows)
+all_now_gone change goes [] = tt
+all_now_gone change goes (row ∷ rows) = (record { place = goes row }, all_now_gone change goes rows)
 
 -- each command keeps the order
 layout_of_effect : (estimate : Estimate) (rows : List Row) (command : Command) → Layout rows → Layout (effect estimate rows command)
@@ -280,6 +307,26 @@ layout_of_effect estimate rows (Progress n) layout =
     layout_of_change (progressed_row n) (progressed_stands n) rows layout.gone layout.standing layout.fresh layout.is layout.all_gone layout.all_standing layout.all_fresh
 layout_of_effect estimate rows (Cancel id) layout =
     subst (λ (all : List Row). Layout (with_cancelled id.0 all)) (sym layout.is) (layout_of_cancel id.0 layout.gone layout.standing layout.fresh layout.all_gone layout.all_standing layout.all_fresh)
+layout_of_effect estimate rows (FailFlushed cause notify) layout = record {
+  gone = layout.gone ++ map (taken_row (Failed cause)) layout.standing;
+  standing = [];
+  fresh = layout.fresh;
+  is = ap (map (failed_row cause)) layout.is ∙ failed_parts cause layout.gone layout.standing layout.fresh layout.all_gone layout.all_standing layout.all_fresh
+      ∙ sym (append_assoc layout.gone (map (taken_row (Failed cause)) layout.standing) layout.fresh);
+  all_gone = each_append IsGone layout.gone (map (taken_row (Failed cause)) layout.standing) layout.all_gone (all_now_gone (taken_row (Failed cause)) (λ row. refl) layout.standing);
+  all_standing = tt;
+  all_fresh = layout.all_fresh;
+}
+layout_of_effect estimate rows (Close cause) layout = record {
+  gone = map (closed_row cause) rows;
+  standing = [];
+  fresh = [];
+  is = sym (append-nil (map (closed_row cause) rows));
+  all_gone = all_now_gone (closed_row cause) (λ row. refl) rows;
+  all_standing = tt;
+  all_fresh = tt;
+}
+layout_of_effect estimate rows (UserBit index writable) layout = layout
 
 layout_from : (estimate : Estimate) (rows : List Row) (commands : List Command) → Layout rows → Layout (fold (effect estimate) rows commands)
 layout_from estimate rows [] layout = layout

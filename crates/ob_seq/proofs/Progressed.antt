@@ -1,5 +1,5 @@
 -- A buffer of whose front more progress was told stands for the history with the progress.
-use Rattle.std.proofs.Common.{◌≡◌, ℕ, ◌+◌, ◌<◌, ◌≤◌, true, List, [], ◌∷◌, ◌++◌, length, refl, sym, ap, ◌∙◌, ltb, arith}
+use Rattle.std.proofs.Common.{◌≡◌, ℕ, ◌+◌, ◌<◌, ◌≤◌, true, false, List, [], ◌∷◌, ◌++◌, length, refl, sym, ap, ◌∙◌, ltb, arith}
 use Rattle.std.specs.Prelude.{Option, Some, None, if◌then◌else◌}
 use Rattle.std.proofs.lemmas.Bool.Decides.{nat_tests}
 use Rattle.std.proofs.lemmas.List.{map-append}
@@ -18,7 +18,7 @@ use Rattle.ob_seq.specs.Word.{word_after}
 use Rattle.ob_seq.specs.Answer.{refusal_of, refusal_of_progress, outcome_of, settlements_from, reply_of}
 use Rattle.ob_seq.specs.Pending.{Pending, StandsFor}
 use Rattle.ob_seq.specs.Steps.{first_progress, first_changed, front_changed, progressed_entry}
-use Rattle.ob_seq.proofs.Acceptance.{same_reply}
+use Rattle.ob_seq.proofs.Acceptance.{open_history, same_reply}
 use Rattle.ob_seq.proofs.Along.{moment_of_same, moments_of_one, settlement_same, settlements_of_one}
 use Rattle.ob_seq.proofs.Fronts.{Fronted, front_is, no_front}
 use Rattle.ob_seq.proofs.Held.{Held, promise_of, stands_by}
@@ -52,7 +52,7 @@ module _ (buffer : Pending) (commands : List Command) (n : ℕ) (stands : Stands
       near_if : (sum : ℕ) → sum ≤ 9223372036854775807 → (let refusal : Option Refusal = if ltb 9223372036854775807 sum then Some TooFar else None in refusal ≡ None)
       near_if sum h = grind (arith, nat_tests)
 
-  module _ (f : Fronted buffer commands) (accepted : refusal_of buffer.settings.estimate (rows_after buffer.settings.estimate commands) (Progress n) ≡ None) where
+  module _ (f : Fronted buffer commands) (unclosed : buffer.closed ≡ false) (accepted : refusal_of buffer.settings.estimate (rows_after buffer.settings.estimate commands) (Progress n) ≡ None) where
     abbrev changed : Row
     changed = progressed_row n f.row
 
@@ -68,7 +68,7 @@ module _ (buffer : Pending) (commands : List Command) (n : ℕ) (stands : Stands
         ∙ moment_of_same true (counted_size f.row) (total (f.gone ++ changed ∷ (f.standing ++ f.fresh)))
 
     word_of_progress : buffer.word ≡ word_after buffer.settings (commands ++ Progress n ∷ [])
-    word_of_progress = stands.word ∙ sym (word_after_same buffer.settings commands (Progress n) moments_of_progress)
+    word_of_progress = stands.word ∙ sym (word_after_same buffer.settings commands (Progress n) (λ index. refl) moments_of_progress)
 
     progressed_held : Held (front_changed (progressed_entry n) buffer) f.gone (changed ∷ f.standing) f.fresh
     progressed_held = record {
@@ -83,7 +83,8 @@ module _ (buffer : Pending) (commands : List Command) (n : ℕ) (stands : Stands
     -- the buffer stands for the history with the progress
     pub progressed_stands_for : StandsFor (front_changed (progressed_entry n) buffer) (commands ++ Progress n ∷ [])
     progressed_stands_for = stands_by (front_changed (progressed_entry n) buffer) buffer.settings commands (Progress n) f.gone (changed ∷ f.standing) f.fresh refl
-        (accepted_more buffer.settings.estimate commands (Progress n) stands.accepted accepted) progressed_held
+        (open_history buffer.settings commands (Progress n) buffer stands unclosed) unclosed
+        (accepted_more buffer.settings.estimate commands (Progress n) (open_history buffer.settings commands (Progress n) buffer stands unclosed) stands.accepted accepted) progressed_held
         (rows_after_more buffer.settings.estimate commands (Progress n) ∙ effect_of_progress) word_of_progress
 
     -- its reply

@@ -88,9 +88,9 @@ module _ (buffer : Pending) (gone standing : List Row) (row : Row) (fresh : List
   }
 
   -- its word, after the moment of the row
-  pub next_word : (moments : List Moment) → buffer.word ≡ word_from buffer.settings.marks moments →
-      (next_flushed buffer).word ≡ word_from buffer.settings.marks (moments ++ moment_of true (counted_size row) (counted_size (reached_row row)) (total ((gone ++ standing) ++ reached_row row ∷ fresh)))
-  next_word moments was =
+  pub next_word : (half : ℕ) (moments : List Moment) → buffer.word ≡ word_from buffer.settings.marks half moments →
+      (next_flushed buffer).word ≡ word_from buffer.settings.marks half (moments ++ moment_of true (counted_size row) (counted_size (reached_row row)) (total ((gone ++ standing) ++ reached_row row ∷ fresh)))
+  next_word half moments was =
       ap (λ flag. cond flag (word_after_fall buffer.settings.marks buffer.word (first_size buffer.unflushed) (pending_total buffer - first_size buffer.unflushed)) buffer.word) back_is
       ∙ by_kind back refl
     where
@@ -102,7 +102,7 @@ module _ (buffer : Pending) (gone standing : List Row) (row : Row) (fresh : List
 
       by_kind : (flag : Bool) → back ≡ flag →
           cond flag (word_after_fall buffer.settings.marks buffer.word (first_size buffer.unflushed) (pending_total buffer - first_size buffer.unflushed)) buffer.word
-          ≡ word_from buffer.settings.marks (moments ++ moment_of true (counted_size row) (counted_size (reached_by flag row)) (total ((gone ++ standing) ++ reached_by flag row ∷ fresh)))
+          ≡ word_from buffer.settings.marks half (moments ++ moment_of true (counted_size row) (counted_size (reached_by flag row)) (total ((gone ++ standing) ++ reached_by flag row ∷ fresh)))
       by_kind true is =
           let voided = reached_by true row in
           let sum = total ((gone ++ standing) ++ voided ∷ fresh) in
@@ -110,32 +110,33 @@ module _ (buffer : Pending) (gone standing : List Row) (row : Row) (fresh : List
           ∙ ap (λ all. word_after_fall buffer.settings.marks buffer.word (counted_size row) (all - counted_size row)) (pending_total_is buffer gone standing (row ∷ fresh) held ∙ ap total (sym (append_assoc gone standing (row ∷ fresh))))
           ∙ ap (word_after_fall buffer.settings.marks buffer.word (counted_size row)) (sym (total_without (gone ++ standing) row voided fresh refl))
           ∙ ap (λ word. word_after_fall buffer.settings.marks word (counted_size row) sum) was
-          ∙ fall_step buffer.settings.marks (word_from buffer.settings.marks moments) (counted_size row) sum
-          ∙ sym (word_from_more buffer.settings.marks moments (counted_size row) 0 sum)
+          ∙ fall_step true buffer.settings.marks (word_from buffer.settings.marks half moments) (counted_size row) sum
+          ∙ sym (word_from_more true buffer.settings.marks half moments (counted_size row) 0 sum)
       by_kind false is =
           let flushed = reached_by false row in
           let sum = total ((gone ++ standing) ++ flushed ∷ fresh) in
-          was ∙ ap (word_from buffer.settings.marks) (sym (ap (λ more. moments ++ more)
+          was ∙ ap (word_from buffer.settings.marks half) (sym (ap (λ more. moments ++ more)
           (ap (λ after. moment_of true (counted_size row) after sum) (counted_by false row held.all_fresh.0.place) ∙ moment_of_same true (counted_size row) sum) ∙ append-nil moments))
 
 -- a flush of all fresh rows, one after another
-pub all_reached : (fresh : List Row) (buffer : Pending) (gone standing : List Row) (moments : List Moment) → Held buffer gone standing fresh → buffer.word ≡ word_from buffer.settings.marks moments →
+pub all_reached : (fresh : List Row) (buffer : Pending) (gone standing : List Row) (half : ℕ) (moments : List Moment) → Held buffer gone standing fresh → buffer.word ≡ word_from buffer.settings.marks half moments →
     (let after = times (length fresh) next_flushed buffer in
     Held after gone (standing ++ map reached_row fresh) []
-    × (after.word ≡ word_from buffer.settings.marks (moments ++ moments_along true (gone ++ standing) fresh (map reached_row fresh)))
-    × (after.settings ≡ buffer.settings))
-all_reached [] buffer gone standing moments held word =
-    (subst (λ (line : List Row). Held buffer gone line []) (sym (append-nil standing)) held, word ∙ ap (word_from buffer.settings.marks) (sym (append-nil moments)), refl)
-all_reached (row ∷ fresh) buffer gone standing moments held word =
+    × (after.word ≡ word_from buffer.settings.marks half (moments ++ moments_along true (gone ++ standing) fresh (map reached_row fresh)))
+    × (after.settings ≡ buffer.settings) × (after.closed ≡ buffer.closed))
+all_reached [] buffer gone standing half moments held word =
+    (subst (λ (line : List Row). Held buffer gone line []) (sym (append-nil standing)) held, word ∙ ap (word_from buffer.settings.marks half) (sym (append-nil moments)), refl, refl)
+all_reached (row ∷ fresh) buffer gone standing half moments held word =
     let one = moment_of true (counted_size row) (counted_size (reached_row row)) (total ((gone ++ standing) ++ reached_row row ∷ fresh)) in
-    let rest = all_reached fresh (next_flushed buffer) gone (standing ++ reached_row row ∷ []) (moments ++ one) (next_held buffer gone standing row fresh held) (next_word buffer gone standing row fresh held moments word) in
+    let rest = all_reached fresh (next_flushed buffer) gone (standing ++ reached_row row ∷ []) half (moments ++ one) (next_held buffer gone standing row fresh held) (next_word buffer gone standing row fresh held half moments word) in
     let same = times_first next_flushed (length fresh) buffer in (
       subst (λ (after : Pending). Held after gone (standing ++ reached_row row ∷ map reached_row fresh) []) same
           (subst (λ (line : List Row). Held (times (length fresh) next_flushed (next_flushed buffer)) gone line []) (append_assoc standing (reached_row row ∷ []) (map reached_row fresh)) rest.0),
       ap (λ (after : Pending). after.word) (sym same) ∙ rest.1
-          ∙ ap (word_from buffer.settings.marks) (append_assoc moments one (moments_along true (gone ++ (standing ++ reached_row row ∷ [])) fresh (map reached_row fresh))
+          ∙ ap (word_from buffer.settings.marks half) (append_assoc moments one (moments_along true (gone ++ (standing ++ reached_row row ∷ [])) fresh (map reached_row fresh))
           ∙ ap (λ passed. moments ++ (one ++ moments_along true passed fresh (map reached_row fresh))) (sym (append_assoc gone standing (reached_row row ∷ [])))),
       ap (λ (after : Pending). after.settings) (sym same) ∙ rest.2,
+      ap (λ (after : Pending). after.closed) (sym same) ∙ rest.3,
     )
 
 settles_by : (id : ℕ) (flag : Bool) (row : Row) → settlement id (outcome_of row.promise) (outcome_of (reached_by flag row).promise) ≡ []

@@ -17,15 +17,16 @@ use Rattle.ob_seq.specs.Line.{front}
 use Rattle.ob_seq.specs.Total.{counted_size, total}
 use Rattle.ob_seq.specs.Effect.{effect, rows_after, taken_row, with_front}
 use Rattle.ob_seq.specs.Moment.{gives_notice, moment_of, moments_along, moments_of, moments_after}
+use Rattle.ob_seq.specs.Closed.{is_close}
 use Rattle.ob_seq.specs.Word.{word_after}
 use Rattle.ob_seq.specs.Answer.{answer_of, refusal_of, settlements_from, reply_of}
 use Rattle.ob_seq.specs.Pending.{Pending, StandsFor}
 use Rattle.ob_seq.specs.Steps.{front_taken, front_removed, front_settlement, removal_reply}
-use Rattle.ob_seq.proofs.Acceptance.{same_reply}
+use Rattle.ob_seq.proofs.Acceptance.{open_history, same_reply}
 use Rattle.ob_seq.proofs.Along.{moments_of_one, moments_of_same, settlements_of_one, settlements_of_same}
-use Rattle.ob_seq.proofs.Held.{Held, held_of, line_count, stands_by, stands_same, word_by_moments, word_with_moments}
+use Rattle.ob_seq.proofs.Held.{Held, held_of, line_count, stands_by, stands_same, word_by_moments}
 use Rattle.ob_seq.proofs.History.{rows_after_more, accepted_more}
-use Rattle.ob_seq.proofs.Marks.{word_after_same}
+use Rattle.ob_seq.proofs.Marks.{IsQuiet, half_after, word_after_same, word_with_moments}
 use Rattle.ob_seq.proofs.Order.{IsGone, IsFresh, with_front_gone, with_front_fresh, with_front_standing, layout_of}
 use Rattle.ob_seq.proofs.Parts.{front_of_parts, no_front_of_parts}
 use Rattle.ob_seq.proofs.Taken.{taken_held, taken_word, taken_settlement}
@@ -34,16 +35,18 @@ use Rattle.ob_seq.proofs.Taken.{taken_held, taken_word, taken_settlement}
 pub record IsRemoval (command : Command) (outcome : Outcome) : Type 0 where
   pub effect_is : (estimate : Estimate) (rows : List Row) → effect estimate rows command ≡ with_front (taken_row outcome) rows
   pub notice : gives_notice command ≡ true
+  pub quiet : IsQuiet command
+  pub no_close : is_close command ≡ false
   pub accepted : (estimate : Estimate) (rows : List Row) → refusal_of estimate rows command ≡ None
   pub answer : (rows : List Row) → answer_of rows command ≡ Yes (is_some (front rows))
 
 pub removal : IsRemoval Remove Success
-removal = record { effect_is = λ estimate rows. refl; notice = refl; accepted = λ estimate rows. refl; answer = λ rows. refl }
+removal = record { effect_is = λ estimate rows. refl; notice = refl; quiet = λ index. refl; no_close = refl; accepted = λ estimate rows. refl; answer = λ rows. refl }
 
 pub removal_with : (cause : Cause) → IsRemoval (RemoveWith cause) (Failed cause)
-removal_with cause = record { effect_is = λ estimate rows. refl; notice = refl; accepted = λ estimate rows. refl; answer = λ rows. refl }
+removal_with cause = record { effect_is = λ estimate rows. refl; notice = refl; quiet = λ index. refl; no_close = refl; accepted = λ estimate rows. refl; answer = λ rows. refl }
 
-module _ (command : Command) (outcome : Outcome) (is : IsRemoval command outcome) (buffer : Pending) (commands : List Command) (stands : StandsFor buffer commands) where
+module _ (command : Command) (outcome : Outcome) (is : IsRemoval command outcome) (buffer : Pending) (commands : List Command) (stands : StandsFor buffer commands) (unclosed : buffer.closed ≡ false) where
   abbrev rows : List Row
   rows = rows_after buffer.settings.estimate commands
 
@@ -64,24 +67,25 @@ module _ (command : Command) (outcome : Outcome) (is : IsRemoval command outcome
         ∙ ap (λ before. moments_along true [] before (gone ++ taken ∷ (standing ++ fresh))) rows_are
         ∙ moments_of_one true gone row taken (standing ++ fresh)
 
-    word_of_removal : (front_taken outcome buffer).word ≡ word_after buffer.settings (commands ++ command ∷ [])
+    word_of_removal : (front_taken true outcome buffer).word ≡ word_after buffer.settings (commands ++ command ∷ [])
     word_of_removal =
-        taken_word outcome buffer gone row standing fresh held (moments_after buffer.settings.estimate commands) (word_by_moments buffer commands stands)
-        ∙ word_with_moments buffer.settings commands command (moment_of true (counted_size row) 0 (total (gone ++ taken ∷ (standing ++ fresh)))) moments_of_removal
+        taken_word true outcome buffer gone row standing fresh held (half_after commands) (moments_after buffer.settings.estimate commands) (word_by_moments buffer commands stands)
+        ∙ word_with_moments buffer.settings commands command (moment_of true (counted_size row) 0 (total (gone ++ taken ∷ (standing ++ fresh)))) is.quiet moments_of_removal
 
-    taken_stands : StandsFor (front_taken outcome buffer) (commands ++ command ∷ [])
-    taken_stands = stands_by (front_taken outcome buffer) buffer.settings commands command (gone ++ taken ∷ []) standing fresh refl
-        (accepted_more buffer.settings.estimate commands command stands.accepted (is.accepted buffer.settings.estimate rows))
-        (taken_held outcome buffer gone row standing fresh held)
+    taken_stands : StandsFor (front_taken true outcome buffer) (commands ++ command ∷ [])
+    taken_stands = stands_by (front_taken true outcome buffer) buffer.settings commands command (gone ++ taken ∷ []) standing fresh refl
+        (open_history buffer.settings commands command buffer stands unclosed) (unclosed ∙ sym is.no_close)
+        (accepted_more buffer.settings.estimate commands command (open_history buffer.settings commands command buffer stands unclosed) stands.accepted (is.accepted buffer.settings.estimate rows))
+        (taken_held true outcome buffer gone row standing fresh held)
         (rows_after_more buffer.settings.estimate commands command ∙ effect_of_removal ∙ sym (append_assoc gone (taken ∷ []) (standing ++ fresh)))
         word_of_removal
 
-    taken_reply : (let reply : Reply = record { answer = Yes true; settled = front_settlement buffer outcome; change = change_between buffer.word (front_taken outcome buffer).word } in
+    taken_reply : (let reply : Reply = record { answer = Yes true; settled = front_settlement buffer outcome; change = change_between buffer.word (front_taken true outcome buffer).word } in
         reply ≡ reply_of buffer.settings commands command)
     taken_reply =
         same_reply
         (sym (is.answer rows ∙ ap (λ all. Yes (is_some (front all))) rows_are ∙ ap (λ found. Yes (is_some found)) (front_of_parts gone row (standing ++ fresh) held.all_gone held.all_standing.0)))
-        (taken_settlement outcome buffer gone row standing fresh held
+        (taken_settlement true outcome buffer gone row standing fresh held
         ∙ sym (ap (settlements_from 0 rows) effect_of_removal ∙ ap (λ before. settlements_from 0 before (gone ++ taken ∷ (standing ++ fresh))) rows_are ∙ settlements_of_one gone row taken (standing ++ fresh)))
         (ap (change_between buffer.word) word_of_removal ∙ ap (λ before. change_between before (word_after buffer.settings (commands ++ command ∷ []))) stands.word)
 
@@ -95,12 +99,12 @@ module _ (command : Command) (outcome : Outcome) (is : IsRemoval command outcome
     moments_of_nothing = ap (moments_along (gives_notice command) [] rows) effect_of_nothing ∙ moments_of_same (gives_notice command) rows
 
     word_of_nothing : buffer.word ≡ word_after buffer.settings (commands ++ command ∷ [])
-    word_of_nothing = stands.word ∙ sym (word_after_same buffer.settings commands command moments_of_nothing)
+    word_of_nothing = stands.word ∙ sym (word_after_same buffer.settings commands command is.quiet moments_of_nothing)
 
     nothing_stands : StandsFor buffer (commands ++ command ∷ [])
     nothing_stands =
         let more : rows_after buffer.settings.estimate (commands ++ command ∷ []) ≡ rows = rows_after_more buffer.settings.estimate commands command ∙ effect_of_nothing in
-        stands_same buffer commands command stands (is.accepted buffer.settings.estimate rows) more word_of_nothing
+        stands_same buffer commands command stands unclosed is.no_close (is.accepted buffer.settings.estimate rows) more word_of_nothing
 
     nothing_reply : (let reply : Reply = record { answer = Yes false; settled = []; change = change_between buffer.word buffer.word } in reply ≡ reply_of buffer.settings commands command)
     nothing_reply =
@@ -111,8 +115,8 @@ module _ (command : Command) (outcome : Outcome) (is : IsRemoval command outcome
 
   -- either way
   by_line : (gone standing fresh : List Row) → rows ≡ gone ++ (standing ++ fresh) → Held buffer gone standing fresh → (some : Bool) → ltb 0 (length standing) ≡ some →
-      StandsFor (cond some (front_taken outcome buffer) buffer) (commands ++ command ∷ [])
-      × (let reply : Reply = record { answer = Yes some; settled = cond some (front_settlement buffer outcome) []; change = change_between buffer.word (cond some (front_taken outcome buffer) buffer).word } in
+      StandsFor (cond some (front_taken true outcome buffer) buffer) (commands ++ command ∷ [])
+      × (let reply : Reply = record { answer = Yes some; settled = cond some (front_settlement buffer outcome) []; change = change_between buffer.word (cond some (front_taken true outcome buffer) buffer).word } in
       reply ≡ reply_of buffer.settings commands command)
   by_line gone [] fresh rows_are held true size = absurd (cc)
   by_line gone [] fresh rows_are held false size = (nothing_stands gone fresh rows_are held.all_gone held.all_fresh, nothing_reply gone fresh rows_are held.all_gone held.all_fresh)

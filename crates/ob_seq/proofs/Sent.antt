@@ -1,6 +1,7 @@
--- The first rows in line taken away as sent, one after another.
-use Rattle.std.proofs.Common.{◌≡◌, ℕ, suc, ◌+◌, true, List, [], ◌∷◌, ◌++◌, length, map, refl, sym, ap, ◌∙◌, cond, append_assoc, append-nil, subst, arith, inl, inr}
+-- The first rows in line taken away, one after another.
+use Rattle.std.proofs.Common.{◌≡◌, ℕ, suc, ◌+◌, Bool, true, List, [], ◌∷◌, ◌++◌, length, map, refl, sym, ap, ◌∙◌, cond, append_assoc, append-nil, subst, arith, inl, inr}
 use Rattle.std.specs.List.{AllByRecursion}
+use Rattle.ob_types.specs.declared.promise.Outcome.{Outcome}
 use Rattle.ob_types.specs.declared.promise.Outcome.TheVariants.{Success}
 use Rattle.std.specs.Prelude.{None}
 use Rattle.ob_types.specs.declared.promise.PromiseState.TheVariants.{Fixed, Settled}
@@ -10,12 +11,12 @@ use Rattle.ob_seq.specs.Effect.{taken_row, with_fronts_sent}
 use Rattle.ob_seq.specs.Moment.{Moment, moment_of, moments_along}
 use Rattle.ob_seq.specs.Answer.{outcome_of, settlement, settlements_from}
 use Rattle.ob_seq.specs.Pending.{Pending, entry_of}
-use Rattle.ob_seq.specs.Steps.{front_taken, success_of, successes_from, times}
+use Rattle.ob_seq.specs.Steps.{front_taken, entry_settlement, entry_settlements, times}
 use Rattle.ob_seq.proofs.Along.{moments_behind}
 use Rattle.ob_seq.proofs.Held.{Held}
 use Rattle.ob_seq.proofs.Marks.{word_from}
 use Rattle.ob_seq.proofs.Order.{IsGone, IsStanding, each_append, with_front_gone, with_front_standing}
-use Rattle.ob_seq.proofs.Successes.{success_of_sent, success_of_voided}
+use Rattle.ob_seq.proofs.EntrySettlements.{settlement_of_unvoided, settlement_of_voided}
 use Rattle.ob_seq.proofs.Taken.{taken_held, taken_word}
 use Rattle.ob_seq.proofs.Times.{times_first}
 
@@ -35,35 +36,41 @@ with_fronts_sent_is (row ∷ first) gone behind all_gone all_standing =
     ∙ append_assoc gone (sent row ∷ []) (map sent first ++ behind)
 
 -- each of them is gone
-pub all_sent_gone : (rows : List Row) → AllByRecursion IsGone (map sent rows)
-all_sent_gone [] = tt
-all_sent_gone (row ∷ rows) = (record { place = refl }, all_sent_gone rows)
+pub all_taken_gone : (outcome : Outcome) (rows : List Row) → AllByRecursion IsGone (map (taken_row outcome) rows)
+all_taken_gone outcome [] = tt
+all_taken_gone outcome (row ∷ rows) = (record { place = refl }, all_taken_gone outcome rows)
 
 -- what the buffer holds without them, and its word after their moments
-pub all_taken : (first : List Row) (buffer : Pending) (gone rest fresh : List Row) (moments : List Moment) → Held buffer gone (first ++ rest) fresh → buffer.word ≡ word_from buffer.settings.marks moments →
-    (let after = times (length first) (front_taken Success) buffer in
-    Held after (gone ++ map sent first) rest fresh
-    × (after.word ≡ word_from buffer.settings.marks (moments ++ moments_along true gone (first ++ (rest ++ fresh)) (map sent first ++ (rest ++ fresh))))
-    × (after.settings ≡ buffer.settings))
-all_taken [] buffer gone rest fresh moments held word = (
+pub all_taken : (notice : Bool) (outcome : Outcome) (first : List Row) (buffer : Pending) (gone rest fresh : List Row) (half : ℕ) (moments : List Moment) →
+    Held buffer gone (first ++ rest) fresh → buffer.word ≡ word_from buffer.settings.marks half moments →
+    (let after = times (length first) (front_taken notice outcome) buffer in
+    let now = map (taken_row outcome) first in
+    Held after (gone ++ now) rest fresh
+    × (after.word ≡ word_from buffer.settings.marks half (moments ++ moments_along notice gone (first ++ (rest ++ fresh)) (now ++ (rest ++ fresh))))
+    × (after.settings ≡ buffer.settings) × (after.closed ≡ buffer.closed))
+all_taken notice outcome [] buffer gone rest fresh half moments held word = (
   subst (λ (passed : List Row). Held buffer passed rest fresh) (sym (append-nil gone)) held,
-  word ∙ ap (word_from buffer.settings.marks) (sym (ap (λ more. moments ++ more) (moments_behind true gone (rest ++ fresh)) ∙ append-nil moments)),
+  word ∙ ap (word_from buffer.settings.marks half) (sym (ap (λ more. moments ++ more) (moments_behind notice gone (rest ++ fresh)) ∙ append-nil moments)),
+  refl,
   refl,
 )
-all_taken (row ∷ first) buffer gone rest fresh moments held word =
-    let one = moment_of true (counted_size row) 0 (total (gone ++ sent row ∷ ((first ++ rest) ++ fresh))) in
-    let next = front_taken Success buffer in
-    let all = all_taken first next (gone ++ sent row ∷ []) rest fresh (moments ++ one) (taken_held Success buffer gone row (first ++ rest) fresh held)
-    (taken_word Success buffer gone row (first ++ rest) fresh held moments word) in
-    let same = times_first (front_taken Success) (length first) buffer in
+all_taken notice outcome (row ∷ first) buffer gone rest fresh half moments held word =
+    let taken = taken_row outcome row in
+    let now = map (taken_row outcome) first in
+    let one = moment_of notice (counted_size row) 0 (total (gone ++ taken ∷ ((first ++ rest) ++ fresh))) in
+    let next = front_taken notice outcome buffer in
+    let all = all_taken notice outcome first next (gone ++ taken ∷ []) rest fresh half (moments ++ one) (taken_held notice outcome buffer gone row (first ++ rest) fresh held)
+    (taken_word notice outcome buffer gone row (first ++ rest) fresh held half moments word) in
+    let same = times_first (front_taken notice outcome) (length first) buffer in
     let behind = first ++ (rest ++ fresh) in
-    let more = moments_along true (gone ++ sent row ∷ []) behind (map sent first ++ (rest ++ fresh)) in (
-      subst (λ (after : Pending). Held after (gone ++ sent row ∷ map sent first) rest fresh) same
-          (subst (λ (passed : List Row). Held (times (length first) (front_taken Success) next) passed rest fresh) (append_assoc gone (sent row ∷ []) (map sent first)) all.0),
+    let more = moments_along notice (gone ++ taken ∷ []) behind (now ++ (rest ++ fresh)) in (
+      subst (λ (after : Pending). Held after (gone ++ taken ∷ now) rest fresh) same
+          (subst (λ (passed : List Row). Held (times (length first) (front_taken notice outcome) next) passed rest fresh) (append_assoc gone (taken ∷ []) now) all.0),
       ap (λ (after : Pending). after.word) (sym same) ∙ all.1
-          ∙ ap (word_from buffer.settings.marks) (append_assoc moments one more
-          ∙ ap (λ rows. moments ++ (moment_of true (counted_size row) 0 (total (gone ++ sent row ∷ rows)) ++ more)) (append_assoc first rest fresh)),
+          ∙ ap (word_from buffer.settings.marks half) (append_assoc moments one more
+          ∙ ap (λ rows. moments ++ (moment_of notice (counted_size row) 0 (total (gone ++ taken ∷ rows)) ++ more)) (append_assoc first rest fresh)),
       ap (λ (after : Pending). after.settings) (sym same) ∙ all.2,
+      ap (λ (after : Pending). after.closed) (sym same) ∙ all.3,
     )
 
 -- moments behind them that are none
@@ -76,20 +83,20 @@ moments_of_sent (row ∷ first) passed before after none =
     (moments_of_sent first (passed ++ sent row ∷ []) before after (ap (λ rows. moments_along true rows before after) (append_assoc passed (sent row ∷ []) (map sent first)) ∙ none))
 
 -- what one of them settles
-settled_by_one : (id : ℕ) (row : Row) → IsStanding row → settlement id (outcome_of row.promise) (outcome_of (sent row).promise) ≡ success_of id (entry_of row)
-settled_by_one id row (inl flushed) =
-    ap (λ promise. settlement id (outcome_of promise) (outcome_of (cond (is_flushed row.place) (Settled Success) promise))) flushed.promise
-    ∙ ap (λ place. settlement id None (outcome_of (cond (is_flushed place) (Settled Success) Fixed))) flushed.place
-    ∙ sym (success_of_sent id (entry_of row) (ap is_voided flushed.place))
-settled_by_one id row (inr void) =
-    ap (λ promise. settlement id (outcome_of promise) (outcome_of (cond (is_flushed row.place) (Settled Success) promise))) void.promise
-    ∙ sym (success_of_voided id (entry_of row) (ap is_voided void.place))
+settled_by_one : (outcome : Outcome) (id : ℕ) (row : Row) → IsStanding row → settlement id (outcome_of row.promise) (outcome_of (taken_row outcome row).promise) ≡ entry_settlement outcome id (entry_of row)
+settled_by_one outcome id row (inl flushed) =
+    ap (λ promise. settlement id (outcome_of promise) (outcome_of (cond (is_flushed row.place) (Settled outcome) promise))) flushed.promise
+    ∙ ap (λ place. settlement id None (outcome_of (cond (is_flushed place) (Settled outcome) Fixed))) flushed.place
+    ∙ sym (settlement_of_unvoided outcome id (entry_of row) (ap is_voided flushed.place))
+settled_by_one outcome id row (inr void) =
+    ap (λ promise. settlement id (outcome_of promise) (outcome_of (cond (is_flushed row.place) (Settled outcome) promise))) void.promise
+    ∙ sym (settlement_of_voided outcome id (entry_of row) (ap is_voided void.place))
 
 -- what they settle, where nothing behind them is settled
-pub settlements_of_sent : (id : ℕ) (first before after : List Row) → AllByRecursion IsStanding first → settlements_from (id + length first) before after ≡ [] →
-    settlements_from id (first ++ before) (map sent first ++ after) ≡ successes_from id (map entry_of first)
-settlements_of_sent id [] before after all none = ap (λ at. settlements_from at before after) (omega arith) ∙ none
-settlements_of_sent id (row ∷ first) before after all none =
-    ap (λ one. one ++ settlements_from (suc id) (first ++ before) (map sent first ++ after)) (settled_by_one id row all.0)
-    ∙ ap (λ more. success_of id (entry_of row) ++ more)
-    (settlements_of_sent (suc id) first before after all.1 (ap (λ at. settlements_from at before after) (omega arith) ∙ none))
+pub settlements_of_taken : (outcome : Outcome) (id : ℕ) (first before after : List Row) → AllByRecursion IsStanding first → settlements_from (id + length first) before after ≡ [] →
+    settlements_from id (first ++ before) (map (taken_row outcome) first ++ after) ≡ entry_settlements outcome id (map entry_of first)
+settlements_of_taken outcome id [] before after all none = ap (λ at. settlements_from at before after) (omega arith) ∙ none
+settlements_of_taken outcome id (row ∷ first) before after all none =
+    ap (λ one. one ++ settlements_from (suc id) (first ++ before) (map (taken_row outcome) first ++ after)) (settled_by_one outcome id row all.0)
+    ∙ ap (λ more. entry_settlement outcome id (entry_of row) ++ more)
+    (settlements_of_taken outcome (suc id) first before after all.1 (ap (λ at. settlements_from at before after) (omega arith) ∙ none))

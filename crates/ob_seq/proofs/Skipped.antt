@@ -116,3 +116,10 @@ skipped_settings n buffer = by_test (ltb 0 n)
     by_test : (some : Bool) → (cond some (front_changed (skipped_entry n) buffer) buffer).settings ≡ buffer.settings
     by_test true = refl
     by_test false = refl
+
+pub skipped_closed : (n : ℕ) (buffer : Pending) → (front_skipped n buffer).closed ≡ buffer.closed
+skipped_closed n buffer = by_test (ltb 0 n)
+  where
+    by_test : (some : Bool) → (cond some (front_changed (skipped_entry n) buffer) buffer).closed ≡ buffer.closed
+    by_test true = refl
+    by_test false = refl

@@ -1,5 +1,5 @@
 -- A buffer whose front is taken away.
-use Rattle.std.proofs.Common.{◌≡◌, ℕ, ◌+◌, ◌-◌, Bool, true, inl, inr, List, [], ◌∷◌, ◌++◌, length, map, drop, refl, sym, ap, ◌∙◌, cond, append_assoc, arith}
+use Rattle.std.proofs.Common.{◌≡◌, ℕ, ◌+◌, ◌-◌, Bool, true, false, inl, inr, List, [], ◌∷◌, ◌++◌, length, map, drop, refl, sym, ap, ◌∙◌, cond, append_assoc, arith}
 use Rattle.std.specs.Prelude.{None, slice_set, if◌then◌else◌}
 use Rattle.std.proofs.lemmas.Bool.Decides.{nat_tests}
 use Rattle.std.proofs.lemmas.List.{map-append, length-map}
@@ -20,9 +20,10 @@ use Rattle.ob_seq.proofs.Held.{Held, promise_of, front_id_is, pending_total_is}
 use Rattle.ob_seq.proofs.Marks.{word_step, word_from, word_from_more}
 use Rattle.ob_seq.proofs.Order.{IsGone, IsStanding, each_append}
 
--- a noticed fall, seen as the step of the word
-pub fall_step : (marks : Marks) (word size sum : ℕ) → word_after_fall marks word size sum ≡ word_step marks word size 0 sum
-fall_step marks word size sum = grind (arith, nat_tests)
+-- a fall, seen as the step of the word
+pub fall_step : (notice : Bool) (marks : Marks) (word size sum : ℕ) → cond notice (word_after_fall marks word size sum) word ≡ word_step notice marks word size 0 sum
+fall_step true marks word size sum = grind (arith, nat_tests)
+fall_step false marks word size sum = grind (arith, nat_tests)
 
 apart : (gone counted rest all after : ℕ) → all ≡ gone + (counted + rest) → after ≡ gone + (0 + rest) → after ≡ all - counted
 apart gone counted rest all after is left = omega arith
@@ -36,7 +37,7 @@ total_without rows was row behind nothing =
     sum_by-append counted_size rows (was ∷ behind) ∙ ap (λ more. total rows + more) (sum_by-cons counted_size was behind) in
     apart (total rows) (counted_size was) (total behind) (total (rows ++ was ∷ behind)) (total (rows ++ row ∷ behind)) before after
 
-module _ (outcome : Outcome) (buffer : Pending) (gone : List Row) (row : Row) (standing fresh : List Row) (held : Held buffer gone (row ∷ standing) fresh) where
+module _ (notice : Bool) (outcome : Outcome) (buffer : Pending) (gone : List Row) (row : Row) (standing fresh : List Row) (held : Held buffer gone (row ∷ standing) fresh) where
   abbrev taken : Row
   taken = taken_row outcome row
 
@@ -66,7 +67,7 @@ module _ (outcome : Outcome) (buffer : Pending) (gone : List Row) (row : Row) (s
       ∙ sym promises_of_taken
 
   -- what the buffer holds without its front
-  pub taken_held : Held (front_taken outcome buffer) (gone ++ taken ∷ []) standing fresh
+  pub taken_held : Held (front_taken notice outcome buffer) (gone ++ taken ∷ []) standing fresh
   taken_held = record {
     line = ap (drop 1) held.line;
     unflushed = held.unflushed;
@@ -77,18 +78,18 @@ module _ (outcome : Outcome) (buffer : Pending) (gone : List Row) (row : Row) (s
   }
 
   -- its word, after the moment of the removal
-  pub taken_word : (moments : List Moment) → buffer.word ≡ word_from buffer.settings.marks moments →
-      (front_taken outcome buffer).word ≡ word_from buffer.settings.marks (moments ++ moment_of true (counted_size row) 0 (total (gone ++ taken ∷ (standing ++ fresh))))
-  taken_word moments was =
+  pub taken_word : (half : ℕ) (moments : List Moment) → buffer.word ≡ word_from buffer.settings.marks half moments →
+      (front_taken notice outcome buffer).word ≡ word_from buffer.settings.marks half (moments ++ moment_of notice (counted_size row) 0 (total (gone ++ taken ∷ (standing ++ fresh))))
+  taken_word half moments was =
       let marks = buffer.settings.marks in
       let size = counted_size row in
       let sum = total (gone ++ taken ∷ (standing ++ fresh)) in
-      ap (λ first. word_after_fall marks buffer.word first (pending_total buffer - first)) (ap first_size held.line)
-      ∙ ap (λ all. word_after_fall marks buffer.word size (all - size)) (pending_total_is buffer gone (row ∷ standing) fresh held)
-      ∙ ap (word_after_fall marks buffer.word size) (sym (total_without gone row taken (standing ++ fresh) refl))
-      ∙ ap (λ word. word_after_fall marks word size sum) was
-      ∙ fall_step marks (word_from marks moments) size sum
-      ∙ sym (word_from_more marks moments size 0 sum)
+      ap (λ first. cond notice (word_after_fall marks buffer.word first (pending_total buffer - first)) buffer.word) (ap first_size held.line)
+      ∙ ap (λ all. cond notice (word_after_fall marks buffer.word size (all - size)) buffer.word) (pending_total_is buffer gone (row ∷ standing) fresh held)
+      ∙ ap (λ after. cond notice (word_after_fall marks buffer.word size after) buffer.word) (sym (total_without gone row taken (standing ++ fresh) refl))
+      ∙ ap (λ word. cond notice (word_after_fall marks word size sum) word) was
+      ∙ fall_step notice marks (word_from marks half moments) size sum
+      ∙ sym (word_from_more notice marks half moments size 0 sum)
 
   -- what the removal settles
   pub taken_settlement : front_settlement buffer outcome ≡ settlement (length gone) (outcome_of row.promise) (outcome_of taken.promise)

@@ -1,5 +1,5 @@
 -- What stays and what goes while a flush or a removal takes its steps.
-use Rattle.std.proofs.Common.{◌≡◌, ℕ, zero, suc, ◌-◌, List, [], ◌∷◌, length, drop, refl, ap, ◌∙◌}
+use Rattle.std.proofs.Common.{◌≡◌, ℕ, zero, suc, ◌-◌, Bool, List, [], ◌∷◌, length, drop, refl, ap, ◌∙◌}
 use Rattle.std.proofs.lemmas.List.{length-drop}
 use Rattle.ob_types.specs.declared.promise.Outcome.{Outcome}
 use Rattle.ob_seq.specs.declared.entry.Entry.{Entry}
@@ -20,9 +20,9 @@ pub unflushed_left : (n : ℕ) (old : Pending) → length (times n next_flushed 
 unflushed_left n old = ap length (unflushed_of_times n old) ∙ length-drop n old.unflushed
 
 -- the line that is left when so many fronts are taken
-pub line_of_times : (outcome : Outcome) (n : ℕ) (old : Pending) → (times n (front_taken outcome) old).line ≡ drop n old.line
-line_of_times outcome zero old = refl
-line_of_times outcome (suc n) old = ap (drop 1) (line_of_times outcome n old) ∙ drop_one_more n old.line
+pub line_of_times : (notice : Bool) (outcome : Outcome) (n : ℕ) (old : Pending) → (times n (front_taken notice outcome) old).line ≡ drop n old.line
+line_of_times notice outcome zero old = refl
+line_of_times notice outcome (suc n) old = ap (drop 1) (line_of_times notice outcome n old) ∙ drop_one_more n old.line
 
 -- the settings stay where a step leaves them
 pub settings_of_times : (step : Pending → Pending) → ((old : Pending) → (step old).settings ≡ old.settings) → (n : ℕ) (old : Pending) → (times n step old).settings ≡ old.settings
@@ -33,3 +33,8 @@ settings_of_times step keeps (suc n) old = keeps (times n step old) ∙ settings
 pub times_first : (step : Pending → Pending) (n : ℕ) (old : Pending) → times n step (step old) ≡ step (times n step old)
 times_first step zero old = refl
 times_first step (suc n) old = ap step (times_first step n old)
+
+-- and so does whether the buffer is closed
+pub closed_of_times : (step : Pending → Pending) → ((old : Pending) → (step old).closed ≡ old.closed) → (n : ℕ) (old : Pending) → (times n step old).closed ≡ old.closed
+closed_of_times step keeps zero old = refl
+closed_of_times step keeps (suc n) old = keeps (times n step old) ∙ closed_of_times step keeps n old

@@ -25,10 +25,10 @@ use Rattle.ob_seq.specs.Word.{word_after}
 use Rattle.ob_seq.specs.Answer.{settlements_from, settlements_of, reply_of, refusal_of}
 use Rattle.ob_seq.specs.Pending.{Pending, StandsFor, entry_of}
 use Rattle.ob_seq.specs.Steps.{sum_of, pending_total, written, word_after_rise}
-use Rattle.ob_seq.proofs.Acceptance.{same_reply}
+use Rattle.ob_seq.proofs.Acceptance.{open_history, same_reply}
 use Rattle.ob_seq.proofs.Rows.{sum_of_rows}
 use Rattle.ob_seq.proofs.Along.{moments_along_same, settlements_from_same}
-use Rattle.ob_seq.proofs.History.{rows_after_more, accepted_more}
+use Rattle.ob_seq.proofs.History.{rows_after_more, accepted_more, closed_more}
 use Rattle.ob_seq.proofs.Marks.{word_step, word_after_more}
 use Rattle.std.specs.Prelude.{None}
 
@@ -65,7 +65,7 @@ settlements_of_write estimate rows message =
     ∙ settlements_from_same 0 rows [] (new_row estimate message ∷ [])
 
 -- a rise, seen as the step of the word
-rise_step : (marks : Marks) (word size sum : ℕ) → word_after_rise marks word size sum ≡ word_step marks word 0 size sum
+rise_step : (marks : Marks) (word size sum : ℕ) → word_after_rise marks word size sum ≡ word_step true marks word 0 size sum
 rise_step marks word size sum = grind (arith, nat_tests)
 
 -- the word after a write
@@ -76,21 +76,22 @@ word_of_write buffer commands message stands =
     let size = counted_bytes buffer.settings.estimate message in
     let rows = rows_after buffer.settings.estimate commands in
     rise_step buffer.settings.marks buffer.word size (pending_total buffer + size)
-    ∙ ap (λ sum. word_step buffer.settings.marks buffer.word 0 size (sum + size)) (pending_total_stands buffer commands stands)
-    ∙ ap (λ word. word_step buffer.settings.marks word 0 size (total rows + size)) stands.word
-    ∙ sym (word_after_more buffer.settings commands (Write message) 0 size (total rows + size) (moments_of_write buffer.settings.estimate rows message))
+    ∙ ap (λ sum. word_step true buffer.settings.marks buffer.word 0 size (sum + size)) (pending_total_stands buffer commands stands)
+    ∙ ap (λ word. word_step true buffer.settings.marks word 0 size (total rows + size)) stands.word
+    ∙ sym (word_after_more buffer.settings commands (Write message) true 0 size (total rows + size) (λ index. refl) (moments_of_write buffer.settings.estimate rows message))
 
 -- a buffer with one more message stands for the history with the write
-pub written_stands : (buffer : Pending) (commands : List Command) (message : Message) → StandsFor buffer commands →
+pub written_stands : (buffer : Pending) (commands : List Command) (message : Message) → StandsFor buffer commands → buffer.closed ≡ false →
     refusal_of buffer.settings.estimate (rows_after buffer.settings.estimate commands) (Write message) ≡ None →
     StandsFor (written buffer message (counted_bytes buffer.settings.estimate message)) (commands ++ Write message ∷ [])
-written_stands buffer commands message stands room =
+written_stands buffer commands message stands unclosed room =
     let estimate = buffer.settings.estimate in
     let rows = rows_after estimate commands in
     let row = new_row estimate message in
     let more : rows_after estimate (commands ++ Write message ∷ []) ≡ rows ++ row ∷ [] = rows_after_more estimate commands (Write message) in
     record {
-      accepted = accepted_more estimate commands (Write message) stands.accepted room;
+      accepted = accepted_more estimate commands (Write message) (open_history buffer.settings commands (Write message) buffer stands unclosed) stands.accepted room;
+      closed = unclosed ∙ sym (closed_more commands (Write message) (open_history buffer.settings commands (Write message) buffer stands unclosed));
       line = stands.line ∙ sym (ap (λ all. map entry_of (line all)) more ∙ ap (map entry_of) (filter-append is_in_line rows (row ∷ []) ∙ append-nil (line rows)));
       unflushed = ap (λ first. first ++ record { message = message; size = counted_bytes estimate message; progress = 0; voided = false } ∷ []) stands.unflushed
           ∙ sym (ap (λ all. map entry_of (unflushed all)) more

@@ -4,7 +4,7 @@ use Rattle.ob_types.specs.PendingSize.{counted_bytes, is_oversize}
 use Rattle.ob_types.specs.Change.{change_between}
 use Rattle.ob_types.specs.declared.estimate.Estimate.{Estimate}
 use Rattle.ob_types.specs.declared.command.Command.{Command}
-use Rattle.ob_types.specs.declared.command.Command.TheVariants.{Write, Flush, Remove, RemoveWith, RemoveBytes, Progress, Cancel}
+use Rattle.ob_types.specs.declared.command.Command.TheVariants.{Write, Flush, Remove, RemoveWith, RemoveBytes, Progress, Cancel, FailFlushed, Close, UserBit}
 use Rattle.ob_types.specs.declared.promise.PromiseId.{PromiseId}
 use Rattle.ob_types.specs.declared.promise.Outcome.{Outcome}
 use Rattle.ob_types.specs.declared.promise.PromiseState.{PromiseState}
@@ -13,15 +13,17 @@ use Rattle.ob_types.specs.declared.reply.Reply.{Reply}
 use Rattle.ob_types.specs.declared.reply.Answer.{Answer}
 use Rattle.ob_types.specs.declared.reply.Answer.TheVariants.{Id, Count, Yes, Done}
 use Rattle.ob_types.specs.declared.refusal.Refusal.{Refusal}
-use Rattle.ob_types.specs.declared.refusal.Refusal.TheVariants.{Oversize, TooMuch, NothingFlushed, TooFar, TooManyBytes, UnknownPromise}
+use Rattle.ob_types.specs.declared.refusal.Refusal.TheVariants.{Oversize, TooMuch, Closed, NothingFlushed, TooFar, TooManyBytes, BadIndex, FlushedLeft, UnknownPromise}
 use Rattle.ob_seq.specs.Settings.{Settings}
 use Rattle.ob_seq.specs.Row.{Row}
-use Rattle.ob_seq.specs.Line.{front, unflushed}
+use Rattle.ob_seq.specs.Line.{front, line, unflushed}
 use Rattle.ob_seq.specs.Pieces.{bytes_in}
 use Rattle.ob_seq.specs.ByteRun.{byte_run, whole_rows}
 use Rattle.ob_seq.specs.Total.{total}
 use Rattle.ob_seq.specs.Effect.{effect, rows_after}
+use Rattle.ob_seq.specs.UserBit.{is_user_index}
 use Rattle.ob_seq.specs.Word.{word_after}
+use Rattle.ob_seq.specs.Closed.{is_closed}
 
 -- whether a message is too much: the pending bytes would pass 4294967295, or 1048576 writes were accepted
 abbrev pub is_too_much : Estimate → List Row → ℕ → Bool
@@ -32,7 +34,7 @@ abbrev pub refusal_of_progress : Option Row → ℕ → Option Refusal
 refusal_of_progress None n = Some NothingFlushed
 refusal_of_progress (Some row) n = if nat_lt 9223372036854775807 (row.progress + n) then Some TooFar else None
 
--- the first refusal of a command, in the order in which they are asked, or none
+-- the first refusal of a command to a buffer that is not closed, in the order in which they are asked, or none
 abbrev pub refusal_of : Estimate → List Row → Command → Option Refusal
 refusal_of estimate rows (Write message) =
     if is_oversize estimate message then Some Oversize
@@ -43,11 +45,19 @@ refusal_of estimate rows (RemoveWith cause) = None
 refusal_of estimate rows (RemoveBytes n) = if nat_lt (bytes_in (byte_run rows)) n then Some TooManyBytes else None
 refusal_of estimate rows (Progress n) = refusal_of_progress (front rows) n
 refusal_of estimate rows (Cancel id) = if nat_lt id.0 (length rows) then None else Some UnknownPromise
+refusal_of estimate rows (FailFlushed cause notify) = None
+refusal_of estimate rows (Close cause) = if is_some (front rows) then Some FlushedLeft else None
+refusal_of estimate rows (UserBit index writable) = if is_user_index index then None else Some BadIndex
 
--- whether commands that find these rows are accepted, one after another
-abbrev pub are_accepted : Estimate → List Row → List Command → Bool
-are_accepted estimate rows [] = true
-are_accepted estimate rows (command ∷ commands) = is_none (refusal_of estimate rows command) && are_accepted estimate (effect estimate rows command) commands
+-- the first refusal of a command after a history, or none: once the buffer is closed, each command is refused as that
+abbrev pub first_refusal : Estimate → List Command → Command → Option Refusal
+first_refusal estimate commands command = if is_closed commands then Some Closed else refusal_of estimate (rows_after estimate commands) command
+
+-- whether commands that come after a history are accepted, one after another
+abbrev pub are_accepted : Estimate → List Command → List Command → Bool
+are_accepted estimate earlier [] = true
+are_accepted estimate earlier (command ∷ commands) =
+    is_none (first_refusal estimate earlier command) && are_accepted estimate (earlier ++ command ∷ []) commands
 
 -- the state of the promise with this id, if a write was accepted under it
 abbrev pub promise_at : List Row → ℕ → Option PromiseState
@@ -61,7 +71,8 @@ is_waiting (Some Fixed) = false
 is_waiting (Some (Settled outcome)) = false
 
 -- what an accepted command answers: a write its promise; a flush how many rows it reached; a removal whether there was
--- a front; a removal of bytes how many rows it took away; a cancellation whether the promise still waited
+-- a front; a cancellation whether the promise still waited; a removal of bytes, a failing of the flushed messages and a
+-- close how many rows they took away
 abbrev pub answer_of : List Row → Command → Answer
 answer_of rows (Write message) = Id (record { 0 = length rows })
 answer_of rows Flush = Count (length (unflushed rows))
@@ -70,6 +81,9 @@ answer_of rows (RemoveWith cause) = Yes (is_some (front rows))
 answer_of rows (RemoveBytes n) = Count (whole_rows n rows)
 answer_of rows (Progress n) = Done
 answer_of rows (Cancel id) = Yes (is_waiting (promise_at rows id.0))
+answer_of rows (FailFlushed cause notify) = Count (length (line rows))
+answer_of rows (Close cause) = Count (length (unflushed rows))
+answer_of rows (UserBit index writable) = Done
 
 -- how a promise is settled, if it is
 abbrev pub outcome_of : PromiseState → Option Outcome
@@ -111,7 +125,7 @@ unless_refused (Some refusal) reply = Err refusal
 -- the answer to one more command: its first refusal, or its reply
 abbrev pub answer_to : Settings → List Command → Command → Result Reply Refusal
 answer_to settings commands command =
-    unless_refused (refusal_of settings.estimate (rows_after settings.estimate commands) command) (reply_of settings commands command)
+    unless_refused (first_refusal settings.estimate commands command) (reply_of settings commands command)
 
 -- the accepted commands after one more command: a refused one has no effect
 abbrev pub commands_after : Settings → List Command → Command → List Command

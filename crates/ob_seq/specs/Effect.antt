@@ -2,7 +2,8 @@
 use Rattle.std.specs.Prelude.{List, [], ◌∷◌, ◌++◌, map, fold, if◌then◌else◌, ℕ, zero, suc, ◌+◌, min, nat_lt}
 use Rattle.ob_types.specs.declared.estimate.Estimate.{Estimate}
 use Rattle.ob_types.specs.declared.command.Command.{Command}
-use Rattle.ob_types.specs.declared.command.Command.TheVariants.{Write, Flush, Remove, RemoveWith, RemoveBytes, Progress, Cancel}
+use Rattle.ob_types.specs.declared.command.Command.TheVariants.{Write, Flush, Remove, RemoveWith, RemoveBytes, Progress, Cancel, FailFlushed, Close, UserBit}
+use Rattle.ob_types.specs.declared.promise.Cause.{Cause}
 use Rattle.ob_types.specs.declared.promise.Outcome.{Outcome}
 use Rattle.ob_types.specs.declared.promise.Outcome.TheVariants.{Success, Failed, Cancelled}
 use Rattle.ob_types.specs.declared.promise.PromiseState.TheVariants.{Fixed, Settled, Waiting}
@@ -22,6 +23,20 @@ flushed_row row = if is_unflushed row.place then reached_row row else row
 -- a row taken away, its promise settled if it was flushed and not voided
 abbrev pub taken_row : Outcome → Row → Row
 taken_row outcome row = record row { place = Gone; promise = if is_flushed row.place then Settled outcome else row.promise }
+
+-- a row after all in line are taken away as failed for this cause
+abbrev pub failed_row : Cause → Row → Row
+failed_row cause row = if is_in_line row then taken_row (Failed cause) row else row
+
+-- a promise that fails for this cause if it still waits
+abbrev pub failed : Cause → PromiseState → PromiseState
+failed cause Waiting = Settled (Failed cause)
+failed cause Fixed = Fixed
+failed cause (Settled outcome) = Settled outcome
+
+-- a row after a close: it is gone, and its promise has failed if no flush had reached it and it still waited
+abbrev pub closed_row : Cause → Row → Row
+closed_row cause row = record row { place = Gone; promise = if is_unflushed row.place then failed cause row.promise else row.promise }
 
 -- the rows with the front changed
 abbrev pub with_front : (Row → Row) → List Row → List Row
@@ -66,6 +81,9 @@ effect estimate rows (RemoveWith cause) = with_front (taken_row (Failed cause)) 
 effect estimate rows (RemoveBytes n) = with_skipped (bytes_left_over n rows) (with_fronts_sent (whole_rows n rows) rows)
 effect estimate rows (Progress n) = with_front (progressed_row n) rows
 effect estimate rows (Cancel id) = with_cancelled id.0 rows
+effect estimate rows (FailFlushed cause notify) = map (failed_row cause) rows
+effect estimate rows (Close cause) = map (closed_row cause) rows
+effect estimate rows (UserBit index writable) = rows
 
 -- the rows after a list of accepted commands, oldest first
 abbrev pub rows_after : Estimate → List Command → List Row

@@ -11,6 +11,7 @@ pending_of inside = record {
   unflushed = drop inside.flushed inside.entries.items;
   promises = inside.promises.items;
   word = inside.word;
+  closed = inside.closed;
 }
 
 -- what every call keeps: the numbers fit, and each entry has a promise

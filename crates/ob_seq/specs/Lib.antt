@@ -1,5 +1,6 @@
 pub mod Answer
 pub mod ByteRun
+pub mod Closed
 pub mod Effect
 pub mod Gathering
 pub mod Inside

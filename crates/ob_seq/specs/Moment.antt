@@ -1,8 +1,8 @@
 -- The moments at which the pending bytes rose or fell.
-use Rattle.std.specs.Prelude.{ℕ, Bool, true, List, [], ◌∷◌, ◌++◌, nat_lt, if◌then◌else◌}
+use Rattle.std.specs.Prelude.{ℕ, Bool, true, false, List, [], ◌∷◌, ◌++◌, nat_lt, if◌then◌else◌}
 use Rattle.ob_types.specs.declared.estimate.Estimate.{Estimate}
 use Rattle.ob_types.specs.declared.command.Command.{Command}
-use Rattle.ob_types.specs.declared.command.Command.TheVariants.{Write, Flush, Remove, RemoveWith, RemoveBytes, Progress, Cancel}
+use Rattle.ob_types.specs.declared.command.Command.TheVariants.{Write, Flush, Remove, RemoveWith, RemoveBytes, Progress, Cancel, FailFlushed, Close, UserBit}
 use Rattle.ob_seq.specs.Row.{Row}
 use Rattle.ob_seq.specs.Total.{counted_size, total}
 use Rattle.ob_seq.specs.Effect.{effect}
@@ -30,7 +30,8 @@ moments_along notice passed [] (row ∷ after) =
 moments_along notice passed (was ∷ before) (row ∷ after) =
     moment_of notice (counted_size was) (counted_size row) (total (passed ++ row ∷ before)) ++ moments_along notice (passed ++ row ∷ []) before after
 
--- whether the falls of a command are with notice
+-- whether the falls of a command are with notice: a failing of the flushed messages says so itself, and a close never
+-- gives any
 abbrev pub gives_notice : Command → Bool
 gives_notice (Write message) = true
 gives_notice Flush = true
@@ -39,6 +40,9 @@ gives_notice (RemoveWith cause) = true
 gives_notice (RemoveBytes n) = true
 gives_notice (Progress n) = true
 gives_notice (Cancel id) = true
+gives_notice (FailFlushed cause notify) = notify
+gives_notice (Close cause) = false
+gives_notice (UserBit index writable) = true
 
 -- the moments of one more accepted command, in the order of the rows
 abbrev pub moments_of : Estimate → List Row → Command → List Moment

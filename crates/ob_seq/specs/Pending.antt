@@ -1,7 +1,7 @@
 -- What a contract sees of a buffer, and the history that it stands for.
-use Rattle.std.specs.Prelude.{◌≡◌, ℕ, Bool, true, false, not, nat_le, count_by, filter, List, map, take, Result, [], None, Option}
+use Rattle.std.specs.Prelude.{◌≡◌, ℕ, Bool, true, false, not, count_by, filter, List, map, take, Result, [], None, Option}
 use Rattle.ob_types.specs.declared.command.Command.{Command}
-use Rattle.ob_types.specs.declared.command.Command.TheVariants.{Write, Flush, Remove, RemoveWith, RemoveBytes, Progress, Cancel}
+use Rattle.ob_types.specs.declared.command.Command.TheVariants.{Write, Flush, Remove, RemoveWith, RemoveBytes, Progress, Cancel, FailFlushed, Close, UserBit}
 use Rattle.ob_types.specs.declared.promise.PromiseState.{PromiseState}
 use Rattle.ob_types.specs.declared.reply.Reply.{Reply}
 use Rattle.ob_types.specs.declared.refusal.Refusal.{Refusal}
@@ -13,8 +13,9 @@ use Rattle.ob_seq.specs.Total.{counted_size}
 use Rattle.ob_seq.specs.Pieces.{pieces_within}
 use Rattle.ob_seq.specs.ByteRun.{blocks_in_front}
 use Rattle.ob_seq.specs.Effect.{rows_after}
+use Rattle.ob_seq.specs.Closed.{is_closed}
 use Rattle.ob_seq.specs.Word.{word_after}
-use Rattle.ob_seq.specs.Answer.{answer_to, commands_after, are_accepted, refusal_of}
+use Rattle.ob_seq.specs.Answer.{answer_to, commands_after, are_accepted, first_refusal}
 use Rattle.ob_seq.specs.declared.look.Look.{Look}
 use Rattle.ob_seq.specs.Looks.{look_after, promise_after, current_after, flushed_after}
 use Rattle.ob_seq.specs.Gathering.{gathered_after}
@@ -22,13 +23,14 @@ use Rattle.ob_types.specs.declared.promise.PromiseId.{PromiseId}
 use Rattle.ob_types.specs.declared.message.Message.{Message}
 
 -- what a buffer holds: its settings, the entries in line and those that no flush has reached, each oldest first,
--- the state of each promise that it ever gave, and the word
+-- the state of each promise that it ever gave, the word, and whether it is closed
 pub record Pending : Type 0 where
   pub settings : Settings
   pub line : List Entry
   pub unflushed : List Entry
   pub promises : List PromiseState
   pub word : ℕ
+  pub closed : Bool
 
 -- a row as an entry: its unread part, the bytes that it counts, the progress that was told of it, and whether it was voided
 abbrev pub entry_of : Row → Entry
@@ -37,6 +39,7 @@ entry_of row = record { message = unread_part row; size = counted_size row; prog
 -- a buffer stands for a history where each command of it was accepted and the buffer holds what the rows after them say
 pub record StandsFor (buffer : Pending) (commands : List Command) : Type 0 where
   pub accepted : are_accepted buffer.settings.estimate [] commands ≡ true
+  pub closed : buffer.closed ≡ is_closed commands
   pub line : buffer.line ≡ map entry_of (line (rows_after buffer.settings.estimate commands))
   pub unflushed : buffer.unflushed ≡ map entry_of (unflushed (rows_after buffer.settings.estimate commands))
   pub promises : buffer.promises ≡ map (λ row. row.promise) (rows_after buffer.settings.estimate commands)
@@ -52,7 +55,7 @@ Follows old command new = (commands : List Command) → StandsFor old commands �
 
 -- whatever history the old buffer stands for, the command is not refused after it
 abbrev pub Accepts : Pending → Command → Type 0
-Accepts old command = (commands : List Command) → StandsFor old commands → refusal_of old.settings.estimate (rows_after old.settings.estimate commands) command ≡ None
+Accepts old command = (commands : List Command) → StandsFor old commands → first_refusal old.settings.estimate commands command ≡ None
 
 -- whatever history the buffer stands for, the look is the look after it
 abbrev pub Shows : Pending → Look → Type 0
@@ -87,13 +90,15 @@ blocks_left entries = blocks_in_front (map (λ entry. entry.message) entries)
 abbrev pub settled_by_bytes : ℕ → List Entry → ℕ
 settled_by_bytes n line = count_by (λ entry. not entry.voided) (take (pieces_within n (blocks_left line)) line)
 
--- whether a command to a buffer is answered without any memory of the allocator: a removal of bytes is where it
--- settles at most four promises
-abbrev pub takes_no_memory : Pending → Command → Bool
-takes_no_memory buffer (Write message) = false
-takes_no_memory buffer Flush = true
-takes_no_memory buffer Remove = true
-takes_no_memory buffer (RemoveWith cause) = true
-takes_no_memory buffer (RemoveBytes n) = nat_le (settled_by_bytes n buffer.line) 4
-takes_no_memory buffer (Progress n) = true
-takes_no_memory buffer (Cancel id) = true
+-- whether a command is never in want of memory
+abbrev pub takes_no_memory : Command → Bool
+takes_no_memory (Write message) = false
+takes_no_memory Flush = true
+takes_no_memory Remove = true
+takes_no_memory (RemoveWith cause) = true
+takes_no_memory (RemoveBytes n) = false
+takes_no_memory (Progress n) = true
+takes_no_memory (Cancel id) = true
+takes_no_memory (FailFlushed cause notify) = false
+takes_no_memory (Close cause) = false
+takes_no_memory (UserBit index writable) = true

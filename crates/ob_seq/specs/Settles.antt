@@ -1,10 +1,11 @@
 -- What commands settle.
-use Rattle.std.specs.Prelude.{◌≡◌, ◌==◌, ℕ, List, [], ◌∷◌, ◌++◌, count_by, length, Result, Ok, Err}
+use Rattle.std.specs.Prelude.{◌≡◌, ◌≤◌, IsErrOf, ◌==◌, ℕ, List, [], ◌∷◌, ◌++◌, count_by, length, Result, Ok, Err}
 use Rattle.ob_types.specs.declared.command.Command.{Command}
 use Rattle.ob_types.specs.declared.promise.PromiseId.{PromiseId}
 use Rattle.ob_types.specs.declared.promise.Outcome.{Outcome}
 use Rattle.ob_types.specs.declared.reply.Reply.{Reply}
 use Rattle.ob_types.specs.declared.refusal.Refusal.{Refusal}
+use Rattle.ob_types.specs.declared.refusal.Refusal.TheVariants.{NoMemory}
 use Rattle.ob_seq.specs.Settings.{Settings}
 use Rattle.ob_seq.specs.Answer.{answer_to, commands_after}
 use Rattle.ob_seq.specs.Pending.{Pending, StandsFor}
@@ -21,6 +22,12 @@ settled_after settings commands command = length (settled_by (answer_to settings
 -- whatever history the buffer stands for, one more command settles so many promises after it
 abbrev pub Settles : Pending → Command → ℕ → Type 0
 Settles buffer command count = (commands : List Command) → StandsFor buffer commands → count ≡ settled_after buffer.settings commands command
+
+-- whatever history the old buffer stands for, where the command settles at most four promises after it, its result is
+-- not want of memory
+abbrev pub SparesMemory : Pending → Command → Result Reply Refusal → Type 0
+SparesMemory old command result =
+    (commands : List Command) → StandsFor old commands → settled_after old.settings commands command ≤ 4 → ¬ IsErrOf result NoMemory
 
 -- what commands settle that are given one after another after a history; a refused one settles nothing and has no effect
 abbrev pub settled_along : Settings → List Command → List Command → List (PromiseId × Outcome)

@@ -1,12 +1,16 @@
 -- What one call does to what a buffer holds, step by step. No public clause cites this module.
-use Rattle.std.specs.Prelude.{ℕ, ◌+◌, ◌-◌, ◌*◌, ◌/◌, ◌&&◌, Bool, true, false, List, [], ◌∷◌, ◌++◌, length, drop, sum_by, slice_set, nat_lt, if◌then◌else◌, zero, suc, slice_index_or, take, min, Option, Some, None}
+use Rattle.std.specs.Prelude.{ℕ, ◌^◌, count_by, map, bit_and, bit_or, ◌+◌, ◌-◌, ◌*◌, ◌/◌, ◌&&◌, Bool, true, false, List, [], ◌∷◌, ◌++◌, length, drop, sum_by, slice_set, nat_lt, if◌then◌else◌, zero, suc, slice_index_or, take, min, Option, Some, None}
+use Rattle.std.specs.Int.{bit_not, w32}
 use Rattle.ob_types.specs.WaterMark.{Marks}
 use Rattle.ob_types.specs.declared.message.Message.{Message}
 use Rattle.ob_types.specs.declared.promise.Outcome.{Outcome}
-use Rattle.ob_types.specs.declared.promise.Outcome.TheVariants.{Success}
+use Rattle.ob_types.specs.declared.promise.Cause.{Cause}
+use Rattle.ob_types.specs.declared.promise.Outcome.TheVariants.{Success, Failed}
 use Rattle.ob_types.specs.declared.promise.PromiseState.TheVariants.{Waiting, Fixed, Settled}
 use Rattle.ob_seq.specs.declared.entry.Entry.{Entry}
 use Rattle.ob_seq.specs.declared.buffer.cut.Cut.{Cut}
+use Rattle.ob_seq.specs.Answer.{is_waiting}
+use Rattle.ob_seq.specs.Effect.{failed}
 use Rattle.ob_seq.specs.Word.{bit_value}
 use Rattle.ob_seq.specs.Pending.{Pending, blocks_left, settled_by_bytes}
 use Rattle.ob_seq.specs.Row.{is_cancelled, without_skipped}
@@ -104,12 +108,12 @@ front_id old = length old.promises - (length old.line + length old.unflushed)
 abbrev pub front_settlement : Pending → Outcome → List (PromiseId × Outcome)
 front_settlement old outcome = if is_first_voided old.line then [] else (record { 0 = front_id old }, outcome) ∷ []
 
--- a buffer without its front, whose promise is settled unless it was voided
-abbrev pub front_taken : Outcome → Pending → Pending
-front_taken outcome old = record old {
+-- a buffer without its front, with or without notice; its promise is settled unless it was voided
+abbrev pub front_taken : Bool → Outcome → Pending → Pending
+front_taken notice outcome old = record old {
   line = drop 1 old.line;
   promises = if is_first_voided old.line then old.promises else slice_set old.promises (front_id old) (Settled outcome);
-  word = word_after_fall old.settings.marks old.word (first_size old.line) (pending_total old - first_size old.line);
+  word = if notice then word_after_fall old.settings.marks old.word (first_size old.line) (pending_total old - first_size old.line) else old.word;
 }
 
 -- the line with its first entry changed
@@ -127,7 +131,7 @@ progressed_entry n entry = record entry { progress = entry.progress + n }
 
 -- a buffer without its front, if it has one
 abbrev pub front_removed : Outcome → Pending → Pending
-front_removed outcome old = if nat_lt 0 (length old.line) then front_taken outcome old else old
+front_removed outcome old = if nat_lt 0 (length old.line) then front_taken true outcome old else old
 
 -- what the removal of the front replies
 abbrev pub removal_reply : Outcome → Pending → Reply
@@ -162,25 +166,70 @@ front_skipped n old = if nat_lt 0 n then front_changed (skipped_entry n) old els
 
 -- a buffer after a removal of bytes that ends there
 abbrev pub bytes_removed : Cut → Pending → Pending
-bytes_removed cut old = front_skipped cut.rest (times cut.whole (front_taken Success) old)
+bytes_removed cut old = front_skipped cut.rest (times cut.whole (front_taken true Success) old)
 
--- what an entry settles when it is taken away as sent: its promise, unless it was voided
-abbrev pub success_of : ℕ → Entry → List (PromiseId × Outcome)
-success_of id entry = if entry.voided then [] else (record { 0 = id }, Success) ∷ []
+-- what an entry settles when it is taken away with this outcome: its promise, unless it was voided
+abbrev pub entry_settlement : Outcome → ℕ → Entry → List (PromiseId × Outcome)
+entry_settlement outcome id entry = if entry.voided then [] else (record { 0 = id }, outcome) ∷ []
 
--- what entries settle when they are taken away as sent, where their ids go on from this one
-abbrev pub successes_from : ℕ → List Entry → List (PromiseId × Outcome)
-successes_from id [] = []
-successes_from id (entry ∷ entries) = success_of id entry ++ successes_from (suc id) entries
+-- what entries settle when they are taken away with this outcome, where their ids go on from this one
+abbrev pub entry_settlements : Outcome → ℕ → List Entry → List (PromiseId × Outcome)
+entry_settlements outcome id [] = []
+entry_settlements outcome id (entry ∷ entries) = entry_settlement outcome id entry ++ entry_settlements outcome (suc id) entries
 
 -- what a removal of bytes replies that ends there
 abbrev pub bytes_reply : Cut → Pending → Reply
 bytes_reply cut old = record {
   answer = Count cut.whole;
-  settled = successes_from (front_id old) (take cut.whole old.line);
+  settled = entry_settlements Success (front_id old) (take cut.whole old.line);
   change = change_between old.word (bytes_removed cut old).word;
 }
 
 -- how many promises a removal of n bytes settles: none where the blocks in front hold fewer
 abbrev pub bytes_settled : ℕ → List Entry → ℕ
 bytes_settled n line = if nat_lt (bytes_in (blocks_left line)) n then 0 else settled_by_bytes n line
+
+-- a buffer after all in line are taken away as failed
+abbrev pub line_failed : Cause → Bool → Pending → Pending
+line_failed cause notice old = times (length old.line) (front_taken notice (Failed cause)) old
+
+-- what a failing of all in line replies
+abbrev pub failing_reply : Cause → Bool → Pending → Reply
+failing_reply cause notice old = record {
+  answer = Count (length old.line);
+  settled = entry_settlements (Failed cause) (front_id old) old.line;
+  change = change_between old.word (line_failed cause notice old).word;
+}
+
+-- the promises from an id on, of which those that still wait have failed
+abbrev pub failed_from : ℕ → Cause → List PromiseState → List PromiseState
+failed_from id cause promises = take id promises ++ map (failed cause) (drop id promises)
+
+-- what promises settle that fail if they still wait, where their ids go on from this one
+abbrev pub failures : Cause → ℕ → List PromiseState → List (PromiseId × Outcome)
+failures cause id [] = []
+failures cause id (state ∷ states) = (if is_waiting (Some state) then (record { 0 = id }, Failed cause) ∷ [] else []) ++ failures cause (suc id) states
+
+-- a buffer after its close
+abbrev pub closed_pending : Cause → Pending → Pending
+closed_pending cause old = record old { unflushed = []; promises = failed_from (unflushed_id old) cause old.promises; closed = true }
+
+-- what a close replies
+abbrev pub closing_reply : Cause → Pending → Reply
+closing_reply cause old = record {
+  answer = Count (length old.unflushed);
+  settled = failures cause (unflushed_id old) (drop (unflushed_id old) old.promises);
+  change = change_between old.word old.word;
+}
+
+-- how many promises a close settles: none where something is in line
+abbrev pub closing_settled : Pending → ℕ
+closing_settled old = if nat_lt 0 (length old.line) then 0 else count_by (λ state. is_waiting (Some state)) (drop (unflushed_id old) old.promises)
+
+-- the word with the user bit of this index set, or clear where it is to be writable
+abbrev pub with_user_bit : ℕ → Bool → ℕ → ℕ
+with_user_bit index writable word = if writable then bit_and word (bit_not w32 (2 ^ index)) else bit_or word (2 ^ index)
+
+-- a buffer with a user bit changed
+abbrev pub bit_changed : ℕ → Bool → Pending → Pending
+bit_changed index writable old = record old { word = with_user_bit index writable old.word }

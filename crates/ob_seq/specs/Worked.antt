@@ -1,13 +1,13 @@
 -- The definitions on small histories, computed by hand beforehand.
 use Rattle.std.specs.Prelude.{◌≡◌, ℕ, true, false, List, [], ◌∷◌, ◌++◌, replicate, Option, Some, None, Result, Ok, Err}
 use Rattle.ob_types.specs.declared.command.Command.{Command}
-use Rattle.ob_types.specs.declared.command.Command.TheVariants.{Write, Flush, Remove, RemoveWith, RemoveBytes, Progress, Cancel}
+use Rattle.ob_types.specs.declared.command.Command.TheVariants.{Write, Flush, Remove, RemoveWith, RemoveBytes, Progress, Cancel, FailFlushed, Close, UserBit}
 use Rattle.ob_types.specs.declared.message.Message.TheVariants.{Block, Region, Other}
 use Rattle.ob_types.specs.declared.promise.PromiseId.{PromiseId}
 use Rattle.ob_types.specs.declared.promise.Outcome.{Outcome}
 use Rattle.ob_types.specs.declared.promise.Outcome.TheVariants.{Success, Failed, Cancelled}
 use Rattle.ob_types.specs.declared.refusal.Refusal.{Refusal}
-use Rattle.ob_types.specs.declared.refusal.Refusal.TheVariants.{Oversize, NothingFlushed, TooFar, TooManyBytes, UnknownPromise}
+use Rattle.ob_types.specs.declared.refusal.Refusal.TheVariants.{Oversize, Closed, NothingFlushed, TooFar, TooManyBytes, BadIndex, FlushedLeft, UnknownPromise}
 use Rattle.ob_types.specs.declared.reply.Answer.{Answer}
 use Rattle.ob_types.specs.declared.reply.Answer.TheVariants.{Id, Count, Yes, Done}
 use Rattle.ob_types.specs.declared.reply.Change.{Change}
@@ -159,3 +159,54 @@ GatheredBlocks =
     × (gathered_after (marked 200 400) one_voided 8 1 ≡ replicate 3 0 ∷ [])
     × (gathered_after (marked 200 400) one_voided 0 100 ≡ [])
     × (flushed_after (marked 200 400) one_voided ≡ Block (replicate 3 0) ∷ Block (replicate 5 0) ∷ [])
+
+-- a refused command
+abbrev pub refused : Refusal → ℕ → ℕ → Shown
+refused refusal sum word = record { answer = Err refusal; total = sum; word = word }
+
+-- the mark and a user bit share the word, and the indexes are 1 to 31
+abbrev pub SharedWord : Type 0
+SharedWord =
+    shown (marked 200 400) [] (UserBit 5 false ∷ block 400 ∷ Flush ∷ Remove ∷ UserBit 5 true ∷ UserBit 0 false ∷ UserBit 32 false ∷ [])
+    ≡ replied Done [] (Some Unwritable) 0 32 ∷ replied (Id (record { 0 = 0 })) [] None 496 33 ∷ replied (Count 1) [] None 496 33
+    ∷ replied (Yes true) (succeeds 0) None 0 32 ∷ replied Done [] (Some Writable) 0 0 ∷ refused BadIndex 0 0 ∷ refused BadIndex 0 0 ∷ []
+
+-- of several user bits each stands for itself
+abbrev pub SeveralUserBits : Type 0
+SeveralUserBits =
+    shown (marked 200 400) [] (UserBit 1 false ∷ UserBit 2 false ∷ UserBit 1 true ∷ UserBit 1 true ∷ UserBit 2 true ∷ UserBit 31 false ∷ [])
+    ≡ replied Done [] (Some Unwritable) 0 2 ∷ replied Done [] None 0 6 ∷ replied Done [] None 0 4 ∷ replied Done [] None 0 4
+    ∷ replied Done [] (Some Writable) 0 0 ∷ replied Done [] (Some Unwritable) 0 2147483648 ∷ []
+
+-- a failing without notice keeps the mark, though the pending bytes fall below low; a close waits for the line to be
+-- empty, keeps the word, and is the last command that is not refused
+abbrev pub FailedWithoutNotice : Type 0
+FailedWithoutNotice =
+    shown (marked 200 400) []
+    (block 400 ∷ Flush ∷ block 4 ∷ Close (record { 0 = 7 }) ∷ FailFlushed (record { 0 = 7 }) false ∷ Close (record { 0 = 7 }) ∷ block 1 ∷ [])
+    ≡ replied (Id (record { 0 = 0 })) [] (Some Unwritable) 496 1 ∷ replied (Count 1) [] None 496 1 ∷ replied (Id (record { 0 = 1 })) [] None 596 1
+    ∷ refused FlushedLeft 596 1 ∷ replied (Count 1) (settles 0 (Failed (record { 0 = 7 }))) None 100 1
+    ∷ replied (Count 1) (settles 1 (Failed (record { 0 = 7 }))) None 0 1 ∷ refused Closed 0 1 ∷ []
+
+-- with notice it clears the mark
+abbrev pub FailedWithNotice : Type 0
+FailedWithNotice =
+    shown (marked 200 400) [] (block 400 ∷ Flush ∷ block 4 ∷ FailFlushed (record { 0 = 7 }) true ∷ [])
+    ≡ replied (Id (record { 0 = 0 })) [] (Some Unwritable) 496 1 ∷ replied (Count 1) [] None 496 1 ∷ replied (Id (record { 0 = 1 })) [] None 596 1
+    ∷ replied (Count 1) (settles 0 (Failed (record { 0 = 7 }))) (Some Writable) 100 0 ∷ []
+
+-- a failing takes voided entries along, and leaves their promises alone
+abbrev pub FailedVoided : Type 0
+FailedVoided =
+    shown (marked 200 400) [] (block 4 ∷ block 5 ∷ Cancel (record { 0 = 0 }) ∷ Flush ∷ FailFlushed (record { 0 = 7 }) true ∷ FailFlushed (record { 0 = 7 }) true ∷ [])
+    ≡ replied (Id (record { 0 = 0 })) [] None 100 0 ∷ replied (Id (record { 0 = 1 })) [] None 201 0 ∷ replied (Yes true) (settles 0 Cancelled) None 201 0
+    ∷ replied (Count 2) [] None 101 0 ∷ replied (Count 2) (settles 1 (Failed (record { 0 = 7 }))) None 0 0 ∷ replied (Count 0) [] None 0 0 ∷ []
+
+-- a close leaves a cancelled promise alone, and refuses each later command
+abbrev pub ClosedOnce : Type 0
+ClosedOnce =
+    (shown (marked 200 400) [] (block 4 ∷ Cancel (record { 0 = 0 }) ∷ Close (record { 0 = 3 }) ∷ Close (record { 0 = 3 }) ∷ UserBit 0 false ∷ [])
+    ≡ replied (Id (record { 0 = 0 })) [] None 100 0 ∷ replied (Yes true) (settles 0 Cancelled) None 100 0 ∷ replied (Count 1) [] None 0 0
+    ∷ refused Closed 0 0 ∷ refused Closed 0 0 ∷ [])
+    × (look_after (marked 200 400) (block 4 ∷ Cancel (record { 0 = 0 }) ∷ Close (record { 0 = 3 }) ∷ [])
+    ≡ record { total = 0; word = 0; size = 0; before_unwritable = 401; before_writable = 0; current_progress = 0 })

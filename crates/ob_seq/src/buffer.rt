@@ -1,10 +1,14 @@
-ghost use Rattle.std.specs.Prelude.{◌≡◌, ◌≤◌, [], IsTrue, IsErrOf, OnErr};
+ghost use Rattle.std.specs.Prelude.{◌≡◌, ◌≤◌, false, [], IsTrue, IsErrOf, OnErr};
 ghost use Rattle.ob_types.specs.Change.{change_between};
 ghost use Rattle.ob_seq.specs.Pending.{StandsFor, Answers, Follows, Accepts, takes_no_memory};
+ghost use Rattle.ob_seq.specs.Settles.{SparesMemory};
 ghost use Rattle.ob_seq.specs.Steps.{sum_of};
+ghost use Rattle.ob_types.specs.Write.{is_write};
 
 mod cancel;
+mod close;
 mod cut;
+mod fail_flushed;
 mod flush;
 mod gather;
 mod look;
@@ -12,6 +16,8 @@ mod progress;
 mod remove;
 mod remove_bytes;
 mod settles;
+mod taking;
+mod user_bit;
 mod word;
 mod write;
 
@@ -33,6 +39,7 @@ pub struct Buffer {
     /// The state of each promise, by its id.
     promises: Vec<PromiseState>,
     word: u32,
+    closed: bool,
 }
 
 impl Model for Buffer {
@@ -62,13 +69,15 @@ impl Buffer {
             flushed: 0,
             promises: Vec::new(alloc),
             word: 0,
+            closed: false,
         }
     }
 
     /// Gives one command: the call of the same name.
     ///
-    /// A refused command leaves the buffer as it was. `NoMemory` comes for a write, and for a removal of bytes that
-    /// settles more than four promises, where the allocator refused.
+    /// A refused command leaves the buffer as it was, and `Closed` refuses each one once the buffer is closed.
+    /// `NoMemory` comes for a write, and for another command that settles more than four promises, where the allocator
+    /// refused.
     pub fn apply(&mut self, command: Command) -> Result<Reply, Refusal>
         ensures answer { ¬ IsErrOf result Refusal.NoMemory → Answers self.old command result }
         ensures stands { ¬ IsErrOf result Refusal.NoMemory → Follows self.old command self.new }
@@ -77,7 +86,8 @@ impl Buffer {
         // Memory is wanted by some commands alone, and only when nothing else refuses them. A refusal changes nothing.
         ensures no_memory { IsErrOf result Refusal.NoMemory → self.new ≡ self.old }
         ensures no_memory_last { IsErrOf result Refusal.NoMemory → Accepts self.old command }
-        ensures frugal { IsTrue (takes_no_memory self.old command) → ¬ IsErrOf result Refusal.NoMemory }
+        ensures frugal { IsTrue (takes_no_memory command) → ¬ IsErrOf result Refusal.NoMemory }
+        ensures spares { is_write command ≡ false → SparesMemory self.old command result }
         ensures refused { OnErr result (self.new ≡ self.old) }
     {
         match command {
@@ -88,6 +98,9 @@ impl Buffer {
             Command::RemoveBytes(n) => self.remove_bytes(n),
             Command::Progress(n) => self.progress(n),
             Command::Cancel(id) => self.cancel(id),
+            Command::FailFlushed(cause, notify) => self.fail_flushed(cause, notify),
+            Command::Close(cause) => self.close(cause),
+            Command::UserBit(index, writable) => self.user_bit(index, writable),
         }
     }
 

@@ -1,18 +1,24 @@
 //! What holds of the answers to every list of commands. The calls of a buffer answer by the definitions that these
 //! laws speak of.
 
-ghost use Rattle.std.specs.Prelude.{◌+◌, ◌-◌, ◌<◌, ◌≤◌, ◌↔◌, ℕ, List, []};
+ghost use Rattle.std.specs.Prelude.{◌≡◌, Some, ◌+◌, ◌-◌, ◌<◌, ◌≤◌, ◌↔◌, ℕ, List, []};
 ghost use Rattle.ob_types.specs.WaterMark.{Marks};
 ghost use Rattle.ob_types.specs.declared.command.Command.{Command};
+ghost use Rattle.ob_types.specs.declared.promise.Outcome.{Outcome};
 ghost use Rattle.ob_types.specs.declared.promise.PromiseId.{PromiseId};
-ghost use Rattle.ob_seq.specs.Looks.{before_unwritable, before_writable};
+ghost use Rattle.ob_types.specs.declared.promise.PromiseState.TheVariants.{Settled};
+ghost use Rattle.ob_seq.specs.Answer.{commands_after};
+ghost use Rattle.ob_seq.specs.Looks.{before_unwritable, before_writable, promise_after};
 ghost use Rattle.ob_seq.specs.Settings.{Settings};
 ghost use Rattle.ob_seq.specs.Settles.{settled_along, times_settled};
 
-/// Whatever commands a new buffer is given, no promise is settled twice.
+/// Whatever commands a new buffer is given, no promise is settled twice, and one that is settled keeps its outcome.
 pub fn no_promise_is_settled_twice()
     ensures once { (settings : Settings) (commands : List Command) (id : PromiseId) →
         times_settled id (settled_along settings [] commands) ≤ 1 }
+    ensures kept { (settings : Settings) (commands : List Command) (command : Command) (id : PromiseId) (outcome : Outcome) →
+        promise_after settings commands id ≡ Some (Settled outcome)
+        → promise_after settings (commands_after settings commands command) id ≡ Some (Settled outcome) }
 {}
 
 /// The look's `before_unwritable`, where it is not 0, is the least rise that brings the pending bytes above the high

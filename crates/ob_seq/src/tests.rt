@@ -1,3 +1,4 @@
 mod byte_run;
 mod calls;
+mod ending;
 mod worked;

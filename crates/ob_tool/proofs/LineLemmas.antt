@@ -37,6 +37,9 @@ line_asked-same word.RemoveWith array numbers same = ap (λ n. line_asked word.R
 line_asked-same word.RemoveBytes array numbers same = ap (λ n. line_asked word.RemoveBytes (n ∷ [])) (same 0)
 line_asked-same word.Progress array numbers same = ap (λ n. line_asked word.Progress (n ∷ [])) (same 0)
 line_asked-same word.Cancel array numbers same = ap (λ n. line_asked word.Cancel (n ∷ [])) (same 0)
+line_asked-same word.FailFlushed array numbers same = simp (same 0, same 1)
+line_asked-same word.Close array numbers same = ap (λ n. line_asked word.Close (n ∷ [])) (same 0)
+line_asked-same word.UserBit array numbers same = simp (same 0, same 1)
 line_asked-same word.Look array numbers same = refl
 line_asked-same word.Gather array numbers same = simp (same 0, same 1)
 

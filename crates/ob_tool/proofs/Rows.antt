@@ -108,3 +108,20 @@ looks_leave_no_record : trace_of limited (codes "?" ++ newline ++ codes "b 3" ++
     ++ codes "size=1 cur=1 bu=65438 bw=0 t=99 w=00000000" ++ newline ++ codes "g 2 t=99 w=00000000" ++ newline
 unfolding user_bits digits padded_integral char_count
 looks_leave_no_record = refl
+
+-- user bits stand in the word beside the mark
+user_bits_share_the_word : trace_of history (codes "u 5 0" ++ newline ++ codes "b 400" ++ newline ++ codes "f" ++ newline ++ codes "rm" ++ newline ++ codes "u 5 1" ++ newline
+    ++ codes "u 0 0" ++ newline)
+    ≡ codes "ok t=0 w=00000020 -" ++ newline ++ codes "id 0 t=496 w=00000021" ++ newline ++ codes "n 1 t=496 w=00000021" ++ newline
+    ++ codes "yes t=0 w=00000020 0:ok" ++ newline ++ codes "ok t=0 w=00000000 +" ++ newline ++ codes "!8 t=0 w=00000000" ++ newline
+unfolding user_bits digits padded_integral char_count
+user_bits_share_the_word = refl
+
+-- what is flushed fails without notice, and a buffer is closed once
+failing_without_notice_keeps_the_mark : trace_of history (codes "b 400" ++ newline ++ codes "f" ++ newline ++ codes "b 4" ++ newline ++ codes "cl 7" ++ newline ++ codes "fl 7 0" ++ newline
+    ++ codes "cl 7" ++ newline ++ codes "b 1" ++ newline)
+    ≡ codes "id 0 t=496 w=00000001 -" ++ newline ++ codes "n 1 t=496 w=00000001" ++ newline ++ codes "id 1 t=596 w=00000001" ++ newline
+    ++ codes "!9 t=596 w=00000001" ++ newline ++ codes "n 1 t=100 w=00000001 0:f7" ++ newline ++ codes "n 1 t=0 w=00000001 1:f7" ++ newline
+    ++ codes "!4 t=0 w=00000001" ++ newline
+unfolding user_bits digits padded_integral char_count
+failing_without_notice_keeps_the_mark = refl

@@ -1,5 +1,5 @@
 -- The table of script lines: the first words, the numbers that follow each, and what the line asks.
-use Rattle.std.specs.Prelude.{ℕ, List, [], ◌∷◌, Option, find, codes, slice_index}
+use Rattle.std.specs.Prelude.{ℕ, ◌==◌, List, [], ◌∷◌, Option, find, codes, slice_index}
 use Rattle.std.specs.Str.{bytes_eq}
 use Rattle.ob_tool.specs.Numbers.{up_to}
 use Rattle.ob_tool.specs.declared.range.Range.{Range}
@@ -11,7 +11,7 @@ use Rattle.ob_tool.specs.declared.script_line.ScriptLine.TheVariants as line
 -- the first words that there are
 abbrev pub line_words : List LineWord
 line_words =
-    word.Block ∷ word.Region ∷ word.Other ∷ word.Flush ∷ word.Remove ∷ word.RemoveWith ∷ word.RemoveBytes ∷ word.Progress ∷ word.Cancel ∷ word.Look ∷ word.Gather ∷ []
+    word.Block ∷ word.Region ∷ word.Other ∷ word.Flush ∷ word.Remove ∷ word.RemoveWith ∷ word.RemoveBytes ∷ word.Progress ∷ word.Cancel ∷ word.FailFlushed ∷ word.Close ∷ word.UserBit ∷ word.Look ∷ word.Gather ∷ []
 
 -- how a script writes a first word
 abbrev pub word_text : LineWord → List ℕ
@@ -24,6 +24,9 @@ word_text word.RemoveWith = codes "rc"
 word_text word.RemoveBytes = codes "rb"
 word_text word.Progress = codes "p"
 word_text word.Cancel = codes "x"
+word_text word.FailFlushed = codes "fl"
+word_text word.Close = codes "cl"
+word_text word.UserBit = codes "u"
 word_text word.Look = codes "?"
 word_text word.Gather = codes "g"
 
@@ -38,6 +41,9 @@ ranges_of word.RemoveWith = up_to 4294967295 ∷ []
 ranges_of word.RemoveBytes = up_to 18446744073709551615 ∷ []
 ranges_of word.Progress = up_to 18446744073709551615 ∷ []
 ranges_of word.Cancel = up_to 4294967295 ∷ []
+ranges_of word.FailFlushed = up_to 4294967295 ∷ up_to 1 ∷ []
+ranges_of word.Close = up_to 4294967295 ∷ []
+ranges_of word.UserBit = up_to 255 ∷ up_to 1 ∷ []
 ranges_of word.Look = []
 ranges_of word.Gather = record { least = 1; greatest = 1024 } ∷ record { least = 1; greatest = 2147483647 } ∷ []
 
@@ -52,6 +58,9 @@ line_asked word.RemoveWith numbers = line.RemoveWith (record { 0 = slice_index n
 line_asked word.RemoveBytes numbers = line.RemoveBytes (slice_index numbers 0)
 line_asked word.Progress numbers = line.Progress (slice_index numbers 0)
 line_asked word.Cancel numbers = line.Cancel (record { 0 = slice_index numbers 0 })
+line_asked word.FailFlushed numbers = line.FailFlushed (record { 0 = slice_index numbers 0 }) (slice_index numbers 1 == 1)
+line_asked word.Close numbers = line.Close (record { 0 = slice_index numbers 0 })
+line_asked word.UserBit numbers = line.UserBit (slice_index numbers 0) (slice_index numbers 1 == 1)
 line_asked word.Look numbers = line.Look
 line_asked word.Gather numbers = line.Gather (slice_index numbers 0) (slice_index numbers 1)
 

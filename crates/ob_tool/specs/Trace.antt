@@ -35,6 +35,9 @@ asked_of accepted (line.RemoveWith cause) = asked.Command (command.RemoveWith ca
 asked_of accepted (line.RemoveBytes count) = asked.Command (command.RemoveBytes count)
 asked_of accepted (line.Progress count) = asked.Command (command.Progress count)
 asked_of accepted (line.Cancel id) = asked.Command (command.Cancel id)
+asked_of accepted (line.FailFlushed cause notify) = asked.Command (command.FailFlushed cause notify)
+asked_of accepted (line.Close cause) = asked.Command (command.Close cause)
+asked_of accepted (line.UserBit index writable) = asked.Command (command.UserBit index writable)
 asked_of accepted line.Look = asked.Look
 asked_of accepted (line.Gather max_count max_bytes) = asked.Gather max_count max_bytes
 

@@ -27,6 +27,12 @@ pub enum LineWord {
     Progress,
     /// `x ID`: cancel the promise ID.
     Cancel,
+    /// `fl C V`: fail all flushed messages with the cause C, and tell of it where V is 1.
+    FailFlushed,
+    /// `cl C`: close with the cause C.
+    Close,
+    /// `u I V`: set the user bit I, or clear it where V is 1.
+    UserBit,
     /// `?`: look at the buffer.
     Look,
     /// `g C N`: gather at most C blocks of at most N bytes.
@@ -34,7 +40,7 @@ pub enum LineWord {
 }
 
 /// The first words that there are.
-static LINE_WORDS: [LineWord; 11] = [
+static LINE_WORDS: [LineWord; 14] = [
     LineWord::Block,
     LineWord::Region,
     LineWord::Other,
@@ -44,9 +50,18 @@ static LINE_WORDS: [LineWord; 11] = [
     LineWord::RemoveBytes,
     LineWord::Progress,
     LineWord::Cancel,
+    LineWord::FailFlushed,
+    LineWord::Close,
+    LineWord::UserBit,
     LineWord::Look,
     LineWord::Gather,
 ];
+
+/// A flag.
+const FLAG: Range = Range {
+    least: 0,
+    greatest: 1,
+};
 
 /// The number of a block's bytes.
 static BLOCK_NUMBERS: [Range; 1] = [Range {
@@ -65,6 +80,24 @@ static NUMBER_OF_64_BITS: [Range; 1] = [Range {
     least: 0,
     greatest: 18446744073709551615,
 }];
+
+/// A cause, and a flag.
+static FAIL_NUMBERS: [Range; 2] = [
+    Range {
+        least: 0,
+        greatest: 4294967295,
+    },
+    FLAG,
+];
+
+/// The index of a bit, and a flag.
+static BIT_NUMBERS: [Range; 2] = [
+    Range {
+        least: 0,
+        greatest: 255,
+    },
+    FLAG,
+];
 
 /// How many blocks, and of how many bytes, a transport takes at most.
 static GATHER_NUMBERS: [Range; 2] = [
@@ -93,6 +126,9 @@ impl LineWord {
             LineWord::RemoveBytes => b"rb",
             LineWord::Progress => b"p",
             LineWord::Cancel => b"x",
+            LineWord::FailFlushed => b"fl",
+            LineWord::Close => b"cl",
+            LineWord::UserBit => b"u",
             LineWord::Look => b"?",
             LineWord::Gather => b"g",
         }
@@ -106,7 +142,11 @@ impl LineWord {
         match self {
             LineWord::Block => &BLOCK_NUMBERS,
             LineWord::Region | LineWord::RemoveBytes | LineWord::Progress => &NUMBER_OF_64_BITS,
-            LineWord::Other | LineWord::RemoveWith | LineWord::Cancel => &NUMBER_OF_32_BITS,
+            LineWord::Other | LineWord::RemoveWith | LineWord::Cancel | LineWord::Close => {
+                &NUMBER_OF_32_BITS
+            }
+            LineWord::FailFlushed => &FAIL_NUMBERS,
+            LineWord::UserBit => &BIT_NUMBERS,
             LineWord::Gather => &GATHER_NUMBERS,
             LineWord::Flush | LineWord::Remove | LineWord::Look => &[],
         }
@@ -134,6 +174,11 @@ impl LineWord {
             LineWord::RemoveBytes => ScriptLine::RemoveBytes(numbers[0]),
             LineWord::Progress => ScriptLine::Progress(numbers[0]),
             LineWord::Cancel => ScriptLine::Cancel(PromiseId(numbers[0] as u32)),
+            LineWord::FailFlushed => {
+                ScriptLine::FailFlushed(Cause(numbers[0] as u32), numbers[1] == 1)
+            }
+            LineWord::Close => ScriptLine::Close(Cause(numbers[0] as u32)),
+            LineWord::UserBit => ScriptLine::UserBit(numbers[0] as u32, numbers[1] == 1),
             LineWord::Look => ScriptLine::Look,
             LineWord::Gather => ScriptLine::Gather(numbers[0] as u32, numbers[1] as u32),
         }

@@ -21,6 +21,12 @@ pub enum ScriptLine {
     Progress(u64),
     /// Cancel a promise.
     Cancel(PromiseId),
+    /// Fail all flushed messages with a cause, and tell of it where the second is set.
+    FailFlushed(Cause, bool),
+    /// Close with a cause.
+    Close(Cause),
+    /// Set the user bit of this index where the second is not set, and clear it where it is.
+    UserBit(u32, bool),
     /// Look at the buffer.
     Look,
     /// Gather blocks from the front: at most so many, and of at most so many bytes.

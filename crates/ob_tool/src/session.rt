@@ -79,6 +79,13 @@ impl Session {
             ScriptLine::RemoveBytes(count) => Ok(Asked::Command(Command::RemoveBytes(count))),
             ScriptLine::Progress(count) => Ok(Asked::Command(Command::Progress(count))),
             ScriptLine::Cancel(id) => Ok(Asked::Command(Command::Cancel(id))),
+            ScriptLine::FailFlushed(cause, notify) => {
+                Ok(Asked::Command(Command::FailFlushed(cause, notify)))
+            }
+            ScriptLine::Close(cause) => Ok(Asked::Command(Command::Close(cause))),
+            ScriptLine::UserBit(index, writable) => {
+                Ok(Asked::Command(Command::UserBit(index, writable)))
+            }
             ScriptLine::Look => Ok(Asked::Look),
             ScriptLine::Gather(max_count, max_bytes) => Ok(Asked::Gather(max_count, max_bytes)),
         }
@@ -146,6 +153,9 @@ fn next_byte(byte: u8, command: &Command) -> u8
         | Command::RemoveWith(_)
         | Command::RemoveBytes(_)
         | Command::Progress(_)
-        | Command::Cancel(_) => byte,
+        | Command::Cancel(_)
+        | Command::FailFlushed(_, _)
+        | Command::Close(_)
+        | Command::UserBit(_, _) => byte,
     }
 }

@@ -3,7 +3,7 @@ use Rattle.std.specs.Prelude.{Bool, true, false}
 use Rattle.ob_types.specs.declared.message.Message.{Message}
 use Rattle.ob_types.specs.declared.message.Message.TheVariants.{Block, Region, Other}
 use Rattle.ob_types.specs.declared.command.Command.{Command}
-use Rattle.ob_types.specs.declared.command.Command.TheVariants.{Write, Flush, Remove, RemoveWith, RemoveBytes, Progress, Cancel}
+use Rattle.ob_types.specs.declared.command.Command.TheVariants.{Write, Flush, Remove, RemoveWith, RemoveBytes, Progress, Cancel, FailFlushed, Close, UserBit}
 
 -- a message shares memory with its copy where it is a block
 abbrev pub is_shared : Message → Bool
@@ -20,3 +20,6 @@ carries_shared (RemoveWith cause) = false
 carries_shared (RemoveBytes n) = false
 carries_shared (Progress n) = false
 carries_shared (Cancel id) = false
+carries_shared (FailFlushed cause notify) = false
+carries_shared (Close cause) = false
+carries_shared (UserBit index writable) = false

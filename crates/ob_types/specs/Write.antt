@@ -1,7 +1,7 @@
 -- Which commands are writes.
 use Rattle.std.specs.Prelude.{Bool, true, false}
 use Rattle.ob_types.specs.declared.command.Command.{Command}
-use Rattle.ob_types.specs.declared.command.Command.TheVariants.{Write, Flush, Remove, RemoveWith, RemoveBytes, Progress, Cancel}
+use Rattle.ob_types.specs.declared.command.Command.TheVariants.{Write, Flush, Remove, RemoveWith, RemoveBytes, Progress, Cancel, FailFlushed, Close, UserBit}
 
 -- whether a command is a write
 abbrev pub is_write : Command → Bool
@@ -12,3 +12,6 @@ is_write (RemoveWith cause) = false
 is_write (RemoveBytes n) = false
 is_write (Progress n) = false
 is_write (Cancel id) = false
+is_write (FailFlushed cause notify) = false
+is_write (Close cause) = false
+is_write (UserBit index writable) = false

@@ -18,4 +18,13 @@ pub enum Command {
     Progress(u64),
     /// Takes a promise back, unless a flush has fixed it (Netty's `Future.cancel`).
     Cancel(PromiseId),
+    /// Takes all flushed messages away, as failed for this cause, and tells of it where the second is set (Netty's
+    /// `failFlushed`).
+    FailFlushed(Cause, bool),
+    /// Takes all messages away that no flush has reached, as failed for this cause, and refuses every later command
+    /// (Netty's `close`).
+    Close(Cause),
+    /// Sets the user bit of this index where the second is not set, and clears it where it is (Netty's
+    /// `setUserDefinedWritability`).
+    UserBit(u32, bool),
 }

@@ -38,6 +38,9 @@ impl Command {
             Command::RemoveBytes(n) => Command::RemoveBytes(*n),
             Command::Progress(n) => Command::Progress(*n),
             Command::Cancel(id) => Command::Cancel(*id),
+            Command::FailFlushed(cause, notify) => Command::FailFlushed(*cause, *notify),
+            Command::Close(cause) => Command::Close(*cause),
+            Command::UserBit(index, writable) => Command::UserBit(*index, *writable),
         })
     }
 }

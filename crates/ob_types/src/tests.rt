@@ -65,6 +65,9 @@ fn copies_equal_their_sources(rt: HostRuntime) -> Result<(), Fail> {
         Command::RemoveBytes(5),
         Command::Progress(7),
         Command::Cancel(PromiseId(1)),
+        Command::FailFlushed(Cause(3), true),
+        Command::Close(Cause(4)),
+        Command::UserBit(31, false),
     ];
     for command in &commands {
         assert!(rt; command.copy()? == *command);

@@ -1,6 +1,5 @@
-ghost use Rattle.std.specs.Prelude.{◌≡◌, List, IsOk, IsTrue, IfOk};
+ghost use Rattle.std.specs.Prelude.{◌≡◌, List, IsOk, IfOk};
 ghost use Rattle.ob_types.specs.declared.command.Command.{Command};
-ghost use Rattle.ob_seq.specs.Pending.{Accepts, takes_no_memory};
 ghost use Rattle.ob_history.specs.Copies.{IsSmall, SettlesAtMost};
 
 use ob_seq::Buffer;
@@ -23,8 +22,6 @@ impl Copies {
         ensures told { IfOk result (λ copies. copies.told ≡ command.now) }
         ensures spare { IfOk result (λ copies. SettlesAtMost buffer.now command.now copies.spare) }
         ensures succeeds { (commands : List Command) → IsSmall buffer.now command.now commands → IsOk result }
-        ensures frugal { (commands : List Command) → IsSmall buffer.now command.now commands
-            → Accepts buffer.now command.now → IsTrue (takes_no_memory buffer.now command.now) }
     {
         Ok(Copies {
             spare: Spare::new(alloc, buffer.settles(command))?,

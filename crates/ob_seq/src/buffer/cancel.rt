@@ -9,7 +9,8 @@ use ob_types::{Answer, Outcome, PromiseId, PromiseState, Refusal, Reply, Settlem
 impl Buffer {
     /// Takes a promise back (Netty's `Future.cancel`), and answers whether that came in time: a promise that a
     /// flush has fixed, or that is settled, stays as it is. The pending bytes stay too: they fall at the flush. It
-    /// takes no memory. `UnknownPromise` comes where no write was accepted under the id.
+    /// takes no memory. `Closed` comes where the buffer is closed, and then
+    /// `UnknownPromise` where no write was accepted under the id.
     pub fn cancel(&mut self, id: PromiseId) -> Result<Reply, Refusal>
         ensures answer { Answers self.old (Cancel id) result }
         ensures stands { Follows self.old (Cancel id) self.new }
@@ -17,6 +18,9 @@ impl Buffer {
         ensures refused { OnErr result (self.new ≡ self.old) }
         ensures frugal { ¬ IsErrOf result Refusal.NoMemory }
     {
+        if self.closed {
+            return Err(Refusal::Closed);
+        }
         let at = id.0 as usize;
         if at >= self.promises.len() {
             return Err(Refusal::UnknownPromise);
@@ -31,7 +35,7 @@ impl Buffer {
 }
 
 /// Whether nothing has become of a promise yet.
-fn is_waiting(state: PromiseState) -> bool
+pub fn is_waiting(state: PromiseState) -> bool
     ensures { result ≡ is_waiting_promise (Some state) }
 {
     matches!(state, PromiseState::Waiting)

@@ -13,7 +13,7 @@ use std::mem;
 impl Buffer {
     /// Lets the transport have all that was written so far (Netty's `addFlush`), fixes the promises of those
     /// messages, and answers how many they are. A message whose promise was cancelled is voided: it becomes an
-    /// empty block that counts nothing, and stays in line. It takes no memory.
+    /// empty block that counts nothing, and stays in line. It takes no memory. `Closed` comes where the buffer is closed.
     pub fn flush(&mut self) -> Result<Reply, Refusal>
         ensures answer { Answers self.old Flush result }
         ensures stands { Follows self.old Flush self.new }
@@ -21,6 +21,9 @@ impl Buffer {
         ensures refused { OnErr result (self.new ≡ self.old) }
         ensures frugal { ¬ IsErrOf result Refusal.NoMemory }
     {
+        if self.closed {
+            return Err(Refusal::Closed);
+        }
         let before = self.word;
         let reached = self.entries.len() - self.flushed;
         self.flush_all(reached);

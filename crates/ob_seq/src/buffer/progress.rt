@@ -12,8 +12,8 @@ pub const MAX_PROGRESS: u64 = 9223372036854775807;
 impl Buffer {
     /// Tells of so many more bytes of progress of the first flushed message (Netty's `progress`). It takes no memory.
     ///
-    /// `NothingFlushed` comes where no message is flushed, and then `TooFar` where the progress would pass
-    /// 9223372036854775807.
+    /// `Closed` comes where the buffer is closed, then `NothingFlushed` where no message is flushed, and then `TooFar`
+    /// where the progress would pass 9223372036854775807.
     pub fn progress(&mut self, n: u64) -> Result<Reply, Refusal>
         ensures answer { Answers self.old (Progress n) result }
         ensures stands { Follows self.old (Progress n) self.new }
@@ -21,6 +21,9 @@ impl Buffer {
         ensures refused { OnErr result (self.new ≡ self.old) }
         ensures frugal { ¬ IsErrOf result Refusal.NoMemory }
     {
+        if self.closed {
+            return Err(Refusal::Closed);
+        }
         if self.flushed == 0 {
             return Err(Refusal::NothingFlushed);
         }

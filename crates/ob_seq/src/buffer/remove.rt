@@ -1,15 +1,15 @@
-ghost use Rattle.std.specs.Prelude.{◌≡◌, ◌<◌, length, option_to_list, option_map, IsErrOf, OnErr};
+ghost use Rattle.std.specs.Prelude.{◌≡◌, IsErrOf, OnErr};
 ghost use Rattle.ob_types.specs.declared.command.Command.TheVariants.{Remove, RemoveWith};
 ghost use Rattle.ob_seq.specs.Pending.{Answers, Follows};
-ghost use Rattle.ob_seq.specs.Steps.{front_settlement, front_taken, front_removed, removal_reply};
+ghost use Rattle.ob_seq.specs.Steps.{front_removed, removal_reply};
 
-use crate::buffer::{Buffer, total_of, word};
-use ob_types::{Answer, Cause, Outcome, PromiseId, PromiseState, Refusal, Reply, Settlements};
+use crate::buffer::Buffer;
+use ob_types::{Answer, Cause, Outcome, Refusal, Reply, Settlements};
 
 impl Buffer {
     /// Takes the first flushed message away, as sent (Netty's `remove()`): unless it was voided its promise
     /// succeeds, and the pending bytes fall with notice. With nothing flushed it answers false, and all is as it
-    /// was. It takes no memory.
+    /// was. It takes no memory. `Closed` comes where the buffer is closed.
     pub fn remove(&mut self) -> Result<Reply, Refusal>
         ensures answer { Answers self.old Remove result }
         ensures stands { Follows self.old Remove self.new }
@@ -17,11 +17,14 @@ impl Buffer {
         ensures refused { OnErr result (self.new ≡ self.old) }
         ensures frugal { ¬ IsErrOf result Refusal.NoMemory }
     {
+        if self.closed {
+            return Err(Refusal::Closed);
+        }
         Ok(self.remove_as(Outcome::Success))
     }
 
     /// Takes the first flushed message away as `remove` does, but as failed for this cause (Netty's
-    /// `remove(Throwable)`). It takes no memory.
+    /// `remove(Throwable)`). It takes no memory. `Closed` comes where the buffer is closed.
     pub fn remove_with(&mut self, cause: Cause) -> Result<Reply, Refusal>
         ensures answer { Answers self.old (RemoveWith cause) result }
         ensures stands { Follows self.old (RemoveWith cause) self.new }
@@ -29,6 +32,9 @@ impl Buffer {
         ensures refused { OnErr result (self.new ≡ self.old) }
         ensures frugal { ¬ IsErrOf result Refusal.NoMemory }
     {
+        if self.closed {
+            return Err(Refusal::Closed);
+        }
         Ok(self.remove_as(Outcome::Failed(cause)))
     }
 
@@ -41,28 +47,10 @@ impl Buffer {
         if self.flushed == 0 {
             return self.reply(Answer::Yes(false), self.no_settlements(), before);
         }
-        let settled = match self.take_front(outcome) {
+        let settled = match self.take_front(outcome, true) {
             Some(id) => Settlements::one(*self.entries.allocator(), id, outcome),
             None => self.no_settlements(),
         };
         self.reply(Answer::Yes(true), settled, before)
-    }
-
-    /// Takes the front away, and settles its promise unless it was voided.
-    pub(crate) fn take_front(&mut self, outcome: Outcome) -> Option<PromiseId>
-        requires { 0 < length self.old.line }
-        ensures settled { option_to_list (option_map (λ id. (id, outcome)) result) ≡ front_settlement self.old outcome }
-        ensures taken { self.new ≡ front_taken outcome self.old }
-    {
-        let id = self.promises.len() - self.entries.len();
-        let entry = self.entries.remove(0);
-        self.flushed -= 1;
-        let total = total_of(&self.entries);
-        self.word = word::after_fall(self.marks, self.word, entry.size, total);
-        if entry.voided {
-            return None;
-        }
-        self.promises[id] = PromiseState::Settled(outcome);
-        Some(PromiseId(id as u32))
     }
 }

@@ -1,16 +1,15 @@
-ghost use Rattle.std.specs.Prelude.{◌≡◌, ◌≤◌, length, take, IsTrue, IsOk, IsErrOf, IfOk, OnErr};
+ghost use Rattle.std.specs.Prelude.{◌≡◌, ◌≤◌, length, IsErrOf, OnErr};
 ghost use Rattle.ob_types.specs.declared.command.Command.TheVariants.{RemoveBytes};
-ghost use Rattle.ob_types.specs.declared.promise.Outcome.TheVariants.{Success};
 ghost use Rattle.ob_seq.specs.ByteRun.{block_bytes};
-ghost use Rattle.ob_seq.specs.Pending.{Answers, Follows, Accepts, takes_no_memory};
-ghost use Rattle.ob_seq.specs.Steps.{first_length, front_id, front_skipped, front_taken, skipped_entry, successes_from, times};
+ghost use Rattle.ob_seq.specs.Pending.{Answers, Follows, Accepts};
+ghost use Rattle.ob_seq.specs.Settles.{SparesMemory};
+ghost use Rattle.ob_seq.specs.Steps.{first_length, front_skipped, skipped_entry};
 
 use crate::buffer::Buffer;
 use crate::buffer::cut::find_cut;
 use crate::buffer::progress::MAX_PROGRESS;
 use crate::entry::Entry;
-use ob_types::{Answer, Message, Outcome, PromiseId, Refusal, Reply, Settlements};
-use std::alloc::AllocError;
+use ob_types::{Answer, Message, Outcome, Refusal, Reply};
 
 impl Buffer {
     /// Takes so many bytes off the flushed blocks in front, as sent (Netty's `removeBytes`), and answers how many
@@ -21,51 +20,29 @@ impl Buffer {
     /// 9223372036854775807. So 0 bytes take away the empty messages in front. Bytes that are skipped stay pending
     /// until their message is gone.
     ///
-    /// `TooManyBytes` comes where the flushed blocks before the first other message hold fewer bytes, and then
-    /// `NoMemory` where more than four promises are settled and the allocator refused; both leave all as it was.
+    /// `Closed` comes where the buffer is closed, then `TooManyBytes` where the flushed blocks before the first other
+    /// message hold fewer bytes, and then `NoMemory` where more than four promises are settled and the allocator
+    /// refused; all leave everything as it was.
     pub fn remove_bytes(&mut self, n: u64) -> Result<Reply, Refusal>
         ensures answer { ¬ IsErrOf result Refusal.NoMemory → Answers self.old (RemoveBytes n) result }
         ensures stands { ¬ IsErrOf result Refusal.NoMemory → Follows self.old (RemoveBytes n) self.new }
         ensures settings { self.new.settings ≡ self.old.settings }
         ensures no_memory { IsErrOf result Refusal.NoMemory → self.new ≡ self.old }
         ensures no_memory_last { IsErrOf result Refusal.NoMemory → Accepts self.old (RemoveBytes n) }
-        ensures frugal { IsTrue (takes_no_memory self.old (RemoveBytes n)) → ¬ IsErrOf result Refusal.NoMemory }
+        ensures spares { SparesMemory self.old (RemoveBytes n) result }
         ensures refused { OnErr result (self.new ≡ self.old) }
     {
+        if self.closed {
+            return Err(Refusal::Closed);
+        }
         let Some(cut) = find_cut(&self.entries[..self.flushed], n) else {
             return Err(Refusal::TooManyBytes);
         };
-        let settled = self.successes(cut.whole)?;
+        let settled = self.settlements(cut.whole, Outcome::Success)?;
         let before = self.word;
-        self.take_first(cut.whole);
+        self.take_first(cut.whole, Outcome::Success, true);
         self.skip_in_front(cut.rest);
         Ok(self.reply(Answer::Count(cut.whole as u32), settled, before))
-    }
-
-    /// What the first so many in line settle when they are taken away as sent. The first four need no memory.
-    fn successes(&self, count: usize) -> Result<Settlements, AllocError>
-        requires { count ≤ length self.now.line }
-        ensures value { IfOk result (λ settled. settled ≡ successes_from (front_id self.now) (take count self.now.line)) }
-        ensures frugal { length (successes_from (front_id self.now) (take count self.now.line)) ≤ 4 → IsOk result }
-    {
-        let first = self.promises.len() - self.entries.len();
-        let mut settled = self.no_settlements();
-        for place in 0..count {
-            if !self.entries[place].voided {
-                settled.push(PromiseId((first + place) as u32), Outcome::Success)?;
-            }
-        }
-        Ok(settled)
-    }
-
-    /// Takes the first so many in line away, as sent.
-    fn take_first(&mut self, count: usize)
-        requires { count ≤ length self.old.line }
-        ensures { self.new ≡ times count (front_taken Success) self.old }
-    {
-        for _ in 0..count {
-            self.take_front(Outcome::Success);
-        }
     }
 
     /// Skips so many bytes of the front; 0 of them need no front.

@@ -1,11 +1,8 @@
-ghost use Rattle.std.specs.Prelude.{◌≡◌, ◌≤◌, false, not, count_by, List, length, if◌then◌else◌, IsTrue};
-ghost use Rattle.ob_types.specs.declared.command.Command.{Command};
+ghost use Rattle.std.specs.Prelude.{◌≡◌, not, count_by, length, if◌then◌else◌};
 ghost use Rattle.ob_types.specs.declared.promise.Outcome.TheVariants.{Success};
-ghost use Rattle.ob_types.specs.Write.{is_write};
 ghost use Rattle.ob_seq.specs.Answer.{is_waiting};
-ghost use Rattle.ob_seq.specs.Pending.{Accepts, StandsFor, takes_no_memory};
 ghost use Rattle.ob_seq.specs.Settles.{Settles};
-ghost use Rattle.ob_seq.specs.Steps.{bytes_settled, removal_reply};
+ghost use Rattle.ob_seq.specs.Steps.{bytes_settled, closing_settled, removal_reply};
 
 use crate::buffer::Buffer;
 use crate::buffer::cut::find_cut;
@@ -14,13 +11,14 @@ use ob_types::{Command, PromiseState};
 
 impl Buffer {
     /// How many promises a command would settle: the number of settlements in its reply, and 0 where it would be
-    /// refused. It changes nothing and takes no memory. An accepted command that is no write and settles at most four
-    /// promises takes none either. Our own.
+    /// refused. It changes nothing and takes no memory. A command that is no write and settles at most four promises
+    /// takes none either. Our own.
     pub fn settles(&self, command: &Command) -> u32
-        ensures count { Settles self.now command.now result }
-        ensures frugal { (commands : List Command) → StandsFor self.now commands → Accepts self.now command.now
-            → is_write command.now ≡ false → result ≤ 4 → IsTrue (takes_no_memory self.now command.now) }
+        ensures { Settles self.now command.now result }
     {
+        if self.closed {
+            return 0;
+        }
         match command {
             Command::Write(_) => 0,
             Command::Flush => 0,
@@ -29,6 +27,9 @@ impl Buffer {
             Command::RemoveBytes(n) => self.bytes_settle(*n),
             Command::Progress(_) => 0,
             Command::Cancel(id) => waiting(self.promise(*id)),
+            Command::FailFlushed(_, _) => unvoided(&self.entries[..self.flushed]) as u32,
+            Command::Close(_) => self.closing_settles(),
+            Command::UserBit(_, _) => 0,
         }
     }
 
@@ -47,14 +48,34 @@ impl Buffer {
         ensures { result ≡ bytes_settled n self.now.line }
     {
         match find_cut(&self.entries[..self.flushed], n) {
-            Some(cut) => sent(&self.entries[..cut.whole]) as u32,
+            Some(cut) => unvoided(&self.entries[..cut.whole]) as u32,
             None => 0,
         }
     }
+
+    /// How many promises a close would settle: none where a flushed message is left.
+    fn closing_settles(&self) -> u32
+        ensures { result ≡ closing_settled self.now }
+    {
+        if self.flushed > 0 {
+            return 0;
+        }
+        count_waiting(&self.promises[self.first_unflushed()..]) as u32
+    }
+}
+
+/// How many promises still wait.
+fn count_waiting(promises: &[PromiseState]) -> usize
+    ensures { result ≡ count_by (λ state. is_waiting (Some state)) promises.now }
+{
+    promises
+        .iter()
+        .filter(|state| matches!(state, PromiseState::Waiting))
+        .count()
 }
 
 /// How many of the entries were not voided.
-fn sent(entries: &[Entry]) -> usize
+fn unvoided(entries: &[Entry]) -> usize
     ensures { result ≡ count_by (λ entry. not entry.voided) entries.now }
 {
     entries.iter().filter(|entry| !entry.voided).count()

@@ -1,6 +1,6 @@
-ghost use Rattle.std.specs.Prelude.{◌≡◌};
+ghost use Rattle.std.specs.Prelude.{◌≡◌, ◌≤◌};
 ghost use Rattle.ob_types.specs.Change.{change_between};
-ghost use Rattle.ob_seq.specs.Steps.{word_after_rise, word_after_fall};
+ghost use Rattle.ob_seq.specs.Steps.{with_user_bit, word_after_rise, word_after_fall};
 
 use ob_types::{Change, WaterMark};
 
@@ -28,6 +28,15 @@ pub fn after_fall(marks: WaterMark, word: u32, size: u32, total: u32) -> u32
     } else {
         word
     }
+}
+
+/// The word with the user bit of this index set, or cleared where it is to be writable.
+pub fn with_user_bit(word: u32, index: u32, writable: bool) -> u32
+    requires { index ≤ 31 }
+    ensures { result ≡ with_user_bit index writable word }
+{
+    let bit = 1 << index;
+    if writable { word & !bit } else { word | bit }
 }
 
 /// The change that a call reports which found the one word and left the other.

@@ -17,7 +17,7 @@ const MAX_WRITES: usize = 1048576;
 impl Buffer {
     /// Adds a message behind all others (Netty's `addMessage`), and answers its promise.
     ///
-    /// `Oversize` comes where the message counts more than 2147483647 bytes or is a region longer than
+    /// `Closed` comes where the buffer is closed, `Oversize` where the message counts more than 2147483647 bytes or is a region longer than
     /// 9223372036854775807, `TooMuch` where more than 4294967295 bytes would be pending or 1048576 writes were
     /// accepted, and `NoMemory` where the allocator refused; they are asked in this order, and leave all as it was.
     pub fn write(&mut self, message: Message) -> Result<Reply, Refusal>
@@ -28,6 +28,9 @@ impl Buffer {
         ensures no_memory_last { IsErrOf result Refusal.NoMemory → Accepts self.old (Write message) }
         ensures refused { OnErr result (self.new ≡ self.old) }
     {
+        if self.closed {
+            return Err(Refusal::Closed);
+        }
         let size = pending_size(&message, self.estimate)?;
         if !self.has_room_for(size) {
             return Err(Refusal::TooMuch);

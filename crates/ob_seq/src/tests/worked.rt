@@ -1,6 +1,6 @@
 //! The definitions, computed on small histories.
 
-ghost use Rattle.ob_seq.specs.Worked.{TheFirstRun, EqualityWithLow, LowZero, LongRegion, CancelledEntry, FixedPromise, ProgressTold, RemovedBytes, EmptyFront, EndOfTheByteRun, MarksOfZero, GatheredBlocks, Looks};
+ghost use Rattle.ob_seq.specs.Worked.{TheFirstRun, EqualityWithLow, LowZero, LongRegion, CancelledEntry, FixedPromise, ProgressTold, RemovedBytes, EmptyFront, EndOfTheByteRun, MarksOfZero, GatheredBlocks, Looks, SharedWord, SeveralUserBits, FailedWithoutNotice, FailedWithNotice, FailedVoided, ClosedOnce};
 
 #[tactic(auto, unfolding(crate::specs::Word::user_bits))]
 fn worked_rows()
@@ -17,6 +17,12 @@ fn worked_rows()
     ensures marks_of_zero { MarksOfZero }
     ensures gathered_blocks { GatheredBlocks }
     ensures looks { Looks }
+    ensures shared_word { SharedWord }
+    ensures several_user_bits { SeveralUserBits }
+    ensures failed_without_notice { FailedWithoutNotice }
+    ensures failed_with_notice { FailedWithNotice }
+    ensures failed_voided { FailedVoided }
+    ensures closed_once { ClosedOnce }
 {}
 
 #[test]

@@ -254,6 +254,51 @@ fn nothing_to_gather(rt: HostRuntime) {
     traces(&rt, &LOW_200_HIGH_400, script, trace);
 }
 
+/// The buffer is writable again once the mark and every user bit are clear.
+#[test]
+fn user_bits_share_the_word(rt: HostRuntime) {
+    let script = "u 5 0\nb 400\nf\nrm\nu 5 1\nu 0 0\nu 32 0\n";
+    let trace = "ok t=0 w=00000020 -\nid 0 t=496 w=00000021\nn 1 t=496 w=00000021\n\
+        yes t=0 w=00000020 0:ok\nok t=0 w=00000000 +\n!8 t=0 w=00000000\n!8 t=0 w=00000000\n";
+    traces(&rt, &LOW_200_HIGH_400, script, trace);
+}
+
+/// A bit that is clear may be cleared again.
+#[test]
+fn several_user_bits(rt: HostRuntime) {
+    let script = "u 1 0\nu 2 0\nu 1 1\nu 1 1\nu 2 1\nu 31 0\n";
+    let trace = "ok t=0 w=00000002 -\nok t=0 w=00000006\nok t=0 w=00000004\n\
+        ok t=0 w=00000004\nok t=0 w=00000000 +\nok t=0 w=80000000 -\n";
+    traces(&rt, &LOW_200_HIGH_400, script, trace);
+}
+
+/// A fall without notice clears nothing, and neither does closing.
+#[test]
+fn failing_without_notice_keeps_the_mark(rt: HostRuntime) {
+    let script = "b 400\nf\nb 4\ncl 7\nfl 7 0\ncl 7\nb 1\n";
+    let trace = "id 0 t=496 w=00000001 -\nn 1 t=496 w=00000001\nid 1 t=596 w=00000001\n\
+        !9 t=596 w=00000001\nn 1 t=100 w=00000001 0:f7\nn 1 t=0 w=00000001 1:f7\n\
+        !4 t=0 w=00000001\n";
+    traces(&rt, &LOW_200_HIGH_400, script, trace);
+}
+
+#[test]
+fn failing_with_notice_clears_it(rt: HostRuntime) {
+    let script = "b 400\nf\nb 4\ncl 7\nfl 7 1\ncl 7\nb 1\n";
+    let trace = "id 0 t=496 w=00000001 -\nn 1 t=496 w=00000001\nid 1 t=596 w=00000001\n\
+        !9 t=596 w=00000001\nn 1 t=100 w=00000000 + 0:f7\nn 1 t=0 w=00000000 1:f7\n\
+        !4 t=0 w=00000000\n";
+    traces(&rt, &LOW_200_HIGH_400, script, trace);
+}
+
+/// It is settled, but its message is counted among those that are taken away.
+#[test]
+fn close_spares_a_cancelled_promise(rt: HostRuntime) {
+    let trace = "id 0 t=100 w=00000000\nyes t=100 w=00000000 0:x\nn 1 t=0 w=00000000\n\
+        !4 t=0 w=00000000\nsize=0 cur=0 bu=401 bw=0 t=0 w=00000000\n";
+    traces(&rt, &LOW_200_HIGH_400, "b 4\nx 0\ncl 3\ncl 3\n?\n", trace);
+}
+
 /// Each write counts 1 byte and 96 more; the fourth command finds three records.
 #[test]
 fn the_history_limit(rt: HostRuntime) {

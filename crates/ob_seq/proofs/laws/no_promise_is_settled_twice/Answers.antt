@@ -1,5 +1,5 @@
-use Rattle.ob_seq.proofs.Once.{settled_once}
+use Rattle.ob_seq.proofs.Once.{outcome_kept, settled_once}
 use Rattle.ob_seq.proofs.laws.no_promise_is_settled_twice.Goals as goal
 
 pub returns : goal.returns
-returns c = record { once = settled_once }
+returns c = record { once = settled_once; kept = outcome_kept }

@@ -21,7 +21,7 @@ pub returns-clause-ok : goal.returns-clause-ok
 returns-clause-ok c =
     let entry : Entry = record { message = c.args.message; size = c.args.size; progress = 0; voided = false } in
     let inside = c.self.inside in
-    kept_written (record { marks = inside.marks; estimate = inside.estimate }) inside.entries.items inside.flushed inside.promises.items inside.word c.args.size c.args.message
+    kept_written (record { marks = inside.marks; estimate = inside.estimate }) inside.entries.items inside.flushed inside.promises.items inside.word inside.closed c.args.size c.args.message
     c.push_reserved.new.self.items c.push_reserved-2.new.self.items c.after_rise-self-inside.result c.total_of-total.result
     (omega (arith, c.self.invariant.line_within, c.self.inside.entries.ok))
     (c.push_reserved.ensures.items ∙ ap (λ items. items ++ entry ∷ []) c.in_ok-reserve.ensures.items)

@@ -14,7 +14,7 @@ use Rattle.ob_seq.proofs.buffer.Buffer.flush_next.Goals.{then-is_cancelled, else
 
 -- what the fields say once the entry is in line
 abbrev ahead : Inside → Pending
-ahead i = kept (record { marks = i.marks; estimate = i.estimate }) i.entries.items (i.flushed + 1) i.promises.items i.word
+ahead i = kept (record { marks = i.marks; estimate = i.estimate }) i.entries.items (i.flushed + 1) i.promises.items i.word i.closed
 
 pub returns : goal.returns
 returns c =
@@ -34,7 +34,7 @@ returns c =
     elim c.if-is_cancelled.branch [
       | then-is_cancelled w ↦
           ap ahead w.self-inside-is
-          ∙ kept_next marks items inside.flushed promises inside.word true (slice_set items inside.flushed w.void-size.new.entry) promises w.after_fall-self-inside.result w.total_of-total.result within
+          ∙ kept_next marks items inside.flushed promises inside.word inside.closed true (slice_set items inside.flushed w.void-size.new.entry) promises w.after_fall-self-inside.result w.total_of-total.result within
           (ap is_cancelled (sym read) ∙ sym c.is_cancelled.ensures ∙ w.if-is_cancelled.true)
           (λ d. ap (slice_set items inside.flushed) (w.void-size.ensures.after ∙ ap (reached_entry true) (get_or_read items inside.flushed w.index_mut.result.now within w.index_mut.ensures.value d)))
           refl (w.total_of-total.ensures ∙ ap sum_of w.deref.ensures.value)
@@ -43,7 +43,7 @@ returns c =
           ∙ ap next_flushed c.self.view_is
       | else-is_cancelled w ↦
           ap ahead w.self-inside-is
-          ∙ kept_next marks items inside.flushed promises inside.word false items (slice_set promises (c.len.result - (c.len-2.result - inside.flushed)) Fixed) inside.word (sum_of items) within
+          ∙ kept_next marks items inside.flushed promises inside.word inside.closed false items (slice_set promises (c.len.result - (c.len-2.result - inside.flushed)) Fixed) inside.word (sum_of items) within
           (ap is_cancelled (sym read) ∙ sym c.is_cancelled.ensures ∙ w.if-is_cancelled.false)
           (λ d. refl) (ap (λ at. slice_set promises at Fixed) place) refl (λ d. refl)
           ∙ ap next_flushed c.self.view_is

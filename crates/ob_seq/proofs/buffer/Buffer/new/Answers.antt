@@ -5,6 +5,7 @@ use Rattle.ob_seq.proofs.buffer.Buffer.new.Goals as goal
 pub returns-clause-stands : goal.returns-clause-stands
 returns-clause-stands c = record {
   accepted = refl;
+  closed = refl;
   line = refl;
   unflushed = c.new.ensures.items;
   promises = c.new-2.ensures.items;

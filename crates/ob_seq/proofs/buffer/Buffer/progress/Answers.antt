@@ -1,4 +1,4 @@
-use Rattle.std.proofs.Common.{◌≡◌, ℕ, ◌+◌, ◌<◌, ◌≤◌, min, [], ◌∷◌, ◌++◌, List, zero, suc, length, take, get_or, refl, sym, ap, ◌∙◌, subst, arith}
+use Rattle.std.proofs.Common.{◌≡◌, false, ℕ, ◌+◌, ◌<◌, ◌≤◌, min, [], ◌∷◌, ◌++◌, List, zero, suc, length, take, get_or, refl, sym, ap, ◌∙◌, subst, arith}
 use Rattle.std.specs.Prelude.{Ok, slice_set}
 use Rattle.std.proofs.lemmas.List.{length-take, get_or_read}
 use Rattle.ob_types.specs.Change.{change_between}
@@ -25,22 +25,25 @@ too_far first read n same far = omega (arith, far)
 pub returns-then-self-eq0-clause-answer : goal.returns-then-self-eq0-clause-answer
 returns-then-self-eq0-clause-answer c commands stands =
     let now = c.args.self.now in
+    let unclosed : now.closed ≡ false = ap (λ (held : Pending). held.closed) (sym c.self.view_is) ∙ c.if-self.false in
     let inside = c.self.inside in
     let line : length now.line ≡ min inside.flushed (length inside.entries.items) = ap (λ (held : Pending). length held.line) (sym c.self.view_is) ∙ length-take inside.flushed inside.entries.items in
     let none : length now.line ≡ 0 = omega (arith, c.if-self-eq0.true) in
-    sym (answer_of_refused now.settings commands (Progress c.args.n) NothingFlushed (nothing_refused now commands c.args.n stands none))
+    sym (answer_of_refused now.settings commands (Progress c.args.n) now stands unclosed NothingFlushed (nothing_refused now commands c.args.n stands none))
 
 pub returns-then-self-eq0-clause-stands : goal.returns-then-self-eq0-clause-stands
 returns-then-self-eq0-clause-stands c commands stands =
     let now = c.args.self.now in
+    let unclosed : now.closed ≡ false = ap (λ (held : Pending). held.closed) (sym c.self.view_is) ∙ c.if-self.false in
     let inside = c.self.inside in
     let line : length now.line ≡ min inside.flushed (length inside.entries.items) = ap (λ (held : Pending). length held.line) (sym c.self.view_is) ∙ length-take inside.flushed inside.entries.items in
     let none : length now.line ≡ 0 = omega (arith, c.if-self-eq0.true) in
-    stands_refused now.settings now commands (Progress c.args.n) NothingFlushed (nothing_refused now commands c.args.n stands none) stands
+    stands_refused now.settings commands (Progress c.args.n) now stands unclosed NothingFlushed (nothing_refused now commands c.args.n stands none)
 
 pub returns-in_default-clause-answer : goal.returns-in_default-clause-answer
 returns-in_default-clause-answer c commands stands =
     let now = c.args.self.now in
+    let unclosed : now.closed ≡ false = ap (λ (held : Pending). held.closed) (sym c.self.view_is) ∙ c.if-self.false in
     let inside = c.self.inside in
     let line : length now.line ≡ min inside.flushed (length inside.entries.items) = ap (λ (held : Pending). length held.line) (sym c.self.view_is) ∙ length-take inside.flushed inside.entries.items in
     let some : 0 < length now.line = omega (arith, c.if-self-eq0.false, c.self.invariant.line_within, inside.entries.ok) in
@@ -50,11 +53,12 @@ returns-in_default-clause-answer c commands stands =
     ap (λ (held : Pending). first_progress held.line) (sym c.self.view_is) ∙ first_of inside.entries.items inside.flushed c.index.result.now flushed any c.index.ensures in
     let f = fronted now commands stands some in
     let far : 9223372036854775807 < first_progress now.line + c.args.n = too_far (first_progress now.line) c.index.result.now.progress c.args.n front c.in_default.ensures in
-    sym (answer_of_refused now.settings commands (Progress c.args.n) TooFar (far_refused now commands c.args.n stands f far))
+    sym (answer_of_refused now.settings commands (Progress c.args.n) now stands unclosed TooFar (far_refused now commands c.args.n stands f far))
 
 pub returns-in_default-clause-stands : goal.returns-in_default-clause-stands
 returns-in_default-clause-stands c commands stands =
     let now = c.args.self.now in
+    let unclosed : now.closed ≡ false = ap (λ (held : Pending). held.closed) (sym c.self.view_is) ∙ c.if-self.false in
     let inside = c.self.inside in
     let line : length now.line ≡ min inside.flushed (length inside.entries.items) = ap (λ (held : Pending). length held.line) (sym c.self.view_is) ∙ length-take inside.flushed inside.entries.items in
     let some : 0 < length now.line = omega (arith, c.if-self-eq0.false, c.self.invariant.line_within, inside.entries.ok) in
@@ -64,11 +68,12 @@ returns-in_default-clause-stands c commands stands =
     ap (λ (held : Pending). first_progress held.line) (sym c.self.view_is) ∙ first_of inside.entries.items inside.flushed c.index.result.now flushed any c.index.ensures in
     let f = fronted now commands stands some in
     let far : 9223372036854775807 < first_progress now.line + c.args.n = too_far (first_progress now.line) c.index.result.now.progress c.args.n front c.in_default.ensures in
-    stands_refused now.settings now commands (Progress c.args.n) TooFar (far_refused now commands c.args.n stands f far) stands
+    stands_refused now.settings commands (Progress c.args.n) now stands unclosed TooFar (far_refused now commands c.args.n stands f far)
 
 pub returns-clause-answer : goal.returns-clause-answer
 returns-clause-answer c commands stands =
     let now = c.args.self.now in
+    let unclosed : now.closed ≡ false = ap (λ (held : Pending). held.closed) (sym c.self.view_is) ∙ c.if-self.false in
     let inside = c.self.inside in
     let line : length now.line ≡ min inside.flushed (length inside.entries.items) = ap (λ (held : Pending). length held.line) (sym c.self.view_is) ∙ length-take inside.flushed inside.entries.items in
     let some : 0 < length now.line = omega (arith, c.if-self-eq0.false, c.self.invariant.line_within, inside.entries.ok) in
@@ -81,12 +86,13 @@ returns-clause-answer c commands stands =
     let accepted = progress_accepted now commands c.args.n stands f near in
     ap Ok (c.reply.ensures
     ∙ same_reply refl c.no_settlements.ensures (ap (λ (held : Pending). change_between held.word held.word) c.self.view_is)
-    ∙ reply_of_progress now commands c.args.n stands f accepted)
-    ∙ sym (answer_of_accepted now.settings commands (Progress c.args.n) accepted)
+    ∙ reply_of_progress now commands c.args.n stands f unclosed accepted)
+    ∙ sym (answer_of_accepted now.settings commands (Progress c.args.n) now stands unclosed accepted)
 
 pub returns-clause-stands : goal.returns-clause-stands
 returns-clause-stands c commands stands =
     let now = c.args.self.now in
+    let unclosed : now.closed ≡ false = ap (λ (held : Pending). held.closed) (sym c.self.view_is) ∙ c.if-self.false in
     let inside = c.self.inside in
     let line : length now.line ≡ min inside.flushed (length inside.entries.items) = ap (λ (held : Pending). length held.line) (sym c.self.view_is) ∙ length-take inside.flushed inside.entries.items in
     let some : 0 < length now.line = omega (arith, c.if-self-eq0.false, c.self.invariant.line_within, inside.entries.ok) in
@@ -97,11 +103,11 @@ returns-clause-stands c commands stands =
     let f = fronted now commands stands some in
     let near : first_progress now.line + c.args.n ≤ 9223372036854775807 = subst (λ (p : ℕ). p + c.args.n ≤ 9223372036854775807) (sym front) c.in-Some.ensures.0 in
     let accepted = progress_accepted now commands c.args.n stands f near in
-    let after = kept_changed (record { marks = inside.marks; estimate = inside.estimate }) inside.entries.items inside.flushed inside.promises.items inside.word (progressed_entry c.args.n)
+    let after = kept_changed (record { marks = inside.marks; estimate = inside.estimate }) inside.entries.items inside.flushed inside.promises.items inside.word inside.closed (progressed_entry c.args.n)
     (slice_set inside.entries.items 0 (record c.index_mut.result.now { progress = c.in-Some.sum })) flushed any
     (λ d. ap (λ sum. slice_set inside.entries.items 0 (record c.index_mut.result.now { progress = sum })) c.in-Some.ensures.1
     ∙ ap (λ (e : Entry). slice_set inside.entries.items 0 (record e { progress = c.index.result.now.progress + c.args.n })) (get_or_read inside.entries.items 0 c.index_mut.result.now any c.index_mut.ensures.value d)
     ∙ ap (λ (e : Entry). slice_set inside.entries.items 0 (record (get_or inside.entries.items 0 d) { progress = e.progress + c.args.n })) (get_or_read inside.entries.items 0 c.index.result.now any c.index.ensures d))
     ∙ ap (front_changed (progressed_entry c.args.n)) c.self.view_is in
-    stands_accepted now.settings _ commands (Progress c.args.n) accepted
-    (subst (λ (held : Pending). StandsFor held (commands ++ Progress c.args.n ∷ [])) (sym after) (progressed_stands_for now commands c.args.n stands f accepted))
+    stands_accepted now.settings commands (Progress c.args.n) now stands unclosed _ accepted
+    (subst (λ (held : Pending). StandsFor held (commands ++ Progress c.args.n ∷ [])) (sym after) (progressed_stands_for now commands c.args.n stands f unclosed accepted))

@@ -1,0 +1,80 @@
+-- The user bits as a number in binary.
+use Rattle.std.proofs.Common.{◌≡◌, ℕ, zero, suc, ◌+◌, ◌*◌, ◌^◌, ◌/◌, ◌%◌, ◌<◌, ◌≤◌, Bool, true, false, refl, sym, ap, ◌∙◌, cond, arith, add-zero, add-one}
+use Rattle.std.specs.Prelude.{sum_by}
+use Rattle.std.specs.List.{range_with_len}
+use Rattle.std.specs.Int.{bit_at}
+use Rattle.std.proofs.lemmas.List.Sums.{sum_by-cons}
+use Rattle.std.proofs.lemmas.Nat.Bits.{bit_at_lowest, bit_at-suc, bit_at-zero}
+use Rattle.std.proofs.Math.Nat.{pow-suc, mul_assoc, mul-add, mul-zero}
+use Rattle.ob_seq.specs.Word.{bit_value, user_bits}
+
+-- a digit of the binary system
+abbrev pub digit : Bool → ℕ
+digit bit = cond bit 1 0
+
+-- the number whose digits from the lowest on are so many of these, the first at from
+abbrev pub number : (ℕ → Bool) → ℕ → ℕ → ℕ
+number bit from zero = 0
+number bit from (suc count) = digit (bit from) + 2 * number bit (from + 1) count
+
+value_is : (set : Bool) (power more : ℕ) → cond set power 0 + power * 2 * more ≡ power * (digit set + 2 * more)
+value_is true power more =
+    let whole = mul-add power 1 (2 * more) in
+    let part = mul_assoc power 2 more in
+    omega (arith, whole, part)
+value_is false power more =
+    let whole = mul-add power 0 (2 * more) in
+    let part = mul_assoc power 2 more in
+    omega (arith, whole, part)
+
+-- the bits of these indexes count as much as that number, moved up to the first index
+sum_is : (bit : ℕ → Bool) (from count : ℕ) → sum_by (λ index. bit_value index (bit index)) (range_with_len from count) ≡ 2 ^ from * number bit from count
+sum_is bit from zero = sym (mul-zero (2 ^ from))
+sum_is bit from (suc count) =
+    sum_by-cons (λ index. bit_value index (bit index)) from (range_with_len (from + 1) count)
+    ∙ ap (λ rest. bit_value from (bit from) + rest) (sum_is bit (from + 1) count ∙ ap (λ power. power * number bit (from + 1) count) (next_power from))
+    ∙ value_is (bit from) (2 ^ from) (number bit (from + 1) count)
+  where
+    next_power : (n : ℕ) → 2 ^ (n + 1) ≡ 2 ^ n * 2
+    next_power n = ap (λ k. 2 ^ k) (add-one n) ∙ pow-suc 2 n
+
+-- the user bits without the mark's place
+abbrev pub half_bits : (ℕ → Bool) → ℕ
+half_bits bit = number bit 1 31
+
+-- user bits are even
+pub user_bits_even : (bit : ℕ → Bool) → user_bits bit ≡ half_bits bit * 2
+unfolding user_bits
+user_bits_even bit = sum_is bit 1 31 ∙ twice (half_bits bit)
+  where
+    twice : (n : ℕ) → 2 * n ≡ n * 2
+    twice n = omega arith
+
+lowest : (bit : Bool) (more : ℕ) → (digit bit + 2 * more) % 2 ≡ digit bit
+lowest true more = omega arith
+lowest false more = omega arith
+
+others : (bit : Bool) (more : ℕ) → (digit bit + 2 * more) / 2 ≡ more
+others true more = omega arith
+others false more = omega arith
+
+-- each digit of it
+pub digit_at : (bit : ℕ → Bool) (from count i : ℕ) → i < count → bit_at (number bit from count) i ≡ digit (bit (from + i))
+digit_at bit from zero i within = absurd (omega arith)
+digit_at bit from (suc count) zero within =
+    bit_at_lowest (number bit from (suc count)) ∙ lowest (bit from) (number bit (from + 1) count) ∙ ap (λ at. digit (bit at)) (sym (add-zero from))
+digit_at bit from (suc count) (suc i) within =
+    bit_at-suc (number bit from (suc count)) i ∙ ap (λ n. bit_at n i) (others (bit from) (number bit (from + 1) count))
+    ∙ digit_at bit (from + 1) count i (omega arith) ∙ ap (λ at. digit (bit at)) (omega arith)
+
+pub no_digit_at : (bit : ℕ → Bool) (from count i : ℕ) → count ≤ i → bit_at (number bit from count) i ≡ 0
+no_digit_at bit from zero i past = bit_at-zero i
+no_digit_at bit from (suc count) zero past = absurd (omega arith)
+no_digit_at bit from (suc count) (suc i) past =
+    bit_at-suc (number bit from (suc count)) i ∙ ap (λ n. bit_at n i) (others (bit from) (number bit (from + 1) count)) ∙ no_digit_at bit (from + 1) count i (omega arith)
+
+-- numbers of the same digits are the same
+pub same_number : (bit other : ℕ → Bool) → ((index : ℕ) → bit index ≡ other index) → (from count : ℕ) → number bit from count ≡ number other from count
+same_number bit other same from zero = refl
+same_number bit other same from (suc count) =
+    ap (λ first. digit first + 2 * number bit (from + 1) count) (same from) ∙ ap (λ more. digit (other from) + 2 * more) (same_number bit other same (from + 1) count)

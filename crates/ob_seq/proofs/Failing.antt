@@ -1,0 +1,94 @@
+-- A buffer whose line was taken away as failed stands for the history with the failing.
+use Rattle.std.proofs.Common.{◌≡◌, ◌+◌, Bool, false, List, [], ◌∷◌, ◌++◌, length, map, refl, sym, ap, ◌∙◌, append_assoc, append-nil, subst, zero-add}
+use Rattle.std.proofs.lemmas.List.{length-map}
+use Rattle.ob_types.specs.Change.{change_between}
+use Rattle.ob_types.specs.declared.command.Command.{Command}
+use Rattle.ob_types.specs.declared.command.Command.TheVariants.{FailFlushed}
+use Rattle.ob_types.specs.declared.promise.Cause.{Cause}
+use Rattle.ob_types.specs.declared.promise.Outcome.{Outcome}
+use Rattle.ob_types.specs.declared.promise.Outcome.TheVariants.{Failed}
+use Rattle.ob_types.specs.declared.reply.Answer.TheVariants.{Count}
+use Rattle.ob_seq.specs.Row.{Row}
+use Rattle.ob_seq.specs.Line.{line}
+use Rattle.ob_seq.specs.Effect.{effect, rows_after, taken_row, failed_row}
+use Rattle.ob_seq.specs.Moment.{moments_along, moments_of, moments_after}
+use Rattle.ob_seq.specs.Word.{word_after}
+use Rattle.ob_seq.specs.Answer.{settlements_from, settlements_of, reply_of}
+use Rattle.ob_seq.specs.Pending.{Pending, StandsFor, entry_of}
+use Rattle.ob_seq.specs.Steps.{entry_settlements, failing_reply, front_id, front_taken, line_failed, times}
+use Rattle.ob_seq.proofs.Acceptance.{open_history, same_reply}
+use Rattle.ob_seq.proofs.Along.{moments_along_same, settlements_from_same, settlements_behind}
+use Rattle.ob_seq.proofs.Held.{Held, held_of, front_id_is, line_count, stands_by, word_by_moments}
+use Rattle.ob_seq.proofs.History.{rows_after_more, accepted_more}
+use Rattle.ob_seq.proofs.Marks.{half_after, word_with_moments}
+use Rattle.ob_seq.proofs.Order.{Layout, layout_of, failed_parts}
+use Rattle.ob_seq.proofs.Sent.{all_taken, settlements_of_taken}
+
+module _ (buffer : Pending) (commands : List Command) (cause : Cause) (notice : Bool) (stands : StandsFor buffer commands) (unclosed : buffer.closed ≡ false) where
+  abbrev failing : Command
+  failing = FailFlushed cause notice
+
+  abbrev outcome : Outcome
+  outcome = Failed cause
+
+  abbrev rows : List Row
+  rows = rows_after buffer.settings.estimate commands
+
+  abbrev layout : Layout rows
+  layout = layout_of buffer.settings.estimate commands
+
+  abbrev now : List Row
+  now = map (taken_row outcome) layout.standing
+
+  abbrev after : Pending
+  after = line_failed cause notice buffer
+
+  held : Held buffer layout.gone layout.standing layout.fresh
+  held = held_of buffer commands stands
+
+  effect_of_failing : effect buffer.settings.estimate rows failing ≡ layout.gone ++ (now ++ layout.fresh)
+  effect_of_failing = ap (map (failed_row cause)) layout.is ∙ failed_parts cause layout.gone layout.standing layout.fresh layout.all_gone layout.all_standing layout.all_fresh
+
+  moments_of_failing : moments_of buffer.settings.estimate rows failing ≡ moments_along notice layout.gone (layout.standing ++ layout.fresh) (now ++ layout.fresh)
+  moments_of_failing =
+      ap (moments_along notice [] rows) effect_of_failing
+      ∙ ap (λ before. moments_along notice [] before (layout.gone ++ (now ++ layout.fresh))) layout.is
+      ∙ moments_along_same notice [] layout.gone (layout.standing ++ layout.fresh) (now ++ layout.fresh)
+
+  settlements_of_failing : settlements_of buffer.settings.estimate rows failing ≡ entry_settlements outcome (front_id buffer) buffer.line
+  settlements_of_failing =
+      ap (settlements_from 0 rows) effect_of_failing
+      ∙ ap (λ before. settlements_from 0 before (layout.gone ++ (now ++ layout.fresh))) layout.is
+      ∙ settlements_from_same 0 layout.gone (layout.standing ++ layout.fresh) (now ++ layout.fresh)
+      ∙ ap (λ id. settlements_from id (layout.standing ++ layout.fresh) (now ++ layout.fresh)) (zero-add (length layout.gone))
+      ∙ settlements_of_taken outcome (length layout.gone) layout.standing layout.fresh layout.fresh layout.all_standing (settlements_behind (length layout.gone + length layout.standing) layout.fresh)
+      ∙ ap (λ id. entry_settlements outcome id (map entry_of layout.standing)) (sym (front_id_is buffer layout.gone layout.standing layout.fresh held))
+      ∙ ap (entry_settlements outcome (front_id buffer)) (sym held.line)
+
+  -- the line taken away, one entry after another
+  taken : Held after (layout.gone ++ now) [] layout.fresh × (after.word ≡ word_after buffer.settings (commands ++ failing ∷ [])) × (after.settings ≡ buffer.settings) × (after.closed ≡ buffer.closed)
+  taken =
+      let all = all_taken notice outcome layout.standing buffer layout.gone [] layout.fresh (half_after commands) (moments_after buffer.settings.estimate commands)
+      (subst (λ (standing : List Row). Held buffer layout.gone standing layout.fresh) (sym (append-nil layout.standing)) held) (word_by_moments buffer commands stands) in
+      let count : times (length layout.standing) (front_taken notice outcome) buffer ≡ after =
+      ap (λ n. times n (front_taken notice outcome) buffer) (sym (line_count buffer layout.gone layout.standing layout.fresh held)) in (
+        subst (λ (end : Pending). Held end (layout.gone ++ now) [] layout.fresh) count all.0,
+        ap (λ (end : Pending). end.word) (sym count) ∙ all.1
+            ∙ word_with_moments buffer.settings commands failing (moments_along notice layout.gone (layout.standing ++ layout.fresh) (now ++ layout.fresh)) (λ index. refl) moments_of_failing,
+        ap (λ (end : Pending). end.settings) (sym count) ∙ all.2,
+        ap (λ (end : Pending). end.closed) (sym count) ∙ all.3,
+      )
+
+  -- the buffer stands for the history with the failing
+  pub failing_stands : StandsFor after (commands ++ failing ∷ [])
+  failing_stands = stands_by after buffer.settings commands failing (layout.gone ++ now) [] layout.fresh taken.2
+      (open_history buffer.settings commands failing buffer stands unclosed) (taken.3 ∙ unclosed)
+      (accepted_more buffer.settings.estimate commands failing (open_history buffer.settings commands failing buffer stands unclosed) stands.accepted refl) taken.0
+      (rows_after_more buffer.settings.estimate commands failing ∙ effect_of_failing ∙ sym (append_assoc layout.gone now layout.fresh))
+      taken.1
+
+  -- its reply
+  pub reply_of_failing : failing_reply cause notice buffer ≡ reply_of buffer.settings commands failing
+  reply_of_failing =
+      same_reply (ap Count (ap length stands.line ∙ length-map (line rows) entry_of)) (sym settlements_of_failing)
+      (ap (change_between buffer.word) taken.1 ∙ ap (λ before. change_between before (word_after buffer.settings (commands ++ failing ∷ []))) stands.word)

@@ -1,0 +1,34 @@
+ghost use Rattle.std.specs.Prelude.{◌≡◌, IsErrOf, OnErr};
+ghost use Rattle.ob_types.specs.declared.command.Command.TheVariants.{FailFlushed};
+ghost use Rattle.ob_seq.specs.Pending.{Answers, Follows, Accepts};
+ghost use Rattle.ob_seq.specs.Settles.{SparesMemory};
+
+use crate::buffer::Buffer;
+use ob_types::{Answer, Cause, Outcome, Refusal, Reply};
+
+impl Buffer {
+    /// Takes all flushed messages away, oldest first, as failed for this cause (Netty's `failFlushed`), and answers how
+    /// many they were, voided ones too. The promise of each that was not voided fails. Where `notify` is not set the
+    /// pending bytes fall without notice: the word stays as it was, below the low mark too.
+    ///
+    /// `Closed` comes where the buffer is closed, and then `NoMemory` where more than four promises are settled and the
+    /// allocator refused; both leave all as it was.
+    pub fn fail_flushed(&mut self, cause: Cause, notify: bool) -> Result<Reply, Refusal>
+        ensures answer { ¬ IsErrOf result Refusal.NoMemory → Answers self.old (FailFlushed cause notify) result }
+        ensures stands { ¬ IsErrOf result Refusal.NoMemory → Follows self.old (FailFlushed cause notify) self.new }
+        ensures settings { self.new.settings ≡ self.old.settings }
+        ensures no_memory { IsErrOf result Refusal.NoMemory → self.new ≡ self.old }
+        ensures no_memory_last { IsErrOf result Refusal.NoMemory → Accepts self.old (FailFlushed cause notify) }
+        ensures spares { SparesMemory self.old (FailFlushed cause notify) result }
+        ensures refused { OnErr result (self.new ≡ self.old) }
+    {
+        if self.closed {
+            return Err(Refusal::Closed);
+        }
+        let count = self.flushed;
+        let settled = self.settlements(count, Outcome::Failed(cause))?;
+        let before = self.word;
+        self.take_first(count, Outcome::Failed(cause), notify);
+        Ok(self.reply(Answer::Count(count as u32), settled, before))
+    }
+}
