@@ -20,8 +20,9 @@ pub struct Receipt {
 }
 
 impl Receipt {
-    /// The same receipt, of which a written block shares its memory. It fails for want of memory alone, and not
-    /// where the command writes no block and its reply settles at most four promises.
+    /// The same receipt, of which a written block shares its memory. It fails where the allocator refused, or the block
+    /// has more owners than can be counted, and not where the command writes no block and its reply settles at most four
+    /// promises.
     pub fn copy(&self) -> Result<Receipt, AllocError>
         ensures same { IfOk result (λ copy. copy ≡ self.now) }
         ensures succeeds { carries_shared self.now.command ≡ false → length (settled_by self.now.reply) ≤ 4

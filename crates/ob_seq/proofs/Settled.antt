@@ -25,9 +25,9 @@ use Rattle.ob_seq.specs.declared.buffer.cut.Cut.{Cut}
 use Rattle.ob_seq.specs.declared.entry.Entry.{Entry}
 use Rattle.ob_seq.specs.Pieces.{bytes_in, pieces_within}
 use Rattle.ob_seq.specs.ByteRun.{is_block, block_bytes}
-use Rattle.ob_seq.specs.Pending.{Pending, StandsFor, blocks_left, settled_by_bytes}
+use Rattle.ob_seq.specs.Pending.{Pending, StandsFor, blocks_left}
 use Rattle.ob_seq.specs.Settles.{settled_after, settled_by}
-use Rattle.ob_seq.specs.Steps.{bytes_settled, closing_settled, cut_of, front_id, is_first_voided, removal_reply, unflushed_id}
+use Rattle.ob_seq.specs.Steps.{bytes_settled, closing_settled, cut_of, front_id, is_first_voided, removal_reply, settled_by_bytes, unflushed_id}
 use Rattle.ob_seq.proofs.Acceptance.{settled_of_accepted, settled_of_refused}
 use Rattle.ob_seq.proofs.Along.{settlement_same}
 use Rattle.ob_seq.proofs.BytesRemoved.{bytes_refused, bytes_accepted, bytes_removed_stand}

@@ -1,5 +1,5 @@
 -- What a contract sees of a buffer, and the history that it stands for.
-use Rattle.std.specs.Prelude.{◌≡◌, ℕ, Bool, true, false, not, count_by, filter, List, map, take, Result, [], None, Option}
+use Rattle.std.specs.Prelude.{◌≡◌, ℕ, Bool, true, false, not, filter, List, map, Result, [], None, Option}
 use Rattle.ob_types.specs.declared.command.Command.{Command}
 use Rattle.ob_types.specs.declared.command.Command.TheVariants.{Write, Flush, Remove, RemoveWith, RemoveBytes, Progress, Cancel, FailFlushed, Close, UserBit}
 use Rattle.ob_types.specs.declared.promise.PromiseState.{PromiseState}
@@ -10,7 +10,6 @@ use Rattle.ob_seq.specs.Settings.{Settings}
 use Rattle.ob_seq.specs.Row.{Row, unread_part, is_voided}
 use Rattle.ob_seq.specs.Line.{line, unflushed}
 use Rattle.ob_seq.specs.Total.{counted_size}
-use Rattle.ob_seq.specs.Pieces.{pieces_within}
 use Rattle.ob_seq.specs.ByteRun.{blocks_in_front}
 use Rattle.ob_seq.specs.Effect.{rows_after}
 use Rattle.ob_seq.specs.Closed.{is_closed}
@@ -36,7 +35,8 @@ pub record Pending : Type 0 where
 abbrev pub entry_of : Row → Entry
 entry_of row = record { message = unread_part row; size = counted_size row; progress = row.progress; voided = is_voided row.place }
 
--- a buffer stands for a history where each command of it was accepted and the buffer holds what the rows after them say
+-- a buffer stands for a history where each command of it was accepted, the buffer holds what the rows and the moments
+-- after them say, and it is closed where one of them is a close
 pub record StandsFor (buffer : Pending) (commands : List Command) : Type 0 where
   pub accepted : are_accepted buffer.settings.estimate [] commands ≡ true
   pub closed : buffer.closed ≡ is_closed commands
@@ -84,11 +84,6 @@ AreGathered buffer max_count max_bytes blocks = (commands : List Command) → St
 -- the bytes left in each entry in line before the first that is no block
 abbrev pub blocks_left : List Entry → List (List ℕ)
 blocks_left entries = blocks_in_front (map (λ entry. entry.message) entries)
-
--- how many promises a removal of n bytes settles where it is accepted: those of the entries that it takes away whole
--- and that were not voided
-abbrev pub settled_by_bytes : ℕ → List Entry → ℕ
-settled_by_bytes n line = count_by (λ entry. not entry.voided) (take (pieces_within n (blocks_left line)) line)
 
 -- whether a command is never in want of memory
 abbrev pub takes_no_memory : Command → Bool

@@ -1,5 +1,5 @@
 -- What one call does to what a buffer holds, step by step. No public clause cites this module.
-use Rattle.std.specs.Prelude.{ℕ, ◌^◌, count_by, map, bit_and, bit_or, ◌+◌, ◌-◌, ◌*◌, ◌/◌, ◌&&◌, Bool, true, false, List, [], ◌∷◌, ◌++◌, length, drop, sum_by, slice_set, nat_lt, if◌then◌else◌, zero, suc, slice_index_or, take, min, Option, Some, None}
+use Rattle.std.specs.Prelude.{ℕ, ◌^◌, count_by, not, map, bit_and, bit_or, ◌+◌, ◌-◌, ◌*◌, ◌/◌, ◌&&◌, Bool, true, false, List, [], ◌∷◌, ◌++◌, length, drop, sum_by, slice_set, nat_lt, if◌then◌else◌, zero, suc, slice_index_or, take, min, Option, Some, None}
 use Rattle.std.specs.Int.{bit_not, w32}
 use Rattle.ob_types.specs.WaterMark.{Marks}
 use Rattle.ob_types.specs.declared.message.Message.{Message}
@@ -12,7 +12,7 @@ use Rattle.ob_seq.specs.declared.buffer.cut.Cut.{Cut}
 use Rattle.ob_seq.specs.Answer.{is_waiting}
 use Rattle.ob_seq.specs.Effect.{failed}
 use Rattle.ob_seq.specs.Word.{bit_value}
-use Rattle.ob_seq.specs.Pending.{Pending, blocks_left, settled_by_bytes}
+use Rattle.ob_seq.specs.Pending.{Pending, blocks_left}
 use Rattle.ob_seq.specs.Row.{is_cancelled, without_skipped}
 use Rattle.ob_seq.specs.Pieces.{bytes_in, pieces_within}
 use Rattle.ob_seq.specs.ByteRun.{block_bytes}
@@ -184,6 +184,11 @@ bytes_reply cut old = record {
   settled = entry_settlements Success (front_id old) (take cut.whole old.line);
   change = change_between old.word (bytes_removed cut old).word;
 }
+
+-- how many promises a removal of n bytes settles where it is accepted: those of the entries that it takes away whole
+-- and that were not voided
+abbrev pub settled_by_bytes : ℕ → List Entry → ℕ
+settled_by_bytes n line = count_by (λ entry. not entry.voided) (take (pieces_within n (blocks_left line)) line)
 
 -- how many promises a removal of n bytes settles: none where the blocks in front hold fewer
 abbrev pub bytes_settled : ℕ → List Entry → ℕ

@@ -10,7 +10,7 @@ pub struct Look {
     /// How many bytes more make a writable buffer unwritable, else 0 (Netty's `bytesBeforeUnwritable`).
     pub before_unwritable: u32,
     /// How many bytes fewer bring an unwritable buffer below the low mark, and one more than are pending where that
-    /// mark is 0 (Netty's `bytesBeforeWritable`); 0 where it is writable or below.
+    /// mark is 0, at most 4294967295 (Netty's `bytesBeforeWritable`); 0 where it is writable or below.
     pub before_writable: u32,
     /// The progress of the first flushed message, or 0 where there is none (Netty's `currentProgress`).
     pub current_progress: u64,

@@ -44,6 +44,7 @@ pub fn request_of<'a, S: AsStr>(alloc: Global, words: &'a [S]) -> Result<Request
         )?;
         return Ok(Request::Core(marks));
     }
+    // `clap` lets no command line through that names neither, but none of its clauses says so.
     let Some(given) = matches.subcommand_matches("run") else {
         return Ok(Request::Run(options(LOW, HIGH, OVERHEAD, UNKNOWN, MAX_RECORDS)?));
     };

@@ -27,7 +27,7 @@ pub enum LineWord {
     Progress,
     /// `x ID`: cancel the promise ID.
     Cancel,
-    /// `fl C V`: fail all flushed messages with the cause C, and tell of it where V is 1.
+    /// `fl C V`: fail all flushed messages with the cause C, with notice of the fall where V is 1.
     FailFlushed,
     /// `cl C`: close with the cause C.
     Close,

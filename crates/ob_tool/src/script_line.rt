@@ -21,7 +21,7 @@ pub enum ScriptLine {
     Progress(u64),
     /// Cancel a promise.
     Cancel(PromiseId),
-    /// Fail all flushed messages with a cause, and tell of it where the second is set.
+    /// Fail all flushed messages with a cause, with notice of the fall where the second is set.
     FailFlushed(Cause, bool),
     /// Close with a cause.
     Close(Cause),

@@ -18,11 +18,11 @@ pub enum Command {
     Progress(u64),
     /// Takes a promise back, unless a flush has fixed it (Netty's `Future.cancel`).
     Cancel(PromiseId),
-    /// Takes all flushed messages away, as failed for this cause, and tells of it where the second is set (Netty's
-    /// `failFlushed`).
+    /// Takes all flushed messages away, as failed for this cause; the pending bytes fall with notice where the second is
+    /// set, and without where it is not (Netty's `failFlushed`).
     FailFlushed(Cause, bool),
-    /// Takes all messages away that no flush has reached, as failed for this cause, and refuses every later command
-    /// (Netty's `close`).
+    /// Takes all messages away that no flush has reached, fails for this cause those of their promises that still wait,
+    /// and refuses every later command (Netty's `close`).
     Close(Cause),
     /// Sets the user bit of this index where the second is not set, and clears it where it is (Netty's
     /// `setUserDefinedWritability`).

@@ -39,7 +39,7 @@ pub enum Refusal {
     /// The history holds as many records as it may, or has fewer places left than are to be reserved.
     #[error("the history is full")]
     HistoryFull,
-    /// The allocator refused memory.
+    /// The allocator refused memory, or a block has more owners than can be counted.
     #[error("out of memory")]
     NoMemory,
 }

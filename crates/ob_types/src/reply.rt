@@ -14,7 +14,8 @@ pub struct Reply {
 pub enum Answer {
     /// Of a write: the promise of the message.
     Id(PromiseId),
-    /// Of a flush: how many messages it flushed. Of a removal of bytes: how many messages it took away.
+    /// Of a flush: how many messages it flushed. Of a removal of bytes, a failing and a close: how many messages it
+    /// took away, voided ones too.
     Count(u32),
     /// Of a removal: whether there was a flushed message. Of a cancellation: whether it came in time.
     Yes(bool),

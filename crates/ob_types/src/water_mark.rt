@@ -9,8 +9,8 @@ const MAX_MARK: u32 = 2147483647;
 
 /// The two marks of a buffer, in bytes (Netty's `WriteBufferWaterMark`).
 ///
-/// A buffer becomes unwritable when its pending bytes rise above the high mark, and writable again when they
-/// fall below the low mark. The low mark is at most the high mark, and both are at most 2147483647.
+/// The mark of a buffer is set when its pending bytes rise above the high mark, and cleared when they fall below the
+/// low mark with notice. The buffer is writable while neither the mark nor a user bit is set. The low mark is at most the high mark, and both are at most 2147483647.
 #[derive(Clone, Copy, Debug, PartialEq, Eq)]
 pub struct WaterMark {
     low: u32,

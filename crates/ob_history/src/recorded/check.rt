@@ -28,8 +28,8 @@ impl Recorded {
     }
 
     /// Whether the look is that of a new buffer after the first `place` records, and so many records are there. It
-    /// gives a new buffer their commands, and changes nothing here. `NoMemory` comes where the allocator refused, and not where
-    /// fewer records are there.
+    /// gives a new buffer their commands, and changes nothing here. `NoMemory` comes where the allocator refused, or a
+    /// block has more owners than can be counted, and not where fewer records are there.
     pub fn check_seen(&self, seen: &Seen) -> Result<bool, Refusal>
         ensures answer { IfOk result (λ answer. IsTrue answer ↔ IsSeenIn self.now.settings self.now.records seen.now) }
         ensures no_memory { IsOkUnless result Refusal.NoMemory }

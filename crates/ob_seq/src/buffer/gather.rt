@@ -1,6 +1,7 @@
-ghost use Rattle.std.specs.Prelude.{◌≡◌, [], nat_le, nat_lt, ◌||◌, ◌&&◌, IfOk, IfErr, IsOk};
-ghost use Rattle.ob_seq.specs.Gathering.{first_blocks, with_bytes};
-ghost use Rattle.ob_seq.specs.Pending.{AreGathered, blocks_left};
+ghost use Rattle.std.specs.Prelude.{◌≡◌, [], List, nat_le, nat_lt, ◌||◌, ◌&&◌, IfOk, IfErr, IsOk};
+ghost use Rattle.ob_types.specs.declared.command.Command.{Command};
+ghost use Rattle.ob_seq.specs.Gathering.{gathered_after};
+ghost use Rattle.ob_seq.specs.Pending.{AreGathered, StandsFor};
 
 use crate::buffer::Buffer;
 use bytes::Bytes;
@@ -9,14 +10,16 @@ use ob_types::{Message, Refusal};
 impl Buffer {
     /// The flushed blocks in front that can be sent at once (Netty's `nioBuffers`): those that hold a byte, up to the
     /// first message that is no block, at most `max_count` of them, and together at most `max_bytes` bytes; but the
-    /// first of them in any case. They share their memory with the buffer, which stays as it is.
+    /// first of them however long it is, and none where `max_count` is 0. They share their memory with the buffer, which
+    /// stays as it is.
     ///
     /// It takes memory for the list alone. `NoMemory` comes where the allocator refused or a block has more
     /// owners than can be counted, and not where nothing is gathered.
     pub fn gather(&self, max_count: u32, max_bytes: u32) -> Result<Vec<Bytes>, Refusal>
         ensures blocks { IfOk result (λ blocks. AreGathered self.now max_count max_bytes blocks.items) }
         ensures no_memory { IfErr result (λ refusal. refusal ≡ Refusal.NoMemory) }
-        ensures frugal { first_blocks max_count max_bytes (with_bytes (blocks_left self.now.line)) ≡ [] → IsOk result }
+        ensures frugal { (commands : List Command) → StandsFor self.now commands
+            → gathered_after self.now.settings commands max_count max_bytes ≡ [] → IsOk result }
     {
         let mut gathered = Vec::new(*self.entries.allocator());
         let mut room = u64::from(max_bytes);

@@ -59,7 +59,8 @@ pushed max_count room room' items items' block blocks same left =
     ∙ ap (λ r. items' ++ gather_from max_count (length items') r blocks) (sym left)
 
 pub returns-in_err-clone-clause-frugal : goal.returns-in_err-clone-clause-frugal
-returns-in_err-clone-clause-frugal c none =
+returns-in_err-clone-clause-frugal c commands stands nothing =
+    let none = ap (λ run. first_blocks c.args.max_count c.args.max_bytes (with_bytes run)) (sym (run_is c.args.self.now commands stands)) ∙ nothing in
     let line = seen c.args.self.now c.deref.result.now c.self.inside.entries.items c.self.inside.flushed c.deref.ensures.value (ap (λ (held : Pending). held.line) (sym c.self.view_is)) in
     let left = block_seen c.args.self.now.line (take c.self.inside.flushed c.deref.result.now) c.loop-entry.entry-index c.entry-item.result c.in-Block.bytes line c.loop-entry-test.true c.entry-item.is c.in-Block.is in
     let items = c.loop-entry.gathered.items in
@@ -71,7 +72,8 @@ returns-in_err-clone-clause-frugal c none =
     (first_blocks_are c.args.max_count c.args.max_bytes (blocks_left c.args.self.now.line) ∙ none))
 
 pub returns-in_err-push-clause-frugal : goal.returns-in_err-push-clause-frugal
-returns-in_err-push-clause-frugal c none =
+returns-in_err-push-clause-frugal c commands stands nothing =
+    let none = ap (λ run. first_blocks c.args.max_count c.args.max_bytes (with_bytes run)) (sym (run_is c.args.self.now commands stands)) ∙ nothing in
     let line = seen c.args.self.now c.deref.result.now c.self.inside.entries.items c.self.inside.flushed c.deref.ensures.value (ap (λ (held : Pending). held.line) (sym c.self.view_is)) in
     let left = block_seen c.args.self.now.line (take c.self.inside.flushed c.deref.result.now) c.loop-entry.entry-index c.entry-item.result c.in-Block.bytes line c.loop-entry-test.true c.entry-item.is c.in-Block.is in
     let items = c.loop-entry.gathered.items in
