@@ -1,5 +1,12 @@
+pub mod AccountsLemmas
+pub mod BitLemmas
+pub mod FoundLemmas
+pub mod Kept
+pub mod LaneSums
 pub mod LawLemmas
 pub mod Masks
-pub mod RunLemmas
+pub mod OpeningLemmas
+pub mod ShareLemmas
 pub mod SoundLemmas
+pub mod StepLemmas
 pub mod TurnLemmas

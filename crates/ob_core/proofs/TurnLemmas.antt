@@ -148,3 +148,11 @@ phase-lane_after_nothing lane (Bit index writable) = refl
 phase-lane_after_nothing lane Word = refl
 phase-lane_after_nothing lane Total = refl
 phase-lane_after_nothing lane Go = refl
+
+pub raised-lane_after_nothing : (lane : Lane) (ask : Ask) → (lane_after_nothing lane ask).raised ≡ lane.raised
+raised-lane_after_nothing lane (Charge amount) = refl
+raised-lane_after_nothing lane Discharge = refl
+raised-lane_after_nothing lane (Bit index writable) = refl
+raised-lane_after_nothing lane Word = refl
+raised-lane_after_nothing lane Total = refl
+raised-lane_after_nothing lane Go = refl

@@ -1,15 +1,33 @@
--- One bit of a word.
-use Rattle.std.specs.Prelude.{ℕ, ◌^◌, Bool, ◌==◌, bit_and, bit_or}
-use Rattle.std.specs.Int.{bit_at, bit_not, w32}
+-- The bits of a word. A word is a number of any width, and its lowest bit has index 0.
+use Rattle.std.specs.Prelude.{◌≡◌, ◌≢◌, ℕ, ◌+◌, ◌-◌, ◌^◌, ◌≤◌, Bool, ◌==◌, if◌then◌else◌}
+use Rattle.std.specs.Int.{bit_at}
 
 -- whether the bit with this index is set
 abbrev pub is_set : ℕ → ℕ → Bool
 is_set word index = bit_at word index == 1
 
--- the word with that bit set, and all others as they were
+-- the word with that bit set: what the bit counts is added, unless it is there
 abbrev pub with_bit : ℕ → ℕ → ℕ
-with_bit word index = bit_or word (2 ^ index)
+with_bit word index = if is_set word index then word else word + 2 ^ index
 
--- the word of 32 bits with that bit cleared, and all others as they were
+-- the word with that bit cleared: what the bit counts is taken off, if it is there
 abbrev pub without_bit : ℕ → ℕ → ℕ
-without_bit word index = bit_and word (bit_not w32 (2 ^ index))
+without_bit word index = if is_set word index then word - 2 ^ index else word
+
+-- a new word has this bit set, and each other bit as the old word has it
+pub record SetsBit (old index new : ℕ) : Type 0 where
+  pub here : bit_at new index ≡ 1
+  pub others : (other : ℕ) → other ≢ index → bit_at new other ≡ bit_at old other
+
+-- a new word has this bit clear, and each other bit as the old word has it
+pub record ClearsBit (old index new : ℕ) : Type 0 where
+  pub here : bit_at new index ≡ 0
+  pub others : (other : ℕ) → other ≢ index → bit_at new other ≡ bit_at old other
+
+-- each bit of the first mask is set in the second
+abbrev pub AreAmong : ℕ → ℕ → Type 0
+AreAmong bits mask = (index : ℕ) → bit_at bits index ≤ bit_at mask index
+
+-- of each bit, two masks have together what the whole has
+abbrev pub ShareOut : ℕ → ℕ → ℕ → Type 0
+ShareOut whole first second = (index : ℕ) → bit_at first index + bit_at second index ≡ bit_at whole index

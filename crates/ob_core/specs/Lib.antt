@@ -1,14 +1,17 @@
+pub mod Accounts
 pub mod AskFault
 pub mod Bits
 pub mod CoreState
 pub mod CoreStep
 pub mod FirstFault
+pub mod Found
 pub mod LaneStep
 pub mod OneStep
 pub mod Opening
 pub mod Owed
 pub mod Quiet
 pub mod Run
+pub mod Shares
 pub mod Sound
 pub mod Turn
 pub mod WorldFault

@@ -1,5 +1,5 @@
 -- How a world begins.
-use Rattle.std.specs.Prelude.{ℕ, Bool, false, not, ◌||◌, ◌==◌, nat_lt, List, [], ◌∷◌, length, map, sum_by, Option, None, bit_and}
+use Rattle.std.specs.Prelude.{ℕ, Bool, false, not, ◌||◌, ◌==◌, nat_lt, List, [], ◌∷◌, length, map, sum_by, Option, None, bit_and, bit_or}
 use Rattle.std.specs.List.{list_any}
 use Rattle.ob_types.specs.WaterMark.{Marks}
 use Rattle.ob_core.specs.CoreState.{CoreState, WorldState}
@@ -27,6 +27,11 @@ abbrev pub any_overlap : List ℕ → Bool
 any_overlap [] = false
 any_overlap (mask ∷ masks) = list_any (share_a_bit mask) masks || any_overlap masks
 
+-- the mask of all bits that the lanes hold
+abbrev pub bits_of : List LaneStart → ℕ
+bits_of [] = 0
+bits_of (start ∷ starts) = bit_or start.bits (bits_of starts)
+
 -- the masks of those who hold bits: the mark, which holds bit 0, and the lanes
 abbrev pub holders_of : List ℕ → List ℕ
 holders_of masks = 1 ∷ masks
@@ -40,6 +45,16 @@ opening_fault starts =
     ∷ (any_overlap (holders_of (map (λ start. start.bits) starts)), BitsTwice)
     ∷ [])
 
+-- what lanes are opened with: the marks, the most that all of them may owe together, and the bits that they may hold
+pub record Opening : Type 0 where
+  pub marks : Marks
+  pub room : ℕ
+  pub bits : ℕ
+
+-- what these lanes are opened with
+abbrev pub opening_of : Marks → List LaneStart → Opening
+opening_of marks starts = record { marks = marks; room = room_of starts; bits = bits_of starts }
+
 -- a lane that begins owes nothing, has set no bit and is between two calls
 abbrev pub new_lane : LaneStart → Lane
 new_lane start = record { room = start.room; debt = None; held = start.bits; raised = 0; phase = Idle }
@@ -47,6 +62,10 @@ new_lane start = record { room = start.room; debt = None; held = start.bits; rai
 -- both words of a core state that begins are 0
 abbrev pub new_core : Marks → List LaneStart → CoreState
 new_core marks starts = record { total = 0; word = 0; marks = marks; lanes = map new_lane starts }
+
+-- lanes begin as one, with the whole room and all bits
+abbrev pub one_lane : Opening → CoreState
+one_lane opening = new_core opening.marks (record { room = opening.room; bits = opening.bits } ∷ [])
 
 -- a world that begins has changed nothing
 abbrev pub new_world : Marks → List LaneStart → WorldState

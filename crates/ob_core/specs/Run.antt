@@ -4,7 +4,7 @@ use Rattle.std.specs.List.{filter_map}
 use Rattle.ob_types.specs.declared.reply.Change.{Change}
 use Rattle.ob_types.specs.declared.reply.Change.TheVariants.{Unwritable, Writable}
 use Rattle.ob_core.specs.CoreState.{CoreState, WorldState}
-use Rattle.ob_core.specs.Turn.{event_of, change_of, core_after, world_after}
+use Rattle.ob_core.specs.Turn.{event_of, change_of, core_after}
 use Rattle.ob_core.specs.declared.ask.Turn.{Turn}
 use Rattle.ob_core.specs.declared.event.Event.{Event}
 
@@ -13,10 +13,11 @@ abbrev pub core_after_all : CoreState → List Turn → CoreState
 core_after_all core [] = core
 core_after_all core (turn ∷ turns) = core_after_all (core_after core turn) turns
 
--- the world after all turns
-abbrev pub world_after_all : WorldState → List Turn → WorldState
-world_after_all world [] = world
-world_after_all world (turn ∷ turns) = world_after_all (world_after world turn) turns
+-- the change of the last turn; where there is no turn, the one before
+abbrev pub last_change_after : WorldState → List Turn → Option Change
+last_change_after world [] = world.last_change
+last_change_after world (turn ∷ turns) =
+    last_change_after (record { core = core_after world.core turn; last_change = change_of world.core turn }) turns
 
 -- what each turn answers: its event and its change
 abbrev pub answers_of : CoreState → List Turn → List (Event × Option Change)

@@ -1,15 +1,13 @@
--- What holds of each world that was made, whatever turns it had.
-use Rattle.std.specs.Prelude.{◌≡◌, ◌<◌, ◌≤◌, false, length, map, sum_by, All}
+-- What holds of each world that was made, whatever turns it had. No public clause cites it.
+use Rattle.std.specs.Prelude.{◌<◌, ◌≤◌, length}
+use Rattle.ob_core.specs.Accounts.{AccountsHold}
 use Rattle.ob_core.specs.CoreState.{CoreState}
-use Rattle.ob_core.specs.Opening.{any_overlap, holders_of}
-use Rattle.ob_core.specs.Owed.{owed_by, sum_owed}
+use Rattle.ob_core.specs.Opening.{Opening}
 
--- there are 1 to 64 lanes, whose rooms fit a u32; no lane owes more than its room, and the total is the sum owed; no
--- bit has two holders
+-- there are 1 to 64 lanes, whose accounts hold with what they were opened with, a room that fits a u32
 pub record IsSound (core : CoreState) : Type 0 where
+  pub opening : Opening
+  pub accounts : AccountsHold opening core
+  pub rooms_fit : opening.room ≤ 4294967295
   pub some_lane : 0 < length core.lanes
   pub few_lanes : length core.lanes ≤ 64
-  pub rooms_fit : sum_by (λ lane. lane.room) core.lanes ≤ 4294967295
-  pub within_room : All (λ lane. owed_by lane ≤ lane.room) core.lanes
-  pub counted : core.total ≡ sum_owed core.lanes
-  pub bits_apart : any_overlap (holders_of (map (λ lane. lane.held) core.lanes)) ≡ false

@@ -3,7 +3,7 @@ use Rattle.std.specs.Prelude.{ℕ, ◌==◌, Option, Some, None, slice_get, slic
 use Rattle.ob_types.specs.Change.{change_between}
 use Rattle.ob_types.specs.declared.reply.Change.{Change}
 use Rattle.ob_core.specs.AskFault.{refusal_of, refusal_at}
-use Rattle.ob_core.specs.CoreState.{CoreState, WorldState}
+use Rattle.ob_core.specs.CoreState.{CoreState}
 use Rattle.ob_core.specs.CoreStep.{core_after_step}
 use Rattle.ob_core.specs.declared.ask.Ask.{Ask}
 use Rattle.ob_core.specs.declared.ask.Ask.TheVariants.{Charge, Discharge, Bit, Word, Total, Go}
@@ -107,7 +107,3 @@ core_after core turn = core_after_ask_at core turn.lane (slice_get core.lanes tu
 -- the change of a turn, read off the word before and after it
 abbrev pub change_of : CoreState → Turn → Option Change
 change_of core turn = change_between core.word (core_after core turn).word
-
--- a world after a turn
-abbrev pub world_after : WorldState → Turn → WorldState
-world_after world turn = record { core = core_after world.core turn; last_change = change_of world.core turn }

@@ -21,7 +21,8 @@ pub enum Phase {
     ToLower,
 }
 
-/// A lane between two of its steps.
+/// A lane between two of its steps, as clauses show it. No call takes one or gives one out: a world is asked by the
+/// numbers of its lanes.
 #[derive(Clone, Copy, Debug, PartialEq, Eq)]
 pub struct Lane {
     /// The most bytes that it may owe at a time.
@@ -30,9 +31,10 @@ pub struct Lane {
     pub debt: Option<u32>,
     /// The mask of the user bits that it holds.
     pub held: u32,
-    /// The mask of those among them that it has set. The code never reads it: it says which bits of the word are
-    /// the lane's own doing.
+    /// The mask of those among them that it has set. No call reads it: it says which bits of the word are the lane's
+    /// own doing.
     pub raised: u32,
+    /// Where it is in its call.
     pub phase: Phase,
 }
 
@@ -44,7 +46,7 @@ impl Lane {
     ghost use Rattle.ob_core.specs.Turn.{idle_step, step_of, lane_after_nothing};
 
     /// A lane that owes nothing, has set no bit and is between two calls.
-    pub fn new(start: LaneStart) -> Lane
+    pub(crate) fn new(start: LaneStart) -> Lane
         ensures { result ≡ new_lane start }
     {
         Lane {
@@ -57,21 +59,21 @@ impl Lane {
     }
 
     /// The bytes that the lane owes.
-    pub fn owed(self) -> u32
+    pub(crate) fn owed(self) -> u32
         ensures { result ≡ owed_by self }
     {
         self.debt.unwrap_or(0)
     }
 
     /// Whether the lane holds the bit with this index. It holds no bit outside 1 to 31, whatever its mask says.
-    pub fn holds(self, index: u32) -> bool
+    pub(crate) fn holds(self, index: u32) -> bool
         ensures { result ≡ is_held self index }
     {
         0 < index && index < 32 && has_bit(self.held, index)
     }
 
     /// Why the ask is refused, if it is. In the middle of a call the ask is ignored, so nothing is refused.
-    pub fn refusal(self, ask: Ask) -> Option<AskFault>
+    pub(crate) fn refusal(self, ask: Ask) -> Option<AskFault>
         ensures { result ≡ refusal_of self ask }
     {
         match self.phase {
@@ -95,7 +97,7 @@ impl Lane {
 
     /// The step that the lane makes at an ask that is not refused: what is left of its call, or the first step of
     /// the call that is asked. A charge of 0 and its discharge make none.
-    pub fn step(self, ask: Ask) -> Option<LaneStep>
+    pub(crate) fn step(self, ask: Ask) -> Option<LaneStep>
         ensures { result ≡ step_of self ask }
     {
         match self.phase {
@@ -124,7 +126,7 @@ impl Lane {
     }
 
     /// The lane after an ask that is no step: after a charge it owes, after a discharge it does not.
-    pub fn after_nothing(self, ask: Ask) -> Lane
+    pub(crate) fn after_nothing(self, ask: Ask) -> Lane
         ensures { result ≡ lane_after_nothing self ask }
     {
         match ask {

@@ -3,7 +3,7 @@ use crate::event::Event;
 use crate::lane::{Lane, Phase};
 use ob_types::WaterMark;
 
-/// One atomic step of a lane on one of the two words.
+/// One atomic step of a lane on one of the two words, as clauses name it.
 #[derive(Clone, Copy, Debug, PartialEq, Eq)]
 pub enum LaneStep {
     /// Adds a charge above 0 to the total.
@@ -30,7 +30,7 @@ impl LaneStep {
     ghost use Rattle.ob_core.specs.Turn.{event_of_step};
 
     /// The total after the step.
-    pub fn total_after(self, total: u32) -> u32
+    pub(crate) fn total_after(self, total: u32) -> u32
         requires { FitsTotal self total }
         ensures { result ≡ total_after self total }
     {
@@ -42,7 +42,7 @@ impl LaneStep {
     }
 
     /// The word after the step.
-    pub fn word_after(self, word: u32) -> u32
+    pub(crate) fn word_after(self, word: u32) -> u32
         requires { FitsWord self }
         ensures { result ≡ word_after self word }
     {
@@ -57,7 +57,7 @@ impl LaneStep {
 
     /// The lane after its step, where `total` is the total after the step. Raising or lowering the mark is left to
     /// a step of its own, between which and this one other lanes may make theirs.
-    pub fn lane_after(self, marks: WaterMark, total: u32, lane: Lane) -> Lane
+    pub(crate) fn lane_after(self, marks: WaterMark, total: u32, lane: Lane) -> Lane
         requires { FitsWord self }
         ensures { result ≡ lane_after self marks total lane }
     {
@@ -97,7 +97,7 @@ impl LaneStep {
     }
 
     /// What a turn that makes the step answers.
-    pub fn event(self) -> Event
+    pub(crate) fn event(self) -> Event
         ensures { result ≡ event_of_step self }
     {
         match self {

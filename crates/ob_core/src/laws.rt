@@ -1,6 +1,9 @@
 //! What holds of every world that `World::new` makes, whatever turns it is given. `World::turn` and `play` change a
 //! world by the definitions that these laws speak of.
 
+pub mod accounts;
+pub mod steps;
+
 ghost use Rattle.std.specs.Prelude.{◌≡◌, ◌<◌, List, Bool, false};
 ghost use Rattle.ob_types.specs.WaterMark.{Marks};
 ghost use Rattle.ob_types.specs.declared.reply.Change.TheVariants.{Unwritable};

@@ -5,7 +5,6 @@
 mod ask;
 mod ask_fault;
 mod bits;
-mod change;
 mod event;
 mod lane;
 mod lane_start;
@@ -21,7 +20,18 @@ mod world_fault;
 pub use ask::{Ask, Turn};
 pub use ask_fault::AskFault;
 pub use event::Event;
+pub use lane::{Lane, Phase};
 pub use lane_start::LaneStart;
+pub use lane_step::LaneStep;
+pub use laws::accounts::{
+    a_division_keeps_the_accounts, a_merger_keeps_the_accounts, a_new_world_has_its_accounts,
+    accounts_bound_the_total, accounts_show_held_bits, each_step_keeps_the_accounts,
+    each_turn_keeps_the_accounts, one_lane_has_its_accounts,
+};
+pub use laws::steps::{
+    a_cleared_bit_leaves_the_others, a_set_bit_leaves_the_others, a_step_changes_one_word,
+    a_step_finds_its_change,
+};
 pub use laws::{
     bit_zero_is_clear_at_rest, changes_alternate, each_turn_is_one_step, total_is_the_sum_owed,
 };

@@ -1,5 +1,5 @@
 ghost use Rattle.std.specs.Prelude.{◌≡◌, IfOk, OnOk, OnErr, IsOkUnless};
-ghost use Rattle.ob_core.specs.Run.{answers_of, world_after_all};
+ghost use Rattle.ob_core.specs.Run.{answers_of, core_after_all, last_change_after};
 
 use crate::ask::Turn;
 use crate::event::Event;
@@ -17,7 +17,8 @@ pub fn play(
     turns: &[Turn],
 ) -> Result<Vec<(Event, Option<Change>)>, Refusal>
     ensures answers { IfOk result (λ answers. answers.items ≡ answers_of world.old.core turns.now) }
-    ensures world { OnOk result (world.new ≡ world_after_all world.old turns.now) }
+    ensures core { OnOk result (world.new.core ≡ core_after_all world.old.core turns.now) }
+    ensures change { OnOk result (world.new.last_change ≡ last_change_after world.old turns.now) }
     ensures no_memory { IsOkUnless result Refusal.NoMemory }
     ensures err { OnErr result (world.new ≡ world.old) }
 {

@@ -1,20 +1,14 @@
-ghost use Rattle.std.specs.Prelude.{◌≡◌, IfOk, IfSome, IsOkUnless, slice_get};
-ghost use Rattle.ob_types.specs.Change.{change_between};
-ghost use Rattle.ob_core.specs.AskFault.{refusal_of};
-ghost use Rattle.ob_core.specs.CoreStep.{core_after_step};
-ghost use Rattle.ob_core.specs.LaneStep.{CanMake};
+ghost use Rattle.std.specs.Prelude.{◌≡◌, IfOk, IfSome, IsOkUnless};
 ghost use Rattle.ob_core.specs.Opening.{opening_fault, new_world};
-ghost use Rattle.ob_core.specs.Turn.{step_of, event_of_step, core_after_ask, event_of, core_after, change_of};
+ghost use Rattle.ob_core.specs.Turn.{event_of, core_after, change_of};
 
 mod looks;
 
-use crate::ask::{Ask, Turn};
+use crate::ask::Turn;
 use crate::ask_fault::AskFault;
-use crate::change::find_change;
 use crate::event::Event;
 use crate::lane::{Lane, find_lane, make_lanes};
 use crate::lane_start::LaneStart;
-use crate::lane_step::LaneStep;
 use crate::opening::find_fault;
 use crate::world_fault::WorldFault;
 use ob_types::{Change, WaterMark};
@@ -89,39 +83,16 @@ impl World {
         if let Some(fault) = lane.refusal(turn.ask) {
             return Event::Refused(fault);
         }
-        match lane.step(turn.ask) {
-            Some(step) => self.make_step(turn.lane as usize, lane, step),
-            None => self.make_none(turn.lane as usize, lane, turn.ask),
-        }
-    }
-
-    /// Makes a step of the lane with this index.
-    fn make_step(&mut self, index: usize, lane: Lane, step: LaneStep) -> Event
-        requires lane { slice_get self.old.core.lanes index ≡ Some lane }
-        requires allowed { CanMake lane step }
-        ensures event { result ≡ event_of_step step }
-        ensures core { self.new.core ≡ core_after_step self.old.core index lane step }
-        ensures change { self.new.last_change ≡ change_between self.old.core.word self.new.core.word }
-    {
+        let index = turn.lane as usize;
+        let Some(step) = lane.step(turn.ask) else {
+            self.lanes[index] = lane.after_nothing(turn.ask);
+            return Event::Nothing;
+        };
         let before = self.word;
         self.total = step.total_after(self.total);
         self.word = step.word_after(before);
         self.lanes[index] = step.lane_after(self.marks, self.total, lane);
-        self.last_change = find_change(before, self.word);
+        self.last_change = Change::between(before, self.word);
         step.event()
-    }
-
-    /// Answers an ask that is no step: a charge of 0, or its discharge.
-    fn make_none(&mut self, index: usize, lane: Lane, ask: Ask) -> Event
-        requires lane { slice_get self.old.core.lanes index ≡ Some lane }
-        requires accepted { refusal_of lane ask ≡ None }
-        requires no_step { step_of lane ask ≡ None }
-        ensures event { result ≡ Event.Nothing }
-        ensures core { self.new.core ≡ core_after_ask self.old.core index lane ask None }
-        ensures change { self.new.last_change ≡ None }
-    {
-        self.lanes[index] = lane.after_nothing(ask);
-        self.last_change = None;
-        Event::Nothing
     }
 }

@@ -1,4 +1,5 @@
-ghost use Rattle.std.specs.Prelude.{◌≡◌, ◌↔◌, IsTrue};
+ghost use Rattle.std.specs.Prelude.{◌≡◌, ◌<◌, ◌↔◌, false, IsTrue};
+ghost use Rattle.ob_core.specs.Bits.{is_set};
 ghost use Rattle.ob_core.specs.Owed.{sum_owed};
 ghost use Rattle.ob_core.specs.Quiet.{IsQuiet};
 
@@ -16,9 +17,12 @@ impl World {
     }
 
     /// The word: bit 0 is set where a mark was passed, bit i by the user bit with index i (Netty's `unwritable`).
-    /// It takes no memory.
+    /// Where the low mark is positive, nothing is owed and no lane is in the middle of a call, bit 0 is clear; at a
+    /// low mark of 0 it may stay set. It takes no memory.
     pub fn word(&self) -> u32
-        ensures { result ≡ self.now.core.word }
+        ensures value { result ≡ self.now.core.word }
+        ensures at_rest { 0 < self.now.core.marks.low → sum_owed self.now.core.lanes ≡ 0 → IsQuiet self.now.core →
+            is_set result 0 ≡ false }
     {
         self.word
     }

@@ -1,0 +1,5 @@
+use Rattle.ob_core.proofs.LawLemmas.{AccountsHold-turn}
+use Rattle.ob_core.proofs.laws.accounts.each_turn_keeps_the_accounts.Goals as goal
+
+pub returns : goal.returns
+returns c = record { kept = λ opening core turn accounts. AccountsHold-turn opening core turn accounts }

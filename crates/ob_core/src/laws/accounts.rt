@@ -1,0 +1,70 @@
+//! The accounts of the lanes: where they hold at the beginning, each step, each turn, each division and each merger
+//! keeps them, and what follows from them.
+
+ghost use Rattle.std.specs.Prelude.{◌≡◌, ℕ, ◌+◌, ◌≤◌, List, false, Some, None, slice_get};
+ghost use Rattle.std.specs.Int.{bit_at};
+ghost use Rattle.ob_types.specs.WaterMark.{Marks};
+ghost use Rattle.ob_core.specs.Accounts.{AccountsHold};
+ghost use Rattle.ob_core.specs.Bits.{is_set};
+ghost use Rattle.ob_core.specs.CoreState.{CoreState};
+ghost use Rattle.ob_core.specs.CoreStep.{IsCoreStep};
+ghost use Rattle.ob_core.specs.Opening.{Opening, opening_fault, opening_of, new_core, one_lane};
+ghost use Rattle.ob_core.specs.Owed.{owed_by};
+ghost use Rattle.ob_core.specs.Shares.{IsDivision, IsMerger};
+ghost use Rattle.ob_core.specs.Turn.{core_after};
+ghost use Rattle.ob_core.specs.declared.ask.Turn.{Turn};
+ghost use Rattle.ob_core.specs.declared.lane.Lane.{Lane};
+ghost use Rattle.ob_core.specs.declared.lane_start.LaneStart.{LaneStart};
+ghost use Rattle.ob_core.specs.declared.lane_step.LaneStep.{LaneStep};
+
+/// The accounts of a world that begins hold.
+pub fn a_new_world_has_its_accounts()
+    ensures new { (marks : Marks) (starts : List LaneStart) → opening_fault starts ≡ None →
+        AccountsHold (opening_of marks starts) (new_core marks starts) }
+{}
+
+/// The accounts of a lone lane with the whole room and all bits hold, where these leave bit 0 to the mark.
+pub fn one_lane_has_its_accounts()
+    ensures new { (opening : Opening) → is_set opening.bits 0 ≡ false →
+        AccountsHold opening (one_lane opening) }
+{}
+
+/// Each step of a lane keeps the accounts, whatever the schedule is.
+pub fn each_step_keeps_the_accounts()
+    ensures kept { (opening : Opening) (old new : CoreState) (index : ℕ) (step : LaneStep) →
+        IsCoreStep old index step new → AccountsHold opening old → AccountsHold opening new }
+{}
+
+/// Each turn keeps the accounts, also one that is refused or touches neither word.
+pub fn each_turn_keeps_the_accounts()
+    ensures kept { (opening : Opening) (core : CoreState) (turn : Turn) →
+        AccountsHold opening core → AccountsHold opening (core_after core turn) }
+{}
+
+/// A lane that gives part of its room and of its bits to a new one keeps the accounts.
+pub fn a_division_keeps_the_accounts()
+    ensures kept { (opening : Opening) (old new : CoreState) (index : ℕ) (kept_lane given : Lane) →
+        IsDivision old index kept_lane given new → AccountsHold opening old → AccountsHold opening new }
+{}
+
+/// Two lanes that become one keep the accounts.
+pub fn a_merger_keeps_the_accounts()
+    ensures kept { (opening : Opening) (old new : CoreState) (index other : ℕ) (both : Lane) →
+        IsMerger old index other both new → AccountsHold opening old → AccountsHold opening new }
+{}
+
+/// The total is at least what one lane owes, and at most that and all room outside the lane.
+pub fn accounts_bound_the_total()
+    ensures least { (opening : Opening) (core : CoreState) (index : ℕ) (lane : Lane) →
+        AccountsHold opening core → slice_get core.lanes index ≡ Some lane → owed_by lane ≤ core.total }
+    ensures most { (opening : Opening) (core : CoreState) (index : ℕ) (lane : Lane) →
+        AccountsHold opening core → slice_get core.lanes index ≡ Some lane →
+        core.total + lane.room ≤ opening.room + owed_by lane }
+{}
+
+/// Of the bits that a lane holds, the word shows exactly those that the lane has raised.
+pub fn accounts_show_held_bits()
+    ensures shown { (opening : Opening) (core : CoreState) (index : ℕ) (lane : Lane) (bit : ℕ) →
+        AccountsHold opening core → slice_get core.lanes index ≡ Some lane →
+        bit_at lane.held bit ≡ 1 → bit_at core.word bit ≡ bit_at lane.raised bit }
+{}
