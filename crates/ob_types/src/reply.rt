@@ -31,3 +31,21 @@ pub enum Change {
     /// Writers may go on.
     Writable,
 }
+
+impl Change {
+    ghost use Rattle.std.specs.Prelude.{◌≡◌};
+    ghost use Rattle.ob_types.specs.Change.{change_between};
+
+    /// How a word of unwritable bits turned writability, by the word before and after: `Unwritable` where it was 0
+    /// and is not 0 any more, `Writable` in the opposite case, else none. Where one of several set bits was cleared,
+    /// nothing turned.
+    pub fn between(before: u32, after: u32) -> Option<Change>
+        ensures { result ≡ change_between before after }
+    {
+        match (before == 0, after == 0) {
+            (true, false) => Some(Change::Unwritable),
+            (false, true) => Some(Change::Writable),
+            (true, true) | (false, false) => None,
+        }
+    }
+}
