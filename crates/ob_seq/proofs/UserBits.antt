@@ -18,18 +18,18 @@ use Rattle.ob_types.specs.declared.reply.Answer.TheVariants.{Done}
 use Rattle.ob_seq.specs.Settings.{Settings}
 use Rattle.ob_seq.specs.Effect.{rows_after}
 use Rattle.ob_seq.specs.Line.{line, unflushed}
-use Rattle.ob_seq.specs.Moment.{Moment, moments_after}
-use Rattle.ob_seq.specs.Mark.{mark_of}
+use Rattle.ob_seq.specs.Moment.{Moment}
 use Rattle.ob_seq.specs.UserBit.{bit_request, is_user_index, user_bit}
 use Rattle.ob_seq.specs.Word.{word_after}
 use Rattle.ob_seq.specs.Answer.{refusal_of, reply_of}
-use Rattle.ob_seq.specs.Pending.{Pending, StandsFor, entry_of}
+use Rattle.ob_seq.specs.Entry.{entry_of}
+use Rattle.ob_seq.specs.Pending.{Pending, StandsFor}
 use Rattle.ob_seq.specs.Steps.{bit_changed, with_user_bit}
 use Rattle.ob_seq.proofs.Acceptance.{open_history, same_reply}
 use Rattle.ob_seq.proofs.Along.{moments_of_same, settlements_of_same}
 use Rattle.ob_seq.proofs.Digits.{digit, digit_at, no_digit_at, half_bits}
-use Rattle.ob_seq.proofs.History.{moments_after_more, rows_after_more, accepted_more, closed_more}
-use Rattle.ob_seq.proofs.Marks.{half_after, word_from, word_is_from}
+use Rattle.ob_seq.proofs.History.{moments_after, moments_after_more, rows_after_more, accepted_more, closed_more}
+use Rattle.ob_seq.proofs.Marks.{mark_of, half_after, word_from, word_is_from}
 
 -- the user bits after one more command
 bit_by : (requests : List Bool) (here now : Bool) →
@@ -211,8 +211,9 @@ module _ (buffer : Pending) (commands : List Command) (at : ℕ) (writable : Boo
   -- the buffer with the user bit changed stands for the history with it
   pub bit_changed_stands : StandsFor (bit_changed at writable buffer) (commands ++ UserBit at writable ∷ [])
   bit_changed_stands = record {
-    accepted = accepted_more buffer.settings.estimate commands (UserBit at writable) (open_history buffer.settings commands (UserBit at writable) buffer stands unclosed) stands.accepted bit_accepted;
+    accepted = accepted_more buffer.settings commands (UserBit at writable) (open_history buffer.settings commands (UserBit at writable) buffer stands unclosed) stands.accepted bit_accepted;
     closed = unclosed ∙ sym (closed_more commands (UserBit at writable) (open_history buffer.settings commands (UserBit at writable) buffer stands unclosed));
+    marks = stands.marks;
     line = stands.line ∙ sym (ap (λ all. map entry_of (line all)) rows_stay);
     unflushed = stands.unflushed ∙ sym (ap (λ all. map entry_of (unflushed all)) rows_stay);
     promises = stands.promises ∙ sym (ap (map (λ row. row.promise)) rows_stay);

@@ -2,11 +2,13 @@ pub mod Answer
 pub mod ByteRun
 pub mod Closed
 pub mod Effect
+pub mod Entry
 pub mod Gathering
 pub mod Inside
 pub mod Line
 pub mod Looks
 pub mod Mark
+pub mod MarksInForce
 pub mod Moment
 pub mod Pending
 pub mod Pieces
