@@ -7,6 +7,7 @@ use Rattle.std.proofs.lemmas.List.Elements.{filter-append, filter_map-append}
 use Rattle.ob_types.specs.WaterMark.{Marks}
 use Rattle.ob_types.specs.declared.command.Command.{Command}
 use Rattle.ob_seq.specs.Settings.{Settings}
+use Rattle.ob_seq.specs.Row.{Row}
 use Rattle.ob_seq.specs.Effect.{effect, rows_after}
 use Rattle.ob_seq.specs.Moment.{Moment, Rise, NoticedFall, SilentFall, fall, moment_of, moments_of}
 use Rattle.ob_seq.specs.Mark.{decides, deciding_from, is_rise, is_set_by, mark_after}
@@ -14,7 +15,7 @@ use Rattle.ob_seq.specs.UserBit.{bit_request, user_bit}
 use Rattle.ob_seq.specs.Word.{bit_value, user_bits, word_after}
 use Rattle.ob_seq.specs.Steps.{with_mark}
 use Rattle.ob_seq.proofs.Digits.{half_bits, same_number, user_bits_even}
-use Rattle.ob_seq.proofs.History.{rows_after_more, moments_from, moments_after, moments_after_more}
+use Rattle.ob_seq.proofs.History.{moments_from, moments_after, moments_after_more}
 
 -- the mark after moments under these marks
 abbrev pub mark_of : Marks → List Moment → Bool
@@ -32,18 +33,17 @@ mark_of_more marks moments moment =
     ∙ set_by_newest (decides marks moment) moment (filter (decides marks) moments)
 
 -- no command changes the marks, so the deciding moments are those of all moments that decide under the marks of the opening
-deciding_is : (settings : Settings) (earlier commands : List Command) →
-    deciding_from settings earlier commands ≡ filter (decides settings.marks) (moments_from settings.estimate (rows_after settings.estimate earlier) commands)
-deciding_is settings earlier [] = refl
-deciding_is settings earlier (command ∷ commands) =
-    let estimate = settings.estimate in
-    let rows = rows_after estimate earlier in
-    ap (λ more. filter (decides settings.marks) (moments_of estimate rows command) ++ more)
-    (deciding_is settings (earlier ++ command ∷ []) commands ∙ ap (λ after. filter (decides settings.marks) (moments_from estimate after commands)) (rows_after_more estimate earlier command))
-    ∙ sym (filter-append (decides settings.marks) (moments_of estimate rows command) (moments_from estimate (effect estimate rows command) commands))
+deciding_is : (settings : Settings) (earlier : List Command) (rows : List Row) (commands : List Command) →
+    deciding_from settings earlier rows commands ≡ filter (decides settings.marks) (moments_from settings.estimate rows commands)
+deciding_is settings earlier rows [] = refl
+deciding_is settings earlier rows (command ∷ commands) =
+    let now = moments_of settings.estimate rows command in
+    let after = effect settings.estimate rows command in
+    ap (λ more. filter (decides settings.marks) now ++ more) (deciding_is settings (earlier ++ command ∷ []) after commands)
+    ∙ sym (filter-append (decides settings.marks) now (moments_from settings.estimate after commands))
 
 mark_is : (settings : Settings) (commands : List Command) → mark_after settings commands ≡ mark_of settings.marks (moments_after settings.estimate commands)
-mark_is settings commands = ap (λ all. is_set_by (slice_get (reverse all) 0)) (deciding_is settings [] commands)
+mark_is settings commands = ap (λ all. is_set_by (slice_get (reverse all) 0)) (deciding_is settings [] [] commands)
 
 -- the mark after a rise, a fall or no moment
 mark_of_moment : (marks : Marks) (moments : List Moment) (notice rises falls : Bool) (sum : ℕ) →

@@ -194,6 +194,20 @@ module _ (settings : Settings) (commands : List Command) where
   bit_changed_word (suc place) writable some few =
       ap (with_user_bit (suc place) writable) (word_is_from settings commands) ∙ changed_by place (omega arith) writable ∙ sym (same_mark (suc place) writable)
 
+-- the word has the digit 1 at the index of a user bit where that is set
+pub user_bit_shows : (settings : Settings) (commands : List Command) (index : ℕ) → 0 < index → index ≤ 31 → eqb (bit_at (word_after settings commands) index) 1 ≡ user_bit commands index
+user_bit_shows settings commands zero some few = absurd (omega arith)
+user_bit_shows settings commands (suc place) some few =
+    ap (λ shown. eqb shown 1)
+    (ap (λ word. bit_at word (suc place)) (word_is_from settings commands)
+    ∙ at_next (mark_of settings.marks (moments_after settings.estimate commands)) (half_after commands) place
+    ∙ digit_at (user_bit commands) 1 31 place (omega arith) ∙ ap (λ at. digit (user_bit commands at)) (omega arith))
+    ∙ shown (user_bit commands (suc place))
+  where
+    shown : (bit : Bool) → eqb (digit bit) 1 ≡ bit
+    shown true = refl
+    shown false = refl
+
 module _ (buffer : Pending) (commands : List Command) (at : ℕ) (writable : Bool) (stands : StandsFor buffer commands) (unclosed : buffer.closed ≡ false) (some : 1 ≤ at) (few : at ≤ 31) where
   -- a user bit with such an index is accepted
   pub bit_accepted : refusal_of buffer.settings.estimate (rows_after buffer.settings.estimate commands) (UserBit at writable) ≡ None

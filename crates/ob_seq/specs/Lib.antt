@@ -15,6 +15,7 @@ pub mod Pieces
 pub mod Row
 pub mod Settings
 pub mod Settles
+pub mod State
 pub mod Steps
 pub mod Total
 pub mod UserBit

@@ -3,7 +3,8 @@ use Rattle.std.specs.Prelude.{Bool, true, false, List, [], ◌∷◌, ◌++◌, 
 use Rattle.ob_types.specs.WaterMark.{Marks}
 use Rattle.ob_types.specs.declared.command.Command.{Command}
 use Rattle.ob_seq.specs.Settings.{Settings}
-use Rattle.ob_seq.specs.Effect.{rows_after}
+use Rattle.ob_seq.specs.Row.{Row}
+use Rattle.ob_seq.specs.Effect.{effect}
 use Rattle.ob_seq.specs.MarksInForce.{marks_after}
 use Rattle.ob_seq.specs.Moment.{Moment, Rise, NoticedFall, SilentFall, moments_of}
 
@@ -14,17 +15,17 @@ decides marks (Rise sum) = nat_lt marks.high sum
 decides marks (NoticedFall sum) = nat_lt sum marks.low
 decides marks (SilentFall sum) = false
 
--- the deciding moments of commands that are accepted one after another after a history, oldest first, each by the marks
--- in force at its command
-abbrev pub deciding_from : Settings → List Command → List Command → List Moment
-deciding_from settings earlier [] = []
-deciding_from settings earlier (command ∷ commands) =
-    filter (decides (marks_after settings earlier)) (moments_of settings.estimate (rows_after settings.estimate earlier) command)
-    ++ deciding_from settings (earlier ++ command ∷ []) commands
+-- the deciding moments of commands that are accepted one after another where a history left these rows, oldest first,
+-- each by the marks in force at its command
+abbrev pub deciding_from : Settings → List Command → List Row → List Command → List Moment
+deciding_from settings earlier rows [] = []
+deciding_from settings earlier rows (command ∷ commands) =
+    filter (decides (marks_after settings earlier)) (moments_of settings.estimate rows command)
+    ++ deciding_from settings (earlier ++ command ∷ []) (effect settings.estimate rows command) commands
 
 -- the last moment of a history that decided the mark, if one did
 abbrev pub last_deciding : Settings → List Command → Option Moment
-last_deciding settings commands = slice_get (reverse (deciding_from settings [] commands)) 0
+last_deciding settings commands = slice_get (reverse (deciding_from settings [] [] commands)) 0
 
 -- whether a moment is a rise
 abbrev pub is_rise : Moment → Bool

@@ -18,6 +18,7 @@ mod progress;
 mod remove;
 mod remove_bytes;
 mod settles;
+mod state;
 mod taking;
 mod user_bit;
 mod word;

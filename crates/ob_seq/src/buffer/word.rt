@@ -1,4 +1,5 @@
-ghost use Rattle.std.specs.Prelude.{◌≡◌, ◌≤◌};
+ghost use Rattle.std.specs.Prelude.{◌≡◌, ◌≤◌, ◌==◌};
+ghost use Rattle.std.specs.Int.{bit_at};
 ghost use Rattle.ob_seq.specs.Steps.{with_user_bit, word_after_rise, word_after_fall};
 
 use ob_types::WaterMark;
@@ -27,6 +28,14 @@ pub fn after_fall(marks: WaterMark, word: u32, size: u32, total: u32) -> u32
     } else {
         word
     }
+}
+
+/// Whether the bit of this index is set.
+pub fn has_bit(word: u32, index: u32) -> bool
+    requires { index ≤ 31 }
+    ensures { result ≡ (bit_at word index == 1) }
+{
+    word & (1 << index) != 0
 }
 
 /// The word with the user bit of this index set, or cleared where it is to be writable.

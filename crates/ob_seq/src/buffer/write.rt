@@ -13,7 +13,7 @@ use std::alloc::AllocError;
 const MAX_TOTAL: u64 = 4294967295;
 
 /// The most writes that a buffer accepts. Our own limit.
-const MAX_WRITES: usize = 1048576;
+pub const MAX_WRITES: usize = 1048576;
 
 impl Buffer {
     /// Adds a message behind all others (Netty's `addMessage`), and answers its promise.
