@@ -1,6 +1,6 @@
 //! The answer of a buffer, and what is done with it.
 
-ghost use Rattle.std.specs.Prelude.{◌≡◌, ◌≤◌, ◌↔◌, List, length, IsOk, IsTrue, IfOk, OnOk, OnErr};
+ghost use Rattle.std.specs.Prelude.{◌≡◌, ◌≤◌, ◌↔◌, List, length, IsOk, IsTrue, IfOk, OnErr};
 ghost use Rattle.ob_seq.specs.Pending.{Accepts, Answers, Follows};
 ghost use Rattle.ob_seq.specs.Settles.{settled_by};
 ghost use Rattle.ob_types.specs.declared.command.Command.{Command};
@@ -13,7 +13,7 @@ use std::alloc::AllocError;
 /// Gives a buffer one command. Want of memory is no answer: it leaves the buffer as it was.
 pub fn give(buffer: &mut Buffer, command: Command) -> Result<Result<Reply, Refusal>, AllocError>
     ensures answer { IfOk result (λ answer. Answers buffer.old command answer) }
-    ensures stands { OnOk result (Follows buffer.old command buffer.new) }
+    ensures stands { IfOk result (λ answer. Follows buffer.old command answer buffer.new) }
     ensures settings { buffer.new.settings ≡ buffer.old.settings }
     ensures err { OnErr result (buffer.new ≡ buffer.old) }
     ensures last { OnErr result (Accepts buffer.old command) }

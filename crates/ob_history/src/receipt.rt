@@ -1,5 +1,5 @@
 ghost use Rattle.std.specs.Prelude.{◌≡◌, ◌≤◌, false, length, IsOk, IfOk};
-ghost use Rattle.ob_types.specs.Copy.{carries_shared};
+ghost use Rattle.ob_types.specs.Block.{writes_block};
 ghost use Rattle.ob_seq.specs.Settles.{settled_by};
 
 use crate::answer;
@@ -25,7 +25,7 @@ impl Receipt {
     /// promises.
     pub fn copy(&self) -> Result<Receipt, AllocError>
         ensures same { IfOk result (λ copy. copy ≡ self.now) }
-        ensures succeeds { carries_shared self.now.command ≡ false → length (settled_by self.now.reply) ≤ 4
+        ensures succeeds { writes_block self.now.command ≡ false → length (settled_by self.now.reply) ≤ 4
             → IsOk result }
     {
         Ok(Receipt {

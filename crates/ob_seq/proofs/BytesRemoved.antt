@@ -18,19 +18,20 @@ use Rattle.ob_seq.specs.Line.{line}
 use Rattle.ob_seq.specs.Pieces.{bytes_in, pieces_within}
 use Rattle.ob_seq.specs.ByteRun.{blocks_in_front, byte_run, whole_rows, bytes_left_over}
 use Rattle.ob_seq.specs.Effect.{effect, rows_after, taken_row, with_fronts_sent, with_skipped}
-use Rattle.ob_seq.specs.Moment.{moments_along, moments_of, moments_after}
+use Rattle.ob_seq.specs.Moment.{moments_along, moments_of}
 use Rattle.ob_seq.specs.Word.{word_after}
 use Rattle.ob_seq.specs.Answer.{refusal_of, settlements_from, reply_of}
-use Rattle.ob_seq.specs.Pending.{Pending, StandsFor, blocks_left, entry_of}
+use Rattle.ob_seq.specs.Entry.{blocks_left, entry_of}
+use Rattle.ob_seq.specs.Pending.{Pending, StandsFor}
 use Rattle.ob_seq.specs.Steps.{bytes_removed, bytes_reply, cut_of, front_id, front_skipped, front_taken, entry_settlements, times}
 use Rattle.ob_seq.proofs.Acceptance.{open_history, same_reply}
 use Rattle.ob_seq.proofs.Along.{moments_along_same, settlements_from_same}
-use Rattle.ob_seq.proofs.Held.{Held, held_of, front_id_is, line_count, stands_by, word_by_moments}
-use Rattle.ob_seq.proofs.Marks.{half_after, word_with_moments}
-use Rattle.ob_seq.proofs.History.{rows_after_more, accepted_more}
+use Rattle.ob_seq.proofs.Held.{opening, opening_of, word_at_end, Held, held_of, front_id_is, line_count, stands_by, word_by_moments}
+use Rattle.ob_seq.proofs.Marks.{half_after}
+use Rattle.ob_seq.proofs.History.{moments_after, rows_after_more, accepted_more}
 use Rattle.ob_seq.proofs.Order.{IsGone, IsStanding, each_append, layout_of}
 use Rattle.ob_seq.proofs.Sent.{with_fronts_sent_is, all_taken_gone, all_taken, moments_of_sent, settlements_of_taken}
-use Rattle.ob_seq.proofs.Skipped.{rows_skipped, with_skipped_is, moments_of_skipped, settlements_of_skipped, skipped_held, skipped_word, skipped_settings, skipped_closed}
+use Rattle.ob_seq.proofs.Skipped.{rows_skipped, with_skipped_is, moments_of_skipped, settlements_of_skipped, skipped_held, skipped_word, skipped_opening, skipped_closed}
 
 -- the byte run is what the entries in line have left
 pub run_is : (buffer : Pending) (commands : List Command) → StandsFor buffer commands → byte_run (rows_after buffer.settings.estimate commands) ≡ blocks_left buffer.line
@@ -131,10 +132,10 @@ module _ (buffer : Pending) (commands : List Command) (n : ℕ) (stands : Stands
       taken : (let now = times (length first) (front_taken true Success) buffer in
           Held now passed rest fresh
           × (now.word ≡ word_after buffer.settings (commands ++ RemoveBytes n ∷ []))
-          × (now.settings ≡ buffer.settings) × (now.closed ≡ buffer.closed))
+          × (opening now ≡ opening buffer) × (now.closed ≡ buffer.closed))
       taken =
           let all = all_taken true Success first buffer gone rest fresh (half_after commands) (moments_after buffer.settings.estimate commands) held (word_by_moments buffer commands stands) in
-          (all.0, all.1 ∙ word_with_moments buffer.settings commands (RemoveBytes n) (moments_along true gone (first ++ behind) (map (taken_row Success) first ++ behind)) (λ index. refl) moments_are, all.2, all.3)
+          (all.0, all.1 ∙ word_at_end buffer commands stands (RemoveBytes n) (moments_along true gone (first ++ behind) (map (taken_row Success) first ++ behind)) (λ index. refl) moments_are, all.2, all.3)
 
       word_is : (bytes_removed cut buffer).word ≡ word_after buffer.settings (commands ++ RemoveBytes n ∷ [])
       word_is =
@@ -145,17 +146,17 @@ module _ (buffer : Pending) (commands : List Command) (n : ℕ) (stands : Stands
       removed_held = subst (λ (k : ℕ). Held (front_skipped cut.rest (times k (front_taken true Success) buffer)) passed (rows_skipped cut.rest rest) fresh) count
           (skipped_held cut.rest (times (length first) (front_taken true Success) buffer) passed rest fresh taken.0)
 
-      settings_stay : (bytes_removed cut buffer).settings ≡ buffer.settings
-      settings_stay = skipped_settings cut.rest (times cut.whole (front_taken true Success) buffer) ∙ ap (λ k. (times k (front_taken true Success) buffer).settings) (sym count) ∙ taken.2
+      opening_stays : opening (bytes_removed cut buffer) ≡ opening buffer
+      opening_stays = skipped_opening cut.rest (times cut.whole (front_taken true Success) buffer) ∙ ap (λ k. opening (times k (front_taken true Success) buffer)) (sym count) ∙ taken.2
 
       closed_stays : (bytes_removed cut buffer).closed ≡ buffer.closed
       closed_stays = skipped_closed cut.rest (times cut.whole (front_taken true Success) buffer) ∙ ap (λ k. (times k (front_taken true Success) buffer).closed) (sym count) ∙ taken.3
 
       removed_by : buffer.closed ≡ false → StandsFor (bytes_removed cut buffer) (commands ++ RemoveBytes n ∷ []) × (bytes_reply cut buffer ≡ reply_of buffer.settings commands (RemoveBytes n))
       removed_by unclosed = (
-        stands_by (bytes_removed cut buffer) buffer.settings commands (RemoveBytes n) passed (rows_skipped cut.rest rest) fresh settings_stay
+        stands_by (bytes_removed cut buffer) buffer.settings commands (RemoveBytes n) passed (rows_skipped cut.rest rest) fresh (opening_stays ∙ opening_of buffer commands stands)
             (open_history buffer.settings commands (RemoveBytes n) buffer stands unclosed) (closed_stays ∙ unclosed)
-            (accepted_more buffer.settings.estimate commands (RemoveBytes n) (open_history buffer.settings commands (RemoveBytes n) buffer stands unclosed) stands.accepted bytes_accepted) removed_held
+            (accepted_more buffer.settings commands (RemoveBytes n) (open_history buffer.settings commands (RemoveBytes n) buffer stands unclosed) stands.accepted bytes_accepted) removed_held
             (rows_after_more buffer.settings.estimate commands (RemoveBytes n) ∙ effect_is) word_is,
         same_reply (ap Count (sym whole_is)) (sym settlements_are)
             (ap (change_between buffer.word) word_is ∙ ap (λ before. change_between before (word_after buffer.settings (commands ++ RemoveBytes n ∷ []))) stands.word),

@@ -20,8 +20,10 @@ use Rattle.ob_seq.specs.Total.{counted_size, total}
 use Rattle.ob_seq.specs.Effect.{rows_after, cancelled, with_cancelled}
 use Rattle.ob_seq.specs.Moment.{moments_along, moments_of}
 use Rattle.ob_seq.specs.Word.{word_after}
-use Rattle.ob_seq.specs.Answer.{refusal_of, outcome_of, settlement, settlements_from, promise_at, is_waiting, reply_of}
-use Rattle.ob_seq.specs.Pending.{Pending, StandsFor, entry_of}
+use Rattle.ob_types.specs.Waiting.{is_waiting}
+use Rattle.ob_seq.specs.Answer.{refusal_of, outcome_of, settlement, settlements_from, promise_at, reply_of, still_waits}
+use Rattle.ob_seq.specs.Entry.{entry_of}
+use Rattle.ob_seq.specs.Pending.{Pending, StandsFor}
 use Rattle.ob_seq.specs.Steps.{promise_set}
 use Rattle.ob_seq.proofs.Acceptance.{open_history, same_reply}
 use Rattle.ob_seq.proofs.Along.{moment_of_same, moments_of_one, settlements_of_one}
@@ -137,8 +139,9 @@ module _ (buffer : Pending) (commands : List Command) (id : PromiseId) (stands :
 
     stands_with : (promises : List PromiseState) → promises ≡ map promise_of (with_cancelled id.0 rows) → StandsFor (record buffer { promises = promises }) (commands ++ Cancel id ∷ [])
     stands_with promises are = record {
-      accepted = accepted_more buffer.settings.estimate commands (Cancel id) (open_history buffer.settings commands (Cancel id) buffer stands unclosed) stands.accepted known_accepted;
+      accepted = accepted_more buffer.settings commands (Cancel id) (open_history buffer.settings commands (Cancel id) buffer stands unclosed) stands.accepted known_accepted;
       closed = unclosed ∙ sym (closed_more commands (Cancel id) (open_history buffer.settings commands (Cancel id) buffer stands unclosed));
+      marks = stands.marks;
       line = stands.line ∙ sym (ap (λ all. map entry_of (line all)) more ∙ line_of_cancelled id.0 rows);
       unflushed = stands.unflushed ∙ sym (ap (λ all. map entry_of (unflushed all)) more ∙ unflushed_of_cancelled id.0 rows);
       promises = are ∙ sym (ap (map promise_of) more);
@@ -160,14 +163,14 @@ module _ (buffer : Pending) (commands : List Command) (id : PromiseId) (stands :
 
     -- the reply to a cancellation
     pub reply_of_cancel : (state : PromiseState) → get_or buffer.promises id.0 Waiting ≡ state →
-        (let reply : Reply = record { answer = Yes (is_waiting (Some state)); settled = settlement id.0 (outcome_of state) (outcome_of (cancelled state)); change = change_between buffer.word buffer.word } in
+        (let reply : Reply = record { answer = Yes (is_waiting state); settled = settlement id.0 (outcome_of state) (outcome_of (cancelled state)); change = change_between buffer.word buffer.word } in
         reply ≡ reply_of buffer.settings commands (Cancel id))
     reply_of_cancel state known_state =
         let state_row : state ≡ at.row.promise = sym known_state ∙ state_is in
         same_reply
-        (ap (λ promise. Yes (is_waiting (Some promise))) state_row
-        ∙ sym (ap (λ all. Yes (is_waiting (promise_at all id.0))) at.is ∙ ap (λ place. Yes (is_waiting (promise_at (at.before ++ at.row ∷ at.behind) place))) (sym at.size)
-        ∙ ap (λ (found : Option Row). Yes (is_waiting (option_map promise_of found))) (slice_get_seam at.before at.row at.behind)))
+        (ap (λ promise. Yes (is_waiting promise)) state_row
+        ∙ sym (ap (λ all. Yes (still_waits (promise_at all id.0))) at.is ∙ ap (λ place. Yes (still_waits (promise_at (at.before ++ at.row ∷ at.behind) place))) (sym at.size)
+        ∙ ap (λ (found : Option Row). Yes (still_waits (option_map promise_of found))) (slice_get_seam at.before at.row at.behind)))
         (ap (λ promise. settlement id.0 (outcome_of promise) (outcome_of (cancelled promise))) state_row
         ∙ sym (ap (settlements_from 0 rows) at.after ∙ ap (λ before. settlements_from 0 before (at.before ++ taken_back at.row ∷ at.behind)) at.is
         ∙ settlements_of_one at.before at.row (taken_back at.row) at.behind

@@ -19,18 +19,19 @@ use Rattle.ob_seq.specs.Row.{Row, Gone, is_unflushed}
 use Rattle.ob_seq.specs.Line.{unflushed}
 use Rattle.ob_seq.specs.Total.{counted_size, total}
 use Rattle.ob_seq.specs.Effect.{effect, rows_after, failed, closed_row}
-use Rattle.ob_seq.specs.Moment.{Moment, moment_of, moments_along, moments_of, moments_after}
+use Rattle.ob_seq.specs.Moment.{Moment, moment_of, moments_along, moments_of}
 use Rattle.ob_seq.specs.Word.{word_after}
 use Rattle.ob_seq.specs.Answer.{outcome_of, refusal_of, settlement, settlements_from, settlements_of, reply_of}
-use Rattle.ob_seq.specs.Pending.{Pending, StandsFor, entry_of}
+use Rattle.ob_seq.specs.Entry.{entry_of}
+use Rattle.ob_seq.specs.Pending.{Pending, StandsFor}
 use Rattle.ob_seq.specs.Steps.{closed_pending, closing_reply, failures, unflushed_id}
 use Rattle.ob_seq.proofs.Acceptance.{open_history, same_reply}
 use Rattle.ob_seq.proofs.Along.{moments_along_same, settlements_from_same}
 use Rattle.ob_seq.proofs.Failures.{failure}
 use Rattle.ob_seq.proofs.Fronts.{Fronted, front_is, no_front}
-use Rattle.ob_seq.proofs.Held.{Held, held_of, line_count, promise_of, stands_by, unflushed_id_is, word_by_moments}
-use Rattle.ob_seq.proofs.History.{rows_after_more, accepted_more}
-use Rattle.ob_seq.proofs.Marks.{half_after, word_from, word_from_more, word_step, word_with_moments}
+use Rattle.ob_seq.proofs.Held.{opening_of, word_at_end, Held, held_of, line_count, promise_of, stands_by, unflushed_id_is, word_by_moments}
+use Rattle.ob_seq.proofs.History.{moments_after, rows_after_more, accepted_more}
+use Rattle.ob_seq.proofs.Marks.{half_after, word_from, word_from_more, word_step}
 use Rattle.ob_seq.proofs.Order.{IsGone, IsFresh, all_now_gone, each_append, layout_of, stay_by}
 
 -- a close leaves rows alone that are gone
@@ -127,8 +128,8 @@ module _ (buffer : Pending) (commands : List Command) (cause : Cause) (stands : 
     word_of_close : buffer.word ≡ word_after buffer.settings (commands ++ Close cause ∷ [])
     word_of_close =
         word_by_moments buffer commands stands
-        ∙ sym (silent_word cause buffer.settings.marks (half_after commands) fresh gone (moments_after buffer.settings.estimate commands))
-        ∙ word_with_moments buffer.settings commands (Close cause) (moments_along false gone fresh closed) (λ index. refl) moments_of_close
+        ∙ sym (silent_word cause buffer.marks (half_after commands) fresh gone (moments_after buffer.settings.estimate commands))
+        ∙ word_at_end buffer commands stands (Close cause) (moments_along false gone fresh closed) (λ index. refl) moments_of_close
 
     closed_held : Held after (gone ++ closed) [] []
     closed_held = record {
@@ -145,9 +146,9 @@ module _ (buffer : Pending) (commands : List Command) (cause : Cause) (stands : 
 
     closed_by : StandsFor after (commands ++ Close cause ∷ []) × (closing_reply cause buffer ≡ reply_of buffer.settings commands (Close cause))
     closed_by = (
-      stands_by after buffer.settings commands (Close cause) (gone ++ closed) [] [] refl
+      stands_by after buffer.settings commands (Close cause) (gone ++ closed) [] [] (opening_of buffer commands stands)
           (open_history buffer.settings commands (Close cause) buffer stands unclosed) refl
-          (accepted_more buffer.settings.estimate commands (Close cause) (open_history buffer.settings commands (Close cause) buffer stands unclosed) stands.accepted (close_accepted none)) closed_held
+          (accepted_more buffer.settings commands (Close cause) (open_history buffer.settings commands (Close cause) buffer stands unclosed) stands.accepted (close_accepted none)) closed_held
           (rows_after_more buffer.settings.estimate commands (Close cause) ∙ effect_of_close ∙ sym (append-nil (gone ++ closed))) word_of_close,
       same_reply (ap Count (ap length stands.unflushed ∙ length-map (unflushed rows) entry_of)) (sym settlements_of_close)
           (ap (change_between buffer.word) word_of_close ∙ ap (λ before. change_between before (word_after buffer.settings (commands ++ Close cause ∷ []))) stands.word),

@@ -1,19 +1,42 @@
--- Entries, and what they count together.
-use Rattle.std.proofs.Common.{◌≡◌, ℕ, ◌+◌, ◌≤◌, List, length, take, drop, sym, ap, ◌∙◌}
-use Rattle.std.proofs.lemmas.List.{take-append-drop, length-take-le}
-use Rattle.std.proofs.lemmas.List.Sums.{sum_by-append}
+-- Entries, as the code keeps them and as contracts see them.
+use Rattle.std.proofs.Common.{◌≡◌, ℕ, ◌+◌, ◌-◌, ◌<◌, ◌≤◌, min, List, [], ◌∷◌, ◌++◌, length, take, drop, get_or, refl, sym, ap, ◌∙◌, subst}
+use Rattle.std.specs.Prelude.{sum_by}
+use Rattle.std.proofs.lemmas.List.{get_or-map, length-drop, length-map, length-take, length-take-le, map-append, take-append-drop, take-map}
+use Rattle.std.proofs.lemmas.List.Sums.{sum_by-append, sum_by-cons}
 use Rattle.ob_seq.specs.declared.entry.Entry.{Entry}
+use Rattle.ob_seq.specs.Entry.{PendingEntry}
+use Rattle.ob_seq.specs.Inside.{pending_entry, pending_entries}
 use Rattle.ob_seq.specs.Pending.{Pending}
 use Rattle.ob_seq.specs.Steps.{sum_of}
 
 -- two parts of a list count together what the list counts
-pub sum_of_parts : (n : ℕ) (entries : List Entry) → sum_of (take n entries) + sum_of (drop n entries) ≡ sum_of entries
+pub sum_of_parts : (n : ℕ) (entries : List PendingEntry) → sum_of (take n entries) + sum_of (drop n entries) ≡ sum_of entries
 sum_of_parts n entries = sym (sum_by-append (λ entry. entry.size) (take n entries) (drop n entries)) ∙ ap sum_of (take-append-drop n entries)
 
+-- as many entries are in line, and behind it, as the code keeps there
+pub line_size : (flushed : ℕ) (items : List Entry) → length (take flushed (pending_entries items)) ≡ min flushed (length items)
+line_size flushed items = length-take flushed (pending_entries items) ∙ ap (min flushed) (length-map items pending_entry)
+
+pub rest_size : (flushed : ℕ) (items : List Entry) → length (drop flushed (pending_entries items)) ≡ length items - flushed
+rest_size flushed items = length-drop flushed (pending_entries items) ∙ ap (λ count. count - flushed) (length-map items pending_entry)
+
 -- the entries that are looked at are those in line
-pub seen : (held : Pending) (read items : List Entry) (flushed : ℕ) → read ≡ items → held.line ≡ take flushed items → take flushed read ≡ held.line
-seen held read items flushed same line = ap (take flushed) same ∙ sym line
+pub seen : (held : Pending) (read items : List Entry) (flushed : ℕ) → read ≡ items → held.line ≡ take flushed (pending_entries items) → pending_entries (take flushed read) ≡ held.line
+seen held read items flushed same line = sym (take-map pending_entry flushed read) ∙ ap (λ all. take flushed (pending_entries all)) same ∙ sym line
 
 -- as many stand in line as are flushed
-pub line_length : (held : Pending) (items : List Entry) (flushed : ℕ) → held.line ≡ take flushed items → flushed ≤ length items → length held.line ≡ flushed
-line_length held items flushed line within = ap length line ∙ length-take-le flushed items within
+pub line_length : (held : Pending) (items : List Entry) (flushed : ℕ) → held.line ≡ take flushed (pending_entries items) → flushed ≤ length items → length held.line ≡ flushed
+line_length held items flushed line within = ap length line ∙ length-take-le flushed (pending_entries items) (subst (λ (count : ℕ). flushed ≤ count) (sym (length-map items pending_entry)) within)
+
+-- what they count, one by one
+pub sum_of_entries : (items : List Entry) → sum_of (pending_entries items) ≡ sum_by (λ entry. entry.size) items
+sum_of_entries [] = refl
+sum_of_entries (entry ∷ items) =
+    sum_by-cons (λ e. e.size) (pending_entry entry) (pending_entries items) ∙ ap (λ sum. entry.size + sum) (sum_of_entries items) ∙ sym (sum_by-cons (λ e. e.size) entry items)
+
+-- one entry more, and the entry at a place
+pub entries_pushed : (items items' : List Entry) (entry : Entry) → items' ≡ items ++ entry ∷ [] → pending_entries items' ≡ pending_entries items ++ pending_entry entry ∷ []
+entries_pushed items items' entry pushed = ap pending_entries pushed ∙ map-append pending_entry items (entry ∷ [])
+
+pub entry_at : (items : List Entry) (i : ℕ) (entry : Entry) (d : PendingEntry) → i < length items → entry ≡ get_or items i entry → pending_entry entry ≡ get_or (pending_entries items) i d
+entry_at items i entry d within is = ap pending_entry is ∙ sym (get_or-map pending_entry items i entry d within)

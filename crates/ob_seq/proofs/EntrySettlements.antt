@@ -1,23 +1,26 @@
 -- What entries settle when they are taken away.
 use Rattle.std.proofs.Common.{◌≡◌, ℕ, zero, suc, ◌+◌, ◌-◌, ◌<◌, ◌≤◌, Bool, true, false, not, List, [], ◌∷◌, ◌++◌, length, take, drop, get_or, refl, sym, ap, ◌∙◌, cond, append_assoc, append-nil, length-append, add-zero, arith}
 use Rattle.std.specs.Prelude.{count_by}
-use Rattle.std.proofs.lemmas.List.{length-take-le, take_more, get_or-take, length-take, length-drop}
+use Rattle.std.proofs.lemmas.List.{length-take-le, take_more, get_or-take}
 use Rattle.std.proofs.lemmas.List.Sums.{sum_by-cons}
 use Rattle.ob_types.specs.declared.promise.PromiseId.{PromiseId}
 use Rattle.ob_types.specs.declared.promise.Outcome.{Outcome}
 use Rattle.ob_types.specs.declared.promise.PromiseState.{PromiseState}
 use Rattle.ob_seq.specs.declared.entry.Entry.{Entry}
+use Rattle.ob_seq.specs.Entry.{PendingEntry}
+use Rattle.ob_seq.specs.Inside.{pending_entry, pending_entries}
 use Rattle.ob_seq.specs.Pending.{Pending}
 use Rattle.ob_seq.specs.Steps.{front_id, entry_settlement, entry_settlements}
+use Rattle.ob_seq.proofs.Entries.{entry_at, line_size, rest_size}
 
-settlements_append : (outcome : Outcome) (id : ℕ) (xs ys : List Entry) → entry_settlements outcome id (xs ++ ys) ≡ entry_settlements outcome id xs ++ entry_settlements outcome (id + length xs) ys
+settlements_append : (outcome : Outcome) (id : ℕ) (xs ys : List PendingEntry) → entry_settlements outcome id (xs ++ ys) ≡ entry_settlements outcome id xs ++ entry_settlements outcome (id + length xs) ys
 settlements_append outcome id [] ys = ap (λ at. entry_settlements outcome at ys) (sym (add-zero id))
 settlements_append outcome id (x ∷ xs) ys =
     ap (λ rest. entry_settlement outcome id x ++ rest) (settlements_append outcome (suc id) xs ys ∙ ap (λ at. entry_settlements outcome (suc id) xs ++ entry_settlements outcome at ys) (omega arith))
     ∙ sym (append_assoc (entry_settlement outcome id x) (entry_settlements outcome (suc id) xs) (entry_settlements outcome (id + suc (length xs)) ys))
 
 -- with one entry more
-pub settlements_more : (outcome : Outcome) (id : ℕ) (entries : List Entry) (i : ℕ) (entry : Entry) → i < length entries → entry ≡ get_or entries i entry →
+pub settlements_more : (outcome : Outcome) (id : ℕ) (entries : List PendingEntry) (i : ℕ) (entry : PendingEntry) → i < length entries → entry ≡ get_or entries i entry →
     entry_settlements outcome id (take (i + 1) entries) ≡ entry_settlements outcome id (take i entries) ++ entry_settlement outcome (id + i) entry
 settlements_more outcome id entries i entry inside is =
     ap (entry_settlements outcome id) (take_more entries i entry inside) ∙ settlements_append outcome id (take i entries) (get_or entries i entry ∷ [])
@@ -26,7 +29,7 @@ settlements_more outcome id entries i entry inside is =
     ∙ ap (λ one. entry_settlements outcome id (take i entries) ++ one) (append-nil (entry_settlement outcome (id + i) entry))
 
 -- fewer entries settle no more
-pub settlements_few : (outcome : Outcome) (id n m : ℕ) (entries : List Entry) → n ≤ m → length (entry_settlements outcome id (take n entries)) ≤ length (entry_settlements outcome id (take m entries))
+pub settlements_few : (outcome : Outcome) (id n m : ℕ) (entries : List PendingEntry) → n ≤ m → length (entry_settlements outcome id (take n entries)) ≤ length (entry_settlements outcome id (take m entries))
 settlements_few outcome id zero m entries fewer = omega arith
 settlements_few outcome id (suc n) zero entries fewer = absurd (omega arith)
 settlements_few outcome id (suc n) (suc m) [] fewer = omega arith
@@ -37,33 +40,35 @@ settlements_few outcome id (suc n) (suc m) (entry ∷ entries) fewer =
     omega arith
 
 -- an entry that was not voided settles one promise, and a voided one none
-pub settlement_of_unvoided : (outcome : Outcome) (id : ℕ) (entry : Entry) → entry.voided ≡ false → entry_settlement outcome id entry ≡ (record { 0 = id }, outcome) ∷ []
+pub settlement_of_unvoided : (outcome : Outcome) (id : ℕ) (entry : PendingEntry) → entry.voided ≡ false → entry_settlement outcome id entry ≡ (record { 0 = id }, outcome) ∷ []
 settlement_of_unvoided outcome id entry sent = ap (λ voided. let settled : List (PromiseId × Outcome) = cond voided [] ((record { 0 = id }, outcome) ∷ []) in settled) sent
 
-pub settlement_of_voided : (outcome : Outcome) (id : ℕ) (entry : Entry) → entry.voided ≡ true → entry_settlement outcome id entry ≡ []
+pub settlement_of_voided : (outcome : Outcome) (id : ℕ) (entry : PendingEntry) → entry.voided ≡ true → entry_settlement outcome id entry ≡ []
 settlement_of_voided outcome id entry voided = ap (λ gone. let settled : List (PromiseId × Outcome) = cond gone [] ((record { 0 = id }, outcome) ∷ []) in settled) voided
 
-length_by : (outcome : Outcome) (id : ℕ) (voided : Bool) (entries : List Entry) →
+length_by : (outcome : Outcome) (id : ℕ) (voided : Bool) (entries : List PendingEntry) →
     length ((let settled : List (PromiseId × Outcome) = cond voided [] ((record { 0 = id }, outcome) ∷ []) in settled) ++ entry_settlements outcome (suc id) entries) ≡ cond (not voided) 1 0 + length (entry_settlements outcome (suc id) entries)
 length_by outcome id true entries = omega arith
 length_by outcome id false entries = omega arith
 
 -- as many promises as entries that were not voided
-pub count_of_settlements : (outcome : Outcome) (id : ℕ) (entries : List Entry) → length (entry_settlements outcome id entries) ≡ count_by (λ entry. not entry.voided) entries
+pub count_of_settlements : (outcome : Outcome) (id : ℕ) (entries : List PendingEntry) → length (entry_settlements outcome id entries) ≡ count_by (λ entry. not entry.voided) entries
 count_of_settlements outcome id [] = refl
 count_of_settlements outcome id (entry ∷ entries) =
     length_by outcome id entry.voided entries ∙ ap (λ n. cond (not entry.voided) 1 0 + n) (count_of_settlements outcome (suc id) entries)
     ∙ sym (sum_by-cons (λ e. cond (not e.voided) 1 0) entry entries)
 
 -- the id of the front, by the lengths of the lists
-pub front_id_by : (held : Pending) (entries : List Entry) (flushed : ℕ) (promises : List PromiseState) → held.line ≡ take flushed entries → held.unflushed ≡ drop flushed entries → held.promises ≡ promises →
-    length entries ≤ length promises → front_id held ≡ length promises - length entries
-front_id_by held entries flushed promises line unflushed same fits =
-    let a = ap length line ∙ length-take flushed entries in
-    let b = ap length unflushed ∙ length-drop flushed entries in
+pub front_id_by : (held : Pending) (items : List Entry) (flushed : ℕ) (promises : List PromiseState) → held.line ≡ take flushed (pending_entries items) →
+    held.unflushed ≡ drop flushed (pending_entries items) → held.promises ≡ promises → length items ≤ length promises → front_id held ≡ length promises - length items
+front_id_by held items flushed promises line unflushed same fits =
+    let a = ap length line ∙ line_size flushed items in
+    let b = ap length unflushed ∙ rest_size flushed items in
     let d = ap length same in
     omega arith
 
 -- an entry in line is the one at its place
-pub in_line : (line entries : List Entry) (flushed i : ℕ) (entry : Entry) → line ≡ take flushed entries → i < flushed → entry ≡ get_or entries i entry → entry ≡ get_or line i entry
-in_line line entries flushed i entry is inside at = at ∙ sym (ap (λ all. get_or all i entry) is ∙ get_or-take flushed entries i entry inside)
+pub in_line : (line : List PendingEntry) (items : List Entry) (flushed i : ℕ) (entry : Entry) → line ≡ take flushed (pending_entries items) → i < flushed → i < length items →
+    entry ≡ get_or items i entry → pending_entry entry ≡ get_or line i (pending_entry entry)
+in_line line items flushed i entry is inside within at =
+    entry_at items i entry (pending_entry entry) within at ∙ sym (ap (λ all. get_or all i (pending_entry entry)) is ∙ get_or-take flushed (pending_entries items) i (pending_entry entry) inside)

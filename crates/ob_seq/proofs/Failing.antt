@@ -11,16 +11,17 @@ use Rattle.ob_types.specs.declared.reply.Answer.TheVariants.{Count}
 use Rattle.ob_seq.specs.Row.{Row}
 use Rattle.ob_seq.specs.Line.{line}
 use Rattle.ob_seq.specs.Effect.{effect, rows_after, taken_row, failed_row}
-use Rattle.ob_seq.specs.Moment.{moments_along, moments_of, moments_after}
+use Rattle.ob_seq.specs.Moment.{moments_along, moments_of}
 use Rattle.ob_seq.specs.Word.{word_after}
 use Rattle.ob_seq.specs.Answer.{settlements_from, settlements_of, reply_of}
-use Rattle.ob_seq.specs.Pending.{Pending, StandsFor, entry_of}
+use Rattle.ob_seq.specs.Entry.{entry_of}
+use Rattle.ob_seq.specs.Pending.{Pending, StandsFor}
 use Rattle.ob_seq.specs.Steps.{entry_settlements, failing_reply, front_id, front_taken, line_failed, times}
 use Rattle.ob_seq.proofs.Acceptance.{open_history, same_reply}
 use Rattle.ob_seq.proofs.Along.{moments_along_same, settlements_from_same, settlements_behind}
-use Rattle.ob_seq.proofs.Held.{Held, held_of, front_id_is, line_count, stands_by, word_by_moments}
-use Rattle.ob_seq.proofs.History.{rows_after_more, accepted_more}
-use Rattle.ob_seq.proofs.Marks.{half_after, word_with_moments}
+use Rattle.ob_seq.proofs.Held.{opening, opening_of, word_at_end, Held, held_of, front_id_is, line_count, stands_by, word_by_moments}
+use Rattle.ob_seq.proofs.History.{moments_after, rows_after_more, accepted_more}
+use Rattle.ob_seq.proofs.Marks.{half_after}
 use Rattle.ob_seq.proofs.Order.{Layout, layout_of, failed_parts}
 use Rattle.ob_seq.proofs.Sent.{all_taken, settlements_of_taken}
 
@@ -66,7 +67,7 @@ module _ (buffer : Pending) (commands : List Command) (cause : Cause) (notice : 
       ∙ ap (entry_settlements outcome (front_id buffer)) (sym held.line)
 
   -- the line taken away, one entry after another
-  taken : Held after (layout.gone ++ now) [] layout.fresh × (after.word ≡ word_after buffer.settings (commands ++ failing ∷ [])) × (after.settings ≡ buffer.settings) × (after.closed ≡ buffer.closed)
+  taken : Held after (layout.gone ++ now) [] layout.fresh × (after.word ≡ word_after buffer.settings (commands ++ failing ∷ [])) × (opening after ≡ opening buffer) × (after.closed ≡ buffer.closed)
   taken =
       let all = all_taken notice outcome layout.standing buffer layout.gone [] layout.fresh (half_after commands) (moments_after buffer.settings.estimate commands)
       (subst (λ (standing : List Row). Held buffer layout.gone standing layout.fresh) (sym (append-nil layout.standing)) held) (word_by_moments buffer commands stands) in
@@ -74,16 +75,16 @@ module _ (buffer : Pending) (commands : List Command) (cause : Cause) (notice : 
       ap (λ n. times n (front_taken notice outcome) buffer) (sym (line_count buffer layout.gone layout.standing layout.fresh held)) in (
         subst (λ (end : Pending). Held end (layout.gone ++ now) [] layout.fresh) count all.0,
         ap (λ (end : Pending). end.word) (sym count) ∙ all.1
-            ∙ word_with_moments buffer.settings commands failing (moments_along notice layout.gone (layout.standing ++ layout.fresh) (now ++ layout.fresh)) (λ index. refl) moments_of_failing,
-        ap (λ (end : Pending). end.settings) (sym count) ∙ all.2,
+            ∙ word_at_end buffer commands stands failing (moments_along notice layout.gone (layout.standing ++ layout.fresh) (now ++ layout.fresh)) (λ index. refl) moments_of_failing,
+        ap opening (sym count) ∙ all.2,
         ap (λ (end : Pending). end.closed) (sym count) ∙ all.3,
       )
 
   -- the buffer stands for the history with the failing
   pub failing_stands : StandsFor after (commands ++ failing ∷ [])
-  failing_stands = stands_by after buffer.settings commands failing (layout.gone ++ now) [] layout.fresh taken.2
+  failing_stands = stands_by after buffer.settings commands failing (layout.gone ++ now) [] layout.fresh (taken.2 ∙ opening_of buffer commands stands)
       (open_history buffer.settings commands failing buffer stands unclosed) (taken.3 ∙ unclosed)
-      (accepted_more buffer.settings.estimate commands failing (open_history buffer.settings commands failing buffer stands unclosed) stands.accepted refl) taken.0
+      (accepted_more buffer.settings commands failing (open_history buffer.settings commands failing buffer stands unclosed) stands.accepted refl) taken.0
       (rows_after_more buffer.settings.estimate commands failing ∙ effect_of_failing ∙ sym (append_assoc layout.gone now layout.fresh))
       taken.1
 

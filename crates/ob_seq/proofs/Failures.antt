@@ -1,6 +1,6 @@
 -- Promises that fail if they still wait, and what they settle.
 use Rattle.std.proofs.Common.{◌≡◌, ℕ, zero, suc, ◌+◌, ◌<◌, ◌≤◌, Bool, true, false, List, [], ◌∷◌, ◌++◌, length, map, take, drop, get_or, refl, sym, ap, ◌∙◌, cond, append_assoc, append-nil, length-append, add-zero, arith}
-use Rattle.std.specs.Prelude.{Some, count_by, slice_set}
+use Rattle.std.specs.Prelude.{count_by, slice_set}
 use Rattle.std.proofs.lemmas.List.{length-take-le, take_more, map-append, length-map, take-append-drop}
 use Rattle.std.proofs.lemmas.List.Sums.{sum_by-cons}
 use Rattle.std.proofs.Math.Seq.{set-append_seam, get_or-append_seam}
@@ -10,13 +10,13 @@ use Rattle.ob_types.specs.declared.promise.Outcome.{Outcome}
 use Rattle.ob_types.specs.declared.promise.Outcome.TheVariants.{Failed}
 use Rattle.ob_types.specs.declared.promise.PromiseState.{PromiseState}
 use Rattle.ob_types.specs.declared.promise.PromiseState.TheVariants.{Waiting, Fixed, Settled}
-use Rattle.ob_seq.specs.Answer.{is_waiting}
+use Rattle.ob_types.specs.Waiting.{is_waiting}
 use Rattle.ob_seq.specs.Effect.{failed}
 use Rattle.ob_seq.specs.Steps.{failures}
 
 -- what one promise settles
 abbrev pub failure : Cause → ℕ → PromiseState → List (PromiseId × Outcome)
-failure cause id state = cond (is_waiting (Some state)) ((record { 0 = id }, Failed cause) ∷ []) []
+failure cause id state = cond (is_waiting state) ((record { 0 = id }, Failed cause) ∷ []) []
 
 failures_append : (cause : Cause) (id : ℕ) (xs ys : List PromiseState) → failures cause id (xs ++ ys) ≡ failures cause id xs ++ failures cause (id + length xs) ys
 failures_append cause id [] ys = ap (λ at. failures cause at ys) (sym (add-zero id))
@@ -49,12 +49,12 @@ length_by cause id true more = omega arith
 length_by cause id false more = omega arith
 
 -- as many as there are promises that wait
-pub count_of_failures : (cause : Cause) (id : ℕ) (states : List PromiseState) → length (failures cause id states) ≡ count_by (λ state. is_waiting (Some state)) states
+pub count_of_failures : (cause : Cause) (id : ℕ) (states : List PromiseState) → length (failures cause id states) ≡ count_by (λ state. is_waiting state) states
 count_of_failures cause id [] = refl
 count_of_failures cause id (state ∷ states) =
-    length_by cause id (is_waiting (Some state)) (failures cause (suc id) states)
-    ∙ ap (λ n. cond (is_waiting (Some state)) 1 0 + n) (count_of_failures cause (suc id) states)
-    ∙ sym (sum_by-cons (λ s. cond (is_waiting (Some s)) 1 0) state states)
+    length_by cause id (is_waiting state) (failures cause (suc id) states)
+    ∙ ap (λ n. cond (is_waiting state) 1 0 + n) (count_of_failures cause (suc id) states)
+    ∙ sym (sum_by-cons (λ s. cond (is_waiting s) 1 0) state states)
 
 -- the promises when the first so many from an id on have failed if they waited
 abbrev pub failed_up_to : ℕ → ℕ → Cause → List PromiseState → List PromiseState
@@ -115,12 +115,12 @@ module _ (first count id : ℕ) (cause : Cause) (promises : List PromiseState) (
   one_more_stayed same = before ∙ ap (λ state. passed ++ state ∷ drop (count + 1) rest) (sym same) ∙ sym after
 
 -- a promise that waits fails, and no other changes
-pub fails : (cause : Cause) (state : PromiseState) → is_waiting (Some state) ≡ true → failed cause state ≡ Settled (Failed cause)
+pub fails : (cause : Cause) (state : PromiseState) → is_waiting state ≡ true → failed cause state ≡ Settled (Failed cause)
 fails cause Waiting is = refl
 fails cause Fixed is = absurd (cc)
 fails cause (Settled outcome) is = absurd (cc)
 
-pub stays : (cause : Cause) (state : PromiseState) → is_waiting (Some state) ≡ false → failed cause state ≡ state
+pub stays : (cause : Cause) (state : PromiseState) → is_waiting state ≡ false → failed cause state ≡ state
 stays cause Waiting is = absurd (cc)
 stays cause Fixed is = refl
 stays cause (Settled outcome) is = refl

@@ -9,16 +9,17 @@ use Rattle.ob_types.specs.declared.reply.Answer.TheVariants.{Count}
 use Rattle.ob_seq.specs.Row.{Row}
 use Rattle.ob_seq.specs.Line.{unflushed}
 use Rattle.ob_seq.specs.Effect.{flushed_row, reached_row, rows_after}
-use Rattle.ob_seq.specs.Moment.{moments_along, moments_of, moments_after}
+use Rattle.ob_seq.specs.Moment.{moments_along, moments_of}
 use Rattle.ob_seq.specs.Word.{word_after}
 use Rattle.ob_seq.specs.Answer.{settlements_from, settlements_of, reply_of}
-use Rattle.ob_seq.specs.Pending.{Pending, StandsFor, entry_of}
+use Rattle.ob_seq.specs.Entry.{entry_of}
+use Rattle.ob_seq.specs.Pending.{Pending, StandsFor}
 use Rattle.ob_seq.specs.Steps.{next_flushed, times}
 use Rattle.ob_seq.proofs.Acceptance.{open_history, same_reply}
 use Rattle.ob_seq.proofs.Along.{moments_along_same, settlements_from_same}
-use Rattle.ob_seq.proofs.Held.{Held, held_of, fresh_count, stands_by, word_by_moments}
-use Rattle.ob_seq.proofs.History.{rows_after_more, accepted_more}
-use Rattle.ob_seq.proofs.Marks.{half_after, word_with_moments}
+use Rattle.ob_seq.proofs.Held.{opening, opening_of, word_at_end, Held, held_of, fresh_count, stands_by, word_by_moments}
+use Rattle.ob_seq.proofs.History.{moments_after, rows_after_more, accepted_more}
+use Rattle.ob_seq.proofs.Marks.{half_after}
 use Rattle.ob_seq.proofs.Order.{Layout, layout_of, flush_parts}
 use Rattle.ob_seq.proofs.Reached.{all_reached, settlements_of_reached}
 
@@ -55,21 +56,21 @@ module _ (buffer : Pending) (commands : List Command) (stands : StandsFor buffer
       ∙ settlements_of_reached (0 + length passed) layout.fresh
 
   -- the flush of as many entries as there are rows
-  reached : Held after layout.gone (layout.standing ++ map reached_row layout.fresh) [] × (after.word ≡ word_after buffer.settings (commands ++ Flush ∷ [])) × (after.settings ≡ buffer.settings) × (after.closed ≡ buffer.closed)
+  reached : Held after layout.gone (layout.standing ++ map reached_row layout.fresh) [] × (after.word ≡ word_after buffer.settings (commands ++ Flush ∷ [])) × (opening after ≡ opening buffer) × (after.closed ≡ buffer.closed)
   reached =
       let all = all_reached layout.fresh buffer layout.gone layout.standing (half_after commands) (moments_after buffer.settings.estimate commands) held (word_by_moments buffer commands stands) in
       let count : times (length layout.fresh) next_flushed buffer ≡ after = ap (λ n. times n next_flushed buffer) (sym (fresh_count buffer layout.gone layout.standing layout.fresh held)) in (
         subst (λ (end : Pending). Held end layout.gone (layout.standing ++ map reached_row layout.fresh) []) count all.0,
-        ap (λ (end : Pending). end.word) (sym count) ∙ all.1 ∙ word_with_moments buffer.settings commands Flush (moments_along true passed layout.fresh (map reached_row layout.fresh)) (λ index. refl) moments_of_flush,
-        ap (λ (end : Pending). end.settings) (sym count) ∙ all.2,
+        ap (λ (end : Pending). end.word) (sym count) ∙ all.1 ∙ word_at_end buffer commands stands Flush (moments_along true passed layout.fresh (map reached_row layout.fresh)) (λ index. refl) moments_of_flush,
+        ap opening (sym count) ∙ all.2,
         ap (λ (end : Pending). end.closed) (sym count) ∙ all.3,
       )
 
   -- the buffer stands for the history with the flush
   pub flushed_stands : StandsFor after (commands ++ Flush ∷ [])
-  flushed_stands = stands_by after buffer.settings commands Flush layout.gone (layout.standing ++ map reached_row layout.fresh) [] reached.2
+  flushed_stands = stands_by after buffer.settings commands Flush layout.gone (layout.standing ++ map reached_row layout.fresh) [] (reached.2 ∙ opening_of buffer commands stands)
       (open_history buffer.settings commands Flush buffer stands unclosed) (reached.3 ∙ unclosed)
-      (accepted_more buffer.settings.estimate commands Flush (open_history buffer.settings commands Flush buffer stands unclosed) stands.accepted refl) reached.0
+      (accepted_more buffer.settings commands Flush (open_history buffer.settings commands Flush buffer stands unclosed) stands.accepted refl) reached.0
       (rows_after_more buffer.settings.estimate commands Flush ∙ effect_of_flush ∙ ap (λ rest. layout.gone ++ rest) (sym (append-nil (layout.standing ++ map reached_row layout.fresh))))
       reached.1
 

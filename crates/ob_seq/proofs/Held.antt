@@ -2,6 +2,7 @@
 use Rattle.std.proofs.Common.{◌≡◌, ℕ, ◌+◌, ◌-◌, true, false, List, [], ◌∷◌, ◌++◌, length, map, sym, ap, ◌∙◌, length-append, arith}
 use Rattle.std.specs.List.{AllByRecursion}
 use Rattle.std.proofs.lemmas.List.{length-map}
+use Rattle.ob_types.specs.WaterMark.{Marks}
 use Rattle.ob_types.specs.declared.command.Command.{Command}
 use Rattle.ob_types.specs.declared.promise.PromiseState.{PromiseState}
 use Rattle.ob_seq.specs.Settings.{Settings}
@@ -10,16 +11,17 @@ use Rattle.ob_seq.specs.Line.{line, unflushed}
 use Rattle.ob_seq.specs.Total.{total}
 use Rattle.ob_seq.specs.Effect.{rows_after}
 use Rattle.ob_seq.specs.Closed.{is_close, is_closed}
-use Rattle.ob_seq.specs.Moment.{moments_after}
+use Rattle.ob_seq.specs.Moment.{Moment, moments_of}
 use Rattle.ob_seq.specs.Word.{word_after}
 use Rattle.ob_seq.specs.Answer.{are_accepted, refusal_of}
 use Rattle.std.specs.Prelude.{None}
-use Rattle.ob_seq.specs.Pending.{Pending, StandsFor, entry_of}
+use Rattle.ob_seq.specs.Entry.{entry_of}
+use Rattle.ob_seq.specs.Pending.{Pending, StandsFor}
 use Rattle.ob_seq.specs.Steps.{sum_of, pending_total, unflushed_id, front_id}
 use Rattle.ob_seq.proofs.Rows.{sum_of_rows}
 use Rattle.ob_seq.proofs.Acceptance.{open_history}
-use Rattle.ob_seq.proofs.History.{accepted_more, closed_more}
-use Rattle.ob_seq.proofs.Marks.{half_after, word_from, word_is_from}
+use Rattle.ob_seq.proofs.History.{accepted_more, closed_more, moments_after}
+use Rattle.ob_seq.proofs.Marks.{IsQuiet, half_after, word_from, word_is_from, word_with_moments}
 use Rattle.ob_seq.proofs.Order.{IsGone, IsStanding, IsFresh, layout_of}
 use Rattle.ob_seq.proofs.Parts.{line_of_parts, unflushed_of_parts}
 
@@ -50,15 +52,25 @@ held_of buffer commands stands =
       all_fresh = layout.all_fresh;
     }
 
+-- what a buffer was opened with, and the marks in force
+abbrev pub opening : Pending → Settings × Marks
+opening buffer = (buffer.settings, buffer.marks)
+
+-- the marks in force are those of the opening
+pub opening_of : (buffer : Pending) (commands : List Command) → StandsFor buffer commands → opening buffer ≡ (buffer.settings, buffer.settings.marks)
+opening_of buffer commands stands = ap (λ (marks : Marks). let parts : Settings × Marks = (buffer.settings, marks) in parts) stands.marks
+
 -- a buffer that holds the rows after one more command, and has their word, stands for the history with it
-pub stands_by : (buffer : Pending) (settings : Settings) (commands : List Command) (command : Command) (gone standing fresh : List Row) → buffer.settings ≡ settings →
-    is_closed commands ≡ false → buffer.closed ≡ is_close command → are_accepted settings.estimate [] (commands ++ command ∷ []) ≡ true → Held buffer gone standing fresh → rows_after settings.estimate (commands ++ command ∷ []) ≡ gone ++ (standing ++ fresh) →
+pub stands_by : (buffer : Pending) (settings : Settings) (commands : List Command) (command : Command) (gone standing fresh : List Row) → opening buffer ≡ (settings, settings.marks) →
+    is_closed commands ≡ false → buffer.closed ≡ is_close command → are_accepted settings [] (commands ++ command ∷ []) ≡ true → Held buffer gone standing fresh → rows_after settings.estimate (commands ++ command ∷ []) ≡ gone ++ (standing ++ fresh) →
     buffer.word ≡ word_after settings (commands ++ command ∷ []) → StandsFor buffer (commands ++ command ∷ [])
-stands_by buffer settings commands command gone standing fresh same unclosed closed accepted held rows word =
+stands_by buffer settings commands command gone standing fresh opened unclosed closed accepted held rows word =
+    let same : buffer.settings ≡ settings = ap (λ (parts : Settings × Marks). parts.0) opened in
     let more : rows_after buffer.settings.estimate (commands ++ command ∷ []) ≡ gone ++ (standing ++ fresh) = ap (λ (s : Settings). rows_after s.estimate (commands ++ command ∷ [])) same ∙ rows in
     record {
-      accepted = ap (λ (s : Settings). are_accepted s.estimate [] (commands ++ command ∷ [])) same ∙ accepted;
+      accepted = ap (λ (s : Settings). are_accepted s [] (commands ++ command ∷ [])) same ∙ accepted;
       closed = closed ∙ sym (closed_more commands command unclosed);
+      marks = ap (λ (parts : Settings × Marks). parts.1) opened ∙ ap (λ (s : Settings). s.marks) (sym same);
       line = held.line ∙ sym (ap (λ all. map entry_of (line all)) more ∙ ap (map entry_of) (line_of_parts gone standing fresh held.all_gone held.all_standing held.all_fresh));
       unflushed = held.unflushed ∙ sym (ap (λ all. map entry_of (unflushed all)) more ∙ ap (map entry_of) (unflushed_of_parts gone standing fresh held.all_gone held.all_standing held.all_fresh));
       promises = held.promises ∙ sym (ap (map promise_of) more);
@@ -71,8 +83,9 @@ pub stands_same : (buffer : Pending) (commands : List Command) (command : Comman
     rows_after buffer.settings.estimate (commands ++ command ∷ []) ≡ rows_after buffer.settings.estimate commands →
     buffer.word ≡ word_after buffer.settings (commands ++ command ∷ []) → StandsFor buffer (commands ++ command ∷ [])
 stands_same buffer commands command stands unclosed no_close accepted more word = record {
-  accepted = accepted_more buffer.settings.estimate commands command (open_history buffer.settings commands command buffer stands unclosed) stands.accepted accepted;
+  accepted = accepted_more buffer.settings commands command (open_history buffer.settings commands command buffer stands unclosed) stands.accepted accepted;
   closed = unclosed ∙ sym (closed_more commands command (open_history buffer.settings commands command buffer stands unclosed) ∙ no_close);
+  marks = stands.marks;
   line = stands.line ∙ sym (ap (λ all. map entry_of (line all)) more);
   unflushed = stands.unflushed ∙ sym (ap (λ all. map entry_of (unflushed all)) more);
   promises = stands.promises ∙ sym (ap (map promise_of) more);
@@ -113,5 +126,15 @@ module _ (buffer : Pending) (gone standing fresh : List Row) (held : Held buffer
       ∙ sum_of_rows (gone ++ (standing ++ fresh))
 
 -- the word of a buffer that stands for a history, by its moments
-pub word_by_moments : (buffer : Pending) (commands : List Command) → StandsFor buffer commands → buffer.word ≡ word_from buffer.settings.marks (half_after commands) (moments_after buffer.settings.estimate commands)
-word_by_moments buffer commands stands = stands.word ∙ word_is_from buffer.settings commands
+pub word_by_moments : (buffer : Pending) (commands : List Command) → StandsFor buffer commands → buffer.word ≡ word_from buffer.marks (half_after commands) (moments_after buffer.settings.estimate commands)
+word_by_moments buffer commands stands =
+    stands.word ∙ word_is_from buffer.settings commands
+    ∙ ap (λ marks. word_from marks (half_after commands) (moments_after buffer.settings.estimate commands)) (sym stands.marks)
+
+-- and its word after one more command, by the moments of that
+pub word_at_end : (buffer : Pending) (commands : List Command) → StandsFor buffer commands → (command : Command) (moments : List Moment) → IsQuiet command →
+    moments_of buffer.settings.estimate (rows_after buffer.settings.estimate commands) command ≡ moments →
+    word_from buffer.marks (half_after commands) (moments_after buffer.settings.estimate commands ++ moments) ≡ word_after buffer.settings (commands ++ command ∷ [])
+word_at_end buffer commands stands command moments quiet same =
+    ap (λ marks. word_from marks (half_after commands) (moments_after buffer.settings.estimate commands ++ moments)) stands.marks
+    ∙ word_with_moments buffer.settings commands command moments quiet same

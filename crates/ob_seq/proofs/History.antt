@@ -1,16 +1,16 @@
 -- One more command at the end of a history.
 use Rattle.std.proofs.Common.{◌≡◌, List, [], ◌∷◌, ◌++◌, sym, ap, ◌∙◌, append_assoc, append-nil, Bool, true, false, ◌&&◌, ◌||◌, cond, refl}
-use Rattle.std.specs.Prelude.{fold, Option, Some, None, is_none}
+use Rattle.std.specs.Prelude.{fold, Some, None, is_ok}
 use Rattle.std.proofs.lemmas.List.Folds.{list_any-append}
 use Rattle.std.proofs.lemmas.List.Sums.{fold-append}
 use Rattle.ob_types.specs.declared.estimate.Estimate.{Estimate}
 use Rattle.ob_types.specs.declared.command.Command.{Command}
+use Rattle.ob_seq.specs.Settings.{Settings}
 use Rattle.ob_seq.specs.Row.{Row}
 use Rattle.ob_seq.specs.Effect.{effect, rows_after}
-use Rattle.ob_seq.specs.Moment.{moments_of, moments_from, moments_after}
-use Rattle.ob_types.specs.declared.refusal.Refusal.{Refusal}
+use Rattle.ob_seq.specs.Moment.{Moment, moments_of}
 use Rattle.ob_types.specs.declared.refusal.Refusal.TheVariants.{Closed}
-use Rattle.ob_seq.specs.Answer.{first_refusal, refusal_of, are_accepted}
+use Rattle.ob_seq.specs.Answer.{first_refusal, refusal_of, reply_of, unless_refused, is_accepted, are_accepted}
 use Rattle.ob_seq.specs.Closed.{is_close, is_closed}
 
 -- the rows after one more command
@@ -21,6 +21,15 @@ and_true : (a b : Bool) → (a && b) ≡ true → (a ≡ true) × (b ≡ true)
 and_true true true both = (refl, refl)
 and_true true false both = absurd (cc)
 and_true false b both = absurd (cc)
+
+-- the moments of accepted commands that find these rows, oldest first
+abbrev pub moments_from : Estimate → List Row → List Command → List Moment
+moments_from estimate rows [] = []
+moments_from estimate rows (command ∷ commands) = moments_of estimate rows command ++ moments_from estimate (effect estimate rows command) commands
+
+-- the moments of a whole history of accepted commands, oldest first
+abbrev pub moments_after : Estimate → List Command → List Moment
+moments_after estimate commands = moments_from estimate [] commands
 
 moments_from_more : (estimate : Estimate) (rows : List Row) (commands : List Command) (command : Command) →
     moments_from estimate rows (commands ++ command ∷ []) ≡ moments_from estimate rows commands ++ moments_of estimate (fold (effect estimate) rows commands) command
@@ -46,16 +55,20 @@ closed_more commands command unclosed = list_any-append is_close commands (comma
 pub refusal_of_open : (estimate : Estimate) (commands : List Command) (command : Command) → is_closed commands ≡ false → first_refusal estimate commands command ≡ refusal_of estimate (rows_after estimate commands) command
 refusal_of_open estimate commands command unclosed = ap (λ closed. cond closed (Some Closed) (refusal_of estimate (rows_after estimate commands) command)) unclosed
 
-accepted_from_more : (estimate : Estimate) (earlier commands : List Command) (command : Command) →
-    are_accepted estimate earlier commands ≡ true → first_refusal estimate (earlier ++ commands) command ≡ None → are_accepted estimate earlier (commands ++ command ∷ []) ≡ true
-accepted_from_more estimate earlier [] command all last =
-    ap (λ (refusal : Option Refusal). is_none refusal && true) (ap (λ all. first_refusal estimate all command) (sym (append-nil earlier)) ∙ last)
-accepted_from_more estimate earlier (first ∷ commands) command all last =
-    let both = and_true (is_none (first_refusal estimate earlier first)) (are_accepted estimate (earlier ++ first ∷ []) commands) all in
-    ap (λ test. test && are_accepted estimate (earlier ++ first ∷ []) (commands ++ command ∷ [])) both.0
-    ∙ accepted_from_more estimate (earlier ++ first ∷ []) commands command both.1 (ap (λ all. first_refusal estimate all command) (append_assoc earlier (first ∷ []) commands) ∙ last)
+-- a command with no refusal is accepted
+pub accepted_by : (settings : Settings) (commands : List Command) (command : Command) → first_refusal settings.estimate commands command ≡ None → is_accepted settings commands command ≡ true
+accepted_by settings commands command none = ap (λ refusal. is_ok (unless_refused refusal (reply_of settings commands command))) none
+
+accepted_from_more : (settings : Settings) (earlier commands : List Command) (command : Command) →
+    are_accepted settings earlier commands ≡ true → is_accepted settings (earlier ++ commands) command ≡ true → are_accepted settings earlier (commands ++ command ∷ []) ≡ true
+accepted_from_more settings earlier [] command all last = ap (λ test. test && true) (ap (λ all. is_accepted settings all command) (sym (append-nil earlier)) ∙ last)
+accepted_from_more settings earlier (first ∷ commands) command all last =
+    let both = and_true (is_accepted settings earlier first) (are_accepted settings (earlier ++ first ∷ []) commands) all in
+    ap (λ test. test && are_accepted settings (earlier ++ first ∷ []) (commands ++ command ∷ [])) both.0
+    ∙ accepted_from_more settings (earlier ++ first ∷ []) commands command both.1 (ap (λ all. is_accepted settings all command) (append_assoc earlier (first ∷ []) commands) ∙ last)
 
 -- a history goes on with a command that is not refused
-pub accepted_more : (estimate : Estimate) (commands : List Command) (command : Command) → is_closed commands ≡ false →
-    are_accepted estimate [] commands ≡ true → refusal_of estimate (rows_after estimate commands) command ≡ None → are_accepted estimate [] (commands ++ command ∷ []) ≡ true
-accepted_more estimate commands command unclosed all last = accepted_from_more estimate [] commands command all (refusal_of_open estimate commands command unclosed ∙ last)
+pub accepted_more : (settings : Settings) (commands : List Command) (command : Command) → is_closed commands ≡ false →
+    are_accepted settings [] commands ≡ true → refusal_of settings.estimate (rows_after settings.estimate commands) command ≡ None → are_accepted settings [] (commands ++ command ∷ []) ≡ true
+accepted_more settings commands command unclosed all last =
+    accepted_from_more settings [] commands command all (accepted_by settings commands command (refusal_of_open settings.estimate commands command unclosed ∙ last))

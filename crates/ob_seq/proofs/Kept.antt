@@ -8,7 +8,7 @@ use Rattle.ob_types.specs.declared.message.Message.{Message}
 use Rattle.ob_types.specs.declared.promise.Outcome.{Outcome}
 use Rattle.ob_types.specs.declared.promise.PromiseState.{PromiseState}
 use Rattle.ob_types.specs.declared.promise.PromiseState.TheVariants.{Waiting, Fixed, Settled}
-use Rattle.ob_seq.specs.declared.entry.Entry.{Entry}
+use Rattle.ob_seq.specs.Entry.{PendingEntry}
 use Rattle.ob_seq.specs.Settings.{Settings}
 use Rattle.ob_seq.specs.Pending.{Pending}
 use Rattle.ob_seq.specs.Steps.{first_size, sum_of, written, front_taken, word_after_rise, word_after_fall, next_flushed, reached_entry, first_reached, front_changed}
@@ -16,27 +16,27 @@ use Rattle.ob_seq.proofs.Entries.{sum_of_parts}
 use Rattle.ob_seq.specs.Row.{is_cancelled}
 
 -- what a buffer holds, by its parts
-abbrev pub pending_from : Settings → List Entry → List Entry → List PromiseState → ℕ → Bool → Pending
-pending_from settings line unflushed promises word closed = record { settings = settings; line = line; unflushed = unflushed; promises = promises; word = word; closed = closed }
+abbrev pub pending_from : Settings → List PendingEntry → List PendingEntry → List PromiseState → ℕ → Bool → Pending
+pending_from settings line unflushed promises word closed = record { settings = settings; marks = settings.marks; line = line; unflushed = unflushed; promises = promises; word = word; closed = closed }
 
 -- two buffers with the same parts hold the same
-pub same_pending : (settings : Settings) (closed : Bool) {line line' unflushed unflushed' : List Entry} {promises promises' : List PromiseState} {word word' : ℕ} →
+pub same_pending : (settings : Settings) (closed : Bool) {line line' unflushed unflushed' : List PendingEntry} {promises promises' : List PromiseState} {word word' : ℕ} →
     line ≡ line' → unflushed ≡ unflushed' → promises ≡ promises' → word ≡ word' → pending_from settings line unflushed promises word closed ≡ pending_from settings line' unflushed' promises' word' closed
 same_pending settings closed {line} {line'} {unflushed} {unflushed'} {promises} {promises'} {word} {word'} l u p w =
     ap (λ x. pending_from settings x unflushed promises word closed) l ∙ ap (λ x. pending_from settings line' x promises word closed) u
     ∙ ap (λ x. pending_from settings line' unflushed' x word closed) p ∙ ap (λ x. pending_from settings line' unflushed' promises' x closed) w
 
 -- what is held with the first entries in line
-abbrev pub kept : Settings → List Entry → ℕ → List PromiseState → ℕ → Bool → Pending
+abbrev pub kept : Settings → List PendingEntry → ℕ → List PromiseState → ℕ → Bool → Pending
 kept settings entries flushed promises word closed = pending_from settings (take flushed entries) (drop flushed entries) promises word closed
 
 -- an entry behind the others is unflushed
-pub kept_written : (settings : Settings) (entries : List Entry) (flushed : ℕ) (promises : List PromiseState) (word : ℕ) (closed : Bool) (size : ℕ) (message : Message)
-    (entries' : List Entry) (promises' : List PromiseState) (word' sum : ℕ) → flushed ≤ length entries →
+pub kept_written : (settings : Settings) (entries : List PendingEntry) (flushed : ℕ) (promises : List PromiseState) (word : ℕ) (closed : Bool) (size : ℕ) (message : Message)
+    (entries' : List PendingEntry) (promises' : List PromiseState) (word' sum : ℕ) → flushed ≤ length entries →
     entries' ≡ entries ++ record { message = message; size = size; progress = 0; voided = false } ∷ [] → promises' ≡ promises ++ Waiting ∷ [] → sum ≡ sum_of entries' →
     word' ≡ word_after_rise settings.marks word size sum → kept settings entries' flushed promises' word' closed ≡ written (kept settings entries flushed promises word closed) message size
 kept_written settings entries flushed promises word closed size message entries' promises' word' sum within pushed promised summed risen =
-    let entry : Entry = record { message = message; size = size; progress = 0; voided = false } in
+    let entry : PendingEntry = record { message = message; size = size; progress = 0; voided = false } in
     same_pending settings closed
     (ap (take flushed) pushed ∙ take-append-le flushed entries (entry ∷ []) within)
     (ap (drop flushed) pushed ∙ drop-append-le flushed entries (entry ∷ []) within)
@@ -47,8 +47,8 @@ without_first : (all size rest : ℕ) → all ≡ size + rest → rest ≡ all -
 without_first all size rest is = omega arith
 
 -- without the first entry the line is shorter by one
-pub kept_taken : (settings : Settings) (entries : List Entry) (flushed : ℕ) (promises : List PromiseState) (word : ℕ) (closed : Bool) (entry : Entry) (notice : Bool) (outcome : Outcome)
-    (entries' : List Entry) (promises' : List PromiseState) (word' : ℕ) → 0 < flushed → flushed ≤ length entries → entry ≡ get_or entries 0 entry →
+pub kept_taken : (settings : Settings) (entries : List PendingEntry) (flushed : ℕ) (promises : List PromiseState) (word : ℕ) (closed : Bool) (entry : PendingEntry) (notice : Bool) (outcome : Outcome)
+    (entries' : List PendingEntry) (promises' : List PromiseState) (word' : ℕ) → 0 < flushed → flushed ≤ length entries → entry ≡ get_or entries 0 entry →
     entries' ≡ drop 1 entries →
     promises' ≡ (if entry.voided then promises else slice_set promises (length promises - length entries) (Settled outcome)) →
     word' ≡ (if notice then word_after_fall settings.marks word entry.size (sum_of entries') else word) →
@@ -63,27 +63,27 @@ kept_taken settings (e ∷ es) (suc n) promises word closed entry notice outcome
     same_pending settings closed
     (ap (λ count. take count entries') less ∙ ap (take n) taken)
     (ap (λ count. drop count entries') less ∙ ap (drop n) taken)
-    (settled ∙ ap (λ (one : Entry). if one.voided then promises else slice_set promises (length promises - length (e ∷ es)) (Settled outcome)) first
+    (settled ∙ ap (λ (one : PendingEntry). if one.voided then promises else slice_set promises (length promises - length (e ∷ es)) (Settled outcome)) first
     ∙ ap (λ count. if e.voided then promises else slice_set promises (length promises - count) (Settled outcome)) parts)
-    (fallen ∙ ap (λ (one : Entry). cond notice (word_after_fall settings.marks word one.size (sum_of entries')) word) first
+    (fallen ∙ ap (λ (one : PendingEntry). cond notice (word_after_fall settings.marks word one.size (sum_of entries')) word) first
     ∙ ap (λ sum. cond notice (word_after_fall settings.marks word e.size sum) word) (ap sum_of taken ∙ without_first _ e.size (sum_of es) all))
 
 -- a list with the entry at an index apart
-record Split (n : ℕ) (entries : List Entry) : Type 0 where
-  before : List Entry
-  entry : Entry
-  behind : List Entry
+record Split (n : ℕ) (entries : List PendingEntry) : Type 0 where
+  before : List PendingEntry
+  entry : PendingEntry
+  behind : List PendingEntry
   is : entries ≡ before ++ entry ∷ behind
   size : length before ≡ n
 
-split : (n : ℕ) (entries : List Entry) → n < length entries → Split n entries
+split : (n : ℕ) (entries : List PendingEntry) → n < length entries → Split n entries
 split n [] within = absurd (omega arith)
 split zero (entry ∷ entries) within = record { before = []; entry = entry; behind = entries; is = refl; size = refl }
 split (suc n) (entry ∷ entries) within =
     let rest = split n entries (omega arith) in
     record { before = entry ∷ rest.before; entry = rest.entry; behind = rest.behind; is = ap (λ all. entry ∷ all) rest.is; size = ap suc rest.size }
 
-module _ (n : ℕ) (before : List Entry) (entry : Entry) (behind : List Entry) (size : length before ≡ n) where
+module _ (n : ℕ) (before : List PendingEntry) (entry : PendingEntry) (behind : List PendingEntry) (size : length before ≡ n) where
   take_seam : take n (before ++ entry ∷ behind) ≡ before
   take_seam = ap (λ count. take count (before ++ entry ∷ behind)) (sym size) ∙ take-append_seam before (entry ∷ behind)
 
@@ -104,18 +104,18 @@ module _ (n : ℕ) (before : List Entry) (entry : Entry) (behind : List Entry) (
 sums : (front size rest all left : ℕ) → all ≡ front + (size + rest) → left ≡ front + (0 + rest) → left ≡ all - size
 sums front size rest all left is less = omega arith
 
-flag_is : (entries : List Entry) (flushed : ℕ) (promises : List PromiseState) (back : Bool) → is_cancelled (get_or promises (length promises - (length entries - flushed)) Waiting) ≡ back →
+flag_is : (entries : List PendingEntry) (flushed : ℕ) (promises : List PromiseState) (back : Bool) → is_cancelled (get_or promises (length promises - (length entries - flushed)) Waiting) ≡ back →
     is_cancelled (get_or promises (length promises - length (drop flushed entries)) Waiting) ≡ back
 flag_is entries flushed promises back is = ap (λ n. is_cancelled (get_or promises (length promises - n) Waiting)) (length-drop flushed entries) ∙ is
 
 -- one more entry in line, by whether its promise was taken back
-pub kept_next : (settings : Settings) (entries : List Entry) (flushed : ℕ) (promises : List PromiseState) (word : ℕ) (closed : Bool) (back : Bool)
-    (entries' : List Entry) (promises' : List PromiseState) (word' sum : ℕ) → flushed < length entries →
+pub kept_next : (settings : Settings) (entries : List PendingEntry) (flushed : ℕ) (promises : List PromiseState) (word : ℕ) (closed : Bool) (back : Bool)
+    (entries' : List PendingEntry) (promises' : List PromiseState) (word' sum : ℕ) → flushed < length entries →
     is_cancelled (get_or promises (length promises - (length entries - flushed)) Waiting) ≡ back →
-    ((d : Entry) → entries' ≡ (if back then slice_set entries flushed (reached_entry true (get_or entries flushed d)) else entries)) →
+    ((d : PendingEntry) → entries' ≡ (if back then slice_set entries flushed (reached_entry true (get_or entries flushed d)) else entries)) →
     promises' ≡ (if back then promises else slice_set promises (length promises - (length entries - flushed)) Fixed) →
     sum ≡ sum_of entries' →
-    ((d : Entry) → word' ≡ (if back then word_after_fall settings.marks word (get_or entries flushed d).size sum else word)) →
+    ((d : PendingEntry) → word' ≡ (if back then word_after_fall settings.marks word (get_or entries flushed d).size sum else word)) →
     kept settings entries' (flushed + 1) promises' word' closed ≡ next_flushed (kept settings entries flushed promises word closed)
 kept_next settings entries flushed promises word closed true entries' promises' word' sum within back_is entries_are promises_are summed word_is =
     let s = split flushed entries within in
@@ -160,8 +160,8 @@ kept_next settings entries flushed promises word closed false entries' promises'
     ∙ sym (ap (λ fl. cond fl (word_after_fall settings.marks word (first_size (drop flushed entries)) (sum_of (take flushed entries) + sum_of (drop flushed entries) - first_size (drop flushed entries))) word) flag))
 
 -- a changed first entry
-pub kept_changed : (settings : Settings) (entries : List Entry) (flushed : ℕ) (promises : List PromiseState) (word : ℕ) (closed : Bool) (change : Entry → Entry) (entries' : List Entry) → 0 < flushed → 0 < length entries →
-    ((d : Entry) → entries' ≡ slice_set entries 0 (change (get_or entries 0 d))) → kept settings entries' flushed promises word closed ≡ front_changed change (kept settings entries flushed promises word closed)
+pub kept_changed : (settings : Settings) (entries : List PendingEntry) (flushed : ℕ) (promises : List PromiseState) (word : ℕ) (closed : Bool) (change : PendingEntry → PendingEntry) (entries' : List PendingEntry) → 0 < flushed → 0 < length entries →
+    ((d : PendingEntry) → entries' ≡ slice_set entries 0 (change (get_or entries 0 d))) → kept settings entries' flushed promises word closed ≡ front_changed change (kept settings entries flushed promises word closed)
 kept_changed settings [] flushed promises word closed change entries' some any are = absurd (omega arith)
 kept_changed settings (e ∷ es) zero promises word closed change entries' some any are = absurd (omega arith)
 kept_changed settings (e ∷ es) (suc n) promises word closed change entries' some any are =

@@ -11,7 +11,8 @@ use Rattle.ob_seq.specs.Total.{total}
 use Rattle.ob_seq.specs.Effect.{rows_after}
 use Rattle.ob_seq.specs.Word.{word_after}
 use Rattle.ob_seq.specs.Looks.{before_unwritable, before_writable, progress_of, look_after}
-use Rattle.ob_seq.specs.Pending.{Pending, StandsFor, entry_of}
+use Rattle.ob_seq.specs.Entry.{entry_of}
+use Rattle.ob_seq.specs.Pending.{Pending, StandsFor}
 use Rattle.ob_seq.specs.Steps.{pending_total, first_progress}
 use Rattle.ob_seq.proofs.Written.{pending_total_stands}
 
@@ -45,11 +46,12 @@ look_from marks sum word size progress = record {
 }
 
 pub look_stands : (buffer : Pending) (commands : List Command) → StandsFor buffer commands →
-    look_from buffer.settings.marks (pending_total buffer) buffer.word (length buffer.line) (first_progress buffer.line) ≡ look_after buffer.settings commands
+    look_from buffer.marks (pending_total buffer) buffer.word (length buffer.line) (first_progress buffer.line) ≡ look_after buffer.settings commands
 look_stands buffer commands stands =
-    let marks = buffer.settings.marks in
+    let marks = buffer.marks in
     let rows = rows_after buffer.settings.estimate commands in
     ap (λ sum. look_from marks sum buffer.word (length buffer.line) (first_progress buffer.line)) (pending_total_stands buffer commands stands)
     ∙ ap (λ word. look_from marks (total rows) word (length buffer.line) (first_progress buffer.line)) stands.word
     ∙ ap (λ size. look_from marks (total rows) (word_after buffer.settings commands) size (first_progress buffer.line)) (ap length stands.line ∙ length-map (line rows) entry_of)
     ∙ ap (look_from marks (total rows) (word_after buffer.settings commands) (length (line rows))) (ap first_progress stands.line ∙ first_progress_is rows)
+    ∙ ap (λ marks. look_from marks (total rows) (word_after buffer.settings commands) (length (line rows)) (progress_of (front rows))) stands.marks

@@ -1,30 +1,49 @@
 -- The mark and the word after one more command.
 use Rattle.std.proofs.Common.{◌≡◌, ℕ, ◌+◌, ◌*◌, arith, Bool, true, false, List, [], ◌∷◌, ◌++◌, reverse, refl, sym, ap, ◌∙◌, cond, ltb, append-nil}
-use Rattle.std.specs.Prelude.{find, Option, Some, None, filter_map, slice_get, unwrap_or}
+use Rattle.std.specs.Prelude.{filter, None, filter_map, slice_get, unwrap_or}
 use Rattle.std.specs.List.{cons_option}
 use Rattle.std.proofs.lemmas.List.{reverse-append}
-use Rattle.std.proofs.lemmas.List.Elements.{filter_map-append}
+use Rattle.std.proofs.lemmas.List.Elements.{filter-append, filter_map-append}
 use Rattle.ob_types.specs.WaterMark.{Marks}
 use Rattle.ob_types.specs.declared.command.Command.{Command}
 use Rattle.ob_seq.specs.Settings.{Settings}
-use Rattle.ob_seq.specs.Effect.{rows_after}
-use Rattle.ob_seq.specs.Moment.{Moment, Rise, NoticedFall, SilentFall, fall, moment_of, moments_of, moments_after}
-use Rattle.ob_seq.specs.Mark.{crosses, is_rise, is_set_by, last_crossing, mark_of, mark_after}
+use Rattle.ob_seq.specs.Row.{Row}
+use Rattle.ob_seq.specs.Effect.{effect, rows_after}
+use Rattle.ob_seq.specs.Moment.{Moment, Rise, NoticedFall, SilentFall, fall, moment_of, moments_of}
+use Rattle.ob_seq.specs.Mark.{decides, deciding_from, is_rise, is_set_by, mark_after}
 use Rattle.ob_seq.specs.UserBit.{bit_request, user_bit}
 use Rattle.ob_seq.specs.Word.{bit_value, user_bits, word_after}
 use Rattle.ob_seq.specs.Steps.{with_mark}
 use Rattle.ob_seq.proofs.Digits.{half_bits, same_number, user_bits_even}
-use Rattle.ob_seq.proofs.History.{moments_after_more}
+use Rattle.ob_seq.proofs.History.{moments_from, moments_after, moments_after_more}
 
--- the last crossing is the newest moment, if that crosses
-set_by_newest : (crossed : Bool) (moment : Moment) (earlier : Option Moment) → is_set_by (cond crossed (Some moment) earlier) ≡ cond crossed (is_rise moment) (is_set_by earlier)
-set_by_newest true moment earlier = refl
-set_by_newest false moment earlier = refl
+-- the mark after moments under these marks
+abbrev pub mark_of : Marks → List Moment → Bool
+mark_of marks moments = is_set_by (slice_get (reverse (filter (decides marks) moments)) 0)
 
-mark_of_more : (marks : Marks) (moments : List Moment) (moment : Moment) → mark_of marks (moments ++ moment ∷ []) ≡ cond (crosses marks moment) (is_rise moment) (mark_of marks moments)
+-- the last deciding moment is the newest, if that decides
+set_by_newest : (deciding : Bool) (moment : Moment) (earlier : List Moment) →
+    is_set_by (slice_get (reverse (earlier ++ cond deciding (moment ∷ []) [])) 0) ≡ cond deciding (is_rise moment) (is_set_by (slice_get (reverse earlier) 0))
+set_by_newest true moment earlier = ap (λ newest_first. is_set_by (slice_get newest_first 0)) (reverse-append earlier (moment ∷ []))
+set_by_newest false moment earlier = ap (λ all. is_set_by (slice_get (reverse all) 0)) (append-nil earlier)
+
+mark_of_more : (marks : Marks) (moments : List Moment) (moment : Moment) → mark_of marks (moments ++ moment ∷ []) ≡ cond (decides marks moment) (is_rise moment) (mark_of marks moments)
 mark_of_more marks moments moment =
-    ap (λ newest_first. is_set_by (find (crosses marks) newest_first)) (reverse-append moments (moment ∷ []))
-    ∙ set_by_newest (crosses marks moment) moment (last_crossing marks moments)
+    ap (λ all. is_set_by (slice_get (reverse all) 0)) (filter-append (decides marks) moments (moment ∷ []))
+    ∙ set_by_newest (decides marks moment) moment (filter (decides marks) moments)
+
+-- no command changes the marks, so the deciding moments are those of all moments that decide under the marks of the opening
+deciding_is : (settings : Settings) (earlier : List Command) (rows : List Row) (commands : List Command) →
+    deciding_from settings earlier rows commands ≡ filter (decides settings.marks) (moments_from settings.estimate rows commands)
+deciding_is settings earlier rows [] = refl
+deciding_is settings earlier rows (command ∷ commands) =
+    let now = moments_of settings.estimate rows command in
+    let after = effect settings.estimate rows command in
+    ap (λ more. filter (decides settings.marks) now ++ more) (deciding_is settings (earlier ++ command ∷ []) after commands)
+    ∙ sym (filter-append (decides settings.marks) now (moments_from settings.estimate after commands))
+
+mark_is : (settings : Settings) (commands : List Command) → mark_after settings commands ≡ mark_of settings.marks (moments_after settings.estimate commands)
+mark_is settings commands = ap (λ all. is_set_by (slice_get (reverse all) 0)) (deciding_is settings [] [] commands)
 
 -- the mark after a rise, a fall or no moment
 mark_of_moment : (marks : Marks) (moments : List Moment) (notice rises falls : Bool) (sum : ℕ) →
@@ -59,7 +78,9 @@ word_from marks half moments = bit_value 0 (mark_of marks moments) + half * 2
 
 -- the word of a history, by its moments
 pub word_is_from : (settings : Settings) (commands : List Command) → word_after settings commands ≡ word_from settings.marks (half_after commands) (moments_after settings.estimate commands)
-word_is_from settings commands = ap (λ bits. bit_value 0 (mark_after settings commands) + bits) (user_bits_even (user_bit commands))
+word_is_from settings commands =
+    ap (λ bits. bit_value 0 (mark_after settings commands) + bits) (user_bits_even (user_bit commands))
+    ∙ ap (λ mark. bit_value 0 mark + half_after commands * 2) (mark_is settings commands)
 
 -- and of the history with one more command that asks nothing of a user bit
 word_is_from_more : (settings : Settings) (commands : List Command) (command : Command) → IsQuiet command →

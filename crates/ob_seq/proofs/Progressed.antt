@@ -21,7 +21,7 @@ use Rattle.ob_seq.specs.Steps.{first_progress, first_changed, front_changed, pro
 use Rattle.ob_seq.proofs.Acceptance.{open_history, same_reply}
 use Rattle.ob_seq.proofs.Along.{moment_of_same, moments_of_one, settlement_same, settlements_of_one}
 use Rattle.ob_seq.proofs.Fronts.{Fronted, front_is, no_front}
-use Rattle.ob_seq.proofs.Held.{Held, promise_of, stands_by}
+use Rattle.ob_seq.proofs.Held.{opening_of, Held, promise_of, stands_by}
 use Rattle.ob_seq.proofs.History.{rows_after_more, accepted_more}
 use Rattle.ob_seq.proofs.Marks.{word_after_same}
 use Rattle.ob_seq.proofs.Order.{with_front_gone, with_front_standing, progressed_stands}
@@ -82,9 +82,9 @@ module _ (buffer : Pending) (commands : List Command) (n : ℕ) (stands : Stands
 
     -- the buffer stands for the history with the progress
     pub progressed_stands_for : StandsFor (front_changed (progressed_entry n) buffer) (commands ++ Progress n ∷ [])
-    progressed_stands_for = stands_by (front_changed (progressed_entry n) buffer) buffer.settings commands (Progress n) f.gone (changed ∷ f.standing) f.fresh refl
+    progressed_stands_for = stands_by (front_changed (progressed_entry n) buffer) buffer.settings commands (Progress n) f.gone (changed ∷ f.standing) f.fresh (opening_of buffer commands stands)
         (open_history buffer.settings commands (Progress n) buffer stands unclosed) unclosed
-        (accepted_more buffer.settings.estimate commands (Progress n) (open_history buffer.settings commands (Progress n) buffer stands unclosed) stands.accepted accepted) progressed_held
+        (accepted_more buffer.settings commands (Progress n) (open_history buffer.settings commands (Progress n) buffer stands unclosed) stands.accepted accepted) progressed_held
         (rows_after_more buffer.settings.estimate commands (Progress n) ∙ effect_of_progress) word_of_progress
 
     -- its reply

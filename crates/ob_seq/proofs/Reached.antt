@@ -7,16 +7,16 @@ use Rattle.ob_types.specs.WaterMark.{Marks}
 use Rattle.ob_types.specs.declared.promise.PromiseState.{PromiseState}
 use Rattle.ob_types.specs.declared.promise.PromiseState.TheVariants.{Waiting, Fixed}
 use Rattle.ob_types.specs.declared.promise.Outcome.{Outcome}
-use Rattle.ob_seq.specs.declared.entry.Entry.{Entry}
+use Rattle.ob_seq.specs.Entry.{PendingEntry, entry_of}
 use Rattle.ob_seq.specs.Row.{Row, Place, Unflushed, Flushed, Voided, is_unflushed, is_flushed, is_cancelled}
 use Rattle.ob_seq.specs.Total.{counted_size, total}
 use Rattle.ob_seq.specs.Effect.{reached_row}
 use Rattle.ob_seq.specs.Moment.{Moment, moment_of, moments_along}
 use Rattle.ob_seq.specs.Answer.{outcome_of, settlement, settlements_from}
-use Rattle.ob_seq.specs.Pending.{Pending, entry_of}
+use Rattle.ob_seq.specs.Pending.{Pending}
 use Rattle.ob_seq.specs.Steps.{pending_total, first_size, first_reached, reached_entry, is_next_cancelled, unflushed_id, next_flushed, times, word_after_fall}
 use Rattle.ob_seq.proofs.Along.{moment_of_same, settlement_same}
-use Rattle.ob_seq.proofs.Held.{Held, promise_of, unflushed_id_is, pending_total_is}
+use Rattle.ob_seq.proofs.Held.{opening, Held, promise_of, unflushed_id_is, pending_total_is}
 use Rattle.ob_seq.proofs.Marks.{word_from, word_from_more}
 use Rattle.ob_seq.proofs.Order.{IsStanding, each_append, reached_stands}
 use Rattle.ob_seq.proofs.Taken.{fall_step, total_without}
@@ -27,7 +27,7 @@ abbrev reached_by : Bool → Row → Row
 reached_by back row = cond back (record row { place = Voided }) (record row { place = Flushed; promise = Fixed })
 
 -- a row as an entry, by its place
-abbrev entry_at : Row → Place → Entry
+abbrev entry_at : Row → Place → PendingEntry
 entry_at row place = entry_of (record row { place = place })
 
 reached_entry_by : (back : Bool) (row : Row) → row.place ≡ Unflushed → reached_entry back (entry_of row) ≡ entry_of (reached_by back row)
@@ -88,44 +88,44 @@ module _ (buffer : Pending) (gone standing : List Row) (row : Row) (fresh : List
   }
 
   -- its word, after the moment of the row
-  pub next_word : (half : ℕ) (moments : List Moment) → buffer.word ≡ word_from buffer.settings.marks half moments →
-      (next_flushed buffer).word ≡ word_from buffer.settings.marks half (moments ++ moment_of true (counted_size row) (counted_size (reached_row row)) (total ((gone ++ standing) ++ reached_row row ∷ fresh)))
+  pub next_word : (half : ℕ) (moments : List Moment) → buffer.word ≡ word_from buffer.marks half moments →
+      (next_flushed buffer).word ≡ word_from buffer.marks half (moments ++ moment_of true (counted_size row) (counted_size (reached_row row)) (total ((gone ++ standing) ++ reached_row row ∷ fresh)))
   next_word half moments was =
-      ap (λ flag. cond flag (word_after_fall buffer.settings.marks buffer.word (first_size buffer.unflushed) (pending_total buffer - first_size buffer.unflushed)) buffer.word) back_is
+      ap (λ flag. cond flag (word_after_fall buffer.marks buffer.word (first_size buffer.unflushed) (pending_total buffer - first_size buffer.unflushed)) buffer.word) back_is
       ∙ by_kind back refl
     where
       marks : Marks
-      marks = buffer.settings.marks
+      marks = buffer.marks
 
       size : ℕ
       size = counted_size row
 
       by_kind : (flag : Bool) → back ≡ flag →
-          cond flag (word_after_fall buffer.settings.marks buffer.word (first_size buffer.unflushed) (pending_total buffer - first_size buffer.unflushed)) buffer.word
-          ≡ word_from buffer.settings.marks half (moments ++ moment_of true (counted_size row) (counted_size (reached_by flag row)) (total ((gone ++ standing) ++ reached_by flag row ∷ fresh)))
+          cond flag (word_after_fall buffer.marks buffer.word (first_size buffer.unflushed) (pending_total buffer - first_size buffer.unflushed)) buffer.word
+          ≡ word_from buffer.marks half (moments ++ moment_of true (counted_size row) (counted_size (reached_by flag row)) (total ((gone ++ standing) ++ reached_by flag row ∷ fresh)))
       by_kind true is =
           let voided = reached_by true row in
           let sum = total ((gone ++ standing) ++ voided ∷ fresh) in
-          ap (λ first. word_after_fall buffer.settings.marks buffer.word first (pending_total buffer - first)) (ap first_size held.unflushed)
-          ∙ ap (λ all. word_after_fall buffer.settings.marks buffer.word (counted_size row) (all - counted_size row)) (pending_total_is buffer gone standing (row ∷ fresh) held ∙ ap total (sym (append_assoc gone standing (row ∷ fresh))))
-          ∙ ap (word_after_fall buffer.settings.marks buffer.word (counted_size row)) (sym (total_without (gone ++ standing) row voided fresh refl))
-          ∙ ap (λ word. word_after_fall buffer.settings.marks word (counted_size row) sum) was
-          ∙ fall_step true buffer.settings.marks (word_from buffer.settings.marks half moments) (counted_size row) sum
-          ∙ sym (word_from_more true buffer.settings.marks half moments (counted_size row) 0 sum)
+          ap (λ first. word_after_fall buffer.marks buffer.word first (pending_total buffer - first)) (ap first_size held.unflushed)
+          ∙ ap (λ all. word_after_fall buffer.marks buffer.word (counted_size row) (all - counted_size row)) (pending_total_is buffer gone standing (row ∷ fresh) held ∙ ap total (sym (append_assoc gone standing (row ∷ fresh))))
+          ∙ ap (word_after_fall buffer.marks buffer.word (counted_size row)) (sym (total_without (gone ++ standing) row voided fresh refl))
+          ∙ ap (λ word. word_after_fall buffer.marks word (counted_size row) sum) was
+          ∙ fall_step true buffer.marks (word_from buffer.marks half moments) (counted_size row) sum
+          ∙ sym (word_from_more true buffer.marks half moments (counted_size row) 0 sum)
       by_kind false is =
           let flushed = reached_by false row in
           let sum = total ((gone ++ standing) ++ flushed ∷ fresh) in
-          was ∙ ap (word_from buffer.settings.marks half) (sym (ap (λ more. moments ++ more)
+          was ∙ ap (word_from buffer.marks half) (sym (ap (λ more. moments ++ more)
           (ap (λ after. moment_of true (counted_size row) after sum) (counted_by false row held.all_fresh.0.place) ∙ moment_of_same true (counted_size row) sum) ∙ append-nil moments))
 
 -- a flush of all fresh rows, one after another
-pub all_reached : (fresh : List Row) (buffer : Pending) (gone standing : List Row) (half : ℕ) (moments : List Moment) → Held buffer gone standing fresh → buffer.word ≡ word_from buffer.settings.marks half moments →
+pub all_reached : (fresh : List Row) (buffer : Pending) (gone standing : List Row) (half : ℕ) (moments : List Moment) → Held buffer gone standing fresh → buffer.word ≡ word_from buffer.marks half moments →
     (let after = times (length fresh) next_flushed buffer in
     Held after gone (standing ++ map reached_row fresh) []
-    × (after.word ≡ word_from buffer.settings.marks half (moments ++ moments_along true (gone ++ standing) fresh (map reached_row fresh)))
-    × (after.settings ≡ buffer.settings) × (after.closed ≡ buffer.closed))
+    × (after.word ≡ word_from buffer.marks half (moments ++ moments_along true (gone ++ standing) fresh (map reached_row fresh)))
+    × (opening after ≡ opening buffer) × (after.closed ≡ buffer.closed))
 all_reached [] buffer gone standing half moments held word =
-    (subst (λ (line : List Row). Held buffer gone line []) (sym (append-nil standing)) held, word ∙ ap (word_from buffer.settings.marks half) (sym (append-nil moments)), refl, refl)
+    (subst (λ (line : List Row). Held buffer gone line []) (sym (append-nil standing)) held, word ∙ ap (word_from buffer.marks half) (sym (append-nil moments)), refl, refl)
 all_reached (row ∷ fresh) buffer gone standing half moments held word =
     let one = moment_of true (counted_size row) (counted_size (reached_row row)) (total ((gone ++ standing) ++ reached_row row ∷ fresh)) in
     let rest = all_reached fresh (next_flushed buffer) gone (standing ++ reached_row row ∷ []) half (moments ++ one) (next_held buffer gone standing row fresh held) (next_word buffer gone standing row fresh held half moments word) in
@@ -133,9 +133,9 @@ all_reached (row ∷ fresh) buffer gone standing half moments held word =
       subst (λ (after : Pending). Held after gone (standing ++ reached_row row ∷ map reached_row fresh) []) same
           (subst (λ (line : List Row). Held (times (length fresh) next_flushed (next_flushed buffer)) gone line []) (append_assoc standing (reached_row row ∷ []) (map reached_row fresh)) rest.0),
       ap (λ (after : Pending). after.word) (sym same) ∙ rest.1
-          ∙ ap (word_from buffer.settings.marks half) (append_assoc moments one (moments_along true (gone ++ (standing ++ reached_row row ∷ [])) fresh (map reached_row fresh))
+          ∙ ap (word_from buffer.marks half) (append_assoc moments one (moments_along true (gone ++ (standing ++ reached_row row ∷ [])) fresh (map reached_row fresh))
           ∙ ap (λ passed. moments ++ (one ++ moments_along true passed fresh (map reached_row fresh))) (sym (append_assoc gone standing (reached_row row ∷ [])))),
-      ap (λ (after : Pending). after.settings) (sym same) ∙ rest.2,
+      ap opening (sym same) ∙ rest.2,
       ap (λ (after : Pending). after.closed) (sym same) ∙ rest.3,
     )
 

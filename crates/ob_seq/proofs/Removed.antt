@@ -16,7 +16,7 @@ use Rattle.ob_seq.specs.Row.{Row}
 use Rattle.ob_seq.specs.Line.{front}
 use Rattle.ob_seq.specs.Total.{counted_size, total}
 use Rattle.ob_seq.specs.Effect.{effect, rows_after, taken_row, with_front}
-use Rattle.ob_seq.specs.Moment.{gives_notice, moment_of, moments_along, moments_of, moments_after}
+use Rattle.ob_seq.specs.Moment.{gives_notice, moment_of, moments_along, moments_of}
 use Rattle.ob_seq.specs.Closed.{is_close}
 use Rattle.ob_seq.specs.Word.{word_after}
 use Rattle.ob_seq.specs.Answer.{answer_of, refusal_of, settlements_from, reply_of}
@@ -24,9 +24,9 @@ use Rattle.ob_seq.specs.Pending.{Pending, StandsFor}
 use Rattle.ob_seq.specs.Steps.{front_taken, front_removed, front_settlement, removal_reply}
 use Rattle.ob_seq.proofs.Acceptance.{open_history, same_reply}
 use Rattle.ob_seq.proofs.Along.{moments_of_one, moments_of_same, settlements_of_one, settlements_of_same}
-use Rattle.ob_seq.proofs.Held.{Held, held_of, line_count, stands_by, stands_same, word_by_moments}
-use Rattle.ob_seq.proofs.History.{rows_after_more, accepted_more}
-use Rattle.ob_seq.proofs.Marks.{IsQuiet, half_after, word_after_same, word_with_moments}
+use Rattle.ob_seq.proofs.Held.{opening_of, word_at_end, Held, held_of, line_count, stands_by, stands_same, word_by_moments}
+use Rattle.ob_seq.proofs.History.{moments_after, rows_after_more, accepted_more}
+use Rattle.ob_seq.proofs.Marks.{IsQuiet, half_after, word_after_same}
 use Rattle.ob_seq.proofs.Order.{IsGone, IsFresh, with_front_gone, with_front_fresh, with_front_standing, layout_of}
 use Rattle.ob_seq.proofs.Parts.{front_of_parts, no_front_of_parts}
 use Rattle.ob_seq.proofs.Taken.{taken_held, taken_word, taken_settlement}
@@ -70,12 +70,12 @@ module _ (command : Command) (outcome : Outcome) (is : IsRemoval command outcome
     word_of_removal : (front_taken true outcome buffer).word ≡ word_after buffer.settings (commands ++ command ∷ [])
     word_of_removal =
         taken_word true outcome buffer gone row standing fresh held (half_after commands) (moments_after buffer.settings.estimate commands) (word_by_moments buffer commands stands)
-        ∙ word_with_moments buffer.settings commands command (moment_of true (counted_size row) 0 (total (gone ++ taken ∷ (standing ++ fresh)))) is.quiet moments_of_removal
+        ∙ word_at_end buffer commands stands command (moment_of true (counted_size row) 0 (total (gone ++ taken ∷ (standing ++ fresh)))) is.quiet moments_of_removal
 
     taken_stands : StandsFor (front_taken true outcome buffer) (commands ++ command ∷ [])
-    taken_stands = stands_by (front_taken true outcome buffer) buffer.settings commands command (gone ++ taken ∷ []) standing fresh refl
+    taken_stands = stands_by (front_taken true outcome buffer) buffer.settings commands command (gone ++ taken ∷ []) standing fresh (opening_of buffer commands stands)
         (open_history buffer.settings commands command buffer stands unclosed) (unclosed ∙ sym is.no_close)
-        (accepted_more buffer.settings.estimate commands command (open_history buffer.settings commands command buffer stands unclosed) stands.accepted (is.accepted buffer.settings.estimate rows))
+        (accepted_more buffer.settings commands command (open_history buffer.settings commands command buffer stands unclosed) stands.accepted (is.accepted buffer.settings.estimate rows))
         (taken_held true outcome buffer gone row standing fresh held)
         (rows_after_more buffer.settings.estimate commands command ∙ effect_of_removal ∙ sym (append_assoc gone (taken ∷ []) (standing ++ fresh)))
         word_of_removal

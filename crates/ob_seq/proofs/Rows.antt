@@ -4,7 +4,7 @@ use Rattle.std.proofs.lemmas.List.Sums.{sum_by-cons}
 use Rattle.ob_seq.specs.Row.{Row, Place, Unflushed, Flushed, Voided, Gone, is_unflushed, is_flushed, is_voided}
 use Rattle.ob_seq.specs.Line.{is_in_line, line, unflushed}
 use Rattle.ob_seq.specs.Total.{counted_size, total}
-use Rattle.ob_seq.specs.Pending.{entry_of}
+use Rattle.ob_seq.specs.Entry.{entry_of}
 use Rattle.ob_seq.specs.Steps.{sum_of}
 
 -- what a row adds to two sums by its place, and what it counts

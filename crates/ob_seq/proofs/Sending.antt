@@ -1,16 +1,15 @@
 -- What is left of the entries in line is the unread parts of the flushed rows.
 use Rattle.std.proofs.Common.{◌≡◌, Bool, true, false, ◌||◌, not, List, [], ◌∷◌, map, refl, sym, ap, ◌∙◌, cond}
 use Rattle.std.specs.Prelude.{filter}
-use Rattle.ob_seq.specs.declared.entry.Entry.{Entry}
+use Rattle.ob_seq.specs.Entry.{PendingEntry, entry_of, messages_to_send}
 use Rattle.ob_seq.specs.Row.{Row, Place, Unflushed, Flushed, Voided, Gone, is_flushed, is_voided, unread_part}
 use Rattle.ob_seq.specs.Line.{line}
-use Rattle.ob_seq.specs.Pending.{entry_of, messages_to_send}
 
-module _ (row : Row) (entries : List Entry) where
+module _ (row : Row) (entries : List PendingEntry) where
   -- an entry in line adds its message, unless it was voided
   entry_by : (voided : Bool) → is_voided row.place ≡ voided → messages_to_send (entry_of row ∷ entries) ≡ cond (not voided) (unread_part row ∷ messages_to_send entries) (messages_to_send entries)
-  entry_by true is = ap (λ gone. map (λ (e : Entry). e.message) (cond (not gone) (entry_of row ∷ filter (λ e. not e.voided) entries) (filter (λ e. not e.voided) entries))) is
-  entry_by false is = ap (λ gone. map (λ (e : Entry). e.message) (cond (not gone) (entry_of row ∷ filter (λ e. not e.voided) entries) (filter (λ e. not e.voided) entries))) is
+  entry_by true is = ap (λ gone. map (λ (e : PendingEntry). e.message) (cond (not gone) (entry_of row ∷ filter (λ e. not e.voided) entries) (filter (λ e. not e.voided) entries))) is
+  entry_by false is = ap (λ gone. map (λ (e : PendingEntry). e.message) (cond (not gone) (entry_of row ∷ filter (λ e. not e.voided) entries) (filter (λ e. not e.voided) entries))) is
 
 -- the messages of the line are those of the flushed rows
 pub to_send_is : (rows : List Row) → messages_to_send (map entry_of (line rows)) ≡ map unread_part (filter (λ row. is_flushed row.place) rows)

@@ -10,10 +10,11 @@ use Rattle.ob_seq.specs.Total.{counted_size, total}
 use Rattle.ob_seq.specs.Effect.{taken_row, with_fronts_sent}
 use Rattle.ob_seq.specs.Moment.{Moment, moment_of, moments_along}
 use Rattle.ob_seq.specs.Answer.{outcome_of, settlement, settlements_from}
-use Rattle.ob_seq.specs.Pending.{Pending, entry_of}
+use Rattle.ob_seq.specs.Entry.{entry_of}
+use Rattle.ob_seq.specs.Pending.{Pending}
 use Rattle.ob_seq.specs.Steps.{front_taken, entry_settlement, entry_settlements, times}
 use Rattle.ob_seq.proofs.Along.{moments_behind}
-use Rattle.ob_seq.proofs.Held.{Held}
+use Rattle.ob_seq.proofs.Held.{opening, Held}
 use Rattle.ob_seq.proofs.Marks.{word_from}
 use Rattle.ob_seq.proofs.Order.{IsGone, IsStanding, each_append, with_front_gone, with_front_standing}
 use Rattle.ob_seq.proofs.EntrySettlements.{settlement_of_unvoided, settlement_of_voided}
@@ -42,15 +43,15 @@ all_taken_gone outcome (row ∷ rows) = (record { place = refl }, all_taken_gone
 
 -- what the buffer holds without them, and its word after their moments
 pub all_taken : (notice : Bool) (outcome : Outcome) (first : List Row) (buffer : Pending) (gone rest fresh : List Row) (half : ℕ) (moments : List Moment) →
-    Held buffer gone (first ++ rest) fresh → buffer.word ≡ word_from buffer.settings.marks half moments →
+    Held buffer gone (first ++ rest) fresh → buffer.word ≡ word_from buffer.marks half moments →
     (let after = times (length first) (front_taken notice outcome) buffer in
     let now = map (taken_row outcome) first in
     Held after (gone ++ now) rest fresh
-    × (after.word ≡ word_from buffer.settings.marks half (moments ++ moments_along notice gone (first ++ (rest ++ fresh)) (now ++ (rest ++ fresh))))
-    × (after.settings ≡ buffer.settings) × (after.closed ≡ buffer.closed))
+    × (after.word ≡ word_from buffer.marks half (moments ++ moments_along notice gone (first ++ (rest ++ fresh)) (now ++ (rest ++ fresh))))
+    × (opening after ≡ opening buffer) × (after.closed ≡ buffer.closed))
 all_taken notice outcome [] buffer gone rest fresh half moments held word = (
   subst (λ (passed : List Row). Held buffer passed rest fresh) (sym (append-nil gone)) held,
-  word ∙ ap (word_from buffer.settings.marks half) (sym (ap (λ more. moments ++ more) (moments_behind notice gone (rest ++ fresh)) ∙ append-nil moments)),
+  word ∙ ap (word_from buffer.marks half) (sym (ap (λ more. moments ++ more) (moments_behind notice gone (rest ++ fresh)) ∙ append-nil moments)),
   refl,
   refl,
 )
@@ -67,9 +68,9 @@ all_taken notice outcome (row ∷ first) buffer gone rest fresh half moments hel
       subst (λ (after : Pending). Held after (gone ++ taken ∷ now) rest fresh) same
           (subst (λ (passed : List Row). Held (times (length first) (front_taken notice outcome) next) passed rest fresh) (append_assoc gone (taken ∷ []) now) all.0),
       ap (λ (after : Pending). after.word) (sym same) ∙ all.1
-          ∙ ap (word_from buffer.settings.marks half) (append_assoc moments one more
+          ∙ ap (word_from buffer.marks half) (append_assoc moments one more
           ∙ ap (λ rows. moments ++ (moment_of notice (counted_size row) 0 (total (gone ++ taken ∷ rows)) ++ more)) (append_assoc first rest fresh)),
-      ap (λ (after : Pending). after.settings) (sym same) ∙ all.2,
+      ap opening (sym same) ∙ all.2,
       ap (λ (after : Pending). after.closed) (sym same) ∙ all.3,
     )
 

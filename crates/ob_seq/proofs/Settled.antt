@@ -20,12 +20,14 @@ use Rattle.ob_types.specs.declared.reply.Reply.{Reply}
 use Rattle.ob_seq.specs.Row.{Row}
 use Rattle.ob_seq.specs.Line.{is_in_line}
 use Rattle.ob_seq.specs.Effect.{cancelled, progressed_row, rows_after, with_cancelled, with_front}
-use Rattle.ob_seq.specs.Answer.{is_waiting, first_refusal, outcome_of, promise_at, reply_of, settlement, settlements_from, unless_refused}
+use Rattle.ob_types.specs.Waiting.{is_waiting}
+use Rattle.ob_seq.specs.Answer.{first_refusal, outcome_of, promise_at, reply_of, settlement, settlements_from, unless_refused, still_waits}
 use Rattle.ob_seq.specs.declared.buffer.cut.Cut.{Cut}
-use Rattle.ob_seq.specs.declared.entry.Entry.{Entry}
+use Rattle.ob_seq.specs.Entry.{PendingEntry, blocks_left}
 use Rattle.ob_seq.specs.Pieces.{bytes_in, pieces_within}
-use Rattle.ob_seq.specs.ByteRun.{is_block, block_bytes}
-use Rattle.ob_seq.specs.Pending.{Pending, StandsFor, blocks_left}
+use Rattle.ob_types.specs.Block.{is_block}
+use Rattle.ob_seq.specs.ByteRun.{block_bytes}
+use Rattle.ob_seq.specs.Pending.{Pending, StandsFor}
 use Rattle.ob_seq.specs.Settles.{settled_after, settled_by}
 use Rattle.ob_seq.specs.Steps.{bytes_settled, closing_settled, cut_of, front_id, is_first_voided, removal_reply, settled_by_bytes, unflushed_id}
 use Rattle.ob_seq.proofs.Acceptance.{settled_of_accepted, settled_of_refused}
@@ -65,12 +67,12 @@ settlements_of_progress n id (row ∷ rows) = by_line (is_in_line row) (settleme
 
 -- taking a promise back settles it where it waits
 settled_by_state : (id : ℕ) (state : PromiseState) (rest : List (PromiseId × Outcome)) → rest ≡ [] →
-    cond (is_waiting (Some state)) 1 0 ≡ length (settlement id (outcome_of state) (outcome_of (cancelled state)) ++ rest)
+    cond (is_waiting state) 1 0 ≡ length (settlement id (outcome_of state) (outcome_of (cancelled state)) ++ rest)
 settled_by_state id Waiting rest nothing = sym (ap (λ more. suc (length more)) nothing)
 settled_by_state id Fixed rest nothing = sym (ap length nothing)
 settled_by_state id (Settled outcome) rest nothing = sym (ap length nothing)
 
-settlements_of_cancel : (at id : ℕ) (rows : List Row) → cond (is_waiting (promise_at rows at)) 1 0 ≡ length (settlements_from id rows (with_cancelled at rows))
+settlements_of_cancel : (at id : ℕ) (rows : List Row) → cond (still_waits (promise_at rows at)) 1 0 ≡ length (settlements_from id rows (with_cancelled at rows))
 settlements_of_cancel zero id [] = refl
 settlements_of_cancel (suc at) id [] = refl
 settlements_of_cancel zero id (row ∷ rows) = settled_by_state id row.promise (settlements_from (suc id) rows rows) (settlements_of_staying (suc id) rows)
@@ -79,7 +81,7 @@ settlements_of_cancel (suc at) id (row ∷ rows) =
     ∙ ap (λ first. length (first ++ settlements_from (suc id) rows (with_cancelled at rows))) (sym (settlement_same id (outcome_of row.promise)))
 
 -- a promise under which no write was accepted does not wait
-unknown_waits : (at : ℕ) (rows : List Row) → ltb at (length rows) ≡ false → is_waiting (promise_at rows at) ≡ false
+unknown_waits : (at : ℕ) (rows : List Row) → ltb at (length rows) ≡ false → still_waits (promise_at rows at) ≡ false
 unknown_waits zero [] unknown = refl
 unknown_waits (suc at) [] unknown = refl
 unknown_waits zero (row ∷ rows) unknown = absurd (no_front (length rows) unknown)
@@ -109,7 +111,7 @@ something_found : (n : ℕ) (pieces : List (List ℕ)) → ltb (bytes_in pieces)
 something_found n pieces is = ap (λ few. let found : Option Cut = cond few None (Some (whole_cut n pieces)) in found) is
 
 -- no more entries go than stand in line
-few_blocks : (line : List Entry) → length (blocks_left line) ≤ length line
+few_blocks : (line : List PendingEntry) → length (blocks_left line) ≤ length line
 few_blocks line =
     let run = prefix_len-le-length is_block (map (λ entry. entry.message) line) in
     let blocks : length (blocks_left line) ≡ length (take_while is_block (map (λ entry. entry.message) line)) = length-map (take_while is_block (map (λ entry. entry.message) line)) block_bytes in
@@ -117,7 +119,7 @@ few_blocks line =
     let all = length-map line (λ entry. entry.message) in
     omega arith
 
-few_entries : (n : ℕ) (line : List Entry) → pieces_within n (blocks_left line) ≤ length line
+few_entries : (n : ℕ) (line : List PendingEntry) → pieces_within n (blocks_left line) ≤ length line
 few_entries n line =
     let fit = within_is_fitting n (blocks_left line) in
     let few = fitting_few n (blocks_left line) in
@@ -173,14 +175,14 @@ module _ (buffer : Pending) (commands : List Command) (stands : StandsFor buffer
   closing_settles cause = by_left (ltb 0 (length buffer.line)) refl
     where
       by_left : (left : Bool) → ltb 0 (length buffer.line) ≡ left →
-          cond (ltb 0 (length buffer.line)) 0 (count_by (λ state. is_waiting (Some state)) (drop (unflushed_id buffer) buffer.promises)) ≡ settled_after buffer.settings commands (Close cause)
+          cond (ltb 0 (length buffer.line)) 0 (count_by (λ state. is_waiting state) (drop (unflushed_id buffer) buffer.promises)) ≡ settled_after buffer.settings commands (Close cause)
       by_left true is =
           let some : 0 < length buffer.line = grind (arith, nat_tests) in
-          ap (λ b. cond b 0 (count_by (λ state. is_waiting (Some state)) (drop (unflushed_id buffer) buffer.promises))) is
+          ap (λ b. cond b 0 (count_by (λ state. is_waiting state) (drop (unflushed_id buffer) buffer.promises))) is
           ∙ sym (settled_of_refused buffer.settings commands (Close cause) buffer stands unclosed FlushedLeft (left_refused buffer commands cause stands (fronted buffer commands stands some)))
       by_left false is =
           let none : length buffer.line ≡ 0 = grind (arith, nat_tests) in
-          ap (λ b. cond b 0 (count_by (λ state. is_waiting (Some state)) (drop (unflushed_id buffer) buffer.promises))) is
+          ap (λ b. cond b 0 (count_by (λ state. is_waiting state) (drop (unflushed_id buffer) buffer.promises))) is
           ∙ sym (count_of_failures cause (unflushed_id buffer) (drop (unflushed_id buffer) buffer.promises))
           ∙ ap (λ (reply : Reply). length reply.settled) (closed_stands buffer commands cause stands unclosed none).1
           ∙ sym (settled_of_accepted buffer.settings commands (Close cause) buffer stands unclosed (close_accepted buffer commands cause stands none))
@@ -188,11 +190,11 @@ module _ (buffer : Pending) (commands : List Command) (stands : StandsFor buffer
   pub bit_settles : (index : ℕ) (writable : Bool) → 0 ≡ settled_after buffer.settings commands (UserBit index writable)
   bit_settles index writable = nothing_settled (first_refusal buffer.settings.estimate commands (UserBit index writable)) (reply_of buffer.settings commands (UserBit index writable)) (settlements_of_staying 0 rows)
 
-  pub cancel_settles : (id : PromiseId) → cond (is_waiting (promise_at rows id.0)) 1 0 ≡ settled_after buffer.settings commands (Cancel id)
+  pub cancel_settles : (id : PromiseId) → cond (still_waits (promise_at rows id.0)) 1 0 ≡ settled_after buffer.settings commands (Cancel id)
   cancel_settles id = by_known (ltb id.0 (length rows)) refl
     where
       by_known : (known : Bool) → ltb id.0 (length rows) ≡ known →
-          cond (is_waiting (promise_at rows id.0)) 1 0 ≡ settled_after buffer.settings commands (Cancel id)
+          cond (still_waits (promise_at rows id.0)) 1 0 ≡ settled_after buffer.settings commands (Cancel id)
       by_known true is = settlements_of_cancel id.0 0 rows
           ∙ sym (settled_of_accepted buffer.settings commands (Cancel id) buffer stands unclosed (ap (λ known. let refusal : Option Refusal = cond known None (Some UnknownPromise) in refusal) is))
       by_known false is = ap (λ waits. cond waits 1 0) (unknown_waits id.0 rows is)

@@ -6,16 +6,16 @@ use Rattle.std.proofs.lemmas.List.{drop-drop}
 use Rattle.std.proofs.lemmas.List.{map-append}
 use Rattle.ob_types.specs.declared.message.Message.{Message}
 use Rattle.ob_types.specs.declared.message.Message.TheVariants.{Block, Region, Other}
-use Rattle.ob_seq.specs.declared.entry.Entry.{Entry}
+use Rattle.ob_seq.specs.Entry.{PendingEntry, entry_of}
 use Rattle.ob_seq.specs.Row.{Row, is_voided, without_skipped}
 use Rattle.ob_seq.specs.Total.{counted_size, total}
 use Rattle.ob_seq.specs.Effect.{skipped_row, with_front, with_skipped}
 use Rattle.ob_seq.specs.Moment.{moments_along}
 use Rattle.ob_seq.specs.Answer.{outcome_of, settlements_from}
-use Rattle.ob_seq.specs.Pending.{Pending, entry_of}
+use Rattle.ob_seq.specs.Pending.{Pending}
 use Rattle.ob_seq.specs.Steps.{first_changed, front_changed, front_skipped, skipped_entry}
 use Rattle.ob_seq.proofs.Along.{moment_of_same, moments_behind, settlement_same, settlements_behind}
-use Rattle.ob_seq.proofs.Held.{Held, promise_of}
+use Rattle.ob_seq.proofs.Held.{Held, promise_of, opening}
 use Rattle.ob_seq.proofs.Order.{IsGone, IsStanding, IsFresh, skipped_stands, with_front_gone, with_front_standing, with_front_fresh}
 
 skipped_of : (voided : Bool) (m n : ℕ) (message : Message) → without_skipped n (cond voided (Block []) (without_skipped m message)) ≡ cond voided (Block []) (without_skipped (m + n) message)
@@ -26,7 +26,7 @@ skipped_of false m n (Other value) = refl
 
 -- a skipped row is a skipped entry
 skipped_entry_is : (n : ℕ) (row : Row) → skipped_entry n (entry_of row) ≡ entry_of (skipped_row n row)
-skipped_entry_is n row = ap (λ message. let entry : Entry = record { message = message; size = counted_size row; progress = min (row.progress + n) 9223372036854775807; voided = is_voided row.place } in entry) (skipped_of (is_voided row.place) row.skipped n row.message)
+skipped_entry_is n row = ap (λ message. let entry : PendingEntry = record { message = message; size = counted_size row; progress = min (row.progress + n) 9223372036854775807; voided = is_voided row.place } in entry) (skipped_of (is_voided row.place) row.skipped n row.message)
 
 -- the first of some rows, with so many bytes more skipped
 abbrev first_skipped : ℕ → List Row → List Row
@@ -102,7 +102,7 @@ skipped_held n buffer gone rest fresh held = by_test (ltb 0 n)
     by_test true = first_held n buffer gone rest fresh held
     by_test false = held
 
--- its word and its settings stay
+-- its word, its settings and its marks stay
 pub skipped_word : (n : ℕ) (buffer : Pending) → (front_skipped n buffer).word ≡ buffer.word
 skipped_word n buffer = by_test (ltb 0 n)
   where
@@ -110,10 +110,10 @@ skipped_word n buffer = by_test (ltb 0 n)
     by_test true = refl
     by_test false = refl
 
-pub skipped_settings : (n : ℕ) (buffer : Pending) → (front_skipped n buffer).settings ≡ buffer.settings
-skipped_settings n buffer = by_test (ltb 0 n)
+pub skipped_opening : (n : ℕ) (buffer : Pending) → opening (front_skipped n buffer) ≡ opening buffer
+skipped_opening n buffer = by_test (ltb 0 n)
   where
-    by_test : (some : Bool) → (cond some (front_changed (skipped_entry n) buffer) buffer).settings ≡ buffer.settings
+    by_test : (some : Bool) → opening (cond some (front_changed (skipped_entry n) buffer) buffer) ≡ opening buffer
     by_test true = refl
     by_test false = refl
 

@@ -78,10 +78,10 @@ module _ (notice : Bool) (outcome : Outcome) (buffer : Pending) (gone : List Row
   }
 
   -- its word, after the moment of the removal
-  pub taken_word : (half : ℕ) (moments : List Moment) → buffer.word ≡ word_from buffer.settings.marks half moments →
-      (front_taken notice outcome buffer).word ≡ word_from buffer.settings.marks half (moments ++ moment_of notice (counted_size row) 0 (total (gone ++ taken ∷ (standing ++ fresh))))
+  pub taken_word : (half : ℕ) (moments : List Moment) → buffer.word ≡ word_from buffer.marks half moments →
+      (front_taken notice outcome buffer).word ≡ word_from buffer.marks half (moments ++ moment_of notice (counted_size row) 0 (total (gone ++ taken ∷ (standing ++ fresh))))
   taken_word half moments was =
-      let marks = buffer.settings.marks in
+      let marks = buffer.marks in
       let size = counted_size row in
       let sum = total (gone ++ taken ∷ (standing ++ fresh)) in
       ap (λ first. cond notice (word_after_fall marks buffer.word first (pending_total buffer - first)) buffer.word) (ap first_size held.line)

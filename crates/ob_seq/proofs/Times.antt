@@ -2,11 +2,11 @@
 use Rattle.std.proofs.Common.{◌≡◌, ℕ, zero, suc, ◌-◌, Bool, List, [], ◌∷◌, length, drop, refl, ap, ◌∙◌}
 use Rattle.std.proofs.lemmas.List.{length-drop}
 use Rattle.ob_types.specs.declared.promise.Outcome.{Outcome}
-use Rattle.ob_seq.specs.declared.entry.Entry.{Entry}
+use Rattle.ob_seq.specs.Entry.{PendingEntry}
 use Rattle.ob_seq.specs.Pending.{Pending}
 use Rattle.ob_seq.specs.Steps.{front_taken, next_flushed, times}
 
-drop_one_more : (n : ℕ) (entries : List Entry) → drop 1 (drop n entries) ≡ drop (suc n) entries
+drop_one_more : (n : ℕ) (entries : List PendingEntry) → drop 1 (drop n entries) ≡ drop (suc n) entries
 drop_one_more zero entries = refl
 drop_one_more (suc n) [] = refl
 drop_one_more (suc n) (entry ∷ entries) = drop_one_more n entries

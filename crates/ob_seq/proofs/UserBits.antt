@@ -18,18 +18,18 @@ use Rattle.ob_types.specs.declared.reply.Answer.TheVariants.{Done}
 use Rattle.ob_seq.specs.Settings.{Settings}
 use Rattle.ob_seq.specs.Effect.{rows_after}
 use Rattle.ob_seq.specs.Line.{line, unflushed}
-use Rattle.ob_seq.specs.Moment.{Moment, moments_after}
-use Rattle.ob_seq.specs.Mark.{mark_of}
+use Rattle.ob_seq.specs.Moment.{Moment}
 use Rattle.ob_seq.specs.UserBit.{bit_request, is_user_index, user_bit}
 use Rattle.ob_seq.specs.Word.{word_after}
 use Rattle.ob_seq.specs.Answer.{refusal_of, reply_of}
-use Rattle.ob_seq.specs.Pending.{Pending, StandsFor, entry_of}
+use Rattle.ob_seq.specs.Entry.{entry_of}
+use Rattle.ob_seq.specs.Pending.{Pending, StandsFor}
 use Rattle.ob_seq.specs.Steps.{bit_changed, with_user_bit}
 use Rattle.ob_seq.proofs.Acceptance.{open_history, same_reply}
 use Rattle.ob_seq.proofs.Along.{moments_of_same, settlements_of_same}
 use Rattle.ob_seq.proofs.Digits.{digit, digit_at, no_digit_at, half_bits}
-use Rattle.ob_seq.proofs.History.{moments_after_more, rows_after_more, accepted_more, closed_more}
-use Rattle.ob_seq.proofs.Marks.{half_after, word_from, word_is_from}
+use Rattle.ob_seq.proofs.History.{moments_after, moments_after_more, rows_after_more, accepted_more, closed_more}
+use Rattle.ob_seq.proofs.Marks.{mark_of, half_after, word_from, word_is_from}
 
 -- the user bits after one more command
 bit_by : (requests : List Bool) (here now : Bool) →
@@ -194,6 +194,20 @@ module _ (settings : Settings) (commands : List Command) where
   bit_changed_word (suc place) writable some few =
       ap (with_user_bit (suc place) writable) (word_is_from settings commands) ∙ changed_by place (omega arith) writable ∙ sym (same_mark (suc place) writable)
 
+-- the word has the digit 1 at the index of a user bit where that is set
+pub user_bit_shows : (settings : Settings) (commands : List Command) (index : ℕ) → 0 < index → index ≤ 31 → eqb (bit_at (word_after settings commands) index) 1 ≡ user_bit commands index
+user_bit_shows settings commands zero some few = absurd (omega arith)
+user_bit_shows settings commands (suc place) some few =
+    ap (λ shown. eqb shown 1)
+    (ap (λ word. bit_at word (suc place)) (word_is_from settings commands)
+    ∙ at_next (mark_of settings.marks (moments_after settings.estimate commands)) (half_after commands) place
+    ∙ digit_at (user_bit commands) 1 31 place (omega arith) ∙ ap (λ at. digit (user_bit commands at)) (omega arith))
+    ∙ shown (user_bit commands (suc place))
+  where
+    shown : (bit : Bool) → eqb (digit bit) 1 ≡ bit
+    shown true = refl
+    shown false = refl
+
 module _ (buffer : Pending) (commands : List Command) (at : ℕ) (writable : Bool) (stands : StandsFor buffer commands) (unclosed : buffer.closed ≡ false) (some : 1 ≤ at) (few : at ≤ 31) where
   -- a user bit with such an index is accepted
   pub bit_accepted : refusal_of buffer.settings.estimate (rows_after buffer.settings.estimate commands) (UserBit at writable) ≡ None
@@ -211,8 +225,9 @@ module _ (buffer : Pending) (commands : List Command) (at : ℕ) (writable : Boo
   -- the buffer with the user bit changed stands for the history with it
   pub bit_changed_stands : StandsFor (bit_changed at writable buffer) (commands ++ UserBit at writable ∷ [])
   bit_changed_stands = record {
-    accepted = accepted_more buffer.settings.estimate commands (UserBit at writable) (open_history buffer.settings commands (UserBit at writable) buffer stands unclosed) stands.accepted bit_accepted;
+    accepted = accepted_more buffer.settings commands (UserBit at writable) (open_history buffer.settings commands (UserBit at writable) buffer stands unclosed) stands.accepted bit_accepted;
     closed = unclosed ∙ sym (closed_more commands (UserBit at writable) (open_history buffer.settings commands (UserBit at writable) buffer stands unclosed));
+    marks = stands.marks;
     line = stands.line ∙ sym (ap (λ all. map entry_of (line all)) rows_stay);
     unflushed = stands.unflushed ∙ sym (ap (λ all. map entry_of (unflushed all)) rows_stay);
     promises = stands.promises ∙ sym (ap (map (λ row. row.promise)) rows_stay);

@@ -15,7 +15,7 @@ use Rattle.ob_types.specs.declared.command.Command.TheVariants.{Write}
 use Rattle.ob_types.specs.declared.reply.Reply.{Reply}
 use Rattle.ob_types.specs.declared.reply.Answer.TheVariants.{Id}
 use Rattle.ob_types.specs.declared.promise.PromiseState.TheVariants.{Waiting}
-use Rattle.ob_seq.specs.declared.entry.Entry.{Entry}
+use Rattle.ob_seq.specs.Entry.{PendingEntry, entry_of}
 use Rattle.ob_seq.specs.Row.{Row, new_row, without_skipped, is_unflushed}
 use Rattle.ob_seq.specs.Line.{is_in_line, line, unflushed}
 use Rattle.ob_seq.specs.Total.{counted_size, total}
@@ -23,7 +23,7 @@ use Rattle.ob_seq.specs.Effect.{rows_after}
 use Rattle.ob_seq.specs.Moment.{moment_of, moments_along, moments_of}
 use Rattle.ob_seq.specs.Word.{word_after}
 use Rattle.ob_seq.specs.Answer.{settlements_from, settlements_of, reply_of, refusal_of}
-use Rattle.ob_seq.specs.Pending.{Pending, StandsFor, entry_of}
+use Rattle.ob_seq.specs.Pending.{Pending, StandsFor}
 use Rattle.ob_seq.specs.Steps.{sum_of, pending_total, written, word_after_rise}
 use Rattle.ob_seq.proofs.Acceptance.{open_history, same_reply}
 use Rattle.ob_seq.proofs.Rows.{sum_of_rows}
@@ -46,7 +46,7 @@ without_skipped_none (Other value) = refl
 
 -- a new row as an entry
 entry_of_new : (estimate : Estimate) (message : Message) → entry_of (new_row estimate message) ≡ record { message = message; size = counted_bytes estimate message; progress = 0; voided = false }
-entry_of_new estimate message = ap (λ (left : Message). let entry : Entry = record { message = left; size = counted_bytes estimate message; progress = 0; voided = false } in entry) (without_skipped_none message)
+entry_of_new estimate message = ap (λ (left : Message). let entry : PendingEntry = record { message = left; size = counted_bytes estimate message; progress = 0; voided = false } in entry) (without_skipped_none message)
 
 -- the moment of a write
 moments_of_write : (estimate : Estimate) (rows : List Row) (message : Message) →
@@ -71,13 +71,14 @@ rise_step marks word size sum = grind (arith, nat_tests)
 -- the word after a write
 pub word_of_write : (buffer : Pending) (commands : List Command) (message : Message) → StandsFor buffer commands →
     (let size = counted_bytes buffer.settings.estimate message in
-    word_after_rise buffer.settings.marks buffer.word size (pending_total buffer + size) ≡ word_after buffer.settings (commands ++ Write message ∷ []))
+    word_after_rise buffer.marks buffer.word size (pending_total buffer + size) ≡ word_after buffer.settings (commands ++ Write message ∷ []))
 word_of_write buffer commands message stands =
     let size = counted_bytes buffer.settings.estimate message in
     let rows = rows_after buffer.settings.estimate commands in
-    rise_step buffer.settings.marks buffer.word size (pending_total buffer + size)
-    ∙ ap (λ sum. word_step true buffer.settings.marks buffer.word 0 size (sum + size)) (pending_total_stands buffer commands stands)
-    ∙ ap (λ word. word_step true buffer.settings.marks word 0 size (total rows + size)) stands.word
+    rise_step buffer.marks buffer.word size (pending_total buffer + size)
+    ∙ ap (λ sum. word_step true buffer.marks buffer.word 0 size (sum + size)) (pending_total_stands buffer commands stands)
+    ∙ ap (λ word. word_step true buffer.marks word 0 size (total rows + size)) stands.word
+    ∙ ap (λ marks. word_step true marks (word_after buffer.settings commands) 0 size (total rows + size)) stands.marks
     ∙ sym (word_after_more buffer.settings commands (Write message) true 0 size (total rows + size) (λ index. refl) (moments_of_write buffer.settings.estimate rows message))
 
 -- a buffer with one more message stands for the history with the write
@@ -90,8 +91,9 @@ written_stands buffer commands message stands unclosed room =
     let row = new_row estimate message in
     let more : rows_after estimate (commands ++ Write message ∷ []) ≡ rows ++ row ∷ [] = rows_after_more estimate commands (Write message) in
     record {
-      accepted = accepted_more estimate commands (Write message) (open_history buffer.settings commands (Write message) buffer stands unclosed) stands.accepted room;
+      accepted = accepted_more buffer.settings commands (Write message) (open_history buffer.settings commands (Write message) buffer stands unclosed) stands.accepted room;
       closed = unclosed ∙ sym (closed_more commands (Write message) (open_history buffer.settings commands (Write message) buffer stands unclosed));
+      marks = stands.marks;
       line = stands.line ∙ sym (ap (λ all. map entry_of (line all)) more ∙ ap (map entry_of) (filter-append is_in_line rows (row ∷ []) ∙ append-nil (line rows)));
       unflushed = ap (λ first. first ++ record { message = message; size = counted_bytes estimate message; progress = 0; voided = false } ∷ []) stands.unflushed
           ∙ sym (ap (λ all. map entry_of (unflushed all)) more
@@ -105,7 +107,7 @@ written_stands buffer commands message stands unclosed room =
 -- the reply to a write
 pub reply_of_write : (buffer : Pending) (commands : List Command) (message : Message) → StandsFor buffer commands →
     (let size = counted_bytes buffer.settings.estimate message in
-    let after = word_after_rise buffer.settings.marks buffer.word size (pending_total buffer + size) in
+    let after = word_after_rise buffer.marks buffer.word size (pending_total buffer + size) in
     let reply : Reply = record { answer = Id (record { 0 = length buffer.promises }); settled = []; change = change_between buffer.word after } in
     reply ≡ reply_of buffer.settings commands (Write message))
 reply_of_write buffer commands message stands =
@@ -113,5 +115,5 @@ reply_of_write buffer commands message stands =
     let rows = rows_after estimate commands in
     let count : length buffer.promises ≡ length rows = ap length stands.promises ∙ length-map rows (λ row. row.promise) in
     same_reply (ap (λ id. Id (record { 0 = id })) count) (sym (settlements_of_write estimate rows message))
-    (ap (λ before. change_between before (word_after_rise buffer.settings.marks buffer.word (counted_bytes estimate message) (pending_total buffer + counted_bytes estimate message))) stands.word
+    (ap (λ before. change_between before (word_after_rise buffer.marks buffer.word (counted_bytes estimate message) (pending_total buffer + counted_bytes estimate message))) stands.word
     ∙ ap (change_between (word_after buffer.settings commands)) (word_of_write buffer commands message stands))

@@ -1,7 +1,9 @@
 -- The answer to one more command.
-use Rattle.std.specs.Prelude.{ℕ, suc, ◌+◌, ◌||◌, Bool, List, [], ◌∷◌, ◌++◌, length, nat_lt, nat_le, if◌then◌else◌, is_some, is_ok, Option, Some, None, Result, Ok, Err, option_map, slice_get, true, false, is_none, ◌&&◌}
+use Rattle.std.specs.Prelude.{ℕ, suc, ◌+◌, ◌||◌, Bool, List, [], ◌∷◌, ◌++◌, length, nat_lt, nat_le, if◌then◌else◌, is_some, is_ok, Option, Some, None, Result, Ok, Err, option_map, slice_get, true, false, ◌&&◌}
 use Rattle.ob_types.specs.PendingSize.{counted_bytes, is_oversize}
 use Rattle.ob_types.specs.Change.{change_between}
+use Rattle.ob_types.specs.Limits.{greatest_progress, greatest_total, most_writes}
+use Rattle.ob_types.specs.Waiting.{is_waiting}
 use Rattle.ob_types.specs.declared.estimate.Estimate.{Estimate}
 use Rattle.ob_types.specs.declared.command.Command.{Command}
 use Rattle.ob_types.specs.declared.command.Command.TheVariants.{Write, Flush, Remove, RemoveWith, RemoveBytes, Progress, Cancel, FailFlushed, Close, UserBit}
@@ -25,14 +27,14 @@ use Rattle.ob_seq.specs.UserBit.{is_user_index}
 use Rattle.ob_seq.specs.Word.{word_after}
 use Rattle.ob_seq.specs.Closed.{is_closed}
 
--- whether a message is too much: the pending bytes would pass 4294967295, or 1048576 writes were accepted
+-- whether a message is too much: the total would pass its greatest, or the most writes were accepted
 abbrev pub is_too_much : Estimate → List Row → ℕ → Bool
-is_too_much estimate rows size = nat_lt 4294967295 (total rows + size) || nat_le 1048576 (length rows)
+is_too_much estimate rows size = nat_lt greatest_total (total rows + size) || nat_le most_writes (length rows)
 
--- the refusal of progress: nothing is flushed, or the sum would pass 9223372036854775807
+-- the refusal of progress: nothing is flushed, or the sum would pass the greatest progress
 abbrev pub refusal_of_progress : Option Row → ℕ → Option Refusal
 refusal_of_progress None n = Some NothingFlushed
-refusal_of_progress (Some row) n = if nat_lt 9223372036854775807 (row.progress + n) then Some TooFar else None
+refusal_of_progress (Some row) n = if nat_lt greatest_progress (row.progress + n) then Some TooFar else None
 
 -- the first refusal of a command to a buffer that is not closed, in the order in which they are asked, or none
 abbrev pub refusal_of : Estimate → List Row → Command → Option Refusal
@@ -53,22 +55,14 @@ refusal_of estimate rows (UserBit index writable) = if is_user_index index then 
 abbrev pub first_refusal : Estimate → List Command → Command → Option Refusal
 first_refusal estimate commands command = if is_closed commands then Some Closed else refusal_of estimate (rows_after estimate commands) command
 
--- whether commands that come after a history are accepted, one after another
-abbrev pub are_accepted : Estimate → List Command → List Command → Bool
-are_accepted estimate earlier [] = true
-are_accepted estimate earlier (command ∷ commands) =
-    is_none (first_refusal estimate earlier command) && are_accepted estimate (earlier ++ command ∷ []) commands
-
 -- the state of the promise with this id, if a write was accepted under it
 abbrev pub promise_at : List Row → ℕ → Option PromiseState
 promise_at rows id = option_map (λ row. row.promise) (slice_get rows id)
 
--- whether nothing has become of a promise yet
-abbrev pub is_waiting : Option PromiseState → Bool
-is_waiting None = false
-is_waiting (Some Waiting) = true
-is_waiting (Some Fixed) = false
-is_waiting (Some (Settled outcome)) = false
+-- whether there is a promise, and it still waits
+abbrev pub still_waits : Option PromiseState → Bool
+still_waits None = false
+still_waits (Some state) = is_waiting state
 
 -- what an accepted command answers: a write its promise; a flush how many rows it reached; a removal whether there was
 -- a front; a cancellation whether the promise still waited; a removal of bytes, a failing of the flushed messages and a
@@ -80,7 +74,7 @@ answer_of rows Remove = Yes (is_some (front rows))
 answer_of rows (RemoveWith cause) = Yes (is_some (front rows))
 answer_of rows (RemoveBytes n) = Count (whole_rows n rows)
 answer_of rows (Progress n) = Done
-answer_of rows (Cancel id) = Yes (is_waiting (promise_at rows id.0))
+answer_of rows (Cancel id) = Yes (still_waits (promise_at rows id.0))
 answer_of rows (FailFlushed cause notify) = Count (length (line rows))
 answer_of rows (Close cause) = Count (length (unflushed rows))
 answer_of rows (UserBit index writable) = Done
@@ -127,7 +121,20 @@ abbrev pub answer_to : Settings → List Command → Command → Result Reply Re
 answer_to settings commands command =
     unless_refused (first_refusal settings.estimate commands command) (reply_of settings commands command)
 
--- the accepted commands after one more command: a refused one has no effect
+-- a command is accepted after a history where its answer is a reply
+abbrev pub is_accepted : Settings → List Command → Command → Bool
+is_accepted settings commands command = is_ok (answer_to settings commands command)
+
+-- whether commands that come after a history are accepted, one after another
+abbrev pub are_accepted : Settings → List Command → List Command → Bool
+are_accepted settings earlier [] = true
+are_accepted settings earlier (command ∷ commands) =
+    is_accepted settings earlier command && are_accepted settings (earlier ++ command ∷ []) commands
+
+-- the accepted commands once one more has this answer: a refused one has no effect
+abbrev pub commands_with : List Command → Command → Result Reply Refusal → List Command
+commands_with commands command answer = if is_ok answer then commands ++ command ∷ [] else commands
+
+-- the accepted commands after one more command
 abbrev pub commands_after : Settings → List Command → Command → List Command
-commands_after settings commands command =
-    if is_ok (answer_to settings commands command) then commands ++ command ∷ [] else commands
+commands_after settings commands command = commands_with commands command (answer_to settings commands command)

@@ -1,17 +1,12 @@
 -- The byte run: the beginning of the line, as far as it is made of bytes.
-use Rattle.std.specs.Prelude.{ℕ, ◌-◌, Bool, true, false, List, [], map, take}
+use Rattle.std.specs.Prelude.{ℕ, ◌-◌, List, [], map, take}
 use Rattle.std.specs.List.{take_while}
+use Rattle.ob_types.specs.Block.{is_block}
 use Rattle.ob_types.specs.declared.message.Message.{Message}
 use Rattle.ob_types.specs.declared.message.Message.TheVariants.{Block, Region, Other}
 use Rattle.ob_seq.specs.Row.{Row, unread_part}
 use Rattle.ob_seq.specs.Line.{line}
 use Rattle.ob_seq.specs.Pieces.{bytes_in, pieces_within}
-
--- whether a message is a block
-abbrev pub is_block : Message → Bool
-is_block (Block bytes) = true
-is_block (Region units) = false
-is_block (Other value) = false
 
 -- the bytes of a block, and none of any other message
 abbrev pub block_bytes : Message → List ℕ

@@ -1,5 +1,6 @@
 -- What an accepted command does to the rows.
 use Rattle.std.specs.Prelude.{List, [], ◌∷◌, ◌++◌, map, fold, if◌then◌else◌, ℕ, zero, suc, ◌+◌, min, nat_lt}
+use Rattle.ob_types.specs.Limits.{greatest_progress}
 use Rattle.ob_types.specs.declared.estimate.Estimate.{Estimate}
 use Rattle.ob_types.specs.declared.command.Command.{Command}
 use Rattle.ob_types.specs.declared.command.Command.TheVariants.{Write, Flush, Remove, RemoveWith, RemoveBytes, Progress, Cancel, FailFlushed, Close, UserBit}
@@ -48,9 +49,9 @@ abbrev pub with_fronts_sent : ℕ → List Row → List Row
 with_fronts_sent zero rows = rows
 with_fronts_sent (suc count) rows = with_fronts_sent count (with_front (taken_row Success) rows)
 
--- a row of which so many more bytes are skipped, and told as progress, which stops at 9223372036854775807
+-- a row of which so many more bytes are skipped, and told as progress, which stops at the greatest progress
 abbrev pub skipped_row : ℕ → Row → Row
-skipped_row n row = record row { skipped = row.skipped + n; progress = min (row.progress + n) 9223372036854775807 }
+skipped_row n row = record row { skipped = row.skipped + n; progress = min (row.progress + n) greatest_progress }
 
 -- the rows with so many bytes skipped in the front, and unchanged where that is none
 abbrev pub with_skipped : ℕ → List Row → List Row

@@ -1,14 +1,26 @@
 -- How a buffer keeps what it holds. No public clause cites this module.
-use Rattle.std.specs.Prelude.{◌≤◌, take, drop, sum_by, vec_len}
+use Rattle.std.specs.Prelude.{◌≤◌, List, map, take, drop, sum_by, vec_len}
+use Rattle.ob_types.specs.Limits.{greatest_overhead, greatest_total, greatest_unknown, most_writes}
+use Rattle.ob_seq.specs.Entry.{PendingEntry}
 use Rattle.ob_seq.specs.Pending.{Pending}
+use Rattle.ob_seq.specs.declared.entry.Entry.{Entry}
 use Rattle.ob_seq.specs.declared.buffer.Buffer.TheInside.{Inside}
+
+-- what a contract sees of an entry
+abbrev pub pending_entry : Entry → PendingEntry
+pending_entry entry = record { message = entry.message; size = entry.size; progress = entry.progress; voided = entry.voided }
+
+-- what a contract sees of entries
+abbrev pub pending_entries : List Entry → List PendingEntry
+pending_entries entries = map pending_entry entries
 
 -- the entries are those in line and then those that no flush has reached
 abbrev pub pending_of : Inside → Pending
 pending_of inside = record {
   settings = record { marks = inside.marks; estimate = inside.estimate };
-  line = take inside.flushed inside.entries.items;
-  unflushed = drop inside.flushed inside.entries.items;
+  marks = inside.marks;
+  line = take inside.flushed (pending_entries inside.entries.items);
+  unflushed = drop inside.flushed (pending_entries inside.entries.items);
   promises = inside.promises.items;
   word = inside.word;
   closed = inside.closed;
@@ -18,7 +30,7 @@ pending_of inside = record {
 pub record IsSound (inside : Inside) : Type 0 where
   pub line_within : inside.flushed ≤ vec_len inside.entries
   pub each_promised : vec_len inside.entries ≤ vec_len inside.promises
-  pub few_writes : vec_len inside.promises ≤ 1048576
-  pub total_fits : sum_by (λ entry. entry.size) inside.entries.items ≤ 4294967295
-  pub small_overhead : inside.estimate.overhead ≤ 65535
-  pub small_unknown : inside.estimate.unknown ≤ 65535
+  pub few_writes : vec_len inside.promises ≤ most_writes
+  pub total_fits : sum_by (λ entry. entry.size) inside.entries.items ≤ greatest_total
+  pub small_overhead : inside.estimate.overhead ≤ greatest_overhead
+  pub small_unknown : inside.estimate.unknown ≤ greatest_unknown

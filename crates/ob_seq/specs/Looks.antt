@@ -1,10 +1,12 @@
 -- What a look at a buffer shows.
 use Rattle.std.specs.Prelude.{ℕ, ◌+◌, ◌-◌, ◌&&◌, not, List, length, map, filter, min, nat_le, if◌then◌else◌, Option, Some, None, option_map}
 use Rattle.ob_types.specs.Change.{is_writable}
+use Rattle.ob_types.specs.Limits.{greatest_total}
 use Rattle.ob_types.specs.WaterMark.{Marks}
 use Rattle.ob_types.specs.declared.command.Command.{Command}
 use Rattle.ob_seq.specs.declared.look.Look.{Look}
 use Rattle.ob_seq.specs.Settings.{Settings}
+use Rattle.ob_seq.specs.MarksInForce.{marks_after}
 use Rattle.ob_seq.specs.Row.{Row, is_flushed, unread_part}
 use Rattle.ob_seq.specs.Line.{line, front}
 use Rattle.ob_seq.specs.Total.{total}
@@ -20,10 +22,10 @@ abbrev pub before_unwritable : Marks → ℕ → ℕ → ℕ
 before_unwritable marks word sum = if is_writable word && nat_le sum marks.high then marks.high - sum + 1 else 0
 
 -- how many bytes fewer bring the pending bytes of an unwritable buffer below the low mark (Netty's
--- `bytesBeforeWritable`), one more than there are where that mark is 0, at most 4294967295; 0 where the buffer is
--- writable, or its pending bytes are below the low mark
+-- `bytesBeforeWritable`), one more than there are where that mark is 0, at most the greatest total; 0 where the
+-- buffer is writable, or its pending bytes are below the low mark
 abbrev pub before_writable : Marks → ℕ → ℕ → ℕ
-before_writable marks word sum = if not (is_writable word) && nat_le marks.low sum then min (sum - marks.low + 1) 4294967295 else 0
+before_writable marks word sum = if not (is_writable word) && nat_le marks.low sum then min (sum - marks.low + 1) greatest_total else 0
 
 -- the progress of the front, or 0 where nothing stands in line (Netty's `currentProgress`)
 abbrev pub progress_of : Option Row → ℕ
@@ -34,12 +36,13 @@ progress_of (Some row) = row.progress
 abbrev pub look_after : Settings → List Command → Look
 look_after settings commands =
     let rows = rows_after settings.estimate commands in
+    let marks = marks_after settings commands in
     let word = word_after settings commands in record {
       total = total rows;
       word = word;
       size = length (line rows);
-      before_unwritable = before_unwritable settings.marks word (total rows);
-      before_writable = before_writable settings.marks word (total rows);
+      before_unwritable = before_unwritable marks word (total rows);
+      before_writable = before_writable marks word (total rows);
       current_progress = progress_of (front rows);
     }
 

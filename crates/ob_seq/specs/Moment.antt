@@ -47,13 +47,3 @@ gives_notice (UserBit index writable) = true
 -- the moments of one more accepted command, in the order of the rows
 abbrev pub moments_of : Estimate → List Row → Command → List Moment
 moments_of estimate rows command = moments_along (gives_notice command) [] rows (effect estimate rows command)
-
--- the moments of accepted commands that find these rows, oldest first
-abbrev pub moments_from : Estimate → List Row → List Command → List Moment
-moments_from estimate rows [] = []
-moments_from estimate rows (command ∷ commands) =
-    moments_of estimate rows command ++ moments_from estimate (effect estimate rows command) commands
-
--- the moments of a whole history of accepted commands, oldest first
-abbrev pub moments_after : Estimate → List Command → List Moment
-moments_after estimate commands = moments_from estimate [] commands

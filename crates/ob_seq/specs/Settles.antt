@@ -1,5 +1,6 @@
 -- What commands settle.
-use Rattle.std.specs.Prelude.{◌≡◌, ◌≤◌, IsErrOf, ◌==◌, ℕ, List, [], ◌∷◌, ◌++◌, count_by, length, Result, Ok, Err}
+use Rattle.std.specs.Prelude.{◌≤◌, IsErrOf, ◌==◌, ℕ, List, [], ◌∷◌, ◌++◌, count_by, length, Result, Ok, Err}
+use Rattle.ob_types.specs.Limits.{inline_settlements}
 use Rattle.ob_types.specs.declared.command.Command.{Command}
 use Rattle.ob_types.specs.declared.promise.PromiseId.{PromiseId}
 use Rattle.ob_types.specs.declared.promise.Outcome.{Outcome}
@@ -8,7 +9,7 @@ use Rattle.ob_types.specs.declared.refusal.Refusal.{Refusal}
 use Rattle.ob_types.specs.declared.refusal.Refusal.TheVariants.{NoMemory}
 use Rattle.ob_seq.specs.Settings.{Settings}
 use Rattle.ob_seq.specs.Answer.{answer_to, commands_after}
-use Rattle.ob_seq.specs.Pending.{Pending, StandsFor}
+use Rattle.ob_seq.specs.Pending.{Pending, StandsFor, Gives}
 
 -- what an answer settles: the settlements of a reply, and nothing where the command was refused
 abbrev pub settled_by : Result Reply Refusal → List (PromiseId × Outcome)
@@ -21,13 +22,13 @@ settled_after settings commands command = length (settled_by (answer_to settings
 
 -- whatever history the buffer stands for, one more command settles so many promises after it
 abbrev pub Settles : Pending → Command → ℕ → Type 0
-Settles buffer command count = (commands : List Command) → StandsFor buffer commands → count ≡ settled_after buffer.settings commands command
+Settles buffer command count = Gives buffer (λ settings commands. settled_after settings commands command) count
 
--- whatever history the old buffer stands for, where the command settles at most four promises after it, its result is
--- not want of memory
+-- whatever history the old buffer stands for, where the command settles no more promises after it than want no memory, its
+-- result is not want of memory
 abbrev pub SparesMemory : Pending → Command → Result Reply Refusal → Type 0
 SparesMemory old command result =
-    (commands : List Command) → StandsFor old commands → settled_after old.settings commands command ≤ 4 → ¬ IsErrOf result NoMemory
+    (commands : List Command) → StandsFor old commands → settled_after old.settings commands command ≤ inline_settlements → ¬ IsErrOf result NoMemory
 
 -- what commands settle that are given one after another after a history; a refused one settles nothing and has no effect
 abbrev pub settled_along : Settings → List Command → List Command → List (PromiseId × Outcome)

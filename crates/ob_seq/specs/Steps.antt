@@ -7,12 +7,13 @@ use Rattle.ob_types.specs.declared.promise.Outcome.{Outcome}
 use Rattle.ob_types.specs.declared.promise.Cause.{Cause}
 use Rattle.ob_types.specs.declared.promise.Outcome.TheVariants.{Success, Failed}
 use Rattle.ob_types.specs.declared.promise.PromiseState.TheVariants.{Waiting, Fixed, Settled}
-use Rattle.ob_seq.specs.declared.entry.Entry.{Entry}
 use Rattle.ob_seq.specs.declared.buffer.cut.Cut.{Cut}
-use Rattle.ob_seq.specs.Answer.{is_waiting}
+use Rattle.ob_types.specs.Limits.{greatest_progress}
+use Rattle.ob_types.specs.Waiting.{is_waiting}
+use Rattle.ob_seq.specs.Entry.{PendingEntry, blocks_left}
 use Rattle.ob_seq.specs.Effect.{failed}
 use Rattle.ob_seq.specs.Word.{bit_value}
-use Rattle.ob_seq.specs.Pending.{Pending, blocks_left}
+use Rattle.ob_seq.specs.Pending.{Pending}
 use Rattle.ob_seq.specs.Row.{is_cancelled, without_skipped}
 use Rattle.ob_seq.specs.Pieces.{bytes_in, pieces_within}
 use Rattle.ob_seq.specs.ByteRun.{block_bytes}
@@ -36,7 +37,7 @@ abbrev pub word_after_fall : Marks → ℕ → ℕ → ℕ → ℕ
 word_after_fall marks word size sum = if nat_lt 0 size && nat_lt sum marks.low then with_mark false word else word
 
 -- the bytes that entries count together
-abbrev pub sum_of : List Entry → ℕ
+abbrev pub sum_of : List PendingEntry → ℕ
 sum_of entries = sum_by (λ entry. entry.size) entries
 
 -- the bytes that all entries count together
@@ -48,7 +49,7 @@ abbrev pub written : Pending → Message → ℕ → Pending
 written old message size = record old {
   unflushed = old.unflushed ++ record { message = message; size = size; progress = 0; voided = false } ∷ [];
   promises = old.promises ++ Waiting ∷ [];
-  word = word_after_rise old.settings.marks old.word size (pending_total old + size);
+  word = word_after_rise old.marks old.word size (pending_total old + size);
 }
 
 -- the id of the first entry that no flush has reached: the unflushed entries have the last promises
@@ -60,27 +61,27 @@ abbrev pub is_next_cancelled : Pending → Bool
 is_next_cancelled old = is_cancelled (slice_index_or old.promises (unflushed_id old) Waiting)
 
 -- an entry that a flush reaches: empty where it is voided
-abbrev pub reached_entry : Bool → Entry → Entry
+abbrev pub reached_entry : Bool → PendingEntry → PendingEntry
 reached_entry true entry = record { message = Block []; size = 0; progress = entry.progress; voided = true }
 reached_entry false entry = entry
 
 -- the bytes that the first entry counts, or 0
-abbrev pub first_size : List Entry → ℕ
+abbrev pub first_size : List PendingEntry → ℕ
 first_size [] = 0
 first_size (entry ∷ entries) = entry.size
 
 -- the progress of the first entry, or 0
-abbrev pub first_progress : List Entry → ℕ
+abbrev pub first_progress : List PendingEntry → ℕ
 first_progress [] = 0
 first_progress (entry ∷ entries) = entry.progress
 
 -- whether the first entry was voided
-abbrev pub is_first_voided : List Entry → Bool
+abbrev pub is_first_voided : List PendingEntry → Bool
 is_first_voided [] = false
 is_first_voided (entry ∷ entries) = entry.voided
 
 -- a list with its first entry as a flush reaches it, alone
-abbrev pub first_reached : Bool → List Entry → List Entry
+abbrev pub first_reached : Bool → List PendingEntry → List PendingEntry
 first_reached cancelled [] = []
 first_reached cancelled (entry ∷ entries) = reached_entry cancelled entry ∷ []
 
@@ -91,7 +92,7 @@ next_flushed old = record old {
   unflushed = drop 1 old.unflushed;
   promises = if is_next_cancelled old then old.promises else slice_set old.promises (unflushed_id old) Fixed;
   word = if is_next_cancelled old
-      then word_after_fall old.settings.marks old.word (first_size old.unflushed) (pending_total old - first_size old.unflushed)
+      then word_after_fall old.marks old.word (first_size old.unflushed) (pending_total old - first_size old.unflushed)
       else old.word;
 }
 
@@ -113,20 +114,20 @@ abbrev pub front_taken : Bool → Outcome → Pending → Pending
 front_taken notice outcome old = record old {
   line = drop 1 old.line;
   promises = if is_first_voided old.line then old.promises else slice_set old.promises (front_id old) (Settled outcome);
-  word = if notice then word_after_fall old.settings.marks old.word (first_size old.line) (pending_total old - first_size old.line) else old.word;
+  word = if notice then word_after_fall old.marks old.word (first_size old.line) (pending_total old - first_size old.line) else old.word;
 }
 
 -- the line with its first entry changed
-abbrev pub first_changed : (Entry → Entry) → List Entry → List Entry
+abbrev pub first_changed : (PendingEntry → PendingEntry) → List PendingEntry → List PendingEntry
 first_changed change [] = []
 first_changed change (entry ∷ entries) = change entry ∷ entries
 
 -- a buffer with its front changed
-abbrev pub front_changed : (Entry → Entry) → Pending → Pending
+abbrev pub front_changed : (PendingEntry → PendingEntry) → Pending → Pending
 front_changed change old = record old { line = first_changed change old.line }
 
 -- an entry of which so much more progress was told
-abbrev pub progressed_entry : ℕ → Entry → Entry
+abbrev pub progressed_entry : ℕ → PendingEntry → PendingEntry
 progressed_entry n entry = record entry { progress = entry.progress + n }
 
 -- a buffer without its front, if it has one
@@ -152,13 +153,13 @@ cut_of n pieces =
     else Some (record { whole = pieces_within n pieces; rest = n - bytes_in (take (pieces_within n pieces) pieces) })
 
 -- how many bytes the block of the first entry has left, or 0
-abbrev pub first_length : List Entry → ℕ
+abbrev pub first_length : List PendingEntry → ℕ
 first_length [] = 0
 first_length (entry ∷ entries) = length (block_bytes entry.message)
 
 -- an entry of which so many more bytes are skipped, which count as progress
-abbrev pub skipped_entry : ℕ → Entry → Entry
-skipped_entry n entry = record entry { message = without_skipped n entry.message; progress = min (entry.progress + n) 9223372036854775807 }
+abbrev pub skipped_entry : ℕ → PendingEntry → PendingEntry
+skipped_entry n entry = record entry { message = without_skipped n entry.message; progress = min (entry.progress + n) greatest_progress }
 
 -- a buffer with so many bytes skipped in its front, and unchanged where that is none
 abbrev pub front_skipped : ℕ → Pending → Pending
@@ -169,11 +170,11 @@ abbrev pub bytes_removed : Cut → Pending → Pending
 bytes_removed cut old = front_skipped cut.rest (times cut.whole (front_taken true Success) old)
 
 -- what an entry settles when it is taken away with this outcome: its promise, unless it was voided
-abbrev pub entry_settlement : Outcome → ℕ → Entry → List (PromiseId × Outcome)
+abbrev pub entry_settlement : Outcome → ℕ → PendingEntry → List (PromiseId × Outcome)
 entry_settlement outcome id entry = if entry.voided then [] else (record { 0 = id }, outcome) ∷ []
 
 -- what entries settle when they are taken away with this outcome, where their ids go on from this one
-abbrev pub entry_settlements : Outcome → ℕ → List Entry → List (PromiseId × Outcome)
+abbrev pub entry_settlements : Outcome → ℕ → List PendingEntry → List (PromiseId × Outcome)
 entry_settlements outcome id [] = []
 entry_settlements outcome id (entry ∷ entries) = entry_settlement outcome id entry ++ entry_settlements outcome (suc id) entries
 
@@ -187,11 +188,11 @@ bytes_reply cut old = record {
 
 -- how many promises a removal of n bytes settles where it is accepted: those of the entries that it takes away whole
 -- and that were not voided
-abbrev pub settled_by_bytes : ℕ → List Entry → ℕ
+abbrev pub settled_by_bytes : ℕ → List PendingEntry → ℕ
 settled_by_bytes n line = count_by (λ entry. not entry.voided) (take (pieces_within n (blocks_left line)) line)
 
 -- how many promises a removal of n bytes settles: none where the blocks in front hold fewer
-abbrev pub bytes_settled : ℕ → List Entry → ℕ
+abbrev pub bytes_settled : ℕ → List PendingEntry → ℕ
 bytes_settled n line = if nat_lt (bytes_in (blocks_left line)) n then 0 else settled_by_bytes n line
 
 -- a buffer after all in line are taken away as failed
@@ -213,7 +214,7 @@ failed_from id cause promises = take id promises ++ map (failed cause) (drop id 
 -- what promises settle that fail if they still wait, where their ids go on from this one
 abbrev pub failures : Cause → ℕ → List PromiseState → List (PromiseId × Outcome)
 failures cause id [] = []
-failures cause id (state ∷ states) = (if is_waiting (Some state) then (record { 0 = id }, Failed cause) ∷ [] else []) ++ failures cause (suc id) states
+failures cause id (state ∷ states) = (if is_waiting state then (record { 0 = id }, Failed cause) ∷ [] else []) ++ failures cause (suc id) states
 
 -- a buffer after its close
 abbrev pub closed_pending : Cause → Pending → Pending
@@ -229,7 +230,7 @@ closing_reply cause old = record {
 
 -- how many promises a close settles: none where something is in line
 abbrev pub closing_settled : Pending → ℕ
-closing_settled old = if nat_lt 0 (length old.line) then 0 else count_by (λ state. is_waiting (Some state)) (drop (unflushed_id old) old.promises)
+closing_settled old = if nat_lt 0 (length old.line) then 0 else count_by (λ state. is_waiting state) (drop (unflushed_id old) old.promises)
 
 -- the word with the user bit of this index set, or clear where it is to be writable
 abbrev pub with_user_bit : ℕ → Bool → ℕ → ℕ

@@ -1,9 +1,11 @@
 ghost use Rattle.std.specs.Prelude.{◌≡◌, ◌≤◌, false, [], IsTrue, IsErrOf, OnErr};
 ghost use Rattle.ob_types.specs.Change.{change_between};
+ghost use Rattle.ob_types.specs.Limits.{greatest_overhead, greatest_total, greatest_unknown};
+ghost use Rattle.ob_types.specs.Write.{is_write};
+ghost use Rattle.ob_seq.specs.Inside.{pending_entries};
 ghost use Rattle.ob_seq.specs.Pending.{StandsFor, Answers, Follows, Accepts, takes_no_memory};
 ghost use Rattle.ob_seq.specs.Settles.{SparesMemory};
 ghost use Rattle.ob_seq.specs.Steps.{sum_of};
-ghost use Rattle.ob_types.specs.Write.{is_write};
 
 mod cancel;
 mod close;
@@ -16,13 +18,16 @@ mod progress;
 mod remove;
 mod remove_bytes;
 mod settles;
+mod state;
 mod taking;
 mod user_bit;
 mod word;
 mod write;
 
 use crate::entry::Entry;
-use ob_types::{Answer, Command, Estimate, PromiseState, Refusal, Reply, Settlements, WaterMark};
+use ob_types::{
+    Answer, Change, Command, Estimate, PromiseState, Refusal, Reply, Settlements, WaterMark,
+};
 use std::alloc::Global;
 use std::marker::Model;
 
@@ -57,8 +62,8 @@ impl Model for Buffer {
 impl Buffer {
     /// An empty buffer, which takes no memory. The overhead and the size of unknown messages are at most 65535 bytes.
     pub fn new(alloc: Global, marks: WaterMark, estimate: Estimate) -> Buffer
-        requires overhead { estimate.overhead ≤ 65535 }
-        requires unknown { estimate.unknown ≤ 65535 }
+        requires overhead { estimate.overhead ≤ greatest_overhead }
+        requires unknown { estimate.unknown ≤ greatest_unknown }
         ensures settings { result.settings ≡ record { marks = marks; estimate = estimate } }
         ensures stands { StandsFor result [] }
     {
@@ -80,15 +85,14 @@ impl Buffer {
     /// refused.
     pub fn apply(&mut self, command: Command) -> Result<Reply, Refusal>
         ensures answer { ¬ IsErrOf result Refusal.NoMemory → Answers self.old command result }
-        ensures stands { ¬ IsErrOf result Refusal.NoMemory → Follows self.old command self.new }
+        ensures stands { Follows self.old command result self.new }
         ensures settings { self.new.settings ≡ self.old.settings }
 
-        // Memory is wanted by some commands alone, and only when nothing else refuses them. A refusal changes nothing.
-        ensures no_memory { IsErrOf result Refusal.NoMemory → self.new ≡ self.old }
+        // A refusal changes nothing. Memory is wanted by some commands alone, and only when nothing else refuses them.
+        ensures refused { OnErr result (self.new ≡ self.old) }
         ensures no_memory_last { IsErrOf result Refusal.NoMemory → Accepts self.old command }
         ensures frugal { IsTrue (takes_no_memory command) → ¬ IsErrOf result Refusal.NoMemory }
         ensures spares { is_write command ≡ false → SparesMemory self.old command result }
-        ensures refused { OnErr result (self.new ≡ self.old) }
     {
         match command {
             Command::Write(message) => self.write(message),
@@ -111,7 +115,7 @@ impl Buffer {
         Reply {
             answer,
             settled,
-            change: word::change(before, self.word),
+            change: Change::between(before, self.word),
         }
     }
 
@@ -125,8 +129,8 @@ impl Buffer {
 
 /// The bytes that the entries count together.
 fn total_of(entries: &[Entry]) -> u32
-    requires { sum_of entries.now ≤ 4294967295 }
-    ensures { result ≡ sum_of entries.now }
+    requires { sum_of (pending_entries entries.now) ≤ greatest_total }
+    ensures { result ≡ sum_of (pending_entries entries.now) }
 {
     entries.iter().map(|entry| entry.size).sum()
 }

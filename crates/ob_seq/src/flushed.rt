@@ -1,6 +1,7 @@
 ghost use Rattle.std.specs.Prelude.{◌≡◌};
 ghost use Rattle.std.specs.Iterator.{YieldsFirstRef, item_count};
-ghost use Rattle.ob_seq.specs.Pending.{messages_to_send};
+ghost use Rattle.ob_seq.specs.Entry.{messages_to_send};
+ghost use Rattle.ob_seq.specs.Inside.{pending_entries};
 
 use crate::entry::Entry;
 use ob_types::Message;
@@ -21,15 +22,16 @@ impl<'a> Model for Flushed<'a> {
 
     ghost Value = { List Message };
 
-    ghost use Rattle.ob_seq.specs.Pending.{messages_to_send};
+    ghost use Rattle.ob_seq.specs.Entry.{messages_to_send};
+    ghost use Rattle.ob_seq.specs.Inside.{pending_entries};
 
-    ghost view = { λ flushed. messages_to_send flushed.entries.now };
+    ghost view = { λ flushed. messages_to_send (pending_entries flushed.entries.now) };
 }
 
 impl<'a> Flushed<'a> {
     /// The messages of these entries.
     pub(crate) fn new(entries: &'a [Entry]) -> Flushed<'a>
-        ensures { result ≡ messages_to_send entries.now }
+        ensures { result ≡ messages_to_send (pending_entries entries.now) }
     {
         Flushed { entries }
     }

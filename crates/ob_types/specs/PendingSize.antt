@@ -1,5 +1,6 @@
 -- How many bytes a message counts while it is pending.
 use Rattle.std.specs.Prelude.{ℕ, ◌+◌, length, Bool, false, ◌||◌, nat_lt, if◌then◌else◌, Result, Ok, Err}
+use Rattle.ob_types.specs.Limits.{greatest_pending_size, greatest_region}
 use Rattle.ob_types.specs.declared.message.Message.{Message}
 use Rattle.ob_types.specs.declared.message.Message.TheVariants.{Block, Region, Other}
 use Rattle.ob_types.specs.declared.estimate.Estimate.{Estimate}
@@ -16,15 +17,15 @@ readable_bytes estimate (Other value) = estimate.unknown
 abbrev pub counted_bytes : Estimate → Message → ℕ
 counted_bytes estimate message = readable_bytes estimate message + estimate.overhead
 
--- a region longer than Netty's greatest `long`
+-- a region past the greatest length
 abbrev pub is_long_region : Message → Bool
 is_long_region (Block bytes) = false
-is_long_region (Region units) = nat_lt 9223372036854775807 units
+is_long_region (Region units) = nat_lt greatest_region units
 is_long_region (Other value) = false
 
--- a message is too large where it counts more than Netty's greatest `int`, or is a region longer than its greatest `long`
+-- a message is too large where it counts more than the greatest pending size, or is a region past the greatest length
 abbrev pub is_oversize : Estimate → Message → Bool
-is_oversize estimate message = nat_lt 2147483647 (counted_bytes estimate message) || is_long_region message
+is_oversize estimate message = nat_lt greatest_pending_size (counted_bytes estimate message) || is_long_region message
 
 -- the pending size of a message, or Oversize
 abbrev pub pending_size_of : Estimate → Message → Result ℕ Refusal

@@ -1,5 +1,9 @@
+ghost use Rattle.std.specs.Prelude.{◌≡◌, false, IsOk, IfOk};
+ghost use Rattle.ob_types.specs.Block.{writes_block};
+
 use crate::message::Message;
 use crate::promise::{Cause, PromiseId};
+use std::alloc::AllocError;
 
 /// One call of a buffer.
 #[derive(Debug, Drop, PartialEq, Eq)]
@@ -27,4 +31,25 @@ pub enum Command {
     /// Sets the user bit of this index where the second is not set, and clears it where it is (Netty's
     /// `setUserDefinedWritability`).
     UserBit(u32, bool),
+}
+
+impl Command {
+    /// The same command. It fails only where the copy of its message does: for a write of a block alone.
+    pub fn copy(&self) -> Result<Command, AllocError>
+        ensures same { IfOk result (λ copy. copy ≡ self.now) }
+        ensures succeeds { writes_block self.now ≡ false → IsOk result }
+    {
+        Ok(match self {
+            Command::Write(message) => Command::Write(message.copy()?),
+            Command::Flush => Command::Flush,
+            Command::Remove => Command::Remove,
+            Command::RemoveWith(cause) => Command::RemoveWith(*cause),
+            Command::RemoveBytes(n) => Command::RemoveBytes(*n),
+            Command::Progress(n) => Command::Progress(*n),
+            Command::Cancel(id) => Command::Cancel(*id),
+            Command::FailFlushed(cause, notify) => Command::FailFlushed(*cause, *notify),
+            Command::Close(cause) => Command::Close(*cause),
+            Command::UserBit(index, writable) => Command::UserBit(*index, *writable),
+        })
+    }
 }

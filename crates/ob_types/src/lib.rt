@@ -2,13 +2,11 @@
 #![tactic(auto)]
 
 mod command;
-mod copy;
 mod estimate;
 mod message;
 mod promise;
 mod refusal;
 mod reply;
-mod same;
 mod settlements;
 #[cfg(test)]
 mod tests;

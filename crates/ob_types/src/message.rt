@@ -1,4 +1,8 @@
+ghost use Rattle.std.specs.Prelude.{◌≡◌, false, IsOk, IfOk};
+ghost use Rattle.ob_types.specs.Block.{is_block};
+
 use bytes::Bytes;
+use std::alloc::AllocError;
 
 /// What an application writes to a channel.
 #[derive(Debug, Drop, PartialEq, Eq)]
@@ -9,4 +13,21 @@ pub enum Message {
     Region(u64),
     /// Any other message, by a number that means something to the application alone.
     Other(u32),
+}
+
+impl Message {
+    /// The same message. A block shares its memory with the copy: no byte of it is copied, and no memory is taken.
+    ///
+    /// It fails for a block alone, where so many share it that they can no longer be counted. The allocator's error
+    /// stands for that.
+    pub fn copy(&self) -> Result<Message, AllocError>
+        ensures same { IfOk result (λ copy. copy ≡ self.now) }
+        ensures succeeds { is_block self.now ≡ false → IsOk result }
+    {
+        Ok(match self {
+            Message::Block(bytes) => Message::Block(bytes.clone()?),
+            Message::Region(length) => Message::Region(*length),
+            Message::Other(value) => Message::Other(*value),
+        })
+    }
 }

@@ -1,3 +1,6 @@
+ghost use Rattle.std.specs.Prelude.{◌≡◌};
+ghost use Rattle.ob_types.specs.Waiting.{is_waiting};
+
 /// Which accepted write of a buffer a promise belongs to: the first has 0, the next 1, and so on.
 #[derive(Clone, Copy, Debug, Default, PartialEq, Eq)]
 pub struct PromiseId(pub u32);
@@ -28,4 +31,13 @@ pub enum PromiseState {
     Fixed,
     /// It is settled, for good.
     Settled(Outcome),
+}
+
+impl PromiseState {
+    /// Whether nothing has become of the promise yet: no flush has fixed it, and it is not settled.
+    pub fn is_waiting(self) -> bool
+        ensures { result ≡ is_waiting self }
+    {
+        matches!(self, PromiseState::Waiting)
+    }
 }

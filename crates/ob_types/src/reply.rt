@@ -1,12 +1,62 @@
+ghost use Rattle.std.specs.Prelude.{◌≡◌, ◌≤◌, ◌↔◌, length, IsOk, IfOk, IsTrue};
+ghost use Rattle.ob_types.specs.Change.{change_between};
+ghost use Rattle.ob_types.specs.Limits.{inline_settlements};
+
 use crate::promise::PromiseId;
-use crate::settlements::Settlements;
+use crate::settlements::{Settlements, Spare};
+use std::alloc::AllocError;
 
 /// What an accepted command answers, which promises it settled, and whether it turned writability.
+///
+/// A reply is the one notice of the turn that it tells, and of its settlements: nothing tells them again. So it must
+/// be used, or let go with `let _ = ..`.
+#[must_use]
 #[derive(Debug, Drop)]
 pub struct Reply {
+    /// What the command answers.
     pub answer: Answer,
+    /// The promises that it settled, with their outcomes, in the order of the writes.
     pub settled: Settlements,
+    /// Whether it took the buffer from writable to unwritable or back.
     pub change: Option<Change>,
+}
+
+impl Reply {
+    /// The same reply. It fails for want of memory alone, and not where at most four promises are settled.
+    pub fn copy(&self) -> Result<Reply, AllocError>
+        ensures same { IfOk result (λ copy. copy ≡ self.now) }
+        ensures succeeds { length self.now.settled ≤ inline_settlements → IsOk result }
+    {
+        Ok(self.with(self.settled.copy()?))
+    }
+
+    /// The same reply, in memory that was taken before. It takes no more.
+    pub fn copy_in(&self, spare: Spare) -> Reply
+        requires { length self.now.settled ≤ spare }
+        ensures { result ≡ self.now }
+    {
+        self.with(spare.copy_of(&self.settled))
+    }
+
+    /// Whether the other reply has the same answer, settlements and change. It takes no memory.
+    pub fn is_same(&self, other: &Reply) -> bool
+        ensures { IsTrue result ↔ (self.now ≡ other.now) }
+    {
+        self.answer == other.answer
+            && self.settled.is_same(&other.settled)
+            && self.change == other.change
+    }
+
+    /// The reply with other settlements.
+    fn with(&self, settled: Settlements) -> Reply
+        ensures { result ≡ record self.now { settled = settled } }
+    {
+        Reply {
+            answer: self.answer,
+            settled,
+            change: self.change,
+        }
+    }
 }
 
 /// The answer of a command.
@@ -33,9 +83,6 @@ pub enum Change {
 }
 
 impl Change {
-    ghost use Rattle.std.specs.Prelude.{◌≡◌};
-    ghost use Rattle.ob_types.specs.Change.{change_between};
-
     /// How a word of unwritable bits turned writability, by the word before and after: `Unwritable` where it was 0
     /// and is not 0 any more, `Writable` in the opposite case, else none. Where one of several set bits was cleared,
     /// nothing turned.

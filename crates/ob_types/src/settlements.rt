@@ -1,4 +1,5 @@
-ghost use Rattle.std.specs.Prelude.{◌≡◌, ◌<◌, ◌≤◌, [], ◌∷◌, ◌++◌, length, IsOk, OnOk, OnErr};
+ghost use Rattle.std.specs.Prelude.{◌≡◌, ◌<◌, ◌≤◌, ◌↔◌, [], ◌∷◌, ◌++◌, length, IsOk, IfOk, IsTrue, OnOk, OnErr};
+ghost use Rattle.ob_types.specs.Limits.{inline_settlements};
 
 mod spare;
 
@@ -8,16 +9,20 @@ pub use spare::Spare;
 use std::alloc::{AllocError, Global};
 use std::marker::Model;
 
+/// How many settlements stand in the list itself, and want no memory of the allocator.
+const INLINE: usize = 4;
+
 /// The promises that a command settled, with their outcomes, in the order of the writes.
 ///
 /// The first four need no memory of the allocator.
 #[derive(Debug, Drop)]
 pub struct Settlements {
-    list: SmallVec<(PromiseId, Outcome), 4>,
+    list: SmallVec<(PromiseId, Outcome), INLINE>,
 }
 
 impl Model for Settlements {
     ghost use Rattle.std.specs.Prelude.{List, ◌≤◌};
+    ghost use Rattle.ob_types.specs.Limits.{inline_settlements};
     ghost use Rattle.ob_types.specs.declared.promise.PromiseId.{PromiseId};
     ghost use Rattle.ob_types.specs.declared.promise.Outcome.{Outcome};
 
@@ -25,7 +30,7 @@ impl Model for Settlements {
 
     ghost view = { λ settlements. settlements.list.items };
 
-    ghost invariant = { λ settlements. 4 ≤ settlements.list.capacity };
+    ghost invariant = { λ settlements. inline_settlements ≤ settlements.list.capacity };
 }
 
 impl Settlements {
@@ -52,7 +57,7 @@ impl Settlements {
     pub fn push(&mut self, id: PromiseId, outcome: Outcome) -> Result<(), AllocError>
         ensures ok { OnOk result (self.new ≡ self.old ++ (id, outcome) ∷ []) }
         ensures err { OnErr result (self.new ≡ self.old) }
-        ensures succeeds { length self.old < 4 → IsOk result }
+        ensures succeeds { length self.old < inline_settlements → IsOk result }
     {
         Ok(self.list.push((id, outcome))?)
     }
@@ -62,5 +67,22 @@ impl Settlements {
         ensures { result.now ≡ self.now }
     {
         self.list.as_slice()
+    }
+
+    /// The same settlements. It fails for want of memory alone, and not for up to four.
+    pub fn copy(&self) -> Result<Settlements, AllocError>
+        ensures same { IfOk result (λ copy. copy ≡ self.now) }
+        ensures succeeds { length self.now ≤ inline_settlements → IsOk result }
+    {
+        Ok(Settlements {
+            list: SmallVec::from_slice(*self.list.allocator(), self.list.as_slice())?,
+        })
+    }
+
+    /// Whether the others are the same promises with the same outcomes, in the same order. It takes no memory.
+    pub fn is_same(&self, others: &Settlements) -> bool
+        ensures { IsTrue result ↔ (self.now ≡ others.now) }
+    {
+        self.as_slice() == others.as_slice()
     }
 }

@@ -1,4 +1,5 @@
 ghost use Rattle.std.specs.Prelude.{◌≡◌, ◌≤◌, IfOk};
+ghost use Rattle.ob_types.specs.Limits.{greatest_mark};
 ghost use Rattle.ob_types.specs.WaterMark.{water_mark_of};
 
 use crate::refusal::Refusal;
@@ -9,8 +10,9 @@ const MAX_MARK: u32 = 2147483647;
 
 /// The two marks of a buffer, in bytes (Netty's `WriteBufferWaterMark`).
 ///
-/// The mark of a buffer is set when its pending bytes rise above the high mark, and cleared when they fall below the
-/// low mark with notice. The buffer is writable while neither the mark nor a user bit is set. The low mark is at most the high mark, and both are at most 2147483647.
+/// The mark of a buffer is set by a rise that leaves more bytes pending than the high mark, and cleared by a fall with
+/// notice that leaves fewer than the low mark; nothing else decides it. The buffer is writable while neither the mark
+/// nor a user bit is set. The low mark is at most the high mark, and both are at most 2147483647.
 #[derive(Clone, Copy, Debug, PartialEq, Eq)]
 pub struct WaterMark {
     low: u32,
@@ -52,7 +54,7 @@ impl WaterMark {
     /// The high mark, in bytes.
     pub fn high(self) -> u32
         ensures value { result ≡ self.high }
-        ensures within_limit { result ≤ 2147483647 }
+        ensures within_limit { result ≤ greatest_mark }
     {
         self.high
     }

@@ -1,6 +1,5 @@
 ghost use Rattle.std.specs.Prelude.{◌≡◌, IsErrOf, OnErr};
 ghost use Rattle.ob_types.specs.declared.command.Command.TheVariants.{Cancel};
-ghost use Rattle.ob_seq.specs.Answer.{is_waiting as is_waiting_promise};
 ghost use Rattle.ob_seq.specs.Pending.{Answers, Follows};
 
 use crate::buffer::Buffer;
@@ -9,11 +8,12 @@ use ob_types::{Answer, Outcome, PromiseId, PromiseState, Refusal, Reply, Settlem
 impl Buffer {
     /// Takes a promise back (Netty's `Future.cancel`), and answers whether that came in time: a promise that a
     /// flush has fixed, or that is settled, stays as it is. The pending bytes stay too: they fall at the flush. It
-    /// takes no memory. `Closed` comes where the buffer is closed, and then
-    /// `UnknownPromise` where no write was accepted under the id.
+    /// takes no memory.
+    ///
+    /// `Closed` comes where the buffer is closed, and then `UnknownPromise` where no write was accepted under the id.
     pub fn cancel(&mut self, id: PromiseId) -> Result<Reply, Refusal>
         ensures answer { Answers self.old (Cancel id) result }
-        ensures stands { Follows self.old (Cancel id) self.new }
+        ensures stands { Follows self.old (Cancel id) result self.new }
         ensures settings { self.new.settings ≡ self.old.settings }
         ensures refused { OnErr result (self.new ≡ self.old) }
         ensures frugal { ¬ IsErrOf result Refusal.NoMemory }
@@ -25,18 +25,11 @@ impl Buffer {
         if at >= self.promises.len() {
             return Err(Refusal::UnknownPromise);
         }
-        if is_waiting(self.promises[at]) {
+        if self.promises[at].is_waiting() {
             self.promises[at] = PromiseState::Settled(Outcome::Cancelled);
             let settled = Settlements::one(*self.entries.allocator(), id, Outcome::Cancelled);
             return Ok(self.reply(Answer::Yes(true), settled, self.word));
         }
         Ok(self.reply(Answer::Yes(false), self.no_settlements(), self.word))
     }
-}
-
-/// Whether nothing has become of a promise yet.
-pub fn is_waiting(state: PromiseState) -> bool
-    ensures { result ≡ is_waiting_promise (Some state) }
-{
-    matches!(state, PromiseState::Waiting)
 }

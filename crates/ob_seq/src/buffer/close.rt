@@ -5,7 +5,6 @@ ghost use Rattle.ob_seq.specs.Settles.{SparesMemory};
 ghost use Rattle.ob_seq.specs.Steps.{failed_from, failures, unflushed_id};
 
 use crate::buffer::Buffer;
-use crate::buffer::cancel::is_waiting;
 use ob_types::{Answer, Cause, Outcome, PromiseId, PromiseState, Refusal, Reply, Settlements};
 use std::alloc::AllocError;
 
@@ -19,12 +18,11 @@ impl Buffer {
     /// everything as it was.
     pub fn close(&mut self, cause: Cause) -> Result<Reply, Refusal>
         ensures answer { ¬ IsErrOf result Refusal.NoMemory → Answers self.old (Close cause) result }
-        ensures stands { ¬ IsErrOf result Refusal.NoMemory → Follows self.old (Close cause) self.new }
+        ensures stands { Follows self.old (Close cause) result self.new }
         ensures settings { self.new.settings ≡ self.old.settings }
-        ensures no_memory { IsErrOf result Refusal.NoMemory → self.new ≡ self.old }
+        ensures refused { OnErr result (self.new ≡ self.old) }
         ensures no_memory_last { IsErrOf result Refusal.NoMemory → Accepts self.old (Close cause) }
         ensures spares { SparesMemory self.old (Close cause) result }
-        ensures refused { OnErr result (self.new ≡ self.old) }
     {
         if self.closed {
             return Err(Refusal::Closed);
@@ -48,7 +46,7 @@ impl Buffer {
     {
         let mut settled = self.no_settlements();
         for id in self.first_unflushed()..self.promises.len() {
-            if is_waiting(self.promises[id]) {
+            if self.promises[id].is_waiting() {
                 settled.push(PromiseId(id as u32), Outcome::Failed(cause))?;
             }
         }
@@ -69,7 +67,7 @@ fn fail_waiting(promises: &mut [PromiseState], first: usize, cause: Cause)
     ensures { promises.new ≡ failed_from first cause promises.old }
 {
     for id in first..promises.len() {
-        if is_waiting(promises[id]) {
+        if promises[id].is_waiting() {
             promises[id] = PromiseState::Settled(Outcome::Failed(cause));
         }
     }

@@ -1,5 +1,6 @@
 ghost use Rattle.std.specs.Prelude.{◌≡◌, ◌≤◌, length, drop, IfSome};
-ghost use Rattle.ob_seq.specs.Pending.{blocks_left};
+ghost use Rattle.ob_seq.specs.Entry.{blocks_left};
+ghost use Rattle.ob_seq.specs.Inside.{pending_entries};
 ghost use Rattle.ob_seq.specs.Steps.{cut_of, first_length};
 
 use crate::entry::Entry;
@@ -16,9 +17,9 @@ pub struct Cut {
 
 /// Where the removal of so many bytes ends, or nothing where the blocks in front hold fewer.
 pub fn find_cut(line: &[Entry], n: u64) -> Option<Cut>
-    ensures value { result ≡ cut_of n (blocks_left line.now) }
+    ensures value { result ≡ cut_of n (blocks_left (pending_entries line.now)) }
     ensures within { IfSome result (λ cut. cut.whole ≤ length line.now) }
-    ensures rest { IfSome result (λ cut. cut.rest ≤ first_length (drop cut.whole line.now)) }
+    ensures rest { IfSome result (λ cut. cut.rest ≤ first_length (drop cut.whole (pending_entries line.now))) }
 {
     let mut whole = 0;
     let mut rest = n;

@@ -15,12 +15,11 @@ impl Buffer {
     /// allocator refused; both leave all as it was.
     pub fn fail_flushed(&mut self, cause: Cause, notify: bool) -> Result<Reply, Refusal>
         ensures answer { ¬ IsErrOf result Refusal.NoMemory → Answers self.old (FailFlushed cause notify) result }
-        ensures stands { ¬ IsErrOf result Refusal.NoMemory → Follows self.old (FailFlushed cause notify) self.new }
+        ensures stands { Follows self.old (FailFlushed cause notify) result self.new }
         ensures settings { self.new.settings ≡ self.old.settings }
-        ensures no_memory { IsErrOf result Refusal.NoMemory → self.new ≡ self.old }
+        ensures refused { OnErr result (self.new ≡ self.old) }
         ensures no_memory_last { IsErrOf result Refusal.NoMemory → Accepts self.old (FailFlushed cause notify) }
         ensures spares { SparesMemory self.old (FailFlushed cause notify) result }
-        ensures refused { OnErr result (self.new ≡ self.old) }
     {
         if self.closed {
             return Err(Refusal::Closed);

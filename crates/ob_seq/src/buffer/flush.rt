@@ -1,5 +1,6 @@
 ghost use Rattle.std.specs.Prelude.{◌≡◌, ◌<◌, length, true, IsErrOf, OnErr};
 ghost use Rattle.ob_types.specs.declared.command.Command.TheVariants.{Flush};
+ghost use Rattle.ob_seq.specs.Inside.{pending_entry};
 ghost use Rattle.ob_seq.specs.Pending.{Answers, Follows};
 ghost use Rattle.ob_seq.specs.Steps.{next_flushed, reached_entry, times};
 ghost use Rattle.ob_seq.specs.Row.{is_cancelled as is_cancelled_state};
@@ -13,10 +14,12 @@ use std::mem;
 impl Buffer {
     /// Lets the transport have all that was written so far (Netty's `addFlush`), fixes the promises of those
     /// messages, and answers how many they are. A message whose promise was cancelled is voided: it becomes an
-    /// empty block that counts nothing, and stays in line. It takes no memory. `Closed` comes where the buffer is closed.
+    /// empty block that counts nothing, and stays in line. It takes no memory.
+    ///
+    /// `Closed` comes where the buffer is closed.
     pub fn flush(&mut self) -> Result<Reply, Refusal>
         ensures answer { Answers self.old Flush result }
-        ensures stands { Follows self.old Flush self.new }
+        ensures stands { Follows self.old Flush result self.new }
         ensures settings { self.new.settings ≡ self.old.settings }
         ensures refused { OnErr result (self.new ≡ self.old) }
         ensures frugal { ¬ IsErrOf result Refusal.NoMemory }
@@ -67,7 +70,7 @@ fn is_cancelled(state: PromiseState) -> bool
 /// Makes an entry an empty block that counts nothing, and answers what it counted.
 fn void(entry: &mut Entry) -> u32
     ensures size { result ≡ entry.old.size }
-    ensures after { entry.new ≡ reached_entry true entry.old }
+    ensures after { pending_entry entry.new ≡ reached_entry true (pending_entry entry.old) }
 {
     entry.message = Message::Block(Bytes::new());
     entry.voided = true;

@@ -1,5 +1,6 @@
 ghost use Rattle.std.specs.Prelude.{◌≡◌, ◌+◌, ◌≤◌, IsErrOf, OnErr};
 ghost use Rattle.std.specs.Option.{SomeIff};
+ghost use Rattle.ob_types.specs.Limits.{greatest_progress};
 ghost use Rattle.ob_types.specs.declared.command.Command.TheVariants.{Progress};
 ghost use Rattle.ob_seq.specs.Pending.{Answers, Follows};
 
@@ -16,7 +17,7 @@ impl Buffer {
     /// where the progress would pass 9223372036854775807.
     pub fn progress(&mut self, n: u64) -> Result<Reply, Refusal>
         ensures answer { Answers self.old (Progress n) result }
-        ensures stands { Follows self.old (Progress n) self.new }
+        ensures stands { Follows self.old (Progress n) result self.new }
         ensures settings { self.new.settings ≡ self.old.settings }
         ensures refused { OnErr result (self.new ≡ self.old) }
         ensures frugal { ¬ IsErrOf result Refusal.NoMemory }
@@ -37,7 +38,7 @@ impl Buffer {
 
 /// The progress with so many bytes more, unless it passes the limit.
 fn progress_sum(progress: u64, n: u64) -> Option<u64>
-    ensures { SomeIff result (progress + n ≤ 9223372036854775807) (progress + n) }
+    ensures { SomeIff result (progress + n ≤ greatest_progress) (progress + n) }
 {
     progress.checked_add(n).filter(|sum| *sum <= MAX_PROGRESS)
 }

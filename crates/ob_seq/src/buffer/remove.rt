@@ -9,10 +9,12 @@ use ob_types::{Answer, Cause, Outcome, Refusal, Reply, Settlements};
 impl Buffer {
     /// Takes the first flushed message away, as sent (Netty's `remove()`): unless it was voided its promise
     /// succeeds, and the pending bytes fall with notice. With nothing flushed it answers false, and all is as it
-    /// was. It takes no memory. `Closed` comes where the buffer is closed.
+    /// was. It takes no memory.
+    ///
+    /// `Closed` comes where the buffer is closed.
     pub fn remove(&mut self) -> Result<Reply, Refusal>
         ensures answer { Answers self.old Remove result }
-        ensures stands { Follows self.old Remove self.new }
+        ensures stands { Follows self.old Remove result self.new }
         ensures settings { self.new.settings ≡ self.old.settings }
         ensures refused { OnErr result (self.new ≡ self.old) }
         ensures frugal { ¬ IsErrOf result Refusal.NoMemory }
@@ -24,10 +26,12 @@ impl Buffer {
     }
 
     /// Takes the first flushed message away as `remove` does, but as failed for this cause (Netty's
-    /// `remove(Throwable)`). It takes no memory. `Closed` comes where the buffer is closed.
+    /// `remove(Throwable)`). It takes no memory.
+    ///
+    /// `Closed` comes where the buffer is closed.
     pub fn remove_with(&mut self, cause: Cause) -> Result<Reply, Refusal>
         ensures answer { Answers self.old (RemoveWith cause) result }
-        ensures stands { Follows self.old (RemoveWith cause) self.new }
+        ensures stands { Follows self.old (RemoveWith cause) result self.new }
         ensures settings { self.new.settings ≡ self.old.settings }
         ensures refused { OnErr result (self.new ≡ self.old) }
         ensures frugal { ¬ IsErrOf result Refusal.NoMemory }

@@ -1,6 +1,7 @@
 ghost use Rattle.std.specs.Prelude.{◌≡◌, ◌≤◌, length, IsErrOf, OnErr};
 ghost use Rattle.ob_types.specs.declared.command.Command.TheVariants.{RemoveBytes};
 ghost use Rattle.ob_seq.specs.ByteRun.{block_bytes};
+ghost use Rattle.ob_seq.specs.Inside.{pending_entry};
 ghost use Rattle.ob_seq.specs.Pending.{Answers, Follows, Accepts};
 ghost use Rattle.ob_seq.specs.Settles.{SparesMemory};
 ghost use Rattle.ob_seq.specs.Steps.{first_length, front_skipped, skipped_entry};
@@ -25,12 +26,11 @@ impl Buffer {
     /// refused; all leave everything as it was.
     pub fn remove_bytes(&mut self, n: u64) -> Result<Reply, Refusal>
         ensures answer { ¬ IsErrOf result Refusal.NoMemory → Answers self.old (RemoveBytes n) result }
-        ensures stands { ¬ IsErrOf result Refusal.NoMemory → Follows self.old (RemoveBytes n) self.new }
+        ensures stands { Follows self.old (RemoveBytes n) result self.new }
         ensures settings { self.new.settings ≡ self.old.settings }
-        ensures no_memory { IsErrOf result Refusal.NoMemory → self.new ≡ self.old }
+        ensures refused { OnErr result (self.new ≡ self.old) }
         ensures no_memory_last { IsErrOf result Refusal.NoMemory → Accepts self.old (RemoveBytes n) }
         ensures spares { SparesMemory self.old (RemoveBytes n) result }
-        ensures refused { OnErr result (self.new ≡ self.old) }
     {
         if self.closed {
             return Err(Refusal::Closed);
@@ -59,7 +59,7 @@ impl Buffer {
 /// Skips so many bytes of a block, and adds them to its progress.
 fn skip(entry: &mut Entry, n: u64)
     requires { n ≤ length (block_bytes entry.old.message) }
-    ensures { entry.new ≡ skipped_entry n entry.old }
+    ensures { pending_entry entry.new ≡ skipped_entry n (pending_entry entry.old) }
 {
     if let Message::Block(bytes) = &mut entry.message {
         bytes.advance(n as usize);

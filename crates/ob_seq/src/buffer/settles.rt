@@ -1,6 +1,8 @@
 ghost use Rattle.std.specs.Prelude.{◌≡◌, not, count_by, length, if◌then◌else◌};
+ghost use Rattle.ob_types.specs.Waiting.{is_waiting};
 ghost use Rattle.ob_types.specs.declared.promise.Outcome.TheVariants.{Success};
-ghost use Rattle.ob_seq.specs.Answer.{is_waiting};
+ghost use Rattle.ob_seq.specs.Answer.{still_waits};
+ghost use Rattle.ob_seq.specs.Inside.{pending_entries};
 ghost use Rattle.ob_seq.specs.Settles.{Settles};
 ghost use Rattle.ob_seq.specs.Steps.{bytes_settled, closing_settled, removal_reply};
 
@@ -47,8 +49,9 @@ impl Buffer {
     fn bytes_settle(&self, n: u64) -> u32
         ensures { result ≡ bytes_settled n self.now.line }
     {
-        match find_cut(&self.entries[..self.flushed], n) {
-            Some(cut) => unvoided(&self.entries[..cut.whole]) as u32,
+        let line = &self.entries[..self.flushed];
+        match find_cut(line, n) {
+            Some(cut) => unvoided(&line[..cut.whole]) as u32,
             None => 0,
         }
     }
@@ -66,24 +69,21 @@ impl Buffer {
 
 /// How many promises still wait.
 fn count_waiting(promises: &[PromiseState]) -> usize
-    ensures { result ≡ count_by (λ state. is_waiting (Some state)) promises.now }
+    ensures { result ≡ count_by is_waiting promises.now }
 {
-    promises
-        .iter()
-        .filter(|state| matches!(state, PromiseState::Waiting))
-        .count()
+    promises.iter().filter(|state| state.is_waiting()).count()
 }
 
 /// How many of the entries were not voided.
 fn unvoided(entries: &[Entry]) -> usize
-    ensures { result ≡ count_by (λ entry. not entry.voided) entries.now }
+    ensures { result ≡ count_by (λ entry. not entry.voided) (pending_entries entries.now) }
 {
     entries.iter().filter(|entry| !entry.voided).count()
 }
 
 /// 1 where nothing has become of a promise yet, and else 0.
 fn waiting(state: Option<PromiseState>) -> u32
-    ensures { result ≡ (if is_waiting state then 1 else 0) }
+    ensures { result ≡ (if still_waits state then 1 else 0) }
 {
-    u32::from(matches!(state, Some(PromiseState::Waiting)))
+    u32::from(state.is_some_and(PromiseState::is_waiting))
 }

@@ -12,7 +12,7 @@ impl Buffer {
     /// `Closed` comes where the buffer is closed, and then `BadIndex` where the index is not 1 to 31.
     pub fn user_bit(&mut self, index: u32, writable: bool) -> Result<Reply, Refusal>
         ensures answer { Answers self.old (UserBit index writable) result }
-        ensures stands { Follows self.old (UserBit index writable) self.new }
+        ensures stands { Follows self.old (UserBit index writable) result self.new }
         ensures settings { self.new.settings ≡ self.old.settings }
         ensures refused { OnErr result (self.new ≡ self.old) }
         ensures frugal { ¬ IsErrOf result Refusal.NoMemory }

@@ -1,8 +1,8 @@
-ghost use Rattle.std.specs.Prelude.{◌≡◌, ◌≤◌};
-ghost use Rattle.ob_types.specs.Change.{change_between};
+ghost use Rattle.std.specs.Prelude.{◌≡◌, ◌≤◌, ◌==◌};
+ghost use Rattle.std.specs.Int.{bit_at};
 ghost use Rattle.ob_seq.specs.Steps.{with_user_bit, word_after_rise, word_after_fall};
 
-use ob_types::{Change, WaterMark};
+use ob_types::WaterMark;
 
 /// Bit 0 of the word, which is set while too much is pending.
 const MARK: u32 = 1;
@@ -30,6 +30,14 @@ pub fn after_fall(marks: WaterMark, word: u32, size: u32, total: u32) -> u32
     }
 }
 
+/// Whether the bit of this index is set.
+pub fn has_bit(word: u32, index: u32) -> bool
+    requires { index ≤ 31 }
+    ensures { result ≡ (bit_at word index == 1) }
+{
+    word & (1 << index) != 0
+}
+
 /// The word with the user bit of this index set, or cleared where it is to be writable.
 pub fn with_user_bit(word: u32, index: u32, writable: bool) -> u32
     requires { index ≤ 31 }
@@ -37,15 +45,4 @@ pub fn with_user_bit(word: u32, index: u32, writable: bool) -> u32
 {
     let bit = 1 << index;
     if writable { word & !bit } else { word | bit }
-}
-
-/// The change that a call reports which found the one word and left the other.
-pub fn change(before: u32, after: u32) -> Option<Change>
-    ensures { result ≡ change_between before after }
-{
-    match (before == 0, after == 0) {
-        (true, false) => Some(Change::Unwritable),
-        (false, true) => Some(Change::Writable),
-        _ => None,
-    }
 }

@@ -1,4 +1,5 @@
 ghost use Rattle.std.specs.Prelude.{◌≡◌, ◌+◌, ◌<◌, ◌≤◌, ◌&&◌, length, nat_le, nat_lt, IsErrOf, OnOk, OnErr};
+ghost use Rattle.ob_types.specs.Limits.{greatest_total, most_writes};
 ghost use Rattle.ob_types.specs.declared.command.Command.TheVariants.{Write};
 ghost use Rattle.ob_seq.specs.Pending.{Answers, Follows, Accepts};
 ghost use Rattle.ob_seq.specs.Steps.{pending_total, written};
@@ -12,21 +13,21 @@ use std::alloc::AllocError;
 const MAX_TOTAL: u64 = 4294967295;
 
 /// The most writes that a buffer accepts. Our own limit.
-const MAX_WRITES: usize = 1048576;
+pub const MAX_WRITES: usize = 1048576;
 
 impl Buffer {
     /// Adds a message behind all others (Netty's `addMessage`), and answers its promise.
     ///
-    /// `Closed` comes where the buffer is closed, `Oversize` where the message counts more than 2147483647 bytes or is a region longer than
-    /// 9223372036854775807, `TooMuch` where more than 4294967295 bytes would be pending or 1048576 writes were
-    /// accepted, and `NoMemory` where the allocator refused; they are asked in this order, and leave all as it was.
+    /// `Closed` comes where the buffer is closed, then `Oversize` where the message counts more than 2147483647 bytes or
+    /// is a region longer than 9223372036854775807, then `TooMuch` where more than 4294967295 bytes would be pending or
+    /// 1048576 writes were accepted, and then `NoMemory` where the allocator refused. Each leaves everything as it was,
+    /// but for the message, which is dropped.
     pub fn write(&mut self, message: Message) -> Result<Reply, Refusal>
         ensures answer { ¬ IsErrOf result Refusal.NoMemory → Answers self.old (Write message) result }
-        ensures stands { ¬ IsErrOf result Refusal.NoMemory → Follows self.old (Write message) self.new }
+        ensures stands { Follows self.old (Write message) result self.new }
         ensures settings { self.new.settings ≡ self.old.settings }
-        ensures no_memory { IsErrOf result Refusal.NoMemory → self.new ≡ self.old }
-        ensures no_memory_last { IsErrOf result Refusal.NoMemory → Accepts self.old (Write message) }
         ensures refused { OnErr result (self.new ≡ self.old) }
+        ensures no_memory_last { IsErrOf result Refusal.NoMemory → Accepts self.old (Write message) }
     {
         if self.closed {
             return Err(Refusal::Closed);
@@ -43,7 +44,7 @@ impl Buffer {
 
     /// Whether one more message that counts so many bytes is not too much.
     fn has_room_for(&self, size: u32) -> bool
-        ensures { result ≡ (nat_le (pending_total self.now + size) 4294967295 && nat_lt (length self.now.promises) 1048576) }
+        ensures { result ≡ (nat_le (pending_total self.now + size) greatest_total && nat_lt (length self.now.promises) most_writes) }
     {
         let total = u64::from(total_of(&self.entries)) + u64::from(size);
         total <= MAX_TOTAL && self.promises.len() < MAX_WRITES
@@ -51,8 +52,8 @@ impl Buffer {
 
     /// Adds a message for which there is room. Both growths come before any change.
     fn add(&mut self, message: Message, size: u32) -> Result<(), AllocError>
-        requires fits { pending_total self.old + size ≤ 4294967295 }
-        requires few { length self.old.promises < 1048576 }
+        requires fits { pending_total self.old + size ≤ greatest_total }
+        requires few { length self.old.promises < most_writes }
         ensures ok { OnOk result (self.new ≡ written self.old message size) }
         ensures err { OnErr result (self.new ≡ self.old) }
     {

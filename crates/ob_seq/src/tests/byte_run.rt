@@ -11,9 +11,9 @@ use std::test::Fail;
 /// Writes a block of each length, and flushes them.
 fn flushed_blocks(buffer: &mut Buffer, alloc: Global, lengths: &[usize]) -> Result<(), Refusal> {
     for length in lengths {
-        buffer.write(block(alloc, *length)?)?;
+        let _ = buffer.write(block(alloc, *length)?)?;
     }
-    buffer.flush()?;
+    let _ = buffer.flush()?;
     Ok(())
 }
 
@@ -79,15 +79,15 @@ fn zero_bytes_remove_an_empty_front(rt: HostRuntime) -> Result<(), Fail> {
 fn other_messages_end_the_byte_run(rt: HostRuntime) -> Result<(), Fail> {
     let alloc = rt.alloc();
     let mut region = buffer(alloc, 200, 400)?;
-    region.write(block(alloc, 3)?)?;
-    region.write(Message::Region(9))?;
-    region.flush()?;
+    let _ = region.write(block(alloc, 3)?)?;
+    let _ = region.write(Message::Region(9))?;
+    let _ = region.flush()?;
     assert_eq!(rt; region.remove_bytes(4).err(), Some(Refusal::TooManyBytes));
     assert_eq!(rt; region.look().total, 195);
 
     let mut other = buffer(alloc, 200, 400)?;
-    other.write(Message::Other(5))?;
-    other.flush()?;
+    let _ = other.write(Message::Other(5))?;
+    let _ = other.flush()?;
     assert_eq!(rt; other.remove_bytes(0)?.answer, Answer::Count(0));
     assert_eq!(rt; other.remove_bytes(1).err(), Some(Refusal::TooManyBytes));
     assert_eq!(rt; gathered(&other, alloc, 8, 8)?.len(), 0);
@@ -109,7 +109,7 @@ fn marks_of_zero(rt: HostRuntime) -> Result<(), Fail> {
         buffer.write(block(alloc, 1)?)?.change,
         Some(Change::Unwritable)
     );
-    buffer.flush()?;
+    let _ = buffer.flush()?;
     assert_eq!(rt; buffer.remove_bytes(1)?.answer, Answer::Count(2));
     let look = buffer.look();
     assert_eq!(rt; (look.total, look.word), (0, 1));
@@ -121,11 +121,11 @@ fn gather_skips_voided_entries(rt: HostRuntime) -> Result<(), Fail> {
     let alloc = rt.alloc();
     let mut buffer = buffer(alloc, 200, 400)?;
     for length in [3, 4, 5] {
-        buffer.write(block(alloc, length)?)?;
+        let _ = buffer.write(block(alloc, length)?)?;
     }
-    buffer.cancel(PromiseId(1))?;
+    let _ = buffer.cancel(PromiseId(1))?;
     assert_eq!(rt; gathered(&buffer, alloc, 8, 8)?.len(), 0);
-    buffer.flush()?;
+    let _ = buffer.flush()?;
     assert_eq!(rt; gathered(&buffer, alloc, 8, 6)?.as_slice(), [3].as_slice());
     assert_eq!(rt;
         gathered(&buffer, alloc, 8, 8)?.as_slice(),
@@ -170,7 +170,7 @@ fn skipped_bytes_stop_at_the_top_of_progress(rt: HostRuntime) -> Result<(), Fail
     let alloc = rt.alloc();
     let mut buffer = buffer(alloc, 200, 400)?;
     flushed_blocks(&mut buffer, alloc, &[4])?;
-    buffer.progress(9223372036854775806)?;
+    let _ = buffer.progress(9223372036854775806)?;
     assert_eq!(rt; buffer.remove_bytes(3)?.answer, Answer::Count(0));
     assert_eq!(rt; buffer.look().current_progress, 9223372036854775807);
     assert_eq!(rt; flushed_lengths(&buffer, alloc)?.as_slice(), [1].as_slice());

@@ -104,8 +104,8 @@ fn looks_at_an_empty_and_a_full_buffer(rt: HostRuntime) -> Result<(), Fail> {
     assert_eq!(rt; buffer(alloc, 32768, 65536)?.look(), empty);
 
     let mut buffer = buffer(alloc, 200, 400)?;
-    buffer.write(block(alloc, 304)?)?;
-    buffer.write(block(alloc, 0)?)?;
+    let _ = buffer.write(block(alloc, 304)?)?;
+    let _ = buffer.write(block(alloc, 0)?)?;
     let full = Look {
         total: 496,
         word: 1,
@@ -122,7 +122,7 @@ fn looks_at_an_empty_and_a_full_buffer(rt: HostRuntime) -> Result<(), Fail> {
 fn a_refused_write_leaves_all_as_it_was(rt: HostRuntime) -> Result<(), Fail> {
     let alloc = rt.alloc();
     let mut buffer = buffer(alloc, 200, 400)?;
-    buffer.write(block(alloc, 304)?)?;
+    let _ = buffer.write(block(alloc, 304)?)?;
     let before = buffer.look();
     let refused = buffer.write(Message::Region(9223372036854775808)).err();
     assert_eq!(rt; refused, Some(Refusal::Oversize));
@@ -137,8 +137,8 @@ fn a_refused_write_leaves_all_as_it_was(rt: HostRuntime) -> Result<(), Fail> {
 fn cancelled_entry_is_voided_at_the_flush(rt: HostRuntime) -> Result<(), Fail> {
     let alloc = rt.alloc();
     let mut buffer = buffer(alloc, 200, 400)?;
-    buffer.write(block(alloc, 304)?)?;
-    buffer.write(block(alloc, 4)?)?;
+    let _ = buffer.write(block(alloc, 304)?)?;
+    let _ = buffer.write(block(alloc, 4)?)?;
     let cancelled = buffer.cancel(PromiseId(0))?;
     assert_eq!(rt;
         settled_by(&cancelled),
@@ -177,16 +177,16 @@ fn promises_go_from_waiting_to_settled(rt: HostRuntime) -> Result<(), Fail> {
     let mut buffer = buffer(alloc, 200, 400)?;
     let id = PromiseId(0);
     assert_eq!(rt; buffer.promise(id), None);
-    buffer.write(block(alloc, 4)?)?;
+    let _ = buffer.write(block(alloc, 4)?)?;
     assert_eq!(rt; buffer.promise(id), Some(PromiseState::Waiting));
-    buffer.flush()?;
+    let _ = buffer.flush()?;
     assert_eq!(rt; buffer.promise(id), Some(PromiseState::Fixed));
     assert_eq!(rt; buffer.cancel(id)?.answer, Answer::Yes(false));
     assert_eq!(rt;
         buffer.cancel(PromiseId(1)).err(),
         Some(Refusal::UnknownPromise)
     );
-    buffer.progress(3)?;
+    let _ = buffer.progress(3)?;
     assert_eq!(rt; buffer.look().current_progress, 3);
     let failed = Outcome::Failed(Cause(9));
     assert_eq!(rt;

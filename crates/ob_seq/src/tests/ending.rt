@@ -13,7 +13,7 @@ const CAUSE: Cause = Cause(7);
 /// Writes so many blocks of 4 bytes.
 fn write_blocks(buffer: &mut Buffer, alloc: Global, count: u32) -> Result<(), Refusal> {
     for _ in 0..count {
-        buffer.write(block(alloc, 4)?)?;
+        let _ = buffer.write(block(alloc, 4)?)?;
     }
     Ok(())
 }
@@ -38,9 +38,9 @@ fn failing_takes_the_whole_line_away(rt: HostRuntime) -> Result<(), Fail> {
     let alloc = rt.alloc();
     let mut buffer = buffer(alloc, 200, 400)?;
     write_blocks(&mut buffer, alloc, 7)?;
-    buffer.cancel(PromiseId(2))?;
-    buffer.flush()?;
-    buffer.write(block(alloc, 4)?)?;
+    let _ = buffer.cancel(PromiseId(2))?;
+    let _ = buffer.flush()?;
+    let _ = buffer.write(block(alloc, 4)?)?;
     assert_eq!(rt; buffer.settles(&Command::FailFlushed(CAUSE, false)), 6);
     let reply = buffer.fail_flushed(CAUSE, false)?;
     assert_eq!(rt; reply.answer, Answer::Count(7));
@@ -61,7 +61,7 @@ fn failing_with_notice_tells_of_writability(rt: HostRuntime) -> Result<(), Fail>
     let alloc = rt.alloc();
     let mut buffer = buffer(alloc, 200, 400)?;
     write_blocks(&mut buffer, alloc, 5)?;
-    buffer.flush()?;
+    let _ = buffer.flush()?;
     let reply = buffer.fail_flushed(CAUSE, true)?;
     assert_eq!(rt; reply.change, Some(Change::Writable));
     assert_eq!(rt;
@@ -78,7 +78,7 @@ fn closing_fails_what_no_flush_has_reached(rt: HostRuntime) -> Result<(), Fail> 
     let alloc = rt.alloc();
     let mut buffer = buffer(alloc, 200, 400)?;
     write_blocks(&mut buffer, alloc, 7)?;
-    buffer.cancel(PromiseId(5))?;
+    let _ = buffer.cancel(PromiseId(5))?;
     assert_eq!(rt; buffer.settles(&Command::Close(CAUSE)), 6);
     let reply = buffer.close(CAUSE)?;
     assert_eq!(rt; reply.answer, Answer::Count(7));
@@ -100,11 +100,11 @@ fn closing_waits_for_the_line_to_be_empty(rt: HostRuntime) -> Result<(), Fail> {
     let alloc = rt.alloc();
     let mut buffer = buffer(alloc, 200, 400)?;
     write_blocks(&mut buffer, alloc, 1)?;
-    buffer.cancel(PromiseId(0))?;
-    buffer.flush()?;
+    let _ = buffer.cancel(PromiseId(0))?;
+    let _ = buffer.flush()?;
     assert_eq!(rt; buffer.settles(&Command::Close(CAUSE)), 0);
     assert_eq!(rt; buffer.close(CAUSE).err(), Some(Refusal::FlushedLeft));
-    buffer.remove()?;
+    let _ = buffer.remove()?;
     assert_eq!(rt; buffer.close(CAUSE)?.answer, Answer::Count(0));
     Ok(())
 }
@@ -113,7 +113,7 @@ fn closing_waits_for_the_line_to_be_empty(rt: HostRuntime) -> Result<(), Fail> {
 fn a_closed_buffer_refuses_each_command(rt: HostRuntime) -> Result<(), Fail> {
     let alloc = rt.alloc();
     let mut buffer = buffer(alloc, 200, 400)?;
-    buffer.close(CAUSE)?;
+    let _ = buffer.close(CAUSE)?;
     let commands = [
         Command::Write(Message::Region(18446744073709551615)),
         Command::Flush,
@@ -150,8 +150,8 @@ fn user_bits_keep_a_buffer_unwritable(rt: HostRuntime) -> Result<(), Fail> {
     assert_eq!(rt; buffer.look().word, 2147483649);
     assert_eq!(rt; buffer.user_bit(31, true)?.change, None);
     assert_eq!(rt; buffer.look().word, 1);
-    buffer.user_bit(1, false)?;
-    buffer.flush()?;
+    let _ = buffer.user_bit(1, false)?;
+    let _ = buffer.flush()?;
     assert_eq!(rt; buffer.fail_flushed(CAUSE, true)?.change, None);
     assert_eq!(rt; buffer.user_bit(1, true)?.change, Some(Change::Writable));
     Ok(())

@@ -1,7 +1,8 @@
 ghost use Rattle.std.specs.Prelude.{◌≡◌, ◌≤◌, length, IsOk, IfOk};
+ghost use Rattle.ob_types.specs.Limits.{inline_settlements};
 
 use crate::promise::{Outcome, PromiseId};
-use crate::settlements::Settlements;
+use crate::settlements::{INLINE, Settlements};
 use smallvec::SmallVec;
 use std::alloc::{AllocError, Global};
 use std::marker::Model;
@@ -9,24 +10,25 @@ use std::marker::Model;
 /// Memory for settlements that are still to come. Contracts see it as how many it has room for.
 #[derive(Debug, Drop)]
 pub struct Spare {
-    list: SmallVec<(PromiseId, Outcome), 4>,
+    list: SmallVec<(PromiseId, Outcome), INLINE>,
 }
 
 impl Model for Spare {
     ghost use Rattle.std.specs.Prelude.{◌≡◌, ℕ, [], ◌≤◌};
+    ghost use Rattle.ob_types.specs.Limits.{inline_settlements};
 
     ghost Value = { ℕ };
 
     ghost view = { λ spare. spare.list.capacity };
 
-    ghost invariant = { λ spare. (spare.list.items ≡ []) × (4 ≤ spare.list.capacity) };
+    ghost invariant = { λ spare. (spare.list.items ≡ []) × (inline_settlements ≤ spare.list.capacity) };
 }
 
 impl Spare {
     /// Memory for so many settlements. It fails for want of memory alone, and not for up to four.
     pub fn new(alloc: Global, count: u32) -> Result<Spare, AllocError>
         ensures ok { IfOk result (λ spare. count ≤ spare) }
-        ensures succeeds { count ≤ 4 → IsOk result }
+        ensures succeeds { count ≤ inline_settlements → IsOk result }
     {
         Ok(Spare {
             list: SmallVec::with_capacity(alloc, count as usize)?,
@@ -41,17 +43,5 @@ impl Spare {
         let Spare { mut list } = self;
         list.extend_from_slice(settled.as_slice()).unwrap();
         Settlements { list }
-    }
-}
-
-impl Settlements {
-    /// The same settlements. It fails for want of memory alone, and not for up to four.
-    pub fn copy(&self) -> Result<Settlements, AllocError>
-        ensures same { IfOk result (λ copy. copy ≡ self.now) }
-        ensures succeeds { length self.now ≤ 4 → IsOk result }
-    {
-        Ok(Settlements {
-            list: SmallVec::from_slice(*self.list.allocator(), self.list.as_slice())?,
-        })
     }
 }

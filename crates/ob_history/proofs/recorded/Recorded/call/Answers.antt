@@ -1,5 +1,5 @@
 use Rattle.std.proofs.Common.{◌≡◌, [], ◌∷◌, ◌++◌, length, sym, ap, ◌∙◌, subst, arith}
-use Rattle.ob_seq.specs.Answer.{answer_to, commands_after}
+use Rattle.ob_seq.specs.Answer.{answer_to, commands_after, commands_with}
 use Rattle.ob_seq.specs.Pending.{StandsFor}
 use Rattle.ob_history.specs.Accepted.{accepted_commands}
 use Rattle.ob_history.specs.History.{next_record, with_record}
@@ -60,7 +60,8 @@ invariant_of-self-2 c =
     record {
       legal = subst (IsLegal (settings_of inside)) (sym records) (legal_with_next (settings_of inside) earlier one c.self.invariant.legal place reply);
       stands = subst (StandsFor c.give.new.buffer)
-          (ap (λ settings. commands_after settings (accepted_commands earlier) c.args.command) c.self.invariant.settings
+          (ap (commands_with (accepted_commands earlier) c.args.command) (c.in_ok-reply.ensures.answer (accepted_commands earlier) c.self.invariant.stands)
+          ∙ ap (λ settings. commands_after settings (accepted_commands earlier) c.args.command) c.self.invariant.settings
           ∙ ap (commands_after (settings_of inside) (accepted_commands earlier)) (sym c.in_ok-asked.ensures.asked)
           ∙ sym (accepted_with_next (settings_of inside) earlier one reply) ∙ ap accepted_commands (sym records))
           (c.in_ok-reply.ensures.stands (accepted_commands earlier) c.self.invariant.stands);

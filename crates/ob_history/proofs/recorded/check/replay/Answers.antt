@@ -1,5 +1,5 @@
 use Rattle.std.proofs.Common.{take, sym, ap, ◌∙◌, subst, add-one}
-use Rattle.ob_seq.specs.Answer.{commands_after}
+use Rattle.ob_seq.specs.Answer.{commands_after, commands_with}
 use Rattle.ob_seq.specs.Pending.{StandsFor}
 use Rattle.ob_history.specs.Accepted.{accepted_commands}
 use Rattle.ob_history.proofs.Histories.{accepted_with_next, found_at}
@@ -17,7 +17,8 @@ loop-kept-preserved c =
     record {
       settings = c.in_ok-_answer.ensures.settings ∙ c.loop-kept.invariant.settings;
       stands = subst (StandsFor c.give.new.buffer)
-          (ap (λ other. commands_after other (accepted_commands earlier) c.in_ok-copy.field-0) c.loop-kept.invariant.settings
+          (ap (commands_with (accepted_commands earlier) c.in_ok-copy.field-0) (c.in_ok-_answer.ensures.answer (accepted_commands earlier) c.loop-kept.invariant.stands)
+          ∙ ap (λ other. commands_after other (accepted_commands earlier) c.in_ok-copy.field-0) c.loop-kept.invariant.settings
           ∙ ap (commands_after settings (accepted_commands earlier)) c.in_ok-copy.ensures.same
           ∙ sym (accepted_with_next settings earlier kept legal.reply)
           ∙ ap accepted_commands (sym found.1 ∙ ap (λ count. take count records) (sym (add-one index))))

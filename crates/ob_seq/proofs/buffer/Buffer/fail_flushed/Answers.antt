@@ -8,7 +8,7 @@ use Rattle.ob_types.specs.declared.reply.Answer.TheVariants.{Count}
 use Rattle.ob_types.specs.declared.reply.Reply.{Reply}
 use Rattle.ob_seq.specs.Pending.{Pending, StandsFor}
 use Rattle.ob_seq.specs.Steps.{entry_settlements, front_id, front_taken, line_failed, times}
-use Rattle.ob_seq.proofs.Acceptance.{answer_of_accepted, same_reply, settled_of_accepted, stands_accepted}
+use Rattle.ob_seq.proofs.Acceptance.{answer_of_accepted, same_reply, settled_of_accepted}
 use Rattle.ob_seq.proofs.Entries.{line_length}
 use Rattle.ob_seq.proofs.Failing.{failing_stands, reply_of_failing}
 use Rattle.ob_seq.proofs.Times.{settings_of_times}
@@ -39,13 +39,12 @@ returns-clause-answer c other commands stands =
     ∙ sym (answer_of_accepted now.settings commands (FailFlushed c.args.cause c.args.notify) now stands unclosed refl)
 
 pub returns-clause-stands : goal.returns-clause-stands
-returns-clause-stands c other commands stands =
+returns-clause-stands c commands stands =
     let now = c.args.self.now in
     let unclosed : now.closed ≡ false = ap (λ (held : Pending). held.closed) (sym c.self.view_is) ∙ c.if-self.false in
     let count = sym (line_length now c.self.inside.entries.items c.self.inside.flushed (ap (λ (held : Pending). held.line) (sym c.self.view_is)) (omega (arith, c.self.invariant.line_within, c.self.inside.entries.ok))) in
     let after : c.take_first.new.self ≡ line_failed c.args.cause c.args.notify now = c.take_first.ensures ∙ ap (λ n. times n (front_taken c.args.notify (Failed c.args.cause)) now) count in
-    stands_accepted now.settings commands (FailFlushed c.args.cause c.args.notify) now stands unclosed c.take_first.new.self refl
-    (subst (λ (held : Pending). StandsFor held (commands ++ FailFlushed c.args.cause c.args.notify ∷ [])) (sym after) (failing_stands now commands c.args.cause c.args.notify stands unclosed))
+    subst (λ (held : Pending). StandsFor held (commands ++ FailFlushed c.args.cause c.args.notify ∷ [])) (sym after) (failing_stands now commands c.args.cause c.args.notify stands unclosed)
 
 pub returns-clause-settings : goal.returns-clause-settings
 returns-clause-settings c =

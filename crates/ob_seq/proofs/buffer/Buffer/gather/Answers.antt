@@ -2,8 +2,10 @@ use Rattle.std.proofs.Common.{◌≡◌, ℕ, ◌+◌, ◌-◌, ◌<◌, ◌≤�
 use Rattle.std.proofs.lemmas.Bool.Decides.{nat_tests}
 use Rattle.ob_types.specs.declared.message.Message.TheVariants.{Block}
 use Rattle.ob_seq.specs.declared.entry.Entry.{Entry}
+use Rattle.ob_seq.specs.Entry.{PendingEntry, blocks_left}
+use Rattle.ob_seq.specs.Inside.{pending_entries}
 use Rattle.ob_seq.specs.Gathering.{with_bytes, first_blocks, gathered_after}
-use Rattle.ob_seq.specs.Pending.{Pending, blocks_left}
+use Rattle.ob_seq.specs.Pending.{Pending}
 use Rattle.ob_seq.proofs.Blocks.{left_from_block, left_from_other, left_at_end}
 use Rattle.ob_seq.proofs.BytesRemoved.{run_is}
 use Rattle.ob_seq.proofs.Entries.{seen}
@@ -12,8 +14,8 @@ use Rattle.ob_seq.proofs.buffer.Buffer.gather.Goals as goal
 use Rattle.ob_seq.proofs.buffer.Buffer.gather.Goals.{then-length-gt0+else-not-has_room+in_ok-clone+in_ok-push, else-length-gt0, else-loop-entry-test, then-loop-entry-test+in_default, then-loop-entry-test+in-Block+then-length-gt0+then-not-has_room}
 
 -- the blocks left in line from one on, seen through the slice that is walked
-block_seen : (line slice : List Entry) (i : ℕ) (entry : Entry) (bytes : List ℕ) → slice ≡ line → i < length slice → entry ≡ get_or slice i entry → entry.message ≡ Block bytes →
-    blocks_left (drop i line) ≡ bytes ∷ blocks_left (drop (i + 1) line)
+block_seen : (line : List PendingEntry) (slice : List Entry) (i : ℕ) (entry : Entry) (bytes : List ℕ) → pending_entries slice ≡ line → i < length slice → entry ≡ get_or slice i entry →
+    entry.message ≡ Block bytes → blocks_left (drop i line) ≡ bytes ∷ blocks_left (drop (i + 1) line)
 block_seen line slice i entry bytes same inside is block =
     ap (λ entries. blocks_left (drop i entries)) (sym same) ∙ left_from_block slice i entry inside is bytes block ∙ ap (λ entries. bytes ∷ blocks_left (drop (i + 1) entries)) same
 
@@ -119,7 +121,7 @@ returns-clause-blocks c commands stands = elim c.loop-entry-test.branch [
       (same_test c.args.max_count w.len.result (length c.loop-entry.gathered.items) c.loop-entry.room w.len-length.result (length w.in-Block.bytes) w.has_room.result false w.has_room.ensures (w.len.ensures ∙ c.loop-entry.gathered.ok.0) w.len-length.ensures.value w.if-not-has_room.true))
 ]
   where
-    line : take c.self.inside.flushed c.deref.result.now ≡ c.args.self.now.line
+    line : pending_entries (take c.self.inside.flushed c.deref.result.now) ≡ c.args.self.now.line
     line = seen c.args.self.now c.deref.result.now c.self.inside.entries.items c.self.inside.flushed c.deref.ensures.value (ap (λ (held : Pending). held.line) (sym c.self.view_is))
 
     whole : gather_from c.args.max_count (length c.loop-entry.gathered.items) c.loop-entry.room (blocks_left (drop c.loop-entry.entry-index c.args.self.now.line)) ≡ [] →

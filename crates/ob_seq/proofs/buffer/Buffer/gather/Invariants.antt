@@ -1,5 +1,5 @@
 use Rattle.std.proofs.Common.{◌≡◌, ◌++◌, length, drop}
-use Rattle.ob_seq.specs.Pending.{blocks_left}
+use Rattle.ob_seq.specs.Entry.{blocks_left}
 use Rattle.ob_seq.proofs.Gathered.{gather_from}
 use Rattle.ob_seq.proofs.buffer.Buffer.gather.Given as goal
 

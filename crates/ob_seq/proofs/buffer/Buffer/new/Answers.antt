@@ -1,4 +1,5 @@
-use Rattle.std.proofs.Common.{refl, sym}
+use Rattle.std.proofs.Common.{refl, sym, ap}
+use Rattle.ob_seq.specs.Inside.{pending_entries}
 use Rattle.ob_seq.proofs.Marks.{word_at_start}
 use Rattle.ob_seq.proofs.buffer.Buffer.new.Goals as goal
 
@@ -6,8 +7,9 @@ pub returns-clause-stands : goal.returns-clause-stands
 returns-clause-stands c = record {
   accepted = refl;
   closed = refl;
+  marks = refl;
   line = refl;
-  unflushed = c.new.ensures.items;
+  unflushed = ap pending_entries c.new.ensures.items;
   promises = c.new-2.ensures.items;
   word = sym (word_at_start (record { marks = c.args.marks; estimate = c.args.estimate }));
 }

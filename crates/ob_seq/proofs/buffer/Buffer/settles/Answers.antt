@@ -1,6 +1,6 @@
 use Rattle.std.proofs.Common.{◌≡◌, false, ap, sym, ◌∙◌, cond}
 use Rattle.std.specs.Prelude.{count_by, not}
-use Rattle.ob_seq.specs.Answer.{is_waiting}
+use Rattle.ob_seq.specs.Answer.{still_waits}
 use Rattle.ob_seq.specs.Pending.{Pending}
 use Rattle.ob_seq.specs.Settles.{settled_after}
 use Rattle.ob_seq.proofs.Entries.{seen}
@@ -48,7 +48,7 @@ pub returns-in-Cancel : goal.returns-in-Cancel
 returns-in-Cancel c commands stands =
     let now = c.args.self.now in
     let unclosed : now.closed ≡ false = ap (λ (held : Pending). held.closed) (sym c.self.view_is) ∙ c.if-self.false in
-    c.waiting.ensures ∙ ap (λ state. cond (is_waiting state) 1 0) (c.promise.ensures commands stands)
+    c.waiting.ensures ∙ ap (λ state. cond (still_waits state) 1 0) (c.promise.ensures commands stands)
     ∙ cancel_settles now commands stands unclosed c.in-Cancel.id ∙ ap (settled_after now.settings commands) (sym c.in-Cancel.is)
 
 pub returns-in-FailFlushed : goal.returns-in-FailFlushed

@@ -5,7 +5,7 @@ use Rattle.ob_types.specs.declared.command.Command.TheVariants.{UserBit}
 use Rattle.ob_seq.specs.Inside.{pending_of}
 use Rattle.ob_seq.specs.Pending.{Pending, StandsFor}
 use Rattle.ob_seq.specs.Steps.{bit_changed, with_user_bit}
-use Rattle.ob_seq.proofs.Acceptance.{answer_of_accepted, same_reply, stands_accepted}
+use Rattle.ob_seq.proofs.Acceptance.{answer_of_accepted, same_reply}
 use Rattle.ob_seq.proofs.UserBits.{bit_accepted, bit_changed_stands, reply_of_bit}
 use Rattle.ob_seq.proofs.buffer.Buffer.user_bit.Goals as goal
 
@@ -28,5 +28,4 @@ returns-clause-stands c commands stands =
     let unclosed : now.closed ≡ false = ap (λ (held : Pending). held.closed) (sym c.self.view_is) ∙ c.if-self.false in
     let some : 1 ≤ c.args.index = omega (arith, c.if-index-eq0.false) in
     let after = ap (λ word. record (pending_of c.self.inside) { word = word }) c.with_user_bit-self-inside.ensures ∙ ap (bit_changed c.args.index c.args.writable) c.self.view_is in
-    stands_accepted now.settings commands (UserBit c.args.index c.args.writable) now stands unclosed _ (bit_accepted now commands c.args.index c.args.writable stands unclosed some c.if-index-gt31.false)
-    (subst (λ (held : Pending). StandsFor held (commands ++ UserBit c.args.index c.args.writable ∷ [])) (sym after) (bit_changed_stands now commands c.args.index c.args.writable stands unclosed some c.if-index-gt31.false))
+    subst (λ (held : Pending). StandsFor held (commands ++ UserBit c.args.index c.args.writable ∷ [])) (sym after) (bit_changed_stands now commands c.args.index c.args.writable stands unclosed some c.if-index-gt31.false)

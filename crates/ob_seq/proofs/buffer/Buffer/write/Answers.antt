@@ -1,26 +1,16 @@
 use Rattle.std.proofs.Common.{◌≡◌, true, false, [], ◌∷◌, ◌++◌, length, sym, ap, ◌∙◌, subst}
-use Rattle.std.specs.Prelude.{Ok, Err}
+use Rattle.std.specs.Prelude.{Ok}
 use Rattle.ob_types.specs.PendingSize.{pending_size_of, counted_bytes}
 use Rattle.ob_types.specs.Change.{change_between}
 use Rattle.ob_types.specs.declared.command.Command.TheVariants.{Write}
-use Rattle.ob_types.specs.declared.refusal.Refusal.TheVariants.{Oversize, TooMuch}
+use Rattle.ob_types.specs.declared.refusal.Refusal.TheVariants.{TooMuch}
 use Rattle.ob_types.specs.declared.reply.Answer.TheVariants.{Id}
 use Rattle.ob_seq.specs.Pending.{Pending, StandsFor}
-use Rattle.ob_seq.specs.Effect.{rows_after}
 use Rattle.ob_seq.specs.Steps.{written}
-use Rattle.ob_seq.proofs.Acceptance.{accepted_first, same_reply, answer_of_refused, stands_refused, answer_of_accepted, stands_accepted}
-use Rattle.ob_seq.proofs.Sizes.{oversize, oversize_refused, sized, refusal_by_room}
+use Rattle.ob_seq.proofs.Acceptance.{accepted, same_reply, answer_of_refused, answer_of_accepted}
+use Rattle.ob_seq.proofs.Sizes.{sized, refusal_by_room}
 use Rattle.ob_seq.proofs.Written.{written_stands, reply_of_write}
 use Rattle.ob_seq.proofs.buffer.Buffer.write.Goals as goal
-
-pub returns-in_err-size-clause-stands : goal.returns-in_err-size-clause-stands
-returns-in_err-size-clause-stands c other commands stands =
-    let buffer = c.args.self.now in
-    let unclosed : buffer.closed ≡ false = ap (λ (held : Pending). held.closed) (sym c.self.view_is) ∙ c.if-self.false in
-    let failed : pending_size_of buffer.settings.estimate c.args.message ≡ Err c.in_err-size.field-0.0 =
-    ap (λ (held : Pending). pending_size_of held.settings.estimate c.args.message) (sym c.self.view_is) ∙ sym c.pending_size.ensures ∙ c.in_err-size.was in
-    stands_refused buffer.settings commands (Write c.args.message) buffer stands unclosed Oversize
-    (oversize_refused buffer.settings.estimate (rows_after buffer.settings.estimate commands) c.args.message (oversize buffer.settings.estimate c.args.message c.in_err-size.field-0.0 failed).0)
 
 pub returns-then-not-has_room_for-clause-answer : goal.returns-then-not-has_room_for-clause-answer
 returns-then-not-has_room_for-clause-answer c other commands stands =
@@ -30,15 +20,6 @@ returns-then-not-has_room_for-clause-answer c other commands stands =
     ap (λ (held : Pending). pending_size_of held.settings.estimate c.args.message) (sym c.self.view_is) ∙ sym c.pending_size.ensures ∙ c.in_ok-size.was in
     sym (answer_of_refused buffer.settings commands (Write c.args.message) buffer stands unclosed TooMuch
     (refusal_by_room buffer commands c.args.message c.in_ok-size.size stands size false (sym c.has_room_for.ensures ∙ c.if-not-has_room_for.true)))
-
-pub returns-then-not-has_room_for-clause-stands : goal.returns-then-not-has_room_for-clause-stands
-returns-then-not-has_room_for-clause-stands c other commands stands =
-    let buffer = c.args.self.now in
-    let unclosed : buffer.closed ≡ false = ap (λ (held : Pending). held.closed) (sym c.self.view_is) ∙ c.if-self.false in
-    let size : pending_size_of buffer.settings.estimate c.args.message ≡ Ok c.in_ok-size.size =
-    ap (λ (held : Pending). pending_size_of held.settings.estimate c.args.message) (sym c.self.view_is) ∙ sym c.pending_size.ensures ∙ c.in_ok-size.was in
-    stands_refused buffer.settings commands (Write c.args.message) buffer stands unclosed TooMuch
-    (refusal_by_room buffer commands c.args.message c.in_ok-size.size stands size false (sym c.has_room_for.ensures ∙ c.if-not-has_room_for.true))
 
 pub returns-clause-answer : goal.returns-clause-answer
 returns-clause-answer c other commands stands =
@@ -57,7 +38,7 @@ returns-clause-answer c other commands stands =
     (refusal_by_room buffer commands c.args.message c.in_ok-size.size stands size true (sym c.has_room_for.ensures ∙ c.if-not-has_room_for.false)))
 
 pub returns-clause-stands : goal.returns-clause-stands
-returns-clause-stands c other commands stands =
+returns-clause-stands c commands stands =
     let buffer = c.args.self.now in
     let unclosed : buffer.closed ≡ false = ap (λ (held : Pending). held.closed) (sym c.self.view_is) ∙ c.if-self.false in
     let size : pending_size_of buffer.settings.estimate c.args.message ≡ Ok c.in_ok-size.size =
@@ -65,8 +46,7 @@ returns-clause-stands c other commands stands =
     let added : c.add.new.self ≡ written buffer c.args.message (counted_bytes buffer.settings.estimate c.args.message) =
     c.in_ok-add.ensures.ok ∙ ap (written buffer c.args.message) (sized buffer.settings.estimate c.args.message c.in_ok-size.size size).1 in
     let accepted = refusal_by_room buffer commands c.args.message c.in_ok-size.size stands size true (sym c.has_room_for.ensures ∙ c.if-not-has_room_for.false) in
-    stands_accepted buffer.settings commands (Write c.args.message) buffer stands unclosed c.add.new.self accepted
-    (subst (λ (held : Pending). StandsFor held (commands ++ Write c.args.message ∷ [])) (sym added) (written_stands buffer commands c.args.message stands unclosed accepted))
+    subst (λ (held : Pending). StandsFor held (commands ++ Write c.args.message ∷ [])) (sym added) (written_stands buffer commands c.args.message stands unclosed accepted)
 
 pub returns-in_err-add-clause-no_memory_last : goal.returns-in_err-add-clause-no_memory_last
 returns-in_err-add-clause-no_memory_last c wants commands stands =
@@ -74,5 +54,5 @@ returns-in_err-add-clause-no_memory_last c wants commands stands =
     let unclosed : buffer.closed ≡ false = ap (λ (held : Pending). held.closed) (sym c.self.view_is) ∙ c.if-self.false in
     let size : pending_size_of buffer.settings.estimate c.args.message ≡ Ok c.in_ok-size.size =
     ap (λ (held : Pending). pending_size_of held.settings.estimate c.args.message) (sym c.self.view_is) ∙ sym c.pending_size.ensures ∙ c.in_ok-size.was in
-    accepted_first buffer.settings commands (Write c.args.message) buffer stands unclosed
+    accepted buffer.settings commands (Write c.args.message) buffer stands unclosed
     (refusal_by_room buffer commands c.args.message c.in_ok-size.size stands size true (sym c.has_room_for.ensures ∙ c.if-not-has_room_for.false))

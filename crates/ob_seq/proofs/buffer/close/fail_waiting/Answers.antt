@@ -1,10 +1,10 @@
 use Rattle.std.proofs.Common.{◌≡◌, ◌≤◌, ◌<◌, ◌+◌, ◌-◌, List, length, take, drop, get_or, map, sym, ap, ◌∙◌, append-nil, arith, ◌++◌}
-use Rattle.std.specs.Prelude.{Some, slice_set}
+use Rattle.std.specs.Prelude.{slice_set}
 use Rattle.std.proofs.lemmas.List.{length-drop, take_all, drop_all}
 use Rattle.ob_types.specs.declared.promise.PromiseState.{PromiseState}
 use Rattle.ob_types.specs.declared.promise.PromiseState.TheVariants.{Waiting, Settled}
 use Rattle.ob_types.specs.declared.promise.Outcome.TheVariants.{Failed}
-use Rattle.ob_seq.specs.Answer.{is_waiting}
+use Rattle.ob_types.specs.Waiting.{is_waiting}
 use Rattle.ob_seq.specs.Effect.{failed}
 use Rattle.ob_seq.proofs.Failures.{fails, stays, failed_up_to, none_failed, next_is, one_more_failed, one_more_stayed}
 use Rattle.ob_seq.proofs.buffer.close.fail_waiting.Goals as goal
@@ -32,11 +32,11 @@ loop-id-preserved c =
     elim c.if-is_waiting.branch [
       | then-is_waiting w ↦
           w.promises-is ∙ ap (λ (all : List PromiseState). slice_set all id (Settled (Failed cause))) c.loop-id.invariant
-          ∙ ap (slice_set (failed_up_to first count cause old) id) (sym (fails cause state (ap (λ one. is_waiting (Some one)) (sym read) ∙ sym c.is_waiting.ensures ∙ w.if-is_waiting.true)))
+          ∙ ap (slice_set (failed_up_to first count cause old) id) (sym (fails cause state (ap (λ one. is_waiting one) (sym read) ∙ sym c.is_waiting.ensures ∙ w.if-is_waiting.true)))
           ∙ one_more_failed first count id cause old c.requires inside place ∙ end
       | else-is_waiting w ↦
           w.promises-is ∙ c.loop-id.invariant
-          ∙ one_more_stayed first count id cause old c.requires inside place (stays cause state (ap (λ one. is_waiting (Some one)) (sym read) ∙ sym c.is_waiting.ensures ∙ w.if-is_waiting.false)) ∙ end
+          ∙ one_more_stayed first count id cause old c.requires inside place (stays cause state (ap (λ one. is_waiting one) (sym read) ∙ sym c.is_waiting.ensures ∙ w.if-is_waiting.false)) ∙ end
     ]
 
 pub returns : goal.returns
