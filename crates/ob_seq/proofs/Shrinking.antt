@@ -1,17 +1,20 @@
 -- A command that is no write brings no row, and makes no row count more.
-use Rattle.std.proofs.Common.{◌≡◌, ◌≤◌, ℕ, zero, suc, ◌+◌, Bool, true, false, List, [], ◌∷◌, length, map, refl, ap, ◌∙◌, cond, ltb, arith, length-append}
+use Rattle.std.proofs.Common.{◌≡◌, ◌≤◌, ℕ, zero, suc, ◌+◌, Bool, true, false, List, [], ◌∷◌, length, map, refl, ap}
+use Rattle.std.proofs.Common.{◌∙◌, cond, ltb, arith, length-append}
 use Rattle.std.specs.Prelude.{fold}
 use Rattle.std.proofs.lemmas.List.Sums.{sum_by-cons}
 use Rattle.ob_types.specs.Write.{is_write}
 use Rattle.ob_types.specs.declared.command.Command.{Command}
-use Rattle.ob_types.specs.declared.command.Command.TheVariants.{Write, Flush, Remove, RemoveWith, RemoveBytes, Progress, Cancel, FailFlushed, Close, UserBit}
+use Rattle.ob_types.specs.declared.command.Command.TheVariants.{Write, Flush, Remove, RemoveWith, RemoveBytes}
+use Rattle.ob_types.specs.declared.command.Command.TheVariants.{Progress, Cancel, FailFlushed, Close, UserBit}
 use Rattle.ob_types.specs.declared.estimate.Estimate.{Estimate}
 use Rattle.ob_types.specs.declared.promise.Cause.{Cause}
 use Rattle.ob_types.specs.declared.promise.Outcome.{Outcome}
 use Rattle.ob_types.specs.declared.promise.Outcome.TheVariants.{Success, Failed}
 use Rattle.ob_types.specs.declared.promise.PromiseState.TheVariants.{Fixed}
 use Rattle.ob_seq.specs.ByteRun.{whole_rows, bytes_left_over}
-use Rattle.ob_seq.specs.Effect.{closed_row, effect, failed_row, flushed_row, progressed_row, skipped_row, taken_row, with_cancelled, with_front, with_fronts_sent, with_skipped}
+use Rattle.ob_seq.specs.Effect.{closed_row, effect, failed_row, flushed_row, progressed_row, skipped_row, taken_row}
+use Rattle.ob_seq.specs.Effect.{with_cancelled, with_front, with_fronts_sent, with_skipped}
 use Rattle.ob_seq.specs.Line.{is_in_line}
 use Rattle.ob_seq.specs.Row.{Row, Place, Unflushed, Flushed, Voided, Gone, is_cancelled, is_unflushed, new_row}
 use Rattle.ob_seq.specs.Total.{counted_size, total}
@@ -94,9 +97,11 @@ skipped_shrink n rows = by_test (ltb 0 n)
 flushed_shrinks : Shrinking flushed_row
 flushed_shrinks row = by_place row.place (is_cancelled row.promise)
   where
-    by_place : (place : Place) (back : Bool) → Shrinks (record row { place = place })
-        (cond (is_unflushed place) (cond back (record row { place = Voided }) (record row { place = Flushed; promise = Fixed }))
-        (record row { place = place }))
+    reached : Bool → Row
+    reached back = cond back (record row { place = Voided }) (record row { place = Flushed; promise = Fixed })
+
+    by_place : (place : Place) (back : Bool) →
+        Shrinks (record row { place = place }) (cond (is_unflushed place) (reached back) (record row { place = place }))
     by_place Unflushed true = record { message = refl; size = refl; counts = omega arith }
     by_place Unflushed false = record { message = refl; size = refl; counts = omega arith }
     by_place Flushed back = same_row (record row { place = Flushed })
@@ -135,7 +140,8 @@ effect_shrinks estimate rows (RemoveBytes n) other =
     (fronts_shrink (whole_rows n rows) rows) (skipped_shrink (bytes_left_over n rows) sent)
 effect_shrinks estimate rows (Progress n) other = front_shrinks (progressed_row n) (progressed_shrinks n) rows
 effect_shrinks estimate rows (Cancel id) other = cancelled_shrink id.0 rows
-effect_shrinks estimate rows (FailFlushed cause notify) other = map_shrinks (failed_row cause) (failed_shrinks cause) rows
+effect_shrinks estimate rows (FailFlushed cause notify) other =
+    map_shrinks (failed_row cause) (failed_shrinks cause) rows
 effect_shrinks estimate rows (Close cause) other = map_shrinks (closed_row cause) (closed_shrinks cause) rows
 effect_shrinks estimate rows (UserBit index writable) other = same_rows rows
 

@@ -1,5 +1,6 @@
 -- The bits of the word.
-use Rattle.std.proofs.Common.{◌≡◌, ℕ, zero, suc, ◌+◌, ◌*◌, ◌^◌, ◌/◌, ◌%◌, ◌<◌, ◌≤◌, Bool, true, false, List, refl, sym, ap, ◌∙◌, arith}
+use Rattle.std.proofs.Common.{◌≡◌, ℕ, zero, suc, ◌+◌, ◌*◌, ◌^◌, ◌/◌, ◌%◌, ◌<◌, ◌≤◌, Bool, true, false, List, refl}
+use Rattle.std.proofs.Common.{sym, ap, ◌∙◌, arith}
 use Rattle.std.specs.Prelude.{◌↔◌}
 use Rattle.std.specs.Int.{bit_at}
 use Rattle.std.proofs.lemmas.Nat.Bits.{bit_at_lowest, bit_at-suc}
@@ -36,25 +37,35 @@ by_digit : (n : ℕ) (bit : Bool) → n ≡ digit bit → n ≡ 1 ↔ bit ≡ tr
 by_digit n bit is = (λ one. (digit_is bit).0 (sym is ∙ one), λ set. is ∙ (digit_is bit).1 set)
 
 module _ (settings : Settings) (commands : List Command) where
-  word_is : word_after settings commands ≡ digit (mark_after settings commands) + half_after commands * 2
+  abbrev word : ℕ
+  word = word_after settings commands
+
+  abbrev mark : Bool
+  mark = mark_after settings commands
+
+  abbrev half : ℕ
+  half = half_after commands
+
+  word_is : word ≡ digit mark + half * 2
   word_is = word_is_from settings commands
 
   -- bit 0 is the mark
-  pub bit_0_is_mark : bit_at (word_after settings commands) 0 ≡ 1 ↔ mark_after settings commands ≡ true
-  bit_0_is_mark = by_digit (bit_at (word_after settings commands) 0) (mark_after settings commands)
-      (bit_at_lowest (word_after settings commands) ∙ ap (λ word. word % 2) word_is
-      ∙ lower (digit (mark_after settings commands)) (half_after commands) (digit_small (mark_after settings commands)))
+  pub bit_0_is_mark : bit_at word 0 ≡ 1 ↔ mark ≡ true
+  bit_0_is_mark = by_digit (bit_at word 0) mark
+      (bit_at_lowest word ∙ ap (λ n. n % 2) word_is ∙ lower (digit mark) half (digit_small mark))
 
-  next_bit : (i : ℕ) → bit_at (word_after settings commands) (suc i) ≡ bit_at (half_after commands) i
-  next_bit i = bit_at-suc (word_after settings commands) i ∙ ap (λ word. bit_at (word / 2) i) word_is
-      ∙ ap (λ half. bit_at half i) (upper (digit (mark_after settings commands)) (half_after commands) (digit_small (mark_after settings commands)))
+  next_bit : (i : ℕ) → bit_at word (suc i) ≡ bit_at half i
+  next_bit i = bit_at-suc word i ∙ ap (λ n. bit_at (n / 2) i) word_is
+      ∙ ap (λ n. bit_at n i) (upper (digit mark) half (digit_small mark))
 
   -- bits 1 to 31 are the user bits
-  pub bit_is_user_bit : (index : ℕ) → 1 ≤ index → index ≤ 31 → bit_at (word_after settings commands) index ≡ 1 ↔ user_bit commands index ≡ true
+  pub bit_is_user_bit : (index : ℕ) → 1 ≤ index → index ≤ 31 → bit_at word index ≡ 1 ↔ user_bit commands index ≡ true
   bit_is_user_bit zero some few = absurd (omega arith)
-  bit_is_user_bit (suc i) some few = by_digit (bit_at (word_after settings commands) (suc i)) (user_bit commands (suc i))
-      (next_bit i ∙ digit_at (user_bit commands) 1 31 i (omega arith) ∙ ap (λ at. digit (user_bit commands at)) (omega arith))
+  bit_is_user_bit (suc i) some few =
+      by_digit (bit_at word (suc i)) (user_bit commands (suc i))
+      (next_bit i ∙ digit_at (user_bit commands) 1 31 i (omega arith)
+      ∙ ap (λ at. digit (user_bit commands at)) (omega arith))
 
   -- and no higher bit is set
-  pub no_higher_bit : word_after settings commands < 4294967296
-  no_higher_bit = omega (arith, word_is, digit_small (mark_after settings commands), number_small (user_bit commands) 1 31)
+  pub no_higher_bit : word < 4294967296
+  no_higher_bit = omega (arith, word_is, digit_small mark, number_small (user_bit commands) 1 31)

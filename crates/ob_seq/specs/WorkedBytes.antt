@@ -1,7 +1,8 @@
 -- The definitions on small histories of bytes, computed by hand beforehand.
 use Rattle.std.specs.Prelude.{◌≡◌, ℕ, true, List, [], ◌∷◌, ◌++◌, Some, None}
 use Rattle.ob_types.specs.declared.command.Command.{Command}
-use Rattle.ob_types.specs.declared.command.Command.TheVariants.{Write, Flush, Remove, RemoveWith, RemoveBytes, Progress, Cancel}
+use Rattle.ob_types.specs.declared.command.Command.TheVariants.{Write, Flush, Remove, RemoveWith, RemoveBytes}
+use Rattle.ob_types.specs.declared.command.Command.TheVariants.{Progress, Cancel}
 use Rattle.ob_types.specs.declared.message.Message.TheVariants.{Block, Region}
 use Rattle.ob_types.specs.declared.promise.Outcome.TheVariants.{Failed, Cancelled}
 use Rattle.ob_types.specs.declared.refusal.Refusal.TheVariants.{TooManyBytes}
