@@ -1,19 +1,23 @@
 -- The accepted commands among those that are given.
 use Rattle.std.proofs.Common.{◌≡◌, Bool, true, false, ◌&&◌, List, [], ◌∷◌, ◌++◌, refl, sym, ap, ◌∙◌, cond}
-use Rattle.std.proofs.Common.{append_assoc, append-nil}
+use Rattle.std.proofs.Common.{append_assoc, append-nil, subst}
 use Rattle.std.specs.Prelude.{Option, Some, None, is_none, is_ok, fold}
 use Rattle.ob_types.specs.declared.command.Command.{Command}
 use Rattle.ob_types.specs.declared.estimate.Estimate.{Estimate}
 use Rattle.ob_types.specs.declared.promise.Outcome.{Outcome}
 use Rattle.ob_types.specs.declared.promise.PromiseId.{PromiseId}
 use Rattle.ob_types.specs.declared.refusal.Refusal.{Refusal}
+use Rattle.ob_types.specs.declared.refusal.Refusal.TheVariants.{Closed}
 use Rattle.ob_seq.specs.Settings.{Settings}
-use Rattle.ob_seq.specs.Answer.{answer_to, are_accepted, commands_after, first_refusal, reply_of, unless_refused}
+use Rattle.ob_seq.specs.Answer.{answer_to, are_accepted, commands_after, first_refusal, refusal_of, reply_of}
+use Rattle.ob_seq.specs.Answer.{unless_refused}
+use Rattle.ob_seq.specs.Closed.{is_closed}
+use Rattle.ob_seq.specs.Effect.{rows_after}
 use Rattle.ob_seq.specs.Accepted.{accepted_among}
 use Rattle.ob_seq.specs.Settles.{settled_along, settled_by}
 
 -- the first command of accepted ones is accepted, and so are the others after it
-pub first_and_rest : (estimate : Estimate) (earlier : List Command) (command : Command) (commands : List Command) →
+first_and_rest : (estimate : Estimate) (earlier : List Command) (command : Command) (commands : List Command) →
     are_accepted estimate earlier (command ∷ commands) ≡ true →
     (first_refusal estimate earlier command ≡ None) × (are_accepted estimate (earlier ++ command ∷ []) commands ≡ true)
 first_and_rest estimate earlier command commands all = by_refusal (first_refusal estimate earlier command) all
@@ -23,6 +27,31 @@ first_and_rest estimate earlier command commands all = by_refusal (first_refusal
         (refusal ≡ None) × (are_accepted estimate (earlier ++ command ∷ []) commands ≡ true)
     by_refusal None rest = (refl, rest)
     by_refusal (Some refusal) none = absurd (cc)
+
+-- a command that is not refused comes before any close, and nothing of the rows refuses it
+pub open_and_fit : (estimate : Estimate) (earlier : List Command) (command : Command) →
+    first_refusal estimate earlier command ≡ None →
+    (is_closed earlier ≡ false) × (refusal_of estimate (rows_after estimate earlier) command ≡ None)
+open_and_fit estimate earlier command accepted =
+    by_closed (is_closed earlier) (refusal_of estimate (rows_after estimate earlier) command) accepted
+  where
+    by_closed : (closed : Bool) (refusal : Option Refusal) → cond closed (Some Closed) refusal ≡ None →
+        (closed ≡ false) × (refusal ≡ None)
+    by_closed true refusal accepted = absurd (cc)
+    by_closed false refusal accepted = (refl, accepted)
+
+-- what each accepted command keeps holds after all of them
+pub kept_along_accepted : (estimate : Estimate) (Holds : List Command → Type 0) →
+    ((earlier : List Command) (command : Command) → first_refusal estimate earlier command ≡ None →
+    Holds earlier → Holds (earlier ++ command ∷ [])) →
+    (earlier commands : List Command) → are_accepted estimate earlier commands ≡ true →
+    Holds earlier → Holds (earlier ++ commands)
+kept_along_accepted estimate Holds keeps earlier [] all holds = subst Holds (sym (append-nil earlier)) holds
+kept_along_accepted estimate Holds keeps earlier (command ∷ commands) all holds =
+    let both = first_and_rest estimate earlier command commands all in
+    subst Holds (append_assoc earlier (command ∷ []) commands)
+    (kept_along_accepted estimate Holds keeps (earlier ++ command ∷ []) commands both.1
+    (keeps earlier command both.0 holds))
 
 and_assoc : (a b c : Bool) → ((a && b) && c) ≡ (a && (b && c))
 and_assoc true b c = refl

@@ -1,6 +1,6 @@
 -- What accepted commands leave within the limits.
 use Rattle.std.proofs.Common.{◌≡◌, ◌≤◌, ◌<◌, ℕ, ◌+◌, Bool, true, false, ◌||◌, List, [], ◌∷◌, ◌++◌, length, map, refl}
-use Rattle.std.proofs.Common.{sym, ap, ◌∙◌, cond, ltb, leb, subst, arith, append_assoc, append-nil, length-append}
+use Rattle.std.proofs.Common.{sym, ap, ◌∙◌, cond, ltb, leb, subst, arith, length-append}
 use Rattle.std.proofs.Common.{length-drop}
 use Rattle.std.specs.Prelude.{Option, Some, None, take_while}
 use Rattle.std.specs.List.{AllByRecursion}
@@ -13,10 +13,9 @@ use Rattle.ob_types.specs.declared.estimate.Estimate.{Estimate}
 use Rattle.ob_types.specs.declared.message.Message.{Message}
 use Rattle.ob_types.specs.declared.message.Message.TheVariants.{Block, Region, Other}
 use Rattle.ob_types.specs.declared.refusal.Refusal.{Refusal}
-use Rattle.ob_types.specs.declared.refusal.Refusal.TheVariants.{Closed, Oversize, TooManyBytes, TooMuch}
+use Rattle.ob_types.specs.declared.refusal.Refusal.TheVariants.{Oversize, TooManyBytes, TooMuch}
 use Rattle.ob_seq.specs.Answer.{are_accepted, first_refusal, is_too_much, refusal_of}
 use Rattle.ob_seq.specs.ByteRun.{block_bytes, blocks_in_front, byte_run, is_block}
-use Rattle.ob_seq.specs.Closed.{is_closed}
 use Rattle.ob_seq.specs.Effect.{effect, rows_after}
 use Rattle.ob_seq.specs.Line.{is_in_line, line}
 use Rattle.ob_seq.specs.Pieces.{bytes_in}
@@ -24,7 +23,7 @@ use Rattle.ob_seq.specs.Row.{Row, Place, Unflushed, Flushed, Voided, Gone, is_fl
 use Rattle.ob_seq.specs.Row.{unread_part, without_skipped}
 use Rattle.ob_seq.specs.Total.{counted_size, total}
 use Rattle.ob_seq.specs.Writes.{writes_in}
-use Rattle.ob_seq.proofs.Accepting.{first_and_rest}
+use Rattle.ob_seq.proofs.Accepting.{kept_along_accepted, open_and_fit}
 use Rattle.ob_seq.proofs.History.{rows_after_more}
 use Rattle.ob_seq.proofs.Shrinking.{Shrink, effect_shrinks, row_for_each_write, same_length, total_shrinks}
 
@@ -62,11 +61,6 @@ module _ (estimate : Estimate) where
   sizes_more [] row sizes size = (size, tt)
   sizes_more (first ∷ rows) row sizes size = (sizes.0, sizes_more rows row sizes.1 size)
 
-  -- what is not refused is not closed
-  while_open : (closed : Bool) (refusal : Option Refusal) → cond closed (Some Closed) refusal ≡ None → refusal ≡ None
-  while_open true refusal accepted = absurd (cc)
-  while_open false refusal accepted = accepted
-
   -- the refusal of a write, by its two tests
   abbrev refused_by : Bool → Bool → Option Refusal
   refused_by oversize much = cond oversize (Some Oversize) (cond much (Some TooMuch) None)
@@ -102,22 +96,18 @@ module _ (estimate : Estimate) where
   abbrev IsWithin : List Command → Type 0
   IsWithin commands = AreWithin (rows_after estimate commands)
 
-  along_within : (earlier commands : List Command) → are_accepted estimate earlier commands ≡ true →
-      IsWithin earlier → IsWithin (earlier ++ commands)
-  along_within earlier [] all within = subst IsWithin (sym (append-nil earlier)) within
-  along_within earlier (command ∷ commands) all within =
-      let both = first_and_rest estimate earlier command commands all in
-      let rows = rows_after estimate earlier in
-      let fits = while_open (is_closed earlier) (refusal_of estimate rows command) both.0 in
-      let next = one_within rows command fits within in
-      subst IsWithin (append_assoc earlier (command ∷ []) commands)
-      (along_within (earlier ++ command ∷ []) commands both.1
-      (subst AreWithin (sym (rows_after_more estimate earlier command)) next))
+  one_more_within : (earlier : List Command) (command : Command) → first_refusal estimate earlier command ≡ None →
+      IsWithin earlier → IsWithin (earlier ++ command ∷ [])
+  one_more_within earlier command accepted within =
+      let open_and = open_and_fit estimate earlier command accepted in
+      subst AreWithin (sym (rows_after_more estimate earlier command))
+      (one_within (rows_after estimate earlier) command open_and.1 within)
 
   -- so are they after all accepted commands
   rows_within : (commands : List Command) → are_accepted estimate [] commands ≡ true → IsWithin commands
   rows_within commands all =
-      along_within [] commands all (record { sum = omega arith; count = omega arith; sizes = tt })
+      kept_along_accepted estimate IsWithin one_more_within [] commands all
+      (record { sum = omega arith; count = omega arith; sizes = tt })
 
   -- no more bytes are left of a message than it counts
   left_le : (skipped : ℕ) (message : Message) →
@@ -195,6 +185,6 @@ module _ (estimate : Estimate) where
     removal_within n accepted =
         let rows = rows_after estimate commands in
         let bytes = bytes_in (byte_run rows) in
-        let fits = while_open (is_closed commands) (refusal_of estimate rows (RemoveBytes n)) accepted in
-        let few = at_most bytes n (not_too_many (ltb bytes n) fits) in
+        let open_and = open_and_fit estimate commands (RemoveBytes n) accepted in
+        let few = at_most bytes n (not_too_many (ltb bytes n) open_and.1) in
         omega (arith, few, run_le rows (rows_within commands all).sizes, total_within)

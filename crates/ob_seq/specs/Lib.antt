@@ -3,6 +3,7 @@ pub mod Answer
 pub mod ByteRun
 pub mod Closed
 pub mod Effect
+pub mod Fitting
 pub mod Gathering
 pub mod Inside
 pub mod Line

@@ -1,13 +1,14 @@
 -- What is read off a whole history, computed by hand beforehand.
-use Rattle.std.specs.Prelude.{◌≡◌, ℕ, true, List, [], ◌∷◌, ◌++◌, map, replicate}
+use Rattle.std.specs.Prelude.{◌≡◌, true, List, [], ◌∷◌, ◌++◌, map}
 use Rattle.ob_types.specs.declared.command.Command.{Command}
 use Rattle.ob_types.specs.declared.command.Command.TheVariants.{Flush, Remove, Progress, Cancel, FailFlushed}
 use Rattle.ob_types.specs.declared.message.Message.TheVariants.{Block}
-use Rattle.ob_types.specs.declared.promise.Outcome.TheVariants.{Success, Failed, Cancelled}
+use Rattle.ob_types.specs.declared.promise.Outcome.TheVariants.{Failed, Cancelled}
 use Rattle.ob_types.specs.declared.promise.PromiseState.TheVariants.{Waiting}
 use Rattle.ob_seq.specs.Accepted.{accepted_among}
 use Rattle.ob_seq.specs.Effect.{rows_after}
-use Rattle.ob_seq.specs.Order.{StandInOrder, gone}
+use Rattle.ob_seq.specs.Fitting.{FitsItsPlace}
+use Rattle.ob_seq.specs.Order.{StandInOrder}
 use Rattle.ob_seq.specs.Row.{Row, Place, Unflushed, Flushed, Voided, Gone}
 use Rattle.ob_seq.specs.Settles.{settled_along}
 use Rattle.ob_seq.specs.Worked.{block, marked, settles, succeeds}
@@ -53,3 +54,9 @@ OutOfOrder =
     (¬ StandInOrder (row_at Unflushed ∷ row_at Flushed ∷ []))
     × (¬ StandInOrder (row_at Voided ∷ row_at Gone ∷ []))
     × StandInOrder (row_at Gone ∷ row_at Flushed ∷ row_at Voided ∷ row_at Unflushed ∷ [])
+
+-- a promise that waits fits an unflushed message, and none that is flushed, voided or gone
+abbrev pub WaitsUnflushedAlone : Type 0
+WaitsUnflushedAlone =
+    FitsItsPlace (row_at Unflushed) × (¬ FitsItsPlace (row_at Flushed)) × (¬ FitsItsPlace (row_at Voided))
+    × (¬ FitsItsPlace (row_at Gone))

@@ -1,6 +1,5 @@
 -- The two numbers of a look where the pending bytes equal a mark, computed by hand beforehand.
-use Rattle.std.specs.Prelude.{◌≡◌, ℕ, false, List, [], ◌∷◌}
-use Rattle.ob_types.specs.declared.command.Command.{Command}
+use Rattle.std.specs.Prelude.{◌≡◌, false, [], ◌∷◌}
 use Rattle.ob_types.specs.declared.command.Command.TheVariants.{Flush, Remove, FailFlushed, UserBit}
 use Rattle.ob_seq.specs.Looks.{before_writable, look_after}
 use Rattle.ob_seq.specs.Worked.{block, marked}

@@ -2,7 +2,7 @@
 //! laws speak of.
 
 ghost use Rattle.std.specs.Int.{bit_at};
-ghost use Rattle.std.specs.List.{Contains};
+ghost use Rattle.std.specs.List.{All, Contains};
 ghost use Rattle.std.specs.Prelude.{◌≡◌, None, Some, ◌+◌, ◌-◌, ◌<◌, ◌≤◌, ◌↔◌, ℕ, List, [], length, true};
 ghost use Rattle.ob_types.specs.WaterMark.{Marks};
 ghost use Rattle.ob_types.specs.declared.command.Command.{Command};
@@ -13,7 +13,9 @@ ghost use Rattle.ob_types.specs.declared.promise.PromiseId.{PromiseId};
 ghost use Rattle.ob_types.specs.declared.promise.PromiseState.TheVariants.{Settled};
 ghost use Rattle.ob_seq.specs.Accepted.{accepted_among};
 ghost use Rattle.ob_seq.specs.Answer.{are_accepted, commands_after, first_refusal};
+ghost use Rattle.ob_seq.specs.Closed.{is_closed};
 ghost use Rattle.ob_seq.specs.Effect.{rows_after};
+ghost use Rattle.ob_seq.specs.Fitting.{FitsItsPlace};
 ghost use Rattle.ob_seq.specs.Looks.{before_unwritable, before_writable, promise_after};
 ghost use Rattle.ob_seq.specs.Mark.{mark_after};
 ghost use Rattle.ob_seq.specs.Order.{StandInOrder};
@@ -69,6 +71,17 @@ pub fn a_promise_is_unknown_past_the_writes()
 /// that no flush has reached.
 pub fn the_rows_stand_in_order()
     ensures order { (estimate : Estimate) (commands : List Command) → StandInOrder (rows_after estimate commands) }
+{}
+
+/// After accepted commands the promise of a message that no flush has reached waits or was cancelled, that of a flushed
+/// one is fixed, that of a voided one was cancelled, and that of a message that is gone is settled. So once the buffer
+/// is closed, each promise that it gave is settled.
+pub fn each_promise_fits_the_place_of_its_message()
+    ensures fits { (estimate : Estimate) (commands : List Command) →
+        are_accepted estimate [] commands ≡ true → All FitsItsPlace (rows_after estimate commands) }
+    ensures closed { (settings : Settings) (commands : List Command) (id : PromiseId) →
+        are_accepted settings.estimate [] commands ≡ true → is_closed commands ≡ true → id.0 < writes_in commands
+        → (outcome : Outcome) × (promise_after settings commands id ≡ Some (Settled outcome)) }
 {}
 
 /// Bit 0 of the word is the mark, each of bits 1 to 31 the user bit of that index, and no higher bit is set.

@@ -8,7 +8,8 @@ ghost use Rattle.ob_seq.specs.WorkedBytes.{TwoSkips, LeftAfterTwoSkips, VoidedRe
 ghost use Rattle.ob_seq.specs.WorkedBytes.{WritableByBytes, WritableByManyBytes, WritableByFailure, RegionInFront};
 ghost use Rattle.ob_seq.specs.WorkedEndings.{ClosedPastAVoided, EachEnd, NothingLeftAfterAClose};
 ghost use Rattle.ob_seq.specs.WorkedEndings.{PromisesAfterAClose, PromisesBeforeAnEnd};
-ghost use Rattle.ob_seq.specs.WorkedHistories.{AcceptedOfThem, FourWrites, SettledInTurn, OneOfEachPlace, OutOfOrder};
+ghost use Rattle.ob_seq.specs.WorkedHistories.{AcceptedOfThem, FourWrites, SettledInTurn, OneOfEachPlace};
+ghost use Rattle.ob_seq.specs.WorkedHistories.{OutOfOrder, WaitsUnflushedAlone};
 ghost use Rattle.ob_seq.specs.WorkedLimits.{TotalAtItsLimit, LookAtTheLimit, SizesAtTheirLimits, ProgressAtItsTop};
 ghost use Rattle.ob_seq.specs.WorkedLooks.{WritableAtTheMarks, UnwritableAtTheMarks, UnwritableBelowLow};
 ghost use Rattle.ob_seq.specs.WorkedLooks.{UnderAUserBit, UnderALowMarkOfZero};
@@ -81,6 +82,7 @@ fn worked_histories()
     ensures settled_in_turn { SettledInTurn }
     ensures one_of_each_place { OneOfEachPlace }
     ensures out_of_order { OutOfOrder }
+    ensures waits_unflushed_alone { WaitsUnflushedAlone }
 {}
 
 #[test]
