@@ -1,8 +1,10 @@
+pub mod Accepted
 pub mod Answer
 pub mod ByteRun
 pub mod Closed
 pub mod Effect
 pub mod Entry
+pub mod Fitting
 pub mod Gathering
 pub mod Inside
 pub mod Line
@@ -10,6 +12,7 @@ pub mod Looks
 pub mod Mark
 pub mod MarksInForce
 pub mod Moment
+pub mod Order
 pub mod Pending
 pub mod Pieces
 pub mod Row
@@ -21,3 +24,9 @@ pub mod Total
 pub mod UserBit
 pub mod Word
 pub mod Worked
+pub mod WorkedBytes
+pub mod WorkedEndings
+pub mod WorkedHistories
+pub mod WorkedLimits
+pub mod WorkedLooks
+pub mod Writes
