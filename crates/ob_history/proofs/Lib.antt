@@ -1,2 +1,3 @@
-mod Histories
-mod Settling
+pub mod Calls
+pub mod Histories
+pub mod Settling
