@@ -1,4 +1,5 @@
 mod Acceptance
+mod Accepting
 mod Along
 mod Blocks
 mod BytesRemoved
@@ -32,6 +33,7 @@ mod Sizes
 mod Skipped
 mod Taken
 mod Times
+mod Told
 mod UserBits
 mod WordBits
 mod Written

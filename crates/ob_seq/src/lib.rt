@@ -12,7 +12,8 @@ mod tests;
 pub use buffer::Buffer;
 pub use flushed::Flushed;
 pub use laws::{
-    before_unwritable_is_the_least_rise, before_writable_is_the_least_fall,
-    no_promise_is_settled_twice,
+    a_settled_promise_is_told, before_unwritable_is_the_least_rise,
+    before_writable_is_the_least_fall, no_promise_is_settled_twice,
+    refused_commands_leave_no_trace,
 };
 pub use look::Look;
