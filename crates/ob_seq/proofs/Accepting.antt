@@ -4,7 +4,6 @@ use Rattle.std.specs.Prelude.{Option, Some, None, is_none, is_ok, fold}
 use Rattle.ob_types.specs.declared.command.Command.{Command}
 use Rattle.ob_types.specs.declared.estimate.Estimate.{Estimate}
 use Rattle.ob_types.specs.declared.refusal.Refusal.{Refusal}
-use Rattle.ob_types.specs.declared.reply.Reply.{Reply}
 use Rattle.ob_seq.specs.Settings.{Settings}
 use Rattle.ob_seq.specs.Answer.{answer_to, are_accepted, commands_after, first_refusal, reply_of, unless_refused}
 use Rattle.ob_seq.specs.Accepted.{accepted_among}

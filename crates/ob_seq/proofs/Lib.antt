@@ -16,10 +16,12 @@ mod Gathered
 mod Held
 mod History
 mod Kept
+mod Limits
 mod Looks
 mod Marks
 mod Once
 mod Order
+mod Ordered
 mod Parts
 mod Pieces
 mod Progressed
@@ -29,11 +31,14 @@ mod Rows
 mod Sending
 mod Sent
 mod Settled
+mod Shrinking
 mod Sizes
 mod Skipped
 mod Taken
 mod Times
 mod Told
+mod Unknown
 mod UserBits
 mod WordBits
+mod WordDigits
 mod Written

@@ -20,4 +20,9 @@ pub mod Total
 pub mod UserBit
 pub mod Word
 pub mod Worked
+pub mod WorkedBytes
+pub mod WorkedEndings
+pub mod WorkedHistories
+pub mod WorkedLimits
+pub mod WorkedLooks
 pub mod Writes
