@@ -1,2 +1,6 @@
-mod Histories
-mod Settling
+pub mod Calls
+pub mod First
+pub mod Histories
+pub mod Own
+pub mod Settling
+pub mod Told

@@ -1,8 +1,12 @@
 pub mod Accepted
+pub mod Call
 pub mod Copies
+pub mod First
+pub mod Glance
 pub mod History
 pub mod Inside
 pub mod Legal
+pub mod Own
 pub mod Receipt
 pub mod Seen
 pub mod Settlements

@@ -3,8 +3,16 @@ use Rattle.std.specs.Prelude.{◌≡◌, ◌≤◌, List, length, take}
 use Rattle.ob_seq.specs.Settings.{Settings}
 use Rattle.ob_seq.specs.Looks.{look_after}
 use Rattle.ob_history.specs.Accepted.{accepted_commands}
+use Rattle.ob_history.specs.History.{History}
 use Rattle.ob_history.specs.declared.record.Record.{Record}
 use Rattle.ob_history.specs.declared.seen.Seen.{Seen}
+
+-- what is seen of a history now: how many records it has, and the look after their accepted commands
+abbrev pub seen_now : History → Seen
+seen_now history = record {
+  place = length history.records;
+  look = look_after history.settings (accepted_commands history.records);
+}
 
 -- a look is of a history where its place is at most the number of records, and it shows what a new buffer shows after
 -- the accepted commands of so many first records

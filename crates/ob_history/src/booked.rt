@@ -1,9 +1,9 @@
-ghost use Rattle.std.specs.Prelude.{◌≡◌, ℕ, ◌≤◌, ◌↔◌, IsErrOf, IsOk, IsOkUnless, IfOk, OnOk, OnErr};
+ghost use Rattle.std.specs.Prelude.{◌≡◌, ℕ, ◌≤◌, ◌↔◌, false, IsErrOf, IsOk, IsOkUnless, OnOk, OnErr};
 ghost use Rattle.ob_seq.specs.Pending.{StandsFor};
 ghost use Rattle.ob_history.specs.Accepted.{accepted_commands};
-ghost use Rattle.ob_history.specs.History.{History, IsCovered, IsFull, LacksPlaces, history_after, with_reserved};
+ghost use Rattle.ob_history.specs.Call.{IsCovered, call_answer, history_after, is_full};
+ghost use Rattle.ob_history.specs.History.{History, IsBounded, LacksPlaces, with_reserved};
 ghost use Rattle.ob_history.specs.Legal.{IsLegal};
-ghost use Rattle.ob_history.specs.Receipt.{next_receipt};
 
 use crate::receipt::Receipt;
 use crate::recorded::Recorded;
@@ -20,12 +20,12 @@ pub trait Booked {
 
     /// Gives the buffer one command, records the call, and answers the receipt of the record, as `Recorded::call`.
     fn call(&mut self, command: Command) -> Result<Receipt, Refusal>
-        ensures receipt { IfOk result (λ receipt. receipt ≡ next_receipt (history self.old) (caller self.old) command) }
-        ensures recorded { OnOk result (history self.new ≡ history_after (history self.old) (caller self.old) command) }
+        ensures answer { ¬ IsErrOf result Refusal.NoMemory → result ≡ call_answer (history self.old) (caller self.old) command }
+        ensures after { ¬ IsErrOf result Refusal.NoMemory
+            → history self.new ≡ history_after (history self.old) (caller self.old) command }
         ensures caller { caller self.new ≡ caller self.old }
 
-        ensures full { IsErrOf result Refusal.HistoryFull ↔ IsFull (history self.old) }
-        ensures no_memory { ¬ IsFull (history self.old) → IsOkUnless result Refusal.NoMemory }
+        ensures no_memory_last { IsErrOf result Refusal.NoMemory → is_full (history self.old) ≡ false }
         ensures frugal { IsCovered (history self.old) command → IsOk result }
         ensures refused { OnErr result (history self.new ≡ history self.old) };
 
@@ -43,7 +43,8 @@ pub trait Booked {
     fn buffer(&self) -> &Buffer
         ensures stands { StandsFor result.now (accepted_commands (history self.now).records) }
         ensures settings { result.now.settings ≡ (history self.now).settings }
-        ensures legal { IsLegal (history self.now).settings (history self.now).records };
+        ensures legal { IsLegal (history self.now).settings (history self.now).records }
+        ensures bounded { IsBounded (history self.now) };
 }
 
 /// A recorded buffer, all of whose calls are made in the name of one caller.

@@ -2,13 +2,15 @@ ghost use Rattle.std.specs.Prelude.{◌≡◌, ◌<◌, ◌≤◌};
 ghost use Rattle.ob_seq.specs.Pending.{StandsFor};
 ghost use Rattle.ob_history.specs.Accepted.{accepted_commands};
 ghost use Rattle.ob_history.specs.Legal.{IsLegal};
-ghost use Rattle.ob_history.specs.History.{new_history};
+ghost use Rattle.ob_history.specs.History.{IsBounded, new_history};
 
 mod call;
 mod check;
 mod copies;
+mod foreign;
 mod look;
 mod reserve;
+mod settling;
 
 use crate::record::Record;
 use ob_seq::Buffer;
@@ -60,10 +62,11 @@ impl Recorded {
         }
     }
 
-    /// The records, oldest first. They are a legal history. It takes no memory.
+    /// The records, oldest first. They are a legal history, and at most 1048576. It takes no memory.
     pub fn records(&self) -> &[Record]
         ensures value { result.now ≡ self.now.records }
         ensures legal { IsLegal self.now.settings self.now.records }
+        ensures bounded { IsBounded self.now }
     {
         self.records.as_slice()
     }
@@ -73,6 +76,7 @@ impl Recorded {
         ensures stands { StandsFor result.now (accepted_commands self.now.records) }
         ensures settings { result.now.settings ≡ self.now.settings }
         ensures legal { IsLegal self.now.settings self.now.records }
+        ensures bounded { IsBounded self.now }
     {
         &self.buffer
     }

@@ -1,5 +1,5 @@
 mod Acceptance
-mod Accepting
+pub mod Accepting
 mod Along
 mod Blocks
 mod BytesRemoved
@@ -37,7 +37,7 @@ mod Sizes
 mod Skipped
 mod Taken
 mod Times
-mod Told
+pub mod Told
 mod Unknown
 mod UserBits
 mod WordBits

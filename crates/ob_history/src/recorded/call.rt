@@ -1,6 +1,5 @@
-ghost use Rattle.std.specs.Prelude.{◌≡◌, ◌↔◌, IsErrOf, IsOk, IsOkUnless, IfOk, OnOk, OnErr};
-ghost use Rattle.ob_history.specs.History.{IsCovered, IsFull, history_after};
-ghost use Rattle.ob_history.specs.Receipt.{next_receipt};
+ghost use Rattle.std.specs.Prelude.{◌≡◌, false, IsErrOf, IsOk, OnErr};
+ghost use Rattle.ob_history.specs.Call.{IsCovered, call_answer, history_after, is_full};
 
 use crate::answer;
 use crate::receipt::Receipt;
@@ -18,11 +17,11 @@ impl Recorded {
     /// be counted, and not to a reserved call of a command that is no write and settles at most four promises. Then there
     /// is no record, and all is as it was.
     pub fn call(&mut self, caller: u32, command: Command) -> Result<Receipt, Refusal>
-        ensures receipt { IfOk result (λ receipt. receipt ≡ next_receipt self.old caller command) }
-        ensures recorded { OnOk result (self.new ≡ history_after self.old caller command) }
+        ensures answer { ¬ IsErrOf result Refusal.NoMemory → result ≡ call_answer self.old caller command }
+        ensures after { ¬ IsErrOf result Refusal.NoMemory → self.new ≡ history_after self.old caller command }
 
-        ensures full { IsErrOf result Refusal.HistoryFull ↔ IsFull self.old }
-        ensures no_memory { ¬ IsFull self.old → IsOkUnless result Refusal.NoMemory }
+        // Memory is wanted only when nothing else refuses the call, and not by a covered one.
+        ensures no_memory_last { IsErrOf result Refusal.NoMemory → is_full self.old ≡ false }
         ensures frugal { IsCovered self.old command → IsOk result }
         ensures refused { OnErr result (self.new ≡ self.old) }
     {

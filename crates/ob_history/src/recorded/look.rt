@@ -1,5 +1,6 @@
-ghost use Rattle.ob_history.specs.Seen.{IsSeenIn};
-ghost use Rattle.std.specs.Prelude.{◌≡◌, length};
+ghost use Rattle.std.specs.Prelude.{◌≡◌};
+ghost use Rattle.ob_history.specs.History.{IsBounded};
+ghost use Rattle.ob_history.specs.Seen.{seen_now};
 
 use crate::recorded::Recorded;
 use crate::seen::Seen;
@@ -7,8 +8,8 @@ use crate::seen::Seen;
 impl Recorded {
     /// What is pending now, and how many calls are recorded. It changes nothing and takes no memory.
     pub fn look(&self) -> Seen
-        ensures place { result.place ≡ length self.now.records }
-        ensures seen { IsSeenIn self.now.settings self.now.records result }
+        ensures seen { result ≡ seen_now self.now }
+        ensures bounded { IsBounded self.now }
     {
         Seen {
             place: self.records.len() as u32,

@@ -1,12 +1,16 @@
-use Rattle.std.proofs.Common.{◌≡◌, [], ◌∷◌, ◌++◌, length, sym, ap, ◌∙◌, subst, arith}
+use Rattle.std.proofs.Common.{◌≡◌, false, [], ◌∷◌, ◌++◌, length, Result, Ok, sym, ap, ◌∙◌, subst, arith}
+use Rattle.std.proofs.lemmas.Bool.{ne_eqb}
+use Rattle.ob_types.specs.declared.refusal.Refusal.{Refusal}
 use Rattle.ob_seq.specs.Answer.{answer_to, commands_after, commands_with}
 use Rattle.ob_seq.specs.Pending.{StandsFor}
 use Rattle.ob_history.specs.Accepted.{accepted_commands}
-use Rattle.ob_history.specs.History.{next_record, with_record}
+use Rattle.ob_history.specs.Call.{call_answer, history_after, is_full, with_record}
 use Rattle.ob_history.specs.Inside.{history_of, settings_of}
 use Rattle.ob_history.specs.Legal.{IsLegal}
 use Rattle.ob_history.specs.Receipt.{receipt_of}
+use Rattle.ob_history.proofs.Calls.{answer_with_place, after_with_place}
 use Rattle.ob_history.proofs.Histories.{legal_with_next, accepted_with_next, same_record, same_history}
+use Rattle.ob_history.specs.declared.receipt.Receipt.{Receipt}
 use Rattle.ob_history.specs.declared.record.Record.{Record}
 use Rattle.ob_history.proofs.recorded.Recorded.call.Goals as goal
 
@@ -73,20 +77,24 @@ invariant_of-self-2 c =
       small_unknown = c.self.invariant.small_unknown;
     }
 
-pub returns-clause-receipt : goal.returns-clause-receipt
-returns-clause-receipt c =
+pub returns-clause-answer : goal.returns-clause-answer
+returns-clause-answer c wanted =
     let inside = c.self.inside in
     let before = accepted_commands inside.records.items in
+    let free : is_full (history_of inside) ≡ false = ne_eqb _ _ (λ same. c.if-len-self.false (c.len.ensures ∙ inside.records.ok.0 ∙ same)) in
     let place : c.len-place.result ≡ length inside.records.items = c.len-place.ensures ∙ c.reserve.ensures.len ∙ inside.records.ok.0 in
     let reply : c.in_ok-reply.reply ≡ answer_to (settings_of inside) before c.args.command =
     c.in_ok-reply.ensures.answer before c.self.invariant.stands ∙ ap (λ settings. answer_to settings before c.args.command) c.self.invariant.settings in
-    ap receipt_of (same_record c.args.caller place c.in_ok-asked.ensures.told (c.copy_in.ensures ∙ reply))
-    ∙ ap (λ history. receipt_of (next_record history c.args.caller c.args.command)) c.self.view_is
+    let answer : Record → Result Receipt Refusal = λ one. Ok (receipt_of one) in
+    ap answer (same_record c.args.caller place c.in_ok-asked.ensures.told (c.copy_in.ensures ∙ reply))
+    ∙ sym (answer_with_place (history_of inside) c.args.caller c.args.command free)
+    ∙ ap (λ history. call_answer history c.args.caller c.args.command) c.self.view_is
 
-pub returns-clause-recorded : goal.returns-clause-recorded
-returns-clause-recorded c =
+pub returns-clause-after : goal.returns-clause-after
+returns-clause-after c wanted =
     let inside = c.self.inside in
     let before = accepted_commands inside.records.items in
+    let free : is_full (history_of inside) ≡ false = ne_eqb _ _ (λ same. c.if-len-self.false (c.len.ensures ∙ inside.records.ok.0 ∙ same)) in
     let one : Record = record { place = c.len-place.result; caller = c.args.caller; command = c.in_ok-asked.field-0.asked; reply = c.in_ok-reply.reply } in
     let records : c.push_reserved.new.self.items ≡ inside.records.items ++ one ∷ [] = c.push_reserved.ensures.items ∙ ap (λ earlier. earlier ++ one ∷ []) c.reserve.ensures.items in
     let place : one.place ≡ length inside.records.items = c.len-place.ensures ∙ c.reserve.ensures.len ∙ inside.records.ok.0 in
@@ -94,4 +102,5 @@ returns-clause-recorded c =
     c.in_ok-reply.ensures.answer before c.self.invariant.stands ∙ ap (λ settings. answer_to settings before c.args.command) c.self.invariant.settings in
     same_history (settings_of inside) inside.limit records c.saturating_sub-self-inside.ensures
     ∙ ap (with_record (history_of inside)) (same_record c.args.caller place c.in_ok-asked.ensures.asked reply)
-    ∙ ap (λ history. with_record history (next_record history c.args.caller c.args.command)) c.self.view_is
+    ∙ sym (after_with_place (history_of inside) c.args.caller c.args.command free)
+    ∙ ap (λ history. history_after history c.args.caller c.args.command) c.self.view_is
