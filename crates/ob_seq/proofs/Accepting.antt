@@ -1,7 +1,7 @@
 -- The accepted commands among those that are given.
 use Rattle.std.proofs.Common.{◌≡◌, Bool, true, false, ◌&&◌, List, [], ◌∷◌, ◌++◌, refl, sym, ap, ◌∙◌, cond}
 use Rattle.std.proofs.Common.{append_assoc, append-nil, subst}
-use Rattle.std.specs.Prelude.{Option, Some, None, is_none, is_ok, fold}
+use Rattle.std.specs.Prelude.{Option, Some, None, is_ok, fold}
 use Rattle.ob_types.specs.declared.command.Command.{Command}
 use Rattle.ob_types.specs.declared.estimate.Estimate.{Estimate}
 use Rattle.ob_types.specs.declared.promise.Outcome.{Outcome}
@@ -9,7 +9,7 @@ use Rattle.ob_types.specs.declared.promise.PromiseId.{PromiseId}
 use Rattle.ob_types.specs.declared.refusal.Refusal.{Refusal}
 use Rattle.ob_types.specs.declared.refusal.Refusal.TheVariants.{Closed}
 use Rattle.ob_seq.specs.Settings.{Settings}
-use Rattle.ob_seq.specs.Answer.{answer_to, are_accepted, commands_after, first_refusal, refusal_of, reply_of}
+use Rattle.ob_seq.specs.Answer.{answer_to, is_accepted, are_accepted, commands_after, first_refusal, refusal_of, reply_of}
 use Rattle.ob_seq.specs.Answer.{unless_refused}
 use Rattle.ob_seq.specs.Closed.{is_closed}
 use Rattle.ob_seq.specs.Effect.{rows_after}
@@ -17,16 +17,28 @@ use Rattle.ob_seq.specs.Accepted.{accepted_among}
 use Rattle.ob_seq.specs.Settles.{settled_along, settled_by}
 
 -- the first command of accepted ones is accepted, and so are the others after it
-first_and_rest : (estimate : Estimate) (earlier : List Command) (command : Command) (commands : List Command) →
-    are_accepted estimate earlier (command ∷ commands) ≡ true →
-    (first_refusal estimate earlier command ≡ None) × (are_accepted estimate (earlier ++ command ∷ []) commands ≡ true)
-first_and_rest estimate earlier command commands all = by_refusal (first_refusal estimate earlier command) all
+first_and_rest : (settings : Settings) (earlier : List Command) (command : Command) (commands : List Command) →
+    are_accepted settings earlier (command ∷ commands) ≡ true →
+    (first_refusal settings.estimate earlier command ≡ None)
+    × (are_accepted settings (earlier ++ command ∷ []) commands ≡ true)
+first_and_rest settings earlier command commands all = by_refusal (first_refusal settings.estimate earlier command) all
   where
     by_refusal : (refusal : Option Refusal) →
-        (is_none refusal && are_accepted estimate (earlier ++ command ∷ []) commands) ≡ true →
-        (refusal ≡ None) × (are_accepted estimate (earlier ++ command ∷ []) commands ≡ true)
+        (is_ok (unless_refused refusal (reply_of settings earlier command))
+        && are_accepted settings (earlier ++ command ∷ []) commands) ≡ true →
+        (refusal ≡ None) × (are_accepted settings (earlier ++ command ∷ []) commands ≡ true)
     by_refusal None rest = (refl, rest)
     by_refusal (Some refusal) none = absurd (cc)
+
+-- an accepted command is not refused
+pub not_refused : (settings : Settings) (earlier : List Command) (command : Command) →
+    is_accepted settings earlier command ≡ true → first_refusal settings.estimate earlier command ≡ None
+not_refused settings earlier command accepted = by_refusal (first_refusal settings.estimate earlier command) accepted
+  where
+    by_refusal : (refusal : Option Refusal) →
+        is_ok (unless_refused refusal (reply_of settings earlier command)) ≡ true → refusal ≡ None
+    by_refusal None is = refl
+    by_refusal (Some refusal) is = absurd (cc)
 
 -- a command that is not refused comes before any close, and nothing of the rows refuses it
 pub open_and_fit : (estimate : Estimate) (earlier : List Command) (command : Command) →
@@ -41,16 +53,16 @@ open_and_fit estimate earlier command accepted =
     by_closed false refusal accepted = (refl, accepted)
 
 -- what each accepted command keeps holds after all of them
-pub kept_along_accepted : (estimate : Estimate) (Holds : List Command → Type 0) →
-    ((earlier : List Command) (command : Command) → first_refusal estimate earlier command ≡ None →
+pub kept_along_accepted : (settings : Settings) (Holds : List Command → Type 0) →
+    ((earlier : List Command) (command : Command) → first_refusal settings.estimate earlier command ≡ None →
     Holds earlier → Holds (earlier ++ command ∷ [])) →
-    (earlier commands : List Command) → are_accepted estimate earlier commands ≡ true →
+    (earlier commands : List Command) → are_accepted settings earlier commands ≡ true →
     Holds earlier → Holds (earlier ++ commands)
-kept_along_accepted estimate Holds keeps earlier [] all holds = subst Holds (sym (append-nil earlier)) holds
-kept_along_accepted estimate Holds keeps earlier (command ∷ commands) all holds =
-    let both = first_and_rest estimate earlier command commands all in
+kept_along_accepted settings Holds keeps earlier [] all holds = subst Holds (sym (append-nil earlier)) holds
+kept_along_accepted settings Holds keeps earlier (command ∷ commands) all holds =
+    let both = first_and_rest settings earlier command commands all in
     subst Holds (append_assoc earlier (command ∷ []) commands)
-    (kept_along_accepted estimate Holds keeps (earlier ++ command ∷ []) commands both.1
+    (kept_along_accepted settings Holds keeps (earlier ++ command ∷ []) commands both.1
     (keeps earlier command both.0 holds))
 
 and_assoc : (a b c : Bool) → ((a && b) && c) ≡ (a && (b && c))
@@ -58,17 +70,17 @@ and_assoc true b c = refl
 and_assoc false b c = refl
 
 -- commands are accepted where the first ones are, and then the others after them
-accepted_append : (estimate : Estimate) (earlier first more : List Command) →
-    are_accepted estimate earlier (first ++ more)
-    ≡ (are_accepted estimate earlier first && are_accepted estimate (earlier ++ first) more)
-accepted_append estimate earlier [] more = ap (λ all. are_accepted estimate all more) (sym (append-nil earlier))
-accepted_append estimate earlier (command ∷ first) more =
-    let accepted = is_none (first_refusal estimate earlier command) in
+accepted_append : (settings : Settings) (earlier first more : List Command) →
+    are_accepted settings earlier (first ++ more)
+    ≡ (are_accepted settings earlier first && are_accepted settings (earlier ++ first) more)
+accepted_append settings earlier [] more = ap (λ all. are_accepted settings all more) (sym (append-nil earlier))
+accepted_append settings earlier (command ∷ first) more =
+    let accepted = is_accepted settings earlier command in
     let next = earlier ++ command ∷ [] in
-    let rest = are_accepted estimate next first in
-    ap (λ others. accepted && others) (accepted_append estimate next first more
-    ∙ ap (λ all. rest && are_accepted estimate all more) (append_assoc earlier (command ∷ []) first))
-    ∙ sym (and_assoc accepted rest (are_accepted estimate (earlier ++ command ∷ first) more))
+    let rest = are_accepted settings next first in
+    ap (λ others. accepted && others) (accepted_append settings next first more
+    ∙ ap (λ all. rest && are_accepted settings all more) (append_assoc earlier (command ∷ []) first))
+    ∙ sym (and_assoc accepted rest (are_accepted settings (earlier ++ command ∷ first) more))
 
 module _ (settings : Settings) where
   -- the history after one more command, by the first refusal
@@ -77,27 +89,27 @@ module _ (settings : Settings) where
       cond (is_ok (unless_refused refusal (reply_of settings earlier command))) (earlier ++ command ∷ []) earlier
 
   -- after accepted commands one more is either accepted too, or leaves them as they are
-  still_accepted : (earlier : List Command) (command : Command) → are_accepted settings.estimate [] earlier ≡ true →
-      are_accepted settings.estimate [] (commands_after settings earlier command) ≡ true
+  still_accepted : (earlier : List Command) (command : Command) → are_accepted settings [] earlier ≡ true →
+      are_accepted settings [] (commands_after settings earlier command) ≡ true
   still_accepted earlier command all = by_refusal (first_refusal settings.estimate earlier command) refl
     where
       by_refusal : (refusal : Option Refusal) → first_refusal settings.estimate earlier command ≡ refusal →
-          are_accepted settings.estimate [] (after_by earlier command refusal) ≡ true
+          are_accepted settings [] (after_by earlier command refusal) ≡ true
       by_refusal None is =
-          accepted_append settings.estimate [] earlier (command ∷ [])
-          ∙ ap (λ first. first && (is_none (first_refusal settings.estimate earlier command) && true)) all
-          ∙ ap (λ (refusal : Option Refusal). is_none refusal && true) is
+          accepted_append settings [] earlier (command ∷ [])
+          ∙ ap (λ first. first && (is_accepted settings earlier command && true)) all
+          ∙ ap (λ (refusal : Option Refusal). is_ok (unless_refused refusal (reply_of settings earlier command)) && true) is
       by_refusal (Some refusal) is = all
 
-  accepted_along : (earlier commands : List Command) → are_accepted settings.estimate [] earlier ≡ true →
-      are_accepted settings.estimate [] (fold (commands_after settings) earlier commands) ≡ true
+  accepted_along : (earlier commands : List Command) → are_accepted settings [] earlier ≡ true →
+      are_accepted settings [] (fold (commands_after settings) earlier commands) ≡ true
   accepted_along earlier [] all = all
   accepted_along earlier (command ∷ commands) all =
       accepted_along (commands_after settings earlier command) commands (still_accepted earlier command all)
 
   -- what is accepted among commands is accepted, one command after another
   pub among_are_accepted : (commands : List Command) →
-      are_accepted settings.estimate [] (accepted_among settings commands) ≡ true
+      are_accepted settings [] (accepted_among settings commands) ≡ true
   among_are_accepted commands = accepted_along [] commands refl
 
   -- an accepted command comes behind the earlier ones
@@ -106,17 +118,17 @@ module _ (settings : Settings) where
       commands_after settings earlier command ≡ earlier ++ command ∷ []
   after_accepted earlier command accepted = ap (after_by earlier command) accepted
 
-  all_along : (earlier commands : List Command) → are_accepted settings.estimate earlier commands ≡ true →
+  all_along : (earlier commands : List Command) → are_accepted settings earlier commands ≡ true →
       fold (commands_after settings) earlier commands ≡ earlier ++ commands
   all_along earlier [] all = sym (append-nil earlier)
   all_along earlier (command ∷ commands) all =
-      let both = first_and_rest settings.estimate earlier command commands all in
+      let both = first_and_rest settings earlier command commands all in
       ap (λ first. fold (commands_after settings) first commands) (after_accepted earlier command both.0)
       ∙ all_along (earlier ++ command ∷ []) commands both.1 ∙ append_assoc earlier (command ∷ []) commands
 
   -- of accepted commands none is left out
   pub all_among : (commands : List Command) →
-      are_accepted settings.estimate [] commands ≡ true → accepted_among settings commands ≡ commands
+      are_accepted settings [] commands ≡ true → accepted_among settings commands ≡ commands
   all_among commands all = all_along [] commands all
 
   -- the accepted commands after earlier ones settle what all of them do

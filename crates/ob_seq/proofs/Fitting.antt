@@ -15,6 +15,7 @@ use Rattle.ob_types.specs.declared.promise.PromiseState.{PromiseState}
 use Rattle.ob_types.specs.declared.promise.PromiseState.TheVariants.{Waiting, Fixed, Settled}
 use Rattle.ob_types.specs.declared.refusal.Refusal.{Refusal}
 use Rattle.ob_types.specs.declared.refusal.Refusal.TheVariants.{FlushedLeft}
+use Rattle.ob_seq.specs.Settings.{Settings}
 use Rattle.ob_seq.specs.Answer.{are_accepted, first_refusal, promise_at, refusal_of}
 use Rattle.ob_seq.specs.ByteRun.{bytes_left_over, whole_rows}
 use Rattle.ob_seq.specs.Closed.{is_close, is_closed}
@@ -186,7 +187,11 @@ close_leaves_none : (estimate : Estimate) (rows : List Row) (command : Command) 
 close_leaves_none estimate rows (Close cause) is = all_now_gone (closed_row cause) (λ row. refl) rows
 close_leaves_none estimate rows command is = absurd (cc)
 
-module _ (estimate : Estimate) where
+module _ (settings : Settings) where
+  -- how messages are counted
+  abbrev estimate : Estimate
+  estimate = settings.estimate
+
   -- the promises fit, and where a buffer is closed each row is gone
   record AreFitting (commands : List Command) : Type 0 where
     fit : AllFit (rows_after estimate commands)
@@ -203,12 +208,12 @@ module _ (estimate : Estimate) where
             (close_leaves_none estimate rows command (sym (closed_more earlier command open_and.0) ∙ closed));
       }
 
-  fitting_after : (commands : List Command) → are_accepted estimate [] commands ≡ true → AreFitting commands
+  fitting_after : (commands : List Command) → are_accepted settings [] commands ≡ true → AreFitting commands
   fitting_after commands all =
-      kept_along_accepted estimate AreFitting one_more_fits [] commands all (record { fit = tt; gone = λ closed. tt })
+      kept_along_accepted settings AreFitting one_more_fits [] commands all (record { fit = tt; gone = λ closed. tt })
 
   -- after accepted commands each promise fits its place
-  pub rows_fit : (commands : List Command) → are_accepted estimate [] commands ≡ true →
+  pub rows_fit : (commands : List Command) → are_accepted settings [] commands ≡ true →
       All FitsItsPlace (rows_after estimate commands)
   rows_fit commands all =
       All-from_recursion FitsItsPlace (rows_after estimate commands) (fitting_after commands all).fit
@@ -223,7 +228,7 @@ module _ (estimate : Estimate) where
   settled_gone (row ∷ rows) (suc id) within fit gone = settled_gone rows id (omega (arith, within)) fit.1 gone.1
 
   -- once the buffer is closed each promise that it gave is settled
-  pub closed_is_settled : (commands : List Command) (id : ℕ) → are_accepted estimate [] commands ≡ true →
+  pub closed_is_settled : (commands : List Command) (id : ℕ) → are_accepted settings [] commands ≡ true →
       is_closed commands ≡ true → id < writes_in commands →
       (outcome : Outcome) × (promise_at (rows_after estimate commands) id ≡ Some (Settled outcome))
   closed_is_settled commands id all closed given =

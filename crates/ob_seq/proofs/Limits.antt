@@ -14,8 +14,11 @@ use Rattle.ob_types.specs.declared.message.Message.{Message}
 use Rattle.ob_types.specs.declared.message.Message.TheVariants.{Block, Region, Other}
 use Rattle.ob_types.specs.declared.refusal.Refusal.{Refusal}
 use Rattle.ob_types.specs.declared.refusal.Refusal.TheVariants.{Oversize, TooManyBytes, TooMuch}
-use Rattle.ob_seq.specs.Answer.{are_accepted, first_refusal, is_too_much, refusal_of}
-use Rattle.ob_seq.specs.ByteRun.{block_bytes, blocks_in_front, byte_run, is_block}
+use Rattle.ob_types.specs.Limits.{greatest_total, most_writes}
+use Rattle.ob_seq.specs.Settings.{Settings}
+use Rattle.ob_seq.specs.Answer.{is_accepted, are_accepted, first_refusal, is_too_much, refusal_of}
+use Rattle.ob_types.specs.Block.{is_block}
+use Rattle.ob_seq.specs.ByteRun.{block_bytes, blocks_in_front, byte_run}
 use Rattle.ob_seq.specs.Effect.{effect, rows_after}
 use Rattle.ob_seq.specs.Line.{is_in_line, line}
 use Rattle.ob_seq.specs.Pieces.{bytes_in}
@@ -23,19 +26,23 @@ use Rattle.ob_seq.specs.Row.{Row, Place, Unflushed, Flushed, Voided, Gone, is_fl
 use Rattle.ob_seq.specs.Row.{unread_part, without_skipped}
 use Rattle.ob_seq.specs.Total.{counted_size, total}
 use Rattle.ob_seq.specs.Writes.{writes_in}
-use Rattle.ob_seq.proofs.Accepting.{kept_along_accepted, open_and_fit}
+use Rattle.ob_seq.proofs.Accepting.{kept_along_accepted, not_refused, open_and_fit}
 use Rattle.ob_seq.proofs.History.{rows_after_more}
 use Rattle.ob_seq.proofs.Shrinking.{Shrink, effect_shrinks, row_for_each_write, same_length, total_shrinks}
 
-module _ (estimate : Estimate) where
+module _ (settings : Settings) where
+  -- how messages are counted
+  abbrev estimate : Estimate
+  estimate = settings.estimate
+
   -- a row has the size that its message counts
   abbrev IsCounted : Row → Type 0
   IsCounted row = row.size ≡ counted_bytes estimate row.message
 
   -- rows within the limits, each with the size that its message counts
   record AreWithin (rows : List Row) : Type 0 where
-    sum : total rows ≤ 4294967295
-    count : length rows ≤ 1048576
+    sum : total rows ≤ greatest_total
+    count : length rows ≤ most_writes
     sizes : AllByRecursion IsCounted rows
 
   abbrev AreCounted : List Row → Type 0
@@ -70,8 +77,8 @@ module _ (estimate : Estimate) where
   not_too_much false true accepted = absurd (cc)
   not_too_much false false accepted = refl
 
-  room_for : (sum size count : ℕ) → (ltb 4294967295 (sum + size) || leb 1048576 count) ≡ false →
-      (sum + size ≤ 4294967295) × (count < 1048576)
+  room_for : (sum size count : ℕ) → (ltb greatest_total (sum + size) || leb most_writes count) ≡ false →
+      (sum + size ≤ greatest_total) × (count < most_writes)
   room_for sum size count is = (grind (arith, nat_tests), grind (arith, nat_tests))
 
   -- an accepted write does so too
@@ -104,9 +111,9 @@ module _ (estimate : Estimate) where
       (one_within (rows_after estimate earlier) command open_and.1 within)
 
   -- so are they after all accepted commands
-  rows_within : (commands : List Command) → are_accepted estimate [] commands ≡ true → IsWithin commands
+  rows_within : (commands : List Command) → are_accepted settings [] commands ≡ true → IsWithin commands
   rows_within commands all =
-      kept_along_accepted estimate IsWithin one_more_within [] commands all
+      kept_along_accepted settings IsWithin one_more_within [] commands all
       (record { sum = omega arith; count = omega arith; sizes = tt })
 
   -- no more bytes are left of a message than it counts
@@ -171,20 +178,20 @@ module _ (estimate : Estimate) where
   at_most : (bytes n : ℕ) → ltb bytes n ≡ false → n ≤ bytes
   at_most bytes n is = grind (arith, nat_tests)
 
-  module _ (commands : List Command) (all : are_accepted estimate [] commands ≡ true) where
+  module _ (commands : List Command) (all : are_accepted settings [] commands ≡ true) where
     -- after accepted commands no more than 4294967295 bytes are pending
-    pub total_within : total (rows_after estimate commands) ≤ 4294967295
+    pub total_within : total (rows_after estimate commands) ≤ greatest_total
     total_within = (rows_within commands all).sum
 
     -- at most 1048576 of them are writes
-    pub writes_within : writes_in commands ≤ 1048576
+    pub writes_within : writes_in commands ≤ most_writes
     writes_within = omega (arith, row_for_each_write estimate commands, (rows_within commands all).count)
 
     -- and a removal of bytes that is accepted next is of no more than are pending
-    pub removal_within : (n : ℕ) → first_refusal estimate commands (RemoveBytes n) ≡ None → n ≤ 4294967295
+    pub removal_within : (n : ℕ) → is_accepted settings commands (RemoveBytes n) ≡ true → n ≤ greatest_total
     removal_within n accepted =
         let rows = rows_after estimate commands in
         let bytes = bytes_in (byte_run rows) in
-        let open_and = open_and_fit estimate commands (RemoveBytes n) accepted in
+        let open_and = open_and_fit estimate commands (RemoveBytes n) (not_refused settings commands (RemoveBytes n) accepted) in
         let few = at_most bytes n (not_too_many (ltb bytes n) open_and.1) in
         omega (arith, few, run_le rows (rows_within commands all).sizes, total_within)

@@ -259,7 +259,7 @@ module _ (settings : Settings) (id : PromiseId) (outcome : Outcome) where
   )
 
   -- and so after accepted commands
-  pub accepted_is_told : (commands : List Command) → are_accepted settings.estimate [] commands ≡ true →
+  pub accepted_is_told : (commands : List Command) → are_accepted settings [] commands ≡ true →
       IsSettled commands ↔ IsAmong (settled_along settings [] commands)
   accepted_is_told commands all =
       subst (λ (accepted : List Command). IsSettled accepted ↔ IsAmong (settled_along settings [] commands))

@@ -10,8 +10,8 @@ use Rattle.ob_seq.specs.Mark.{mark_after}
 use Rattle.ob_seq.specs.Settings.{Settings}
 use Rattle.ob_seq.specs.UserBit.{user_bit}
 use Rattle.ob_seq.specs.Word.{word_after}
-use Rattle.ob_seq.proofs.Digits.{digit, digit_at, number}
-use Rattle.ob_seq.proofs.Marks.{half_after, word_is_from}
+use Rattle.ob_seq.proofs.Digits.{digit, digit_at, number, user_bits_even}
+use Rattle.ob_seq.proofs.Marks.{half_after}
 
 digit_is : (bit : Bool) → digit bit ≡ 1 ↔ bit ≡ true
 digit_is true = (λ one. refl, λ set. refl)
@@ -47,7 +47,7 @@ module _ (settings : Settings) (commands : List Command) where
   half = half_after commands
 
   word_is : word ≡ digit mark + half * 2
-  word_is = word_is_from settings commands
+  word_is = ap (λ bits. digit mark + bits) (user_bits_even (user_bit commands))
 
   -- bit 0 is the mark
   pub bit_0_is_mark : bit_at word 0 ≡ 1 ↔ mark ≡ true

@@ -4,6 +4,7 @@
 ghost use Rattle.std.specs.Int.{bit_at};
 ghost use Rattle.std.specs.List.{All, Contains};
 ghost use Rattle.std.specs.Prelude.{◌≡◌, None, Some, ◌+◌, ◌-◌, ◌<◌, ◌≤◌, ◌↔◌, ℕ, List, [], length, true};
+ghost use Rattle.ob_types.specs.Limits.{greatest_total, most_writes};
 ghost use Rattle.ob_types.specs.WaterMark.{Marks};
 ghost use Rattle.ob_types.specs.declared.command.Command.{Command};
 ghost use Rattle.ob_types.specs.declared.command.Command.TheVariants.{RemoveBytes};
@@ -12,7 +13,7 @@ ghost use Rattle.ob_types.specs.declared.promise.Outcome.{Outcome};
 ghost use Rattle.ob_types.specs.declared.promise.PromiseId.{PromiseId};
 ghost use Rattle.ob_types.specs.declared.promise.PromiseState.TheVariants.{Settled};
 ghost use Rattle.ob_seq.specs.Accepted.{accepted_among};
-ghost use Rattle.ob_seq.specs.Answer.{are_accepted, commands_after, first_refusal};
+ghost use Rattle.ob_seq.specs.Answer.{is_accepted, are_accepted, commands_after};
 ghost use Rattle.ob_seq.specs.Closed.{is_closed};
 ghost use Rattle.ob_seq.specs.Effect.{rows_after};
 ghost use Rattle.ob_seq.specs.Fitting.{FitsItsPlace};
@@ -42,7 +43,7 @@ pub fn a_settled_promise_is_told()
         promise_after settings (accepted_among settings commands) id ≡ Some (Settled outcome)
         ↔ Contains (settled_along settings [] commands) (id, outcome) }
     ensures accepted { (settings : Settings) (commands : List Command) (id : PromiseId) (outcome : Outcome) →
-        are_accepted settings.estimate [] commands ≡ true
+        are_accepted settings [] commands ≡ true
         → promise_after settings commands id ≡ Some (Settled outcome)
         ↔ Contains (settled_along settings [] commands) (id, outcome) }
 {}
@@ -51,11 +52,11 @@ pub fn a_settled_promise_is_told()
 /// what all of them do. Of accepted commands none is left out.
 pub fn refused_commands_leave_no_trace()
     ensures accepted { (settings : Settings) (commands : List Command) →
-        are_accepted settings.estimate [] (accepted_among settings commands) ≡ true }
+        are_accepted settings [] (accepted_among settings commands) ≡ true }
     ensures settled { (settings : Settings) (commands : List Command) →
         settled_along settings [] (accepted_among settings commands) ≡ settled_along settings [] commands }
     ensures all { (settings : Settings) (commands : List Command) →
-        are_accepted settings.estimate [] commands ≡ true → accepted_among settings commands ≡ commands }
+        are_accepted settings [] commands ≡ true → accepted_among settings commands ≡ commands }
 {}
 
 /// After accepted commands a promise is unknown exactly where its id is not below the number of writes among them, and
@@ -77,10 +78,10 @@ pub fn the_rows_stand_in_order()
 /// one is fixed, that of a voided one was cancelled, and that of a message that is gone is settled. So once the buffer
 /// is closed, each promise that it gave is settled.
 pub fn each_promise_fits_the_place_of_its_message()
-    ensures fits { (estimate : Estimate) (commands : List Command) →
-        are_accepted estimate [] commands ≡ true → All FitsItsPlace (rows_after estimate commands) }
+    ensures fits { (settings : Settings) (commands : List Command) →
+        are_accepted settings [] commands ≡ true → All FitsItsPlace (rows_after settings.estimate commands) }
     ensures closed { (settings : Settings) (commands : List Command) (id : PromiseId) →
-        are_accepted settings.estimate [] commands ≡ true → is_closed commands ≡ true → id.0 < writes_in commands
+        are_accepted settings [] commands ≡ true → is_closed commands ≡ true → id.0 < writes_in commands
         → (outcome : Outcome) × (promise_after settings commands id ≡ Some (Settled outcome)) }
 {}
 
@@ -96,13 +97,13 @@ pub fn the_word_is_the_mark_and_the_user_bits()
 /// Accepted commands keep to the limits: at most 4294967295 bytes are pending after them, at most 1048576 of them are
 /// writes, and a removal of n bytes that is accepted next has n at most 4294967295.
 pub fn accepted_commands_keep_to_the_limits()
-    ensures total { (estimate : Estimate) (commands : List Command) →
-        are_accepted estimate [] commands ≡ true → total (rows_after estimate commands) ≤ 4294967295 }
-    ensures writes { (estimate : Estimate) (commands : List Command) →
-        are_accepted estimate [] commands ≡ true → writes_in commands ≤ 1048576 }
-    ensures removal { (estimate : Estimate) (commands : List Command) (n : ℕ) →
-        are_accepted estimate [] commands ≡ true → first_refusal estimate commands (RemoveBytes n) ≡ None
-        → n ≤ 4294967295 }
+    ensures total { (settings : Settings) (commands : List Command) →
+        are_accepted settings [] commands ≡ true → total (rows_after settings.estimate commands) ≤ greatest_total }
+    ensures writes { (settings : Settings) (commands : List Command) →
+        are_accepted settings [] commands ≡ true → writes_in commands ≤ most_writes }
+    ensures removal { (settings : Settings) (commands : List Command) (n : ℕ) →
+        are_accepted settings [] commands ≡ true → is_accepted settings commands (RemoveBytes n) ≡ true
+        → n ≤ greatest_total }
 {}
 
 /// The look's `before_unwritable`, where it is not 0, is the least rise that brings the pending bytes above the high
@@ -115,6 +116,6 @@ pub fn before_unwritable_is_the_least_rise()
 /// Under a positive low mark the look's `before_writable`, where it is not 0, is the least fall that brings the pending
 /// bytes below the low mark. No buffer has more than 4294967295 of them.
 pub fn before_writable_is_the_least_fall()
-    ensures least { (marks : Marks) (word sum fall : ℕ) → 0 < marks.low → sum ≤ 4294967295
+    ensures least { (marks : Marks) (word sum fall : ℕ) → 0 < marks.low → sum ≤ greatest_total
         → 0 < before_writable marks word sum → before_writable marks word sum ≤ fall ↔ sum - fall < marks.low }
 {}
