@@ -44,8 +44,8 @@ pub accepted_of_legal : (settings : Settings) (records : List Record) → IsLega
 accepted_of_legal settings records legal = accepted_behind settings [] records legal
 
 -- and so they are accepted
-pub legal_are_accepted : (settings : Settings) (records : List Record) → IsLegal settings records → are_accepted settings.estimate [] (accepted_commands records) ≡ true
-legal_are_accepted settings records legal = ap (are_accepted settings.estimate []) (accepted_of_legal settings records legal) ∙ among_are_accepted settings (map command_of records)
+pub legal_are_accepted : (settings : Settings) (records : List Record) → IsLegal settings records → are_accepted settings [] (accepted_commands records) ≡ true
+legal_are_accepted settings records legal = ap (are_accepted settings []) (accepted_of_legal settings records legal) ∙ among_are_accepted settings (map command_of records)
 
 -- a promise is settled exactly where it is told
 pub legal_is_told : (settings : Settings) (records : List Record) (id : PromiseId) (outcome : Outcome) → IsLegal settings records →

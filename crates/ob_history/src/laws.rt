@@ -2,6 +2,7 @@
 
 ghost use Rattle.std.specs.List.{All, Contains};
 ghost use Rattle.std.specs.Prelude.{◌≡◌, ℕ, ◌<◌, ◌≤◌, ◌↔◌, true, List, [], ◌∷◌, ◌++◌, None, Some, map, take};
+ghost use Rattle.ob_types.specs.Limits.{greatest_total};
 ghost use Rattle.ob_types.specs.declared.command.Command.{Command};
 ghost use Rattle.ob_types.specs.declared.command.Command.TheVariants.{RemoveBytes};
 ghost use Rattle.ob_types.specs.declared.promise.Outcome.{Outcome};
@@ -73,9 +74,9 @@ pub fn a_call_keeps_a_history_legal()
 /// are pending, and the word is below 4294967296.
 pub fn a_history_keeps_to_the_limits()
     ensures removal { (settings : Settings) (records : List Record) (one : Record) (n : ℕ) → IsLegal settings records
-        → Contains records one → is_accepted one ≡ true → one.command ≡ RemoveBytes n → n ≤ 4294967295 }
+        → Contains records one → is_accepted one ≡ true → one.command ≡ RemoveBytes n → n ≤ greatest_total }
     ensures total { (settings : Settings) (records : List Record) →
-        IsLegal settings records → (glance_after settings records).total ≤ 4294967295 }
+        IsLegal settings records → (glance_after settings records).total ≤ greatest_total }
     ensures word { (settings : Settings) (records : List Record) → (glance_after settings records).word < 4294967296 }
 {
     accepted_commands_keep_to_the_limits();
