@@ -3,7 +3,6 @@ use Rattle.std.proofs.Common.{◌≡◌, Bool, true, false, ◌&&◌, List, [], 
 use Rattle.std.proofs.Common.{append_assoc, append-nil, subst}
 use Rattle.std.specs.Prelude.{Option, Some, None, is_none, is_ok, fold}
 use Rattle.ob_types.specs.declared.command.Command.{Command}
-use Rattle.ob_types.specs.declared.estimate.Estimate.{Estimate}
 use Rattle.ob_types.specs.declared.promise.Outcome.{Outcome}
 use Rattle.ob_types.specs.declared.promise.PromiseId.{PromiseId}
 use Rattle.ob_types.specs.declared.refusal.Refusal.{Refusal}
@@ -15,89 +14,75 @@ use Rattle.ob_seq.specs.Closed.{is_closed}
 use Rattle.ob_seq.specs.Effect.{rows_after}
 use Rattle.ob_seq.specs.Accepted.{accepted_among}
 use Rattle.ob_seq.specs.Settles.{settled_along, settled_by}
-
--- the first command of accepted ones is accepted, and so are the others after it
-first_and_rest : (estimate : Estimate) (earlier : List Command) (command : Command) (commands : List Command) →
-    are_accepted estimate earlier (command ∷ commands) ≡ true →
-    (first_refusal estimate earlier command ≡ None) × (are_accepted estimate (earlier ++ command ∷ []) commands ≡ true)
-first_and_rest estimate earlier command commands all = by_refusal (first_refusal estimate earlier command) all
-  where
-    by_refusal : (refusal : Option Refusal) →
-        (is_none refusal && are_accepted estimate (earlier ++ command ∷ []) commands) ≡ true →
-        (refusal ≡ None) × (are_accepted estimate (earlier ++ command ∷ []) commands ≡ true)
-    by_refusal None rest = (refl, rest)
-    by_refusal (Some refusal) none = absurd (cc)
-
--- a command that is not refused comes before any close, and nothing of the rows refuses it
-pub open_and_fit : (estimate : Estimate) (earlier : List Command) (command : Command) →
-    first_refusal estimate earlier command ≡ None →
-    (is_closed earlier ≡ false) × (refusal_of estimate (rows_after estimate earlier) command ≡ None)
-open_and_fit estimate earlier command accepted =
-    by_closed (is_closed earlier) (refusal_of estimate (rows_after estimate earlier) command) accepted
-  where
-    by_closed : (closed : Bool) (refusal : Option Refusal) → cond closed (Some Closed) refusal ≡ None →
-        (closed ≡ false) × (refusal ≡ None)
-    by_closed true refusal accepted = absurd (cc)
-    by_closed false refusal accepted = (refl, accepted)
-
--- what each accepted command keeps holds after all of them
-pub kept_along_accepted : (estimate : Estimate) (Holds : List Command → Type 0) →
-    ((earlier : List Command) (command : Command) → first_refusal estimate earlier command ≡ None →
-    Holds earlier → Holds (earlier ++ command ∷ [])) →
-    (earlier commands : List Command) → are_accepted estimate earlier commands ≡ true →
-    Holds earlier → Holds (earlier ++ commands)
-kept_along_accepted estimate Holds keeps earlier [] all holds = subst Holds (sym (append-nil earlier)) holds
-kept_along_accepted estimate Holds keeps earlier (command ∷ commands) all holds =
-    let both = first_and_rest estimate earlier command commands all in
-    subst Holds (append_assoc earlier (command ∷ []) commands)
-    (kept_along_accepted estimate Holds keeps (earlier ++ command ∷ []) commands both.1
-    (keeps earlier command both.0 holds))
-
-and_assoc : (a b c : Bool) → ((a && b) && c) ≡ (a && (b && c))
-and_assoc true b c = refl
-and_assoc false b c = refl
-
--- commands are accepted where the first ones are, and then the others after them
-accepted_append : (estimate : Estimate) (earlier first more : List Command) →
-    are_accepted estimate earlier (first ++ more)
-    ≡ (are_accepted estimate earlier first && are_accepted estimate (earlier ++ first) more)
-accepted_append estimate earlier [] more = ap (λ all. are_accepted estimate all more) (sym (append-nil earlier))
-accepted_append estimate earlier (command ∷ first) more =
-    let accepted = is_none (first_refusal estimate earlier command) in
-    let next = earlier ++ command ∷ [] in
-    let rest = are_accepted estimate next first in
-    ap (λ others. accepted && others) (accepted_append estimate next first more
-    ∙ ap (λ all. rest && are_accepted estimate all more) (append_assoc earlier (command ∷ []) first))
-    ∙ sym (and_assoc accepted rest (are_accepted estimate (earlier ++ command ∷ first) more))
+use Rattle.ob_seq.proofs.History.{accepted_more}
 
 module _ (settings : Settings) where
+  -- commands that come after a history are accepted, one after another
+  abbrev AreAccepted : List Command → List Command → Type 0
+  AreAccepted earlier commands = are_accepted settings.estimate earlier commands ≡ true
+
+  -- the first command of accepted ones is accepted, and so are the others after it
+  first_and_rest : (earlier : List Command) (command : Command) (commands : List Command) →
+      AreAccepted earlier (command ∷ commands) →
+      (first_refusal settings.estimate earlier command ≡ None) × AreAccepted (earlier ++ command ∷ []) commands
+  first_and_rest earlier command commands all = by_refusal (first_refusal settings.estimate earlier command) all
+    where
+      rest : Bool
+      rest = are_accepted settings.estimate (earlier ++ command ∷ []) commands
+
+      by_refusal : (refusal : Option Refusal) → (is_none refusal && rest) ≡ true → (refusal ≡ None) × (rest ≡ true)
+      by_refusal None all = (refl, all)
+      by_refusal (Some refusal) all = absurd (cc)
+
+  -- what each accepted command keeps holds after all of them
+  pub kept_along_accepted : (Holds : List Command → Type 0) →
+      ((earlier : List Command) (command : Command) → first_refusal settings.estimate earlier command ≡ None →
+      Holds earlier → Holds (earlier ++ command ∷ [])) →
+      (earlier commands : List Command) → AreAccepted earlier commands → Holds earlier → Holds (earlier ++ commands)
+  kept_along_accepted Holds keeps earlier [] all holds = subst Holds (sym (append-nil earlier)) holds
+  kept_along_accepted Holds keeps earlier (command ∷ commands) all holds =
+      let both = first_and_rest earlier command commands all in
+      subst Holds (append_assoc earlier (command ∷ []) commands)
+      (kept_along_accepted Holds keeps (earlier ++ command ∷ []) commands both.1 (keeps earlier command both.0 holds))
+
+  -- a command that is not refused comes before any close, and nothing of the rows refuses it
+  pub open_and_fit : (earlier : List Command) (command : Command) →
+      first_refusal settings.estimate earlier command ≡ None →
+      (is_closed earlier ≡ false) × (refusal_of settings.estimate (rows_after settings.estimate earlier) command ≡ None)
+  open_and_fit earlier command accepted =
+      let rows = rows_after settings.estimate earlier in
+      by_closed (is_closed earlier) (refusal_of settings.estimate rows command) accepted
+    where
+      by_closed : (closed : Bool) (refusal : Option Refusal) → cond closed (Some Closed) refusal ≡ None →
+          (closed ≡ false) × (refusal ≡ None)
+      by_closed true refusal accepted = absurd (cc)
+      by_closed false refusal accepted = (refl, accepted)
+
   -- the history after one more command, by the first refusal
   abbrev after_by : List Command → Command → Option Refusal → List Command
   after_by earlier command refusal =
       cond (is_ok (unless_refused refusal (reply_of settings earlier command))) (earlier ++ command ∷ []) earlier
 
   -- after accepted commands one more is either accepted too, or leaves them as they are
-  still_accepted : (earlier : List Command) (command : Command) → are_accepted settings.estimate [] earlier ≡ true →
-      are_accepted settings.estimate [] (commands_after settings earlier command) ≡ true
+  still_accepted : (earlier : List Command) (command : Command) → AreAccepted [] earlier →
+      AreAccepted [] (commands_after settings earlier command)
   still_accepted earlier command all = by_refusal (first_refusal settings.estimate earlier command) refl
     where
       by_refusal : (refusal : Option Refusal) → first_refusal settings.estimate earlier command ≡ refusal →
-          are_accepted settings.estimate [] (after_by earlier command refusal) ≡ true
+          AreAccepted [] (after_by earlier command refusal)
       by_refusal None is =
-          accepted_append settings.estimate [] earlier (command ∷ [])
-          ∙ ap (λ first. first && (is_none (first_refusal settings.estimate earlier command) && true)) all
-          ∙ ap (λ (refusal : Option Refusal). is_none refusal && true) is
+          let open_and = open_and_fit earlier command is in
+          accepted_more settings.estimate earlier command open_and.0 all open_and.1
       by_refusal (Some refusal) is = all
 
-  accepted_along : (earlier commands : List Command) → are_accepted settings.estimate [] earlier ≡ true →
-      are_accepted settings.estimate [] (fold (commands_after settings) earlier commands) ≡ true
+  accepted_along : (earlier commands : List Command) → AreAccepted [] earlier →
+      AreAccepted [] (fold (commands_after settings) earlier commands)
   accepted_along earlier [] all = all
   accepted_along earlier (command ∷ commands) all =
       accepted_along (commands_after settings earlier command) commands (still_accepted earlier command all)
 
   -- what is accepted among commands is accepted, one command after another
-  pub among_are_accepted : (commands : List Command) →
-      are_accepted settings.estimate [] (accepted_among settings commands) ≡ true
+  pub among_are_accepted : (commands : List Command) → AreAccepted [] (accepted_among settings commands)
   among_are_accepted commands = accepted_along [] commands refl
 
   -- an accepted command comes behind the earlier ones
@@ -106,17 +91,16 @@ module _ (settings : Settings) where
       commands_after settings earlier command ≡ earlier ++ command ∷ []
   after_accepted earlier command accepted = ap (after_by earlier command) accepted
 
-  all_along : (earlier commands : List Command) → are_accepted settings.estimate earlier commands ≡ true →
+  all_along : (earlier commands : List Command) → AreAccepted earlier commands →
       fold (commands_after settings) earlier commands ≡ earlier ++ commands
   all_along earlier [] all = sym (append-nil earlier)
   all_along earlier (command ∷ commands) all =
-      let both = first_and_rest settings.estimate earlier command commands all in
+      let both = first_and_rest earlier command commands all in
       ap (λ first. fold (commands_after settings) first commands) (after_accepted earlier command both.0)
       ∙ all_along (earlier ++ command ∷ []) commands both.1 ∙ append_assoc earlier (command ∷ []) commands
 
   -- of accepted commands none is left out
-  pub all_among : (commands : List Command) →
-      are_accepted settings.estimate [] commands ≡ true → accepted_among settings commands ≡ commands
+  pub all_among : (commands : List Command) → AreAccepted [] commands → accepted_among settings commands ≡ commands
   all_among commands all = all_along [] commands all
 
   -- the accepted commands after earlier ones settle what all of them do

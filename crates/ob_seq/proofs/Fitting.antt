@@ -24,6 +24,7 @@ use Rattle.ob_seq.specs.Effect.{with_skipped}
 use Rattle.ob_seq.specs.Fitting.{FitsItsPlace, MayHave}
 use Rattle.ob_seq.specs.Line.{front, is_in_line}
 use Rattle.ob_seq.specs.Row.{Row, Place, Unflushed, Flushed, Voided, Gone, is_flushed, is_voided, new_row}
+use Rattle.ob_seq.specs.Settings.{Settings}
 use Rattle.ob_seq.specs.Writes.{writes_in}
 use Rattle.ob_seq.proofs.Accepting.{kept_along_accepted, open_and_fit}
 use Rattle.ob_seq.proofs.History.{closed_more, rows_after_more}
@@ -186,7 +187,10 @@ close_leaves_none : (estimate : Estimate) (rows : List Row) (command : Command) 
 close_leaves_none estimate rows (Close cause) is = all_now_gone (closed_row cause) (λ row. refl) rows
 close_leaves_none estimate rows command is = absurd (cc)
 
-module _ (estimate : Estimate) where
+module _ (settings : Settings) where
+  abbrev estimate : Estimate
+  estimate = settings.estimate
+
   -- the promises fit, and where a buffer is closed each row is gone
   record AreFitting (commands : List Command) : Type 0 where
     fit : AllFit (rows_after estimate commands)
@@ -196,19 +200,19 @@ module _ (estimate : Estimate) where
       AreFitting earlier → AreFitting (earlier ++ command ∷ [])
   one_more_fits earlier command accepted fitting =
       let rows = rows_after estimate earlier in
-      let open_and = open_and_fit estimate earlier command accepted in
+      let open_and = open_and_fit settings earlier command accepted in
       let more = sym (rows_after_more estimate earlier command) in record {
         fit = subst AllFit more (effect_fits estimate rows command open_and.1 fitting.fit);
         gone = λ closed. subst (AllByRecursion IsGone) more
             (close_leaves_none estimate rows command (sym (closed_more earlier command open_and.0) ∙ closed));
       }
 
-  fitting_after : (commands : List Command) → are_accepted estimate [] commands ≡ true → AreFitting commands
+  fitting_after : (commands : List Command) → are_accepted settings.estimate [] commands ≡ true → AreFitting commands
   fitting_after commands all =
-      kept_along_accepted estimate AreFitting one_more_fits [] commands all (record { fit = tt; gone = λ closed. tt })
+      kept_along_accepted settings AreFitting one_more_fits [] commands all (record { fit = tt; gone = λ closed. tt })
 
   -- after accepted commands each promise fits its place
-  pub rows_fit : (commands : List Command) → are_accepted estimate [] commands ≡ true →
+  pub rows_fit : (commands : List Command) → are_accepted settings.estimate [] commands ≡ true →
       All FitsItsPlace (rows_after estimate commands)
   rows_fit commands all =
       All-from_recursion FitsItsPlace (rows_after estimate commands) (fitting_after commands all).fit
@@ -223,7 +227,7 @@ module _ (estimate : Estimate) where
   settled_gone (row ∷ rows) (suc id) within fit gone = settled_gone rows id (omega (arith, within)) fit.1 gone.1
 
   -- once the buffer is closed each promise that it gave is settled
-  pub closed_is_settled : (commands : List Command) (id : ℕ) → are_accepted estimate [] commands ≡ true →
+  pub closed_is_settled : (commands : List Command) (id : ℕ) → are_accepted settings.estimate [] commands ≡ true →
       is_closed commands ≡ true → id < writes_in commands →
       (outcome : Outcome) × (promise_at (rows_after estimate commands) id ≡ Some (Settled outcome))
   closed_is_settled commands id all closed given =

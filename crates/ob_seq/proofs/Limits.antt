@@ -21,13 +21,17 @@ use Rattle.ob_seq.specs.Line.{is_in_line, line}
 use Rattle.ob_seq.specs.Pieces.{bytes_in}
 use Rattle.ob_seq.specs.Row.{Row, Place, Unflushed, Flushed, Voided, Gone, is_flushed, is_voided, new_row}
 use Rattle.ob_seq.specs.Row.{unread_part, without_skipped}
+use Rattle.ob_seq.specs.Settings.{Settings}
 use Rattle.ob_seq.specs.Total.{counted_size, total}
 use Rattle.ob_seq.specs.Writes.{writes_in}
 use Rattle.ob_seq.proofs.Accepting.{kept_along_accepted, open_and_fit}
 use Rattle.ob_seq.proofs.History.{rows_after_more}
 use Rattle.ob_seq.proofs.Shrinking.{Shrink, effect_shrinks, row_for_each_write, same_length, total_shrinks}
 
-module _ (estimate : Estimate) where
+module _ (settings : Settings) where
+  abbrev estimate : Estimate
+  estimate = settings.estimate
+
   -- a row has the size that its message counts
   abbrev IsCounted : Row → Type 0
   IsCounted row = row.size ≡ counted_bytes estimate row.message
@@ -99,14 +103,14 @@ module _ (estimate : Estimate) where
   one_more_within : (earlier : List Command) (command : Command) → first_refusal estimate earlier command ≡ None →
       IsWithin earlier → IsWithin (earlier ++ command ∷ [])
   one_more_within earlier command accepted within =
-      let open_and = open_and_fit estimate earlier command accepted in
+      let open_and = open_and_fit settings earlier command accepted in
       subst AreWithin (sym (rows_after_more estimate earlier command))
       (one_within (rows_after estimate earlier) command open_and.1 within)
 
   -- so are they after all accepted commands
-  rows_within : (commands : List Command) → are_accepted estimate [] commands ≡ true → IsWithin commands
+  rows_within : (commands : List Command) → are_accepted settings.estimate [] commands ≡ true → IsWithin commands
   rows_within commands all =
-      kept_along_accepted estimate IsWithin one_more_within [] commands all
+      kept_along_accepted settings IsWithin one_more_within [] commands all
       (record { sum = omega arith; count = omega arith; sizes = tt })
 
   -- no more bytes are left of a message than it counts
@@ -171,7 +175,7 @@ module _ (estimate : Estimate) where
   at_most : (bytes n : ℕ) → ltb bytes n ≡ false → n ≤ bytes
   at_most bytes n is = grind (arith, nat_tests)
 
-  module _ (commands : List Command) (all : are_accepted estimate [] commands ≡ true) where
+  module _ (commands : List Command) (all : are_accepted settings.estimate [] commands ≡ true) where
     -- after accepted commands no more than 4294967295 bytes are pending
     pub total_within : total (rows_after estimate commands) ≤ 4294967295
     total_within = (rows_within commands all).sum
@@ -185,6 +189,6 @@ module _ (estimate : Estimate) where
     removal_within n accepted =
         let rows = rows_after estimate commands in
         let bytes = bytes_in (byte_run rows) in
-        let open_and = open_and_fit estimate commands (RemoveBytes n) accepted in
+        let open_and = open_and_fit settings commands (RemoveBytes n) accepted in
         let few = at_most bytes n (not_too_many (ltb bytes n) open_and.1) in
         omega (arith, few, run_le rows (rows_within commands all).sizes, total_within)

@@ -9,9 +9,8 @@ use Rattle.ob_types.specs.declared.command.Command.{Command}
 use Rattle.ob_seq.specs.Mark.{mark_after}
 use Rattle.ob_seq.specs.Settings.{Settings}
 use Rattle.ob_seq.specs.UserBit.{user_bit}
-use Rattle.ob_seq.specs.Word.{word_after}
-use Rattle.ob_seq.proofs.Digits.{digit, digit_at, number}
-use Rattle.ob_seq.proofs.Marks.{half_after, word_is_from}
+use Rattle.ob_seq.specs.Word.{bit_value, word_after}
+use Rattle.ob_seq.proofs.Digits.{digit, half_bits, digit_at, number, user_bits_even}
 
 digit_is : (bit : Bool) → digit bit ≡ 1 ↔ bit ≡ true
 digit_is true = (λ one. refl, λ set. refl)
@@ -44,10 +43,10 @@ module _ (settings : Settings) (commands : List Command) where
   mark = mark_after settings commands
 
   abbrev half : ℕ
-  half = half_after commands
+  half = half_bits (user_bit commands)
 
   word_is : word ≡ digit mark + half * 2
-  word_is = word_is_from settings commands
+  word_is = ap (λ bits. bit_value 0 mark + bits) (user_bits_even (user_bit commands))
 
   -- bit 0 is the mark
   pub bit_0_is_mark : bit_at word 0 ≡ 1 ↔ mark ≡ true

@@ -77,8 +77,8 @@ pub fn the_rows_stand_in_order()
 /// one is fixed, that of a voided one was cancelled, and that of a message that is gone is settled. So once the buffer
 /// is closed, each promise that it gave is settled.
 pub fn each_promise_fits_the_place_of_its_message()
-    ensures fits { (estimate : Estimate) (commands : List Command) →
-        are_accepted estimate [] commands ≡ true → All FitsItsPlace (rows_after estimate commands) }
+    ensures fits { (settings : Settings) (commands : List Command) →
+        are_accepted settings.estimate [] commands ≡ true → All FitsItsPlace (rows_after settings.estimate commands) }
     ensures closed { (settings : Settings) (commands : List Command) (id : PromiseId) →
         are_accepted settings.estimate [] commands ≡ true → is_closed commands ≡ true → id.0 < writes_in commands
         → (outcome : Outcome) × (promise_after settings commands id ≡ Some (Settled outcome)) }
@@ -96,13 +96,13 @@ pub fn the_word_is_the_mark_and_the_user_bits()
 /// Accepted commands keep to the limits: at most 4294967295 bytes are pending after them, at most 1048576 of them are
 /// writes, and a removal of n bytes that is accepted next has n at most 4294967295.
 pub fn accepted_commands_keep_to_the_limits()
-    ensures total { (estimate : Estimate) (commands : List Command) →
-        are_accepted estimate [] commands ≡ true → total (rows_after estimate commands) ≤ 4294967295 }
-    ensures writes { (estimate : Estimate) (commands : List Command) →
-        are_accepted estimate [] commands ≡ true → writes_in commands ≤ 1048576 }
-    ensures removal { (estimate : Estimate) (commands : List Command) (n : ℕ) →
-        are_accepted estimate [] commands ≡ true → first_refusal estimate commands (RemoveBytes n) ≡ None
-        → n ≤ 4294967295 }
+    ensures total { (settings : Settings) (commands : List Command) →
+        are_accepted settings.estimate [] commands ≡ true → total (rows_after settings.estimate commands) ≤ 4294967295 }
+    ensures writes { (settings : Settings) (commands : List Command) →
+        are_accepted settings.estimate [] commands ≡ true → writes_in commands ≤ 1048576 }
+    ensures removal { (settings : Settings) (commands : List Command) (n : ℕ) →
+        are_accepted settings.estimate [] commands ≡ true
+        → first_refusal settings.estimate commands (RemoveBytes n) ≡ None → n ≤ 4294967295 }
 {}
 
 /// The look's `before_unwritable`, where it is not 0, is the least rise that brings the pending bytes above the high

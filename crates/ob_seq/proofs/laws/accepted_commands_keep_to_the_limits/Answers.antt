@@ -5,5 +5,5 @@ pub returns : goal.returns
 returns c = record {
   total = total_within;
   writes = writes_within;
-  removal = λ estimate commands n all accepted. removal_within estimate commands all n accepted;
+  removal = λ settings commands n all accepted. removal_within settings commands all n accepted;
 }

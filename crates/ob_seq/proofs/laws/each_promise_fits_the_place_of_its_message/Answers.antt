@@ -4,5 +4,5 @@ use Rattle.ob_seq.proofs.laws.each_promise_fits_the_place_of_its_message.Goals a
 pub returns : goal.returns
 returns c = record {
   fits = rows_fit;
-  closed = λ settings commands id all closed given. closed_is_settled settings.estimate commands id.0 all closed given;
+  closed = λ settings commands id all closed given. closed_is_settled settings commands id.0 all closed given;
 }
