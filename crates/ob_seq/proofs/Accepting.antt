@@ -15,6 +15,7 @@ use Rattle.ob_seq.specs.Closed.{is_closed}
 use Rattle.ob_seq.specs.Effect.{rows_after}
 use Rattle.ob_seq.specs.Accepted.{accepted_among}
 use Rattle.ob_seq.specs.Settles.{settled_along, settled_by}
+use Rattle.ob_seq.proofs.History.{accepted_more}
 
 -- the first command of accepted ones is accepted, and so are the others after it
 first_and_rest : (settings : Settings) (earlier : List Command) (command : Command) (commands : List Command) →
@@ -65,23 +66,6 @@ kept_along_accepted settings Holds keeps earlier (command ∷ commands) all hold
     (kept_along_accepted settings Holds keeps (earlier ++ command ∷ []) commands both.1
     (keeps earlier command both.0 holds))
 
-and_assoc : (a b c : Bool) → ((a && b) && c) ≡ (a && (b && c))
-and_assoc true b c = refl
-and_assoc false b c = refl
-
--- commands are accepted where the first ones are, and then the others after them
-accepted_append : (settings : Settings) (earlier first more : List Command) →
-    are_accepted settings earlier (first ++ more)
-    ≡ (are_accepted settings earlier first && are_accepted settings (earlier ++ first) more)
-accepted_append settings earlier [] more = ap (λ all. are_accepted settings all more) (sym (append-nil earlier))
-accepted_append settings earlier (command ∷ first) more =
-    let accepted = is_accepted settings earlier command in
-    let next = earlier ++ command ∷ [] in
-    let rest = are_accepted settings next first in
-    ap (λ others. accepted && others) (accepted_append settings next first more
-    ∙ ap (λ all. rest && are_accepted settings all more) (append_assoc earlier (command ∷ []) first))
-    ∙ sym (and_assoc accepted rest (are_accepted settings (earlier ++ command ∷ first) more))
-
 module _ (settings : Settings) where
   -- the history after one more command, by the first refusal
   abbrev after_by : List Command → Command → Option Refusal → List Command
@@ -95,10 +79,8 @@ module _ (settings : Settings) where
     where
       by_refusal : (refusal : Option Refusal) → first_refusal settings.estimate earlier command ≡ refusal →
           are_accepted settings [] (after_by earlier command refusal) ≡ true
-      by_refusal None is =
-          accepted_append settings [] earlier (command ∷ [])
-          ∙ ap (λ first. first && (is_accepted settings earlier command && true)) all
-          ∙ ap (λ (refusal : Option Refusal). is_ok (unless_refused refusal (reply_of settings earlier command)) && true) is
+      by_refusal None is = accepted_more settings [] earlier command all
+          (ap (λ (refusal : Option Refusal). is_ok (unless_refused refusal (reply_of settings earlier command))) is)
       by_refusal (Some refusal) is = all
 
   accepted_along : (earlier commands : List Command) → are_accepted settings [] earlier ≡ true →

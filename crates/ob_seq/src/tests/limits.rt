@@ -11,10 +11,10 @@ const MOST_WRITES: u32 = 1_048_576;
 fn the_write_past_the_limit_is_too_much(rt: HostRuntime) -> Result<(), Fail> {
     let mut buffer = buffer(rt.alloc(), 200, 400)?;
     for id in 0..MOST_WRITES {
-        buffer.remove()?;
+        assert_eq!(rt; buffer.remove()?.answer, Answer::Yes(id > 0));
         let reply = buffer.write(Message::Other(7))?;
         assert_eq!(rt; reply.answer, Answer::Id(PromiseId(id)));
-        buffer.flush()?;
+        assert_eq!(rt; buffer.flush()?.answer, Answer::Count(1));
     }
     let look = buffer.look();
     assert_eq!(rt; (look.total, look.size), (104, 1));
