@@ -15,7 +15,7 @@ use Rattle.ob_seq.specs.Closed.{is_closed}
 use Rattle.ob_seq.specs.Effect.{rows_after}
 use Rattle.ob_seq.specs.Accepted.{accepted_among}
 use Rattle.ob_seq.specs.Settles.{settled_along, settled_by}
-use Rattle.ob_seq.proofs.History.{accepted_more}
+use Rattle.ob_seq.proofs.History.{accepted_by, accepted_from_more}
 
 -- the first command of accepted ones is accepted, and so are the others after it
 first_and_rest : (settings : Settings) (earlier : List Command) (command : Command) (commands : List Command) →
@@ -79,8 +79,7 @@ module _ (settings : Settings) where
     where
       by_refusal : (refusal : Option Refusal) → first_refusal settings.estimate earlier command ≡ refusal →
           are_accepted settings [] (after_by earlier command refusal) ≡ true
-      by_refusal None is = accepted_more settings [] earlier command all
-          (ap (λ (refusal : Option Refusal). is_ok (unless_refused refusal (reply_of settings earlier command))) is)
+      by_refusal None is = accepted_from_more settings [] earlier command all (accepted_by settings earlier command is)
       by_refusal (Some refusal) is = all
 
   accepted_along : (earlier commands : List Command) → are_accepted settings [] earlier ≡ true →

@@ -59,7 +59,7 @@ refusal_of_open estimate commands command unclosed = ap (λ closed. cond closed 
 pub accepted_by : (settings : Settings) (commands : List Command) (command : Command) → first_refusal settings.estimate commands command ≡ None → is_accepted settings commands command ≡ true
 accepted_by settings commands command none = ap (λ refusal. is_ok (unless_refused refusal (reply_of settings commands command))) none
 
-accepted_from_more : (settings : Settings) (earlier commands : List Command) (command : Command) →
+pub accepted_from_more : (settings : Settings) (earlier commands : List Command) (command : Command) →
     are_accepted settings earlier commands ≡ true → is_accepted settings (earlier ++ commands) command ≡ true → are_accepted settings earlier (commands ++ command ∷ []) ≡ true
 accepted_from_more settings earlier [] command all last = ap (λ test. test && true) (ap (λ all. is_accepted settings all command) (sym (append-nil earlier)) ∙ last)
 accepted_from_more settings earlier (first ∷ commands) command all last =
