@@ -1,5 +1,6 @@
 -- One more call of a stored history.
 use Rattle.std.specs.Prelude.{ℕ, ◌-◌, ◌<◌, ◌≤◌, ◌≡◌, ◌==◌, Bool, false, [], ◌∷◌, ◌++◌, length, if◌then◌else◌, Result, Ok, Err}
+use Rattle.ob_types.specs.Limits.{inline_settlements}
 use Rattle.ob_types.specs.Write.{is_write}
 use Rattle.ob_types.specs.declared.command.Command.{Command}
 use Rattle.ob_types.specs.declared.refusal.Refusal.{Refusal}
@@ -41,4 +42,4 @@ history_after history caller command = if is_full history then history else with
 pub record IsCovered (history : History) (command : Command) : Type 0 where
   pub reserved : 0 < history.reserved
   pub no_write : is_write command ≡ false
-  pub few : settled_after history.settings (accepted_commands history.records) command ≤ 4
+  pub few : settled_after history.settings (accepted_commands history.records) command ≤ inline_settlements

@@ -1,5 +1,6 @@
 -- What is made ready before a command is given. No public clause cites this module.
 use Rattle.std.specs.Prelude.{◌≡◌, ℕ, ◌≤◌, false, List}
+use Rattle.ob_types.specs.Limits.{inline_settlements}
 use Rattle.ob_types.specs.Write.{is_write}
 use Rattle.ob_types.specs.declared.command.Command.{Command}
 use Rattle.ob_seq.specs.Pending.{Pending, StandsFor}
@@ -13,4 +14,4 @@ SettlesAtMost buffer command most = (commands : List Command) → StandsFor buff
 pub record IsSmall (buffer : Pending) (command : Command) (commands : List Command) : Type 0 where
   pub stands : StandsFor buffer commands
   pub no_write : is_write command ≡ false
-  pub few : settled_after buffer.settings commands command ≤ 4
+  pub few : settled_after buffer.settings commands command ≤ inline_settlements

@@ -15,10 +15,14 @@ pub record History : Type 0 where
 abbrev pub new_history : Settings → ℕ → History
 new_history settings limit = record { settings = settings; limit = limit; records = []; reserved = 0 }
 
+-- the most records that any history may hold
+abbrev pub most_records : ℕ
+most_records = 1048576
+
 -- a history is bounded where its records and the reserved calls have places under its limit, which is at most 1048576
 pub record IsBounded (history : History) : Type 0 where
   pub places : length history.records + history.reserved ≤ history.limit
-  pub limit : history.limit ≤ 1048576
+  pub limit : history.limit ≤ most_records
 
 -- a history lacks so many places where its limit is below the number of its records with them
 abbrev pub LacksPlaces : History → ℕ → Type 0

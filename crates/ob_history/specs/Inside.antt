@@ -1,9 +1,10 @@
 -- How a recorded buffer keeps its history. No public clause cites this module.
 use Rattle.std.specs.Prelude.{◌≡◌, ◌+◌, ◌≤◌, vec_capacity, vec_len}
+use Rattle.ob_types.specs.Limits.{greatest_overhead, greatest_unknown}
 use Rattle.ob_seq.specs.Settings.{Settings}
 use Rattle.ob_seq.specs.Pending.{StandsFor}
 use Rattle.ob_history.specs.Accepted.{accepted_commands}
-use Rattle.ob_history.specs.History.{History}
+use Rattle.ob_history.specs.History.{History, most_records}
 use Rattle.ob_history.specs.Legal.{IsLegal}
 use Rattle.ob_history.specs.declared.recorded.Recorded.TheInside.{Inside}
 
@@ -28,6 +29,6 @@ pub record IsSound (inside : Inside) : Type 0 where
   pub settings : inside.buffer.settings ≡ settings_of inside
   pub places : vec_len inside.records + inside.reserved ≤ inside.limit
   pub memory : vec_len inside.records + inside.reserved ≤ vec_capacity inside.records
-  pub few_records : inside.limit ≤ 1048576
-  pub small_overhead : inside.estimate.overhead ≤ 65535
-  pub small_unknown : inside.estimate.unknown ≤ 65535
+  pub few_records : inside.limit ≤ most_records
+  pub small_overhead : inside.estimate.overhead ≤ greatest_overhead
+  pub small_unknown : inside.estimate.unknown ≤ greatest_unknown

@@ -3,6 +3,7 @@
 ghost use Rattle.std.specs.Prelude.{◌≡◌, ◌≤◌, ◌↔◌, List, length, IsOk, IsTrue, IfOk, OnErr};
 ghost use Rattle.ob_seq.specs.Pending.{Accepts, Answers, Follows};
 ghost use Rattle.ob_seq.specs.Settles.{settled_by};
+ghost use Rattle.ob_types.specs.Limits.{inline_settlements};
 ghost use Rattle.ob_types.specs.declared.command.Command.{Command};
 ghost use Rattle.ob_history.specs.Copies.{IsSmall};
 
@@ -28,7 +29,7 @@ pub fn give(buffer: &mut Buffer, command: Command) -> Result<Result<Reply, Refus
 /// The same answer. It fails for want of memory alone, and not where at most four promises are settled.
 pub fn copy(answer: &Result<Reply, Refusal>) -> Result<Result<Reply, Refusal>, AllocError>
     ensures same { IfOk result (λ copy. copy ≡ answer.now) }
-    ensures succeeds { length (settled_by answer.now) ≤ 4 → IsOk result }
+    ensures succeeds { length (settled_by answer.now) ≤ inline_settlements → IsOk result }
 {
     match answer {
         Ok(reply) => Ok(Ok(reply.copy()?)),

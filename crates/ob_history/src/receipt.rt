@@ -1,5 +1,6 @@
 ghost use Rattle.std.specs.Prelude.{◌≡◌, ◌≤◌, false, length, IsOk, IfOk};
 ghost use Rattle.ob_types.specs.Block.{writes_block};
+ghost use Rattle.ob_types.specs.Limits.{inline_settlements};
 ghost use Rattle.ob_seq.specs.Settles.{settled_by};
 
 use crate::answer;
@@ -25,7 +26,7 @@ impl Receipt {
     /// four promises.
     pub fn copy(&self) -> Result<Receipt, AllocError>
         ensures same { IfOk result (λ copy. copy ≡ self.now) }
-        ensures succeeds { writes_block self.now.command ≡ false → length (settled_by self.now.reply) ≤ 4
+        ensures succeeds { writes_block self.now.command ≡ false → length (settled_by self.now.reply) ≤ inline_settlements
             → IsOk result }
     {
         copied(self.place, self.caller, &self.command, &self.reply)
@@ -41,7 +42,7 @@ pub fn copied(
 ) -> Result<Receipt, AllocError>
     ensures same { IfOk result (λ receipt.
         receipt ≡ record { place = place; caller = caller; command = command.now; reply = reply.now }) }
-    ensures succeeds { writes_block command.now ≡ false → length (settled_by reply.now) ≤ 4 → IsOk result }
+    ensures succeeds { writes_block command.now ≡ false → length (settled_by reply.now) ≤ inline_settlements → IsOk result }
 {
     Ok(Receipt {
         place,

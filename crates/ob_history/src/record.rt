@@ -1,5 +1,6 @@
 ghost use Rattle.std.specs.Prelude.{◌≡◌, ◌≤◌, false, length, IsOk, IfOk};
 ghost use Rattle.ob_types.specs.Block.{writes_block};
+ghost use Rattle.ob_types.specs.Limits.{inline_settlements};
 ghost use Rattle.ob_seq.specs.Settles.{settled_by};
 ghost use Rattle.ob_history.specs.Receipt.{receipt_of};
 
@@ -26,7 +27,7 @@ impl Record {
     /// at most four promises.
     pub fn receipt(&self) -> Result<Receipt, AllocError>
         ensures same { IfOk result (λ receipt. receipt ≡ receipt_of self.now) }
-        ensures succeeds { writes_block self.now.command ≡ false → length (settled_by self.now.reply) ≤ 4
+        ensures succeeds { writes_block self.now.command ≡ false → length (settled_by self.now.reply) ≤ inline_settlements
             → IsOk result }
     {
         copied(self.place, self.caller, &self.command, &self.reply)

@@ -1,8 +1,9 @@
 ghost use Rattle.std.specs.Prelude.{◌≡◌, ◌<◌, ◌≤◌};
+ghost use Rattle.ob_types.specs.Limits.{greatest_overhead, greatest_unknown};
 ghost use Rattle.ob_seq.specs.Pending.{StandsFor};
 ghost use Rattle.ob_history.specs.Accepted.{accepted_commands};
 ghost use Rattle.ob_history.specs.Legal.{IsLegal};
-ghost use Rattle.ob_history.specs.History.{IsBounded, new_history};
+ghost use Rattle.ob_history.specs.History.{IsBounded, new_history, most_records};
 
 mod call;
 mod check;
@@ -46,10 +47,10 @@ impl Recorded {
     /// An empty buffer with no record, which may have up to `limit` of them. It takes no memory. The overhead and the
     /// size of unknown messages are at most 65535 bytes, and the limit is 1 to 1048576 records.
     pub fn new(alloc: Global, marks: WaterMark, estimate: Estimate, limit: u32) -> Recorded
-        requires overhead { estimate.overhead ≤ 65535 }
-        requires unknown { estimate.unknown ≤ 65535 }
+        requires overhead { estimate.overhead ≤ greatest_overhead }
+        requires unknown { estimate.unknown ≤ greatest_unknown }
         requires some_record { 0 < limit }
-        requires few_records { limit ≤ 1048576 }
+        requires few_records { limit ≤ most_records }
         ensures { result ≡ new_history (record { marks = marks; estimate = estimate }) limit }
     {
         Recorded {
