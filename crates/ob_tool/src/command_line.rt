@@ -4,12 +4,16 @@ ghost use Rattle.ob_tool.specs.Options.{first_history};
 ghost use Rattle.ob_tool.specs.Entry.{exit_status_of};
 
 use crate::entry_fault::EntryFault;
+use crate::help;
 use crate::options::Options;
 use crate::request::Request;
 use clap::{Arg, ArgAction, ArgMatches, Command, value_parser};
 use ob_types::{Estimate, WaterMark};
 use std::alloc::{AllocError, Global};
 use std::convert::AsStr;
+
+/// What `--version` tells.
+const VERSION: &str = "0.1.0";
 
 /// The greatest mark, in bytes.
 const MAX_MARK: i64 = 2147483647;
@@ -114,6 +118,7 @@ fn marks(low: u32, high: u32) -> Result<WaterMark, EntryFault>
 /// What the program takes.
 fn command<'a>(alloc: Global) -> Result<Command<'a>, AllocError> {
     Command::new(alloc, "ob_tool")
+        .version(VERSION)
         .about(
             "Carries out scripts of commands on the outbound buffer of a channel, and shows what each command does",
         )
@@ -128,6 +133,7 @@ fn run_command<'a>(alloc: Global) -> Result<Command<'a>, AllocError> {
         .about(
             "Reads a script from standard input, and writes one line for each of its lines to standard output",
         )
+        .after_help(help::RUN)
         .arg(low_mark(alloc))?
         .arg(high_mark(alloc))?
         .arg(size(
@@ -149,6 +155,7 @@ fn core_command<'a>(alloc: Global) -> Result<Command<'a>, AllocError> {
         .about(
             "Reads a script of lanes and turns from standard input, and writes one line for each to standard output",
         )
+        .after_help(help::CORE)
         .arg(low_mark(alloc))?
         .arg(high_mark(alloc))
 }

@@ -13,6 +13,7 @@ mod core_trace;
 mod core_word;
 mod entry;
 mod entry_fault;
+mod help;
 mod line;
 mod line_fault;
 mod line_word;
