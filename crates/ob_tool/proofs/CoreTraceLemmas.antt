@@ -4,7 +4,8 @@ use Rattle.std.specs.Prelude.{map}
 use Rattle.ob_types.specs.WaterMark.{Marks}
 use Rattle.ob_tool.specs.Script.{first_fault}
 use Rattle.ob_tool.specs.Lines.{lines_of}
-use Rattle.ob_tool.specs.CoreLine.{core_line_reading}
+use Rattle.ob_tool.specs.CoreTable.{core_table}
+use Rattle.ob_tool.specs.Line.{line_reading}
 use Rattle.ob_tool.specs.CoreStage.{Stage, first_stage, is_misplaced, stage_after, stage_from}
 use Rattle.ob_tool.specs.CoreScript.{all_placed, placed_in, core_lines, core_fault}
 use Rattle.ob_tool.specs.CoreTrace.{core_line_trace, core_trace_from, core_trace, core_trace_of_first, ending_text, last_line}
@@ -49,27 +50,27 @@ stage_from-more n marks script stage asked rest left stands =
     ∙ stage_from-append first (take n (core_lines marks script)) (asked ∷ []))
 
 -- a line that fits stands before those of the rest
-pub placed_in-Ok : (stage : Stage) (script line rest : List ℕ) (asked : CoreLine) → lines_of script ≡ line ∷ lines_of rest → core_line_reading line ≡ Ok asked
+pub placed_in-Ok : (stage : Stage) (script line rest : List ℕ) (asked : CoreLine) → lines_of script ≡ line ∷ lines_of rest → line_reading core_table line ≡ Ok asked
     → is_misplaced stage asked ≡ false → placed_in stage script ≡ Ok asked ∷ placed_in (stage_after stage asked) rest
 placed_in-Ok stage script line rest asked first read fits =
-    ap (λ lines. all_placed stage (map core_line_reading lines)) first
-    ∙ ap (λ r. all_placed stage (r ∷ map core_line_reading (lines_of rest))) read
+    ap (λ lines. all_placed stage (map (line_reading core_table) lines)) first
+    ∙ ap (λ r. all_placed stage (r ∷ map (line_reading core_table) (lines_of rest))) read
     ∙ ap (λ t. cond t (Err Misplaced) (Ok asked) ∷ placed_in (stage_after stage asked) rest) fits
 
 -- a misplaced line ends the script
-pub placed_in-Misplaced : (stage : Stage) (script line rest : List ℕ) (asked : CoreLine) → lines_of script ≡ line ∷ lines_of rest → core_line_reading line ≡ Ok asked
+pub placed_in-Misplaced : (stage : Stage) (script line rest : List ℕ) (asked : CoreLine) → lines_of script ≡ line ∷ lines_of rest → line_reading core_table line ≡ Ok asked
     → is_misplaced stage asked ≡ true → placed_in stage script ≡ Err Misplaced ∷ placed_in (stage_after stage asked) rest
 placed_in-Misplaced stage script line rest asked first read misplaced =
-    ap (λ lines. all_placed stage (map core_line_reading lines)) first
-    ∙ ap (λ r. all_placed stage (r ∷ map core_line_reading (lines_of rest))) read
+    ap (λ lines. all_placed stage (map (line_reading core_table) lines)) first
+    ∙ ap (λ r. all_placed stage (r ∷ map (line_reading core_table) (lines_of rest))) read
     ∙ ap (λ t. cond t (Err Misplaced) (Ok asked) ∷ placed_in (stage_after stage asked) rest) misplaced
 
 -- and so does another faulty line
-pub placed_in-Err : (stage : Stage) (script line rest : List ℕ) (fault : LineFault) → lines_of script ≡ line ∷ lines_of rest → core_line_reading line ≡ Err fault
+pub placed_in-Err : (stage : Stage) (script line rest : List ℕ) (fault : LineFault) → lines_of script ≡ line ∷ lines_of rest → line_reading core_table line ≡ Err fault
     → placed_in stage script ≡ Err fault ∷ []
 placed_in-Err stage script line rest fault first read =
-    ap (λ lines. all_placed stage (map core_line_reading lines)) first
-    ∙ ap (λ r. all_placed stage (r ∷ map core_line_reading (lines_of rest))) read
+    ap (λ lines. all_placed stage (map (line_reading core_table) lines)) first
+    ∙ ap (λ r. all_placed stage (r ∷ map (line_reading core_table) (lines_of rest))) read
 
 -- a script of no bytes has no lines
 pub placed_in-nil : (stage : Stage) (script : List ℕ) → length script ≡ 0 → placed_in stage script ≡ []

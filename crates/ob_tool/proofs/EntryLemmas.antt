@@ -1,11 +1,13 @@
--- What the program leaves where a line is faulty.
-use Rattle.std.proofs.Common.{◌≡◌, ℕ, List, Option, None, Some, Err, IfSome, sym}
+-- What the program leaves where a line is faulty, and where memory runs out.
+use Rattle.std.proofs.Common.{◌≡◌, ℕ, List, Option, None, Some, Err, IfSome, append-nil, refl, sym}
+use Rattle.std.specs.Prelude.{IsErrOf}
 use Rattle.std.specs.Io.KnownBytes.{Appends}
-use Rattle.ob_tool.specs.Entry.{WritesTrace}
+use Rattle.ob_tool.specs.Entry.{WritesTrace, WritesTraceOfFirst}
 use Rattle.ob_tool.specs.Outcome.{WentThrough, fault_told, status_of}
-use Rattle.ob_tool.specs.Request.{requested_fault, requested_trace}
+use Rattle.ob_tool.specs.Request.{requested_fault, requested_trace, requested_trace_of_first}
 use Rattle.ob_tool.specs.declared.line_fault.LineFault.{LineFault}
 use Rattle.ob_tool.specs.declared.request.Request.{Request}
+use Rattle.ob_tool.specs.declared.request.Request.TheVariants.{Core}
 use Rattle.ob_tool.specs.declared.run_fault.RunFault.{RunFault}
 use Rattle.ob_tool.specs.declared.run_fault.RunFault.TheVariants.{Line, Read, TooLong, Write, NoMemory}
 
@@ -27,3 +29,29 @@ pub cut_short : (request : Request) (fault : RunFault) (read : Option (List ℕ)
     → IfSome read (λ script. (told : ℕ × LineFault) × WritesTrace script (Some told) old new)
 cut_short request fault None old new status traced told = tt
 cut_short request fault (Some script) old new status traced told = cut_short_at request fault script old new status traced told
+
+-- where no script was read, nothing was written, and that is the trace of no lines
+untraced_at : (script : List ℕ) (held : Option (List ℕ)) → WritesTraceOfFirst script held held
+untraced_at script None = (Core (record { low = 0; high = 0 }), 0, tt)
+untraced_at script (Some bytes) = (Core (record { low = 0; high = 0 }), 0, sym (append-nil bytes))
+
+pub untraced : (read held : Option (List ℕ)) → IfSome read (λ script. WritesTraceOfFirst script held held)
+untraced None held = tt
+untraced (Some script) held = untraced_at script held
+
+-- the status 4 comes of want of memory alone, up to which the trace of some first lines is written
+out_of_memory_at : (request : Request) (fault : RunFault) (script : List ℕ) (old new : Option (List ℕ)) → status_of fault ≡ 4
+    → (IsErrOf {T = Unit {0}} (Err fault) NoMemory → (count : ℕ) × Appends old new (requested_trace_of_first count request script))
+    → WritesTraceOfFirst script old new
+out_of_memory_at request NoMemory script old new status traced = let told = traced refl in (request, told.0, told.1)
+out_of_memory_at request (Line number fault) script old new status traced = absurd cc
+out_of_memory_at request Read script old new status traced = absurd cc
+out_of_memory_at request TooLong script old new status traced = absurd cc
+out_of_memory_at request Write script old new status traced = absurd cc
+
+-- and so where the script is known
+pub out_of_memory : (request : Request) (fault : RunFault) (read : Option (List ℕ)) (old new : Option (List ℕ)) → status_of fault ≡ 4
+    → (IsErrOf {T = Unit {0}} (Err fault) NoMemory → IfSome read (λ script. (count : ℕ) × Appends old new (requested_trace_of_first count request script)))
+    → IfSome read (λ script. WritesTraceOfFirst script old new)
+out_of_memory request fault None old new status traced = tt
+out_of_memory request fault (Some script) old new status traced = out_of_memory_at request fault script old new status traced

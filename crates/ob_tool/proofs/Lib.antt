@@ -2,7 +2,6 @@ pub mod LinesLemmas
 pub mod NumbersLemmas
 pub mod LineLemmas
 pub mod RangesLemmas
-pub mod CoreNumbersLemmas
 pub mod CoreSessionLemmas
 pub mod SessionLemmas
 pub mod TraceLemmas

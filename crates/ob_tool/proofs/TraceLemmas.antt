@@ -5,6 +5,7 @@ use Rattle.ob_history.specs.History.{History}
 use Rattle.ob_tool.specs.Script.{before_fault, first_fault, readings_of, script_lines}
 use Rattle.ob_tool.specs.Lines.{lines_of}
 use Rattle.ob_tool.specs.Line.{line_reading}
+use Rattle.ob_tool.specs.RunTable.{run_table}
 use Rattle.ob_tool.specs.Outcome.{trace_of_first}
 use Rattle.ob_tool.specs.Session.{HasTraced}
 use Rattle.std.specs.Io.KnownBytes.{Keeps, append_known}
@@ -41,28 +42,28 @@ pub take-drop_nil : {A : Type 0} (n : ℕ) (xs : List A) → drop n xs ≡ [] �
 take-drop_nil n xs e = sym (append-nil (take n xs)) ∙ ap (λ t. take n xs ++ t) (sym e) ∙ take-append-drop n xs
 
 -- a good line stands before those of the rest
-pub script_lines-Ok : (script line rest : List ℕ) (asked : ScriptLine) → lines_of script ≡ line ∷ lines_of rest → line_reading line ≡ Ok asked
+pub script_lines-Ok : (script line rest : List ℕ) (asked : ScriptLine) → lines_of script ≡ line ∷ lines_of rest → line_reading run_table line ≡ Ok asked
     → script_lines script ≡ asked ∷ script_lines rest
 script_lines-Ok script line rest asked first read =
-    ap (λ lines. before_fault (map line_reading lines)) first ∙ ap (λ r. before_fault (r ∷ readings_of rest)) read
+    ap (λ lines. before_fault (map (line_reading run_table) lines)) first ∙ ap (λ r. before_fault (r ∷ readings_of rest)) read
 
 -- and its fault is that of the rest
-pub first_fault-Ok : (number : ℕ) (script line rest : List ℕ) (asked : ScriptLine) → lines_of script ≡ line ∷ lines_of rest → line_reading line ≡ Ok asked
+pub first_fault-Ok : (number : ℕ) (script line rest : List ℕ) (asked : ScriptLine) → lines_of script ≡ line ∷ lines_of rest → line_reading run_table line ≡ Ok asked
     → first_fault number (readings_of script) ≡ first_fault (number + 1) (readings_of rest)
 first_fault-Ok number script line rest asked first read =
-    rw add-one (ap (λ lines. first_fault number (map line_reading lines)) first ∙ ap (λ r. first_fault number (r ∷ readings_of rest)) read)
+    rw add-one (ap (λ lines. first_fault number (map (line_reading run_table) lines)) first ∙ ap (λ r. first_fault number (r ∷ readings_of rest)) read)
 
 -- a faulty line ends the script
-pub script_lines-Err : (script line rest : List ℕ) (fault : LineFault) → lines_of script ≡ line ∷ lines_of rest → line_reading line ≡ Err fault
+pub script_lines-Err : (script line rest : List ℕ) (fault : LineFault) → lines_of script ≡ line ∷ lines_of rest → line_reading run_table line ≡ Err fault
     → script_lines script ≡ []
 script_lines-Err script line rest fault first read =
-    ap (λ lines. before_fault (map line_reading lines)) first ∙ ap (λ r. before_fault (r ∷ readings_of rest)) read
+    ap (λ lines. before_fault (map (line_reading run_table) lines)) first ∙ ap (λ r. before_fault (r ∷ readings_of rest)) read
 
 -- with its fault
-pub first_fault-Err : (number : ℕ) (script line rest : List ℕ) (fault : LineFault) → lines_of script ≡ line ∷ lines_of rest → line_reading line ≡ Err fault
+pub first_fault-Err : (number : ℕ) (script line rest : List ℕ) (fault : LineFault) → lines_of script ≡ line ∷ lines_of rest → line_reading run_table line ≡ Err fault
     → first_fault number (readings_of script) ≡ Some (number, fault)
 first_fault-Err number script line rest fault first read =
-    ap (λ lines. first_fault number (map line_reading lines)) first ∙ ap (λ r. first_fault number (r ∷ readings_of rest)) read
+    ap (λ lines. first_fault number (map (line_reading run_table) lines)) first ∙ ap (λ r. first_fault number (r ∷ readings_of rest)) read
 
 -- a script of no bytes has no lines and no fault
 pub script_lines-nil : (script : List ℕ) → length script ≡ 0 → script_lines script ≡ []

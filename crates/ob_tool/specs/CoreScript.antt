@@ -3,7 +3,8 @@ use Rattle.std.specs.Prelude.{ℕ, List, [], ◌∷◌, map, Option, Result, Ok,
 use Rattle.ob_types.specs.WaterMark.{Marks}
 use Rattle.ob_tool.specs.Lines.{lines_of}
 use Rattle.ob_tool.specs.Script.{before_fault, first_fault}
-use Rattle.ob_tool.specs.CoreLine.{core_line_reading}
+use Rattle.ob_tool.specs.CoreTable.{core_table}
+use Rattle.ob_tool.specs.Line.{line_reading}
 use Rattle.ob_tool.specs.CoreStage.{Stage, first_stage, is_misplaced, stage_after}
 use Rattle.ob_tool.specs.declared.core_line.CoreLine.{CoreLine}
 use Rattle.ob_tool.specs.declared.line_fault.LineFault.{LineFault}
@@ -21,7 +22,7 @@ all_placed stage (Err fault ∷ readings) = Err fault ∷ []
 
 -- what each line of a script says after those before it
 abbrev pub placed_in : Stage → List ℕ → List (Result CoreLine LineFault)
-placed_in stage script = all_placed stage (map core_line_reading (lines_of script))
+placed_in stage script = all_placed stage (map (line_reading core_table) (lines_of script))
 
 -- the lines of a script that are carried out: those before the first faulty one
 abbrev pub core_lines : Marks → List ℕ → List CoreLine

@@ -1,9 +1,9 @@
--- The table of the lines of a core script: the first words, the numbers that follow each, and what the line asks.
-use Rattle.std.specs.Prelude.{ℕ, ◌==◌, List, [], ◌∷◌, Option, find, codes, slice_index}
-use Rattle.std.specs.Str.{bytes_eq}
+-- The table of the lines of `core`.
+use Rattle.std.specs.Prelude.{◌==◌, List, [], ◌∷◌, codes}
 use Rattle.ob_core.specs.declared.ask.Ask.TheVariants as ask
 use Rattle.ob_tool.specs.Numbers.{up_to}
-use Rattle.ob_tool.specs.declared.range.Range.{Range}
+use Rattle.ob_tool.specs.RunTable.{any_32}
+use Rattle.ob_tool.specs.Table.{Kind, Table}
 use Rattle.ob_tool.specs.declared.core_word.CoreWord.{CoreWord}
 use Rattle.ob_tool.specs.declared.core_word.CoreWord.TheVariants as word
 use Rattle.ob_tool.specs.declared.core_line.CoreLine.{CoreLine}
@@ -13,37 +13,24 @@ use Rattle.ob_tool.specs.declared.core_line.CoreLine.TheVariants as line
 abbrev pub core_words : List CoreWord
 core_words = word.Lane ∷ word.Charge ∷ word.Discharge ∷ word.Bit ∷ word.Word ∷ word.Total ∷ word.Go ∷ []
 
--- how a script writes a first word
-abbrev pub core_word_text : CoreWord → List ℕ
-core_word_text word.Lane = codes "lane"
-core_word_text word.Charge = codes "c"
-core_word_text word.Discharge = codes "d"
-core_word_text word.Bit = codes "u"
-core_word_text word.Word = codes "w"
-core_word_text word.Total = codes "t"
-core_word_text word.Go = codes "k"
+-- the kind of line that a word begins
+abbrev pub core_kind : CoreWord → Kind CoreLine
+core_kind word.Lane =
+    record { text = codes "lane"; ranges = any_32 ∷ any_32 ∷ []; asked = λ number. line.Lane (record { room = number 0; bits = number 1 }) }
+core_kind word.Charge =
+    record { text = codes "c"; ranges = any_32 ∷ any_32 ∷ []; asked = λ number. line.Turn (record { lane = number 0; ask = ask.Charge (number 1) }) }
+core_kind word.Discharge =
+    record { text = codes "d"; ranges = any_32 ∷ []; asked = λ number. line.Turn (record { lane = number 0; ask = ask.Discharge }) }
+core_kind word.Bit =
+    record {
+      text = codes "u";
+      ranges = any_32 ∷ up_to 255 ∷ up_to 1 ∷ [];
+      asked = λ number. line.Turn (record { lane = number 0; ask = ask.Bit (number 1) (number 2 == 1) });
+    }
+core_kind word.Word = record { text = codes "w"; ranges = any_32 ∷ []; asked = λ number. line.Turn (record { lane = number 0; ask = ask.Word }) }
+core_kind word.Total = record { text = codes "t"; ranges = any_32 ∷ []; asked = λ number. line.Turn (record { lane = number 0; ask = ask.Total }) }
+core_kind word.Go = record { text = codes "k"; ranges = any_32 ∷ []; asked = λ number. line.Turn (record { lane = number 0; ask = ask.Go }) }
 
--- the ranges of the numbers that follow a first word
-abbrev pub core_ranges_of : CoreWord → List Range
-core_ranges_of word.Lane = up_to 4294967295 ∷ up_to 4294967295 ∷ []
-core_ranges_of word.Charge = up_to 4294967295 ∷ up_to 4294967295 ∷ []
-core_ranges_of word.Discharge = up_to 4294967295 ∷ []
-core_ranges_of word.Bit = up_to 4294967295 ∷ up_to 255 ∷ up_to 1 ∷ []
-core_ranges_of word.Word = up_to 4294967295 ∷ []
-core_ranges_of word.Total = up_to 4294967295 ∷ []
-core_ranges_of word.Go = up_to 4294967295 ∷ []
-
--- what a line asks, by its first word and its numbers
-abbrev pub core_line_asked : CoreWord → List ℕ → CoreLine
-core_line_asked word.Lane numbers = line.Lane (record { room = slice_index numbers 0; bits = slice_index numbers 1 })
-core_line_asked word.Charge numbers = line.Turn (record { lane = slice_index numbers 0; ask = ask.Charge (slice_index numbers 1) })
-core_line_asked word.Discharge numbers = line.Turn (record { lane = slice_index numbers 0; ask = ask.Discharge })
-core_line_asked word.Bit numbers =
-    line.Turn (record { lane = slice_index numbers 0; ask = ask.Bit (slice_index numbers 1) (slice_index numbers 2 == 1) })
-core_line_asked word.Word numbers = line.Turn (record { lane = slice_index numbers 0; ask = ask.Word })
-core_line_asked word.Total numbers = line.Turn (record { lane = slice_index numbers 0; ask = ask.Total })
-core_line_asked word.Go numbers = line.Turn (record { lane = slice_index numbers 0; ask = ask.Go })
-
--- the first word that a text writes, if it is one
-abbrev pub core_word_named : List ℕ → Option CoreWord
-core_word_named text = find (λ word. bytes_eq (core_word_text word) text) core_words
+-- the lines of `core`
+abbrev pub core_table : Table CoreWord CoreLine
+core_table = record { words = core_words; kind_of = core_kind }

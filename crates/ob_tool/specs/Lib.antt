@@ -1,5 +1,4 @@
 pub mod Call
-pub mod CoreLine
 pub mod CoreQuiet
 pub mod CoreScript
 pub mod CoreSession
@@ -16,6 +15,7 @@ pub mod Numbers
 pub mod Options
 pub mod Outcome
 pub mod Request
+pub mod RunTable
 pub mod Script
 pub mod Session
 pub mod Table

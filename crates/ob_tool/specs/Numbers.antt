@@ -44,9 +44,9 @@ all_numbers_in ranges words =
     else (if nat_lt (length ranges) (length words) then Err TooManyWords
     else numbers_in ranges words)
 
--- what a line asks by its numbers, unless these have a fault
-abbrev pub asked_by : {L : Type 0} → (List ℕ → L) → Result (List ℕ) LineFault → Result L LineFault
-asked_by asked (Ok numbers) = Ok (asked numbers)
+-- what a line asks by the numbers at their places, unless these have a fault
+abbrev pub asked_by : {L : Type 0} → ((ℕ → ℕ) → L) → Result (List ℕ) LineFault → Result L LineFault
+asked_by asked (Ok numbers) = Ok (asked (λ place. slice_index numbers place))
 asked_by asked (Err fault) = Err fault
 
 -- an array holds the numbers that were read, with zeros behind them, or the fault is the one that was found

@@ -1,8 +1,9 @@
 -- What the program makes of a script, by what it is asked for.
 use Rattle.std.specs.Prelude.{ℕ, List, Option}
 use Rattle.ob_tool.specs.CoreScript.{core_fault}
-use Rattle.ob_tool.specs.CoreTrace.{core_trace}
+use Rattle.ob_tool.specs.CoreTrace.{core_trace, core_trace_of_first}
 use Rattle.ob_tool.specs.Options.{first_history}
+use Rattle.ob_tool.specs.Outcome.{trace_of_first}
 use Rattle.ob_tool.specs.Script.{script_fault}
 use Rattle.ob_tool.specs.Trace.{trace_of}
 use Rattle.ob_tool.specs.declared.line_fault.LineFault.{LineFault}
@@ -13,6 +14,11 @@ use Rattle.ob_tool.specs.declared.request.Request.TheVariants.{Run, Core}
 abbrev pub requested_trace : Request → List ℕ → List ℕ
 requested_trace (Run options) script = trace_of (first_history options) script
 requested_trace (Core marks) script = core_trace marks script
+
+-- the trace of the first lines, so many of those that are carried out
+abbrev pub requested_trace_of_first : ℕ → Request → List ℕ → List ℕ
+requested_trace_of_first count (Run options) script = trace_of_first count (first_history options) script
+requested_trace_of_first count (Core marks) script = core_trace_of_first count marks script
 
 -- the fault that ends the script
 abbrev pub requested_fault : Request → List ℕ → Option (ℕ × LineFault)

@@ -2,6 +2,7 @@
 use Rattle.std.specs.Prelude.{ℕ, suc, List, [], ◌∷◌, map, Option, None, Some, Result, Ok, Err}
 use Rattle.ob_tool.specs.Lines.{lines_of}
 use Rattle.ob_tool.specs.Line.{line_reading}
+use Rattle.ob_tool.specs.RunTable.{run_table}
 use Rattle.ob_tool.specs.declared.script_line.ScriptLine.{ScriptLine}
 use Rattle.ob_tool.specs.declared.line_fault.LineFault.{LineFault}
 
@@ -19,7 +20,7 @@ first_fault number (Err fault ∷ readings) = Some (number, fault)
 
 -- what each line of a script says
 abbrev pub readings_of : List ℕ → List (Result ScriptLine LineFault)
-readings_of script = map line_reading (lines_of script)
+readings_of script = map (line_reading run_table) (lines_of script)
 
 -- the lines of a script that are carried out: those before the first faulty one
 abbrev pub script_lines : List ℕ → List ScriptLine

@@ -1,15 +1,19 @@
-ghost use Rattle.std.specs.Prelude.{◌≡◌, ◌≢◌, ◌<◌, ◌≤◌, ◌↔◌, None, IfSome, IsOk, IfOk, IfErr};
+ghost use Rattle.std.specs.Prelude.{◌≡◌, ◌⊎◌, ◌<◌, ◌≤◌, ◌↔◌, None, IfSome, IsOk, IfOk, IfErr};
 ghost use Rattle.ob_history.specs.History.{new_history};
 ghost use Rattle.ob_tool.specs.Options.{first_history};
 ghost use Rattle.ob_tool.specs.Entry.{exit_status_of};
 
 use crate::entry_fault::EntryFault;
+use crate::help;
 use crate::options::Options;
 use crate::request::Request;
 use clap::{Arg, ArgAction, ArgMatches, Command, value_parser};
 use ob_types::{Estimate, WaterMark};
 use std::alloc::{AllocError, Global};
 use std::convert::AsStr;
+
+/// What `--version` tells.
+const VERSION: &str = "0.1.0";
 
 /// The greatest mark, in bytes.
 const MAX_MARK: i64 = 2147483647;
@@ -31,31 +35,41 @@ const MAX_RECORDS: u32 = 1048576;
 
 /// What the program's words ask for: its name, a subcommand, and the options of that.
 ///
-/// `CommandLine` comes where `clap` refuses the words, or is asked for help, `BadMarks` where the low mark is above the
-/// high one, and `NoMemory` where the allocator refuses.
+/// `CommandLine` comes where `clap` refuses the words, or is asked for help or the version, `NoSubcommand` where they
+/// name none, `BadMarks` where the low mark is above the high one, and `NoMemory` where the allocator refuses.
 pub fn request_of<'a, S: AsStr>(alloc: Global, words: &'a [S]) -> Result<Request, EntryFault>
-    ensures { IfErr result (λ fault. exit_status_of fault ≢ 2) }
+    ensures { IfErr result (λ fault. (exit_status_of fault ≡ 1) ⊎ (exit_status_of fault ≡ 4)) }
 {
     let matches = command(alloc)?.try_get_matches_from(words)?;
-    if let Some(given) = matches.subcommand_matches("core") {
-        let marks = marks(
-            given.get_one("low").unwrap_or(LOW),
-            given.get_one("high").unwrap_or(HIGH),
-        )?;
-        return Ok(Request::Core(marks));
+    match matches.subcommand() {
+        Some(("run", given)) => Ok(Request::Run(run_options(given)?)),
+        Some(("core", given)) => Ok(Request::Core(given_marks(given)?)),
+        // `clap` lets no other command line through, but none of its clauses says so.
+        _ => Err(EntryFault::NoSubcommand),
     }
-    // `clap` lets no command line through that names neither, but none of its clauses says so.
-    let Some(given) = matches.subcommand_matches("run") else {
-        return Ok(Request::Run(options(LOW, HIGH, OVERHEAD, UNKNOWN, MAX_RECORDS)?));
-    };
-    let options = options(
-        given.get_one("low").unwrap_or(LOW),
-        given.get_one("high").unwrap_or(HIGH),
+}
+
+/// The options that were given to `run`.
+fn run_options(given: &ArgMatches<'_>) -> Result<Options, EntryFault>
+    ensures err { IfErr result (λ fault. exit_status_of fault ≡ 1) }
+{
+    let marks = given_marks(given)?;
+    Ok(options(
+        marks,
         given.get_one("overhead").unwrap_or(OVERHEAD),
         given.get_one("unknown").unwrap_or(UNKNOWN),
         limit_of(given.get_one("limit")),
-    )?;
-    Ok(Request::Run(options))
+    ))
+}
+
+/// The marks that were given.
+fn given_marks(given: &ArgMatches<'_>) -> Result<WaterMark, EntryFault>
+    ensures err { IfErr result (λ fault. exit_status_of fault ≡ 1) }
+{
+    marks(
+        given.get_one("low").unwrap_or(LOW),
+        given.get_one("high").unwrap_or(HIGH),
+    )
 }
 
 /// The limit that was given. `clap` has refused the numbers past the bounds, which no clause of it says, so the
@@ -69,33 +83,24 @@ fn limit_of(given: Option<u32>) -> u32
     given.unwrap_or(MAX_RECORDS).clamp(1, MAX_RECORDS)
 }
 
-/// The options of these numbers, in bytes, and of this limit.
-fn options(
-    low: u32,
-    high: u32,
-    overhead: u16,
-    unknown: u16,
-    limit: u32,
-) -> Result<Options, EntryFault>
+/// The options of these marks, of these numbers in bytes, and of this limit.
+fn options(marks: WaterMark, overhead: u16, unknown: u16, limit: u32) -> Options
     requires some_record { 0 < limit }
     requires few_records { limit ≤ 1048576 }
-    ensures ok { IfOk result (λ options. first_history options ≡ new_history (record {
-      marks = record { low = low; high = high };
+    ensures { first_history result ≡ new_history (record {
+      marks = marks;
       estimate = record { overhead = overhead; unknown = unknown };
-    }) limit) }
-    ensures err { IfErr result (λ fault. exit_status_of fault ≡ 1) }
-    ensures accepted { IsOk result ↔ (low ≤ high × high ≤ 2147483647) }
+    }) limit }
 {
-    let marks = marks(low, high)?;
     let estimate = Estimate {
         overhead: u32::from(overhead),
         unknown: u32::from(unknown),
     };
-    Ok(Options {
+    Options {
         marks,
         estimate,
         limit,
-    })
+    }
 }
 
 /// The marks of these numbers, in bytes.
@@ -113,6 +118,7 @@ fn marks(low: u32, high: u32) -> Result<WaterMark, EntryFault>
 /// What the program takes.
 fn command<'a>(alloc: Global) -> Result<Command<'a>, AllocError> {
     Command::new(alloc, "ob_tool")
+        .version(VERSION)
         .about(
             "Carries out scripts of commands on the outbound buffer of a channel, and shows what each command does",
         )
@@ -127,6 +133,7 @@ fn run_command<'a>(alloc: Global) -> Result<Command<'a>, AllocError> {
         .about(
             "Reads a script from standard input, and writes one line for each of its lines to standard output",
         )
+        .after_help(help::RUN)
         .arg(low_mark(alloc))?
         .arg(high_mark(alloc))?
         .arg(size(
@@ -148,6 +155,7 @@ fn core_command<'a>(alloc: Global) -> Result<Command<'a>, AllocError> {
         .about(
             "Reads a script of lanes and turns from standard input, and writes one line for each to standard output",
         )
+        .after_help(help::CORE)
         .arg(low_mark(alloc))?
         .arg(high_mark(alloc))
 }

@@ -7,8 +7,9 @@ ghost use Rattle.ob_tool.specs.Ending.{CoreLinesEnd, CoreEnds};
 ghost use Rattle.ob_tool.specs.Session.{HasTraced};
 
 use crate::core_line::CoreLine;
-use crate::core_reading::read_core_line;
 use crate::core_session::CoreSession;
+use crate::core_word::CoreWord;
+use crate::line::read_line;
 use crate::line_fault::LineFault;
 use crate::line_words::first_line;
 use crate::run_fault::RunFault;
@@ -56,7 +57,7 @@ fn trace_core_lines<W: io::Write>(
     let mut text = String::new(alloc);
     while !rest.is_empty() {
         let (line, others) = first_line(rest);
-        match read_core_line(line) {
+        match read_line::<CoreWord>(line) {
             Err(fault) => {
                 return Err(RunFault::Line {
                     line: number + 1,

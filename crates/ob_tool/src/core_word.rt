@@ -1,11 +1,13 @@
-ghost use Rattle.std.specs.Prelude.{ℕ, ◌≡◌, ◌≤◌, length, slice_index};
-ghost use Rattle.ob_tool.specs.CoreTable.{core_word_text, core_ranges_of, core_line_asked, core_word_named};
+ghost use Rattle.std.specs.Prelude.{◌≡◌};
+ghost use Rattle.ob_tool.specs.CoreTable.{core_table};
+ghost use Rattle.ob_tool.specs.declared.core_line.CoreLine.TheVariants as line;
 
 use crate::core_line::CoreLine;
+use crate::first_word::FirstWord;
 use crate::range::Range;
 use ob_core::{Ask, LaneStart, Turn};
 
-/// The first word of a line of a core script: it says which numbers follow, and what the line asks.
+/// The first word of a line of `core`.
 #[derive(Clone, Copy, Debug, PartialEq, Eq)]
 pub enum CoreWord {
     /// `lane R B`: a lane with room R that holds the bits of the mask B.
@@ -60,11 +62,16 @@ static BIT_NUMBERS: [Range; 3] = [
     },
 ];
 
-impl CoreWord {
-    /// How a script writes the word.
-    pub fn text(self) -> &'static [u8]
-        ensures { result.now ≡ core_word_text self }
-    {
+impl FirstWord for CoreWord {
+    type Line = CoreLine;
+
+    ghost table = { core_table };
+
+    fn all() -> &'static [CoreWord] {
+        &CORE_WORDS
+    }
+
+    fn text(self) -> &'static [u8] {
         match self {
             CoreWord::Lane => b"lane",
             CoreWord::Charge => b"c",
@@ -76,11 +83,7 @@ impl CoreWord {
         }
     }
 
-    /// The ranges of the numbers that follow the word.
-    pub fn ranges(self) -> &'static [Range]
-        ensures value { result.now ≡ core_ranges_of self }
-        ensures few { length result.now ≤ 3 }
-    {
+    fn ranges(self) -> &'static [Range] {
         match self {
             CoreWord::Lane | CoreWord::Charge => &TWO_NUMBERS,
             CoreWord::Bit => &BIT_NUMBERS,
@@ -88,35 +91,28 @@ impl CoreWord {
         }
     }
 
-    /// The first word that a text writes, if it is one.
-    pub fn named(text: &[u8]) -> Option<CoreWord>
-        ensures { result ≡ core_word_named text.now }
-    {
-        CORE_WORDS.iter().copied().find(|word| word.text() == text)
+    fn line(self, numbers: [u64; 3]) -> CoreLine {
+        match self {
+            CoreWord::Lane => CoreLine::Lane(LaneStart {
+                room: numbers[0] as u32,
+                bits: numbers[1] as u32,
+            }),
+            CoreWord::Charge => turn(numbers[0] as u32, Ask::Charge(numbers[1] as u32)),
+            CoreWord::Discharge => turn(numbers[0] as u32, Ask::Discharge),
+            CoreWord::Bit => turn(
+                numbers[0] as u32,
+                Ask::Bit(numbers[1] as u32, numbers[2] == 1),
+            ),
+            CoreWord::Word => turn(numbers[0] as u32, Ask::Word),
+            CoreWord::Total => turn(numbers[0] as u32, Ask::Total),
+            CoreWord::Go => turn(numbers[0] as u32, Ask::Go),
+        }
     }
+}
 
-    /// What a line with this first word asks, by its numbers.
-    pub fn line(self, numbers: [u64; 3]) -> CoreLine
-        requires { (k : ℕ) → slice_index numbers k ≤ 4294967295 }
-        ensures { result ≡ core_line_asked self numbers }
-    {
-        let first = numbers[0] as u32;
-        let second = numbers[1] as u32;
-        let third = numbers[2];
-        let ask = match self {
-            CoreWord::Lane => {
-                return CoreLine::Lane(LaneStart {
-                    room: first,
-                    bits: second,
-                });
-            }
-            CoreWord::Charge => Ask::Charge(second),
-            CoreWord::Discharge => Ask::Discharge,
-            CoreWord::Bit => Ask::Bit(second, third == 1),
-            CoreWord::Word => Ask::Word,
-            CoreWord::Total => Ask::Total,
-            CoreWord::Go => Ask::Go,
-        };
-        CoreLine::Turn(Turn { lane: first, ask })
-    }
+/// The line of a turn.
+fn turn(lane: u32, ask: Ask) -> CoreLine
+    ensures { result ≡ line.Turn (record { lane = lane; ask = ask }) }
+{
+    CoreLine::Turn(Turn { lane, ask })
 }

@@ -1,9 +1,9 @@
-ghost use Rattle.std.specs.Prelude.{◌≡◌, ◌≤◌, ℕ, None, Some, IfSome, IfErr, OnOk};
+ghost use Rattle.std.specs.Prelude.{◌≡◌, ◌≤◌, ℕ, None, Some, IfSome, IfErr, IsErrOf, OnOk};
 ghost use Rattle.std.specs.Io.KnownBytes.{Appends, Keeps};
 ghost use Rattle.ob_tool.specs.declared.line_fault.LineFault.{LineFault};
 ghost use Rattle.ob_tool.specs.Outcome.{WentThrough, fault_told};
-ghost use Rattle.ob_tool.specs.Request.{requested_fault, requested_trace};
-ghost use Rattle.ob_tool.specs.Entry.{WritesTrace, exit_status_of};
+ghost use Rattle.ob_tool.specs.Request.{requested_fault, requested_trace, requested_trace_of_first};
+ghost use Rattle.ob_tool.specs.Entry.{WritesTrace, WritesTraceOfFirst, exit_status_of};
 
 use crate::command_line::request_of;
 use crate::core_run::core;
@@ -29,12 +29,17 @@ pub fn entry<H: AllocGlobal, S: AsStr, R: Read, W: Write, E: Write>(
         WritesTrace script None (W.contents writer.old) (W.contents writer.new)) }
     ensures quiet { result ≡ 0 → Keeps (E.contents errors.old) (E.contents errors.new) }
 
-    // Status 1: the command line is refused before the script is carried out.
+    // Status 1: the command line is refused, and nothing of the script is read.
     ensures refused { result ≡ 1 → Keeps (W.contents writer.old) (W.contents writer.new) }
+    ensures unread { result ≡ 1 → reader.new ≡ reader.old }
 
     // Status 2: the trace up to the faulty line.
     ensures cut_short { result ≡ 2 → IfSome (R.remaining reader.old) (λ script.
         (fault : ℕ × LineFault) × WritesTrace script (Some fault) (W.contents writer.old) (W.contents writer.new)) }
+
+    // Status 4: the trace of some first lines.
+    ensures no_memory { result ≡ 4 → IfSome (R.remaining reader.old) (λ script.
+        WritesTraceOfFirst script (W.contents writer.old) (W.contents writer.new)) }
     ensures within { result ≤ 4 }
 {
     match start(rt, words, reader, writer) {
@@ -56,8 +61,11 @@ fn start<H: AllocGlobal, S: AsStr, R: Read, W: Write>(
     ensures traced { OnOk result (IfSome (R.remaining reader.old) (λ script.
         WritesTrace script None (W.contents writer.old) (W.contents writer.new))) }
     ensures refused { IfErr result (λ fault. exit_status_of fault ≡ 1 → Keeps (W.contents writer.old) (W.contents writer.new)) }
+    ensures unread { IfErr result (λ fault. exit_status_of fault ≡ 1 → reader.new ≡ reader.old) }
     ensures cut_short { IfErr result (λ fault. exit_status_of fault ≡ 2 → IfSome (R.remaining reader.old) (λ script.
         (fault : ℕ × LineFault) × WritesTrace script (Some fault) (W.contents writer.old) (W.contents writer.new))) }
+    ensures no_memory { IfErr result (λ fault. exit_status_of fault ≡ 4 → IfSome (R.remaining reader.old) (λ script.
+        WritesTraceOfFirst script (W.contents writer.old) (W.contents writer.new))) }
 {
     let request = match request_of(rt.alloc(), words) {
         Ok(request) => request,
@@ -79,6 +87,8 @@ fn carry_out<R: Read, W: Write>(
     ensures trace { WentThrough result → IfSome (R.remaining reader.old) (λ script.
         Appends (W.contents writer.old) (W.contents writer.new) (requested_trace request script)) }
     ensures fault { WentThrough result → IfSome (R.remaining reader.old) (λ script. fault_told result ≡ requested_fault request script) }
+    ensures no_memory { IsErrOf result RunFault.NoMemory → IfSome (R.remaining reader.old) (λ script.
+        (count : ℕ) × Appends (W.contents writer.old) (W.contents writer.new) (requested_trace_of_first count request script)) }
 {
     match request {
         Request::Run(options) => run(alloc, reader, writer, options),
@@ -90,6 +100,8 @@ fn carry_out<R: Read, W: Write>(
 fn tell<E: Write>(fault: &EntryFault, errors: &mut E) {
     let _ = match fault {
         EntryFault::CommandLine(error) => write!(errors, "{error}"),
-        EntryFault::BadMarks | EntryFault::Run(_) => writeln!(errors, "{fault}"),
+        EntryFault::NoSubcommand | EntryFault::BadMarks | EntryFault::Run(_) => {
+            writeln!(errors, "{fault}")
+        }
     };
 }

@@ -6,9 +6,12 @@ use thiserror::Error;
 /// Why the program did not do all that it was asked.
 #[derive(Debug, Drop, Error)]
 pub enum EntryFault {
-    /// The words of the command line are refused, or ask for help.
+    /// The words of the command line are refused, or ask for help or the version.
     #[error(transparent)]
     CommandLine(clap::Error),
+    /// The words of the command line name no subcommand.
+    #[error("no subcommand")]
+    NoSubcommand,
     /// The low mark is above the high mark.
     #[error("bad marks")]
     BadMarks,
@@ -26,7 +29,7 @@ impl EntryFault {
         ensures { result ≡ exit_status_of self.now }
     {
         match self {
-            EntryFault::CommandLine(_) | EntryFault::BadMarks => 1,
+            EntryFault::CommandLine(_) | EntryFault::NoSubcommand | EntryFault::BadMarks => 1,
             EntryFault::Run(fault) => fault.status(),
         }
     }
@@ -44,10 +47,10 @@ impl From<AllocError> for EntryFault {
 }
 
 impl From<clap::Error> for EntryFault {
-    ghost use Rattle.std.specs.Prelude.{◌≢◌};
+    ghost use Rattle.std.specs.Prelude.{◌≡◌, ◌⊎◌};
     ghost use Rattle.ob_tool.specs.Entry.{exit_status_of};
 
-    ghost from_gives = { λ _ fault. exit_status_of fault ≢ 2 };
+    ghost from_gives = { λ _ fault. (exit_status_of fault ≡ 1) ⊎ (exit_status_of fault ≡ 4) };
 
     fn from(error: clap::Error) -> EntryFault {
         if error.kind() == ErrorKind::OutOfMemory {

@@ -1,12 +1,11 @@
-ghost use Rattle.std.specs.Prelude.{◌≡◌, ◌≤◌, length};
-ghost use Rattle.ob_tool.specs.Numbers.{AreWithin};
-ghost use Rattle.ob_tool.specs.Table.{word_text, ranges_of, line_asked, word_named};
+ghost use Rattle.ob_tool.specs.RunTable.{run_table};
 
+use crate::first_word::FirstWord;
 use crate::range::Range;
 use crate::script_line::ScriptLine;
 use ob_types::{Cause, PromiseId};
 
-/// The first word of a script line: it says which numbers follow, and what the line asks.
+/// The first word of a line of `run`.
 #[derive(Clone, Copy, Debug, PartialEq, Eq)]
 pub enum LineWord {
     /// `b N`: write a block of N bytes.
@@ -111,11 +110,16 @@ static GATHER_NUMBERS: [Range; 2] = [
     },
 ];
 
-impl LineWord {
-    /// How a script writes the word.
-    pub fn text(self) -> &'static [u8]
-        ensures { result.now ≡ word_text self }
-    {
+impl FirstWord for LineWord {
+    type Line = ScriptLine;
+
+    ghost table = { run_table };
+
+    fn all() -> &'static [LineWord] {
+        &LINE_WORDS
+    }
+
+    fn text(self) -> &'static [u8] {
         match self {
             LineWord::Block => b"b",
             LineWord::Region => b"r",
@@ -134,11 +138,7 @@ impl LineWord {
         }
     }
 
-    /// The ranges of the numbers that follow the word.
-    pub fn ranges(self) -> &'static [Range]
-        ensures value { result.now ≡ ranges_of self }
-        ensures few { length result.now ≤ 3 }
-    {
+    fn ranges(self) -> &'static [Range] {
         match self {
             LineWord::Block => &BLOCK_NUMBERS,
             LineWord::Region | LineWord::RemoveBytes | LineWord::Progress => &NUMBER_OF_64_BITS,
@@ -152,18 +152,7 @@ impl LineWord {
         }
     }
 
-    /// The first word that a text writes, if it is one.
-    pub fn named(text: &[u8]) -> Option<LineWord>
-        ensures { result ≡ word_named text.now }
-    {
-        LINE_WORDS.iter().copied().find(|word| word.text() == text)
-    }
-
-    /// What a line with this first word asks, by its numbers.
-    pub fn line(self, numbers: [u64; 3]) -> ScriptLine
-        requires { AreWithin (ranges_of self) numbers }
-        ensures { result ≡ line_asked self numbers }
-    {
+    fn line(self, numbers: [u64; 3]) -> ScriptLine {
         match self {
             LineWord::Block => ScriptLine::Block(numbers[0]),
             LineWord::Region => ScriptLine::Region(numbers[0]),

@@ -4,3 +4,4 @@ mod doubles;
 mod faults;
 mod rows;
 mod statuses;
+mod texts;

@@ -6,6 +6,7 @@ ghost use Rattle.ob_tool.specs.Ending.{Ends};
 ghost use Rattle.ob_tool.specs.declared.run_fault.RunFault.TheVariants.{Write};
 
 use crate::line::read_line;
+use crate::line_word::LineWord;
 use crate::line_words::first_line;
 use crate::run_fault::RunFault;
 use crate::script_line::ScriptLine;
@@ -34,7 +35,7 @@ pub fn trace_lines<W: io::Write>(
     let mut text = String::new(alloc);
     while !rest.is_empty() {
         let (line, others) = first_line(rest);
-        match read_line(line) {
+        match read_line::<LineWord>(line) {
             Err(fault) => {
                 return Err(RunFault::Line {
                     line: number + 1,

@@ -61,11 +61,14 @@ fn takes_the_least_limit(rt: HostRuntime) {
     );
 }
 
-/// Words that are refused, or ask for help: status 1, a text that ends with one byte 10, and no trace.
+/// Words that are refused, or ask for help or the version: status 1, a text that ends with one byte 10, and no trace.
+/// Nothing is read.
 #[test]
 fn refuses_command_lines(rt: HostRuntime) -> Result<(), Fail> {
-    let cases: [&[&str]; 17] = [
+    let cases: [&[&str]; 21] = [
         &["ob_tool"],
+        &[],
+        &["ob_tool", "--low", "1"],
         &["ob_tool", "walk"],
         &["ob_tool", "run", "more"],
         &["ob_tool", "run", "--low"],
@@ -82,6 +85,8 @@ fn refuses_command_lines(rt: HostRuntime) -> Result<(), Fail> {
         &["ob_tool", "--help"],
         &["ob_tool", "run", "--help"],
         &["ob_tool", "help"],
+        &["ob_tool", "help", "core"],
+        &["ob_tool", "--version"],
     ];
     for words in cases {
         let mut reader: &[u8] = b"f\n";
@@ -90,6 +95,7 @@ fn refuses_command_lines(rt: HostRuntime) -> Result<(), Fail> {
         let status = entry(&rt, words, &mut reader, &mut written, &mut told);
         assert_eq!(rt; status, 1, "{words:?}");
         assert_eq!(rt; written.len(), 0, "{words:?}");
+        assert_eq!(rt; reader.len(), 2, "{words:?}");
         assert!(rt;
             told.ends_with(b"\n") && !told.ends_with(b"\n\n"),
             "{words:?}"

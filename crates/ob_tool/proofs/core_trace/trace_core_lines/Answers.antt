@@ -1,7 +1,8 @@
 use Rattle.std.proofs.Common.{◌≡◌, ◌∙◌, ◌+◌, sym, ap, subst, true, false, List, ◌∷◌, ◌++◌, drop, length, Ok, Err, arith}
 use Rattle.std.proofs.lemmas.Bool.{eqb-true}
 use Rattle.ob_tool.specs.Script.{before_fault, first_fault}
-use Rattle.ob_tool.specs.CoreLine.{core_line_reading}
+use Rattle.ob_tool.specs.CoreTable.{core_table}
+use Rattle.ob_tool.specs.Line.{line_reading}
 use Rattle.ob_tool.specs.CoreStage.{Stage, first_stage, is_misplaced, stage_after, stage_from}
 use Rattle.ob_tool.specs.CoreScript.{placed_in, core_lines}
 use Rattle.ob_tool.specs.CoreTrace.{core_line_trace, core_trace_from, core_trace_of_first}
@@ -17,7 +18,7 @@ returns-in-Err-clause-lines g c =
     let lines = core_lines marks c.args.script.now in
     let n = c.loop-rest.number in
     let stage = stage_of c.loop-rest.session in
-    let read : core_line_reading c.first_line.result.0.now ≡ Err c.in-Err.fault = sym c.read_core_line.ensures ∙ c.in-Err.is in
+    let read : line_reading core_table c.first_line.result.0.now ≡ Err c.in-Err.fault = sym c.read_line.ensures ∙ c.in-Err.is in
     let here = placed_in-Err stage c.loop-rest.rest.now c.first_line.result.0.now c.first_line.result.1.now c.in-Err.fault c.first_line.ensures.lines read in
     let whole = take-drop_nil n lines (c.loop-rest.invariant.left ∙ ap before_fault here) in (
       subst (λ (some : List _). HasTraced (g.W.Write.contents c.args.writer.now) (g.W.Write.contents c.loop-rest.writer) c.loop-rest.waiting.items (core_trace_from (first_stage marks) some)) whole c.loop-rest.invariant.traced,
@@ -32,7 +33,7 @@ returns-then-not-branch-clause-lines g c =
     let stage = stage_of c.loop-rest.session in
     let asked = c.in-Ok.line in
     let others = c.first_line.result.1.now in
-    let read : core_line_reading c.first_line.result.0.now ≡ Ok asked = sym c.read_core_line.ensures ∙ c.in-Ok.is in
+    let read : line_reading core_table c.first_line.result.0.now ≡ Ok asked = sym c.read_line.ensures ∙ c.in-Ok.is in
     let misplaced : is_misplaced stage asked ≡ true = fits-false c.in_ok-trace_core_line-in-Ok.field-0 _ c.if-not-branch.true c.in_ok-trace_core_line-in-Ok.ensures.fits in
     let here = placed_in-Misplaced stage c.loop-rest.rest.now c.first_line.result.0.now others asked c.first_line.ensures.lines read misplaced in
     let whole = take-drop_nil n lines (c.loop-rest.invariant.left ∙ ap before_fault here) in
@@ -53,7 +54,7 @@ loop-rest-preserved g c =
     let asked = c.in-Ok.line in
     let others = c.first_line.result.1.now in
     let done = c.in_ok-trace_core_line-in-Ok.ensures in
-    let read : core_line_reading c.first_line.result.0.now ≡ Ok asked = sym c.read_core_line.ensures ∙ c.in-Ok.is in
+    let read : line_reading core_table c.first_line.result.0.now ≡ Ok asked = sym c.read_line.ensures ∙ c.in-Ok.is in
     let fits : is_misplaced stage asked ≡ false = fits-true c.in_ok-trace_core_line-in-Ok.field-0 _ c.if-not-branch.false done.fits in
     let here = placed_in-Ok stage c.loop-rest.rest.now c.first_line.result.0.now others asked c.first_line.ensures.lines read fits in
     let left : drop n lines ≡ asked ∷ before_fault (placed_in (stage_after stage asked) others) = inv.left ∙ ap before_fault here in

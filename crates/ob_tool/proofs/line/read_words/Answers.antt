@@ -1,18 +1,21 @@
 use Rattle.std.proofs.Common.{ap, Ok, ◌∙◌}
-use Rattle.ob_tool.specs.Table.{line_asked, ranges_of}
 use Rattle.ob_tool.proofs.RangesLemmas.{held-within}
-use Rattle.ob_tool.proofs.LineLemmas.{line_asked-same, asked_by-Ok, asked_by-Err}
+use Rattle.ob_tool.proofs.LineLemmas.{asked_by-Ok, asked_by-Err}
 use Rattle.ob_tool.proofs.line.read_words.Goals as goal
 
-pub line-requires : goal.line-requires
-line-requires c = let held = rw c.ranges-2.ensures.value at c.in-Ok.ensures in held-within (ranges_of c.args.word) _ _ held
+pub line-requires-after_bounds : goal.line-requires-after_bounds
+line-requires-after_bounds g c κs within =
+    let kind = g.W.FirstWord.table.kind_of c.args.word in
+    let held = rw c.ranges-2.ensures.value at c.in-Ok.ensures in held-within kind.ranges _ _ held
 
 pub returns-in-Ok : goal.returns-in-Ok
-returns-in-Ok c =
+returns-in-Ok g c =
+    let kind = g.W.FirstWord.table.kind_of c.args.word in
     let held = rw c.ranges-2.ensures.value at c.in-Ok.ensures in
-    ap Ok c.line.ensures ∙ asked_by-Ok (line_asked c.args.word) _ _ (line_asked-same c.args.word _) held
+    ap Ok c.line.ensures ∙ asked_by-Ok kind.asked _ _ held
 
 pub returns-in-Err : goal.returns-in-Err
-returns-in-Err c =
+returns-in-Err g c =
+    let kind = g.W.FirstWord.table.kind_of c.args.word in
     let held = rw c.ranges-2.ensures.value at c.in-Err.ensures in
-    asked_by-Err (line_asked c.args.word) _ _ held
+    asked_by-Err kind.asked _ _ held

@@ -2,6 +2,7 @@ use Rattle.std.proofs.Common.{◌≡◌, ◌∙◌, ◌+◌, sym, ap, subst, Lis
 use Rattle.std.proofs.lemmas.Bool.{eqb-true}
 use Rattle.ob_history.specs.History.{History}
 use Rattle.ob_tool.specs.Line.{line_reading}
+use Rattle.ob_tool.specs.RunTable.{run_table}
 use Rattle.ob_tool.specs.Script.{script_lines}
 use Rattle.ob_tool.specs.Trace.{history_after_line, history_after_lines, line_trace, trace_from}
 use Rattle.ob_tool.specs.Outcome.{trace_of_first}
@@ -15,7 +16,7 @@ returns-in-Err g c =
     let rest = c.loop-rest.rest.now in
     let line = c.first_line.result.0.now in
     let others = c.first_line.result.1.now in
-    let read : line_reading line ≡ Err c.in-Err.fault = sym c.read_line.ensures ∙ c.in-Err.is in
+    let read : line_reading run_table line ≡ Err c.in-Err.fault = sym c.read_line.ensures ∙ c.in-Err.is in
     let none : drop c.loop-rest.number (script_lines script) ≡ [] = c.loop-rest.invariant.left ∙ script_lines-Err rest line others c.in-Err.fault c.first_line.ensures.lines read in
     let whole = take-drop_nil c.loop-rest.number (script_lines script) none in (
       subst (λ (lines : List _). HasTraced (g.W.Write.contents c.args.writer.now) (g.W.Write.contents c.loop-rest.writer) c.loop-rest.waiting.items (trace_from c.args.session.now.booked.recorded lines)) whole c.loop-rest.invariant.traced,
@@ -33,7 +34,7 @@ loop-rest-preserved g c =
     let asked = c.in-Ok.line in
     let inv = c.loop-rest.invariant in
     let before = history_after_lines history (take n (script_lines script)) in
-    let read : line_reading line ≡ Ok asked = sym c.read_line.ensures ∙ c.in-Ok.is in
+    let read : line_reading run_table line ≡ Ok asked = sym c.read_line.ensures ∙ c.in-Ok.is in
     let left : drop n (script_lines script) ≡ asked ∷ script_lines others = inv.left ∙ script_lines-Ok rest line others asked c.first_line.ensures.lines read in
     let told : c.trace_line.new.waiting.items ≡ c.loop-rest.waiting.items ++ line_trace before asked =
     c.in_ok-trace_line-in-Ok.ensures.text ∙ ap (λ (h : History). c.loop-rest.waiting.items ++ line_trace h asked) inv.after in

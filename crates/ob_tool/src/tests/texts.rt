@@ -1,0 +1,146 @@
+//! The texts of faults, of `--help` and of `--version`.
+
+use crate::entry::entry;
+use crate::entry_fault::EntryFault;
+use ob_core::{AskFault, WorldFault};
+use std::process::Abort;
+use std::test::Fail;
+
+/// What `ob_tool run --help` tells.
+static HELP_OF_RUN: &str = "\
+Reads a script from standard input, and writes one line for each of its lines to standard output
+
+Usage: ob_tool run [OPTIONS]
+
+Options:
+      --low <BYTES>       Writers may go on once fewer bytes than this are pending (32768 where it is not given)
+      --high <BYTES>      Writers should stop once more bytes than this are pending (65536 where it is not given)
+      --overhead <BYTES>  Bytes that each message counts beside its own (96 where it is not given)
+      --unknown <BYTES>   Bytes that a message of unknown size counts (8 where it is not given)
+      --limit <RECORDS>   Commands that are recorded, 1 to 1048576; further ones are refused (1048576 where it is not given)
+  -h, --help              Print help
+
+The script comes on standard input:
+  ob_tool run --low 200 --high 400 < FILE
+
+Lines of a script:
+  b N     write a block of N bytes, at most 1048576
+  r N     write a region of N bytes
+  o N     write another message, whose number is N
+  f       flush
+  rm      remove the first flushed message, as sent
+  rc C    remove the first flushed message, as failed for the cause C
+  rb N    remove N bytes of the blocks in front
+  p N     tell of N more bytes of progress of the first flushed message
+  x ID    cancel the promise ID
+  fl C V  fail all flushed messages with the cause C, with notice where V is 1, without where it is 0
+  cl C    close with the cause C
+  u I V   set the user bit I where V is 0, clear it where V is 1
+  ?       look at the buffer
+  g C N   gather at most C blocks, 1 to 1024, of together at most N bytes, 1 to 2147483647
+Where no range stands here, the N of r, rb and p go up to 18446744073709551615, I up to 255, and all else up to
+4294967295.
+
+Faults of a line, told as `line N: fault F`:
+  1  its first word is none of these
+  2  a word in a number's place is no number
+  3  a number is out of its range
+  4  too few words follow the first
+  5  too many words follow the first
+  6  it has more than 200 bytes
+
+Status: 0 done, 1 the command line, 2 a line, 3 reading or writing, 4 memory
+";
+
+/// Gives the program these words, which end it before it reads, and answers what it tells.
+fn told<H: Abort + AllocGlobal>(rt: &H, words: &[&str]) -> Vec<u8> {
+    let mut reader: &[u8] = b"f\n";
+    let mut written: Vec<u8> = Vec::new(rt.alloc());
+    let mut told: Vec<u8> = Vec::new(rt.alloc());
+    let status = entry(rt, words, &mut reader, &mut written, &mut told);
+    assert_eq!(rt; status, 1, "{words:?}");
+    assert_eq!(rt; written.len(), 0, "{words:?}");
+    assert_eq!(rt; reader.len(), 2, "{words:?}");
+    told
+}
+
+#[test]
+fn help_of_run(rt: HostRuntime) {
+    let help = told(&rt, &["ob_tool", "run", "--help"]);
+    assert_eq!(rt; help.as_slice(), HELP_OF_RUN.as_bytes());
+    let short = told(&rt, &["ob_tool", "run", "-h"]);
+    assert_eq!(rt; short.as_slice(), HELP_OF_RUN.as_bytes());
+}
+
+/// The lines of a core script, and the fault that only such a line has.
+#[test]
+fn help_of_core(rt: HostRuntime) -> Result<(), Fail> {
+    let help = String::from_utf8(told(&rt, &["ob_tool", "core", "--help"]))?;
+    let parts = [
+        "Usage: ob_tool core [OPTIONS]\n",
+        "  ob_tool core --low 50 --high 100 < FILE\n",
+        "\n  lane R B  a lane with room R, which holds the bits of the mask B\n  c L N  ",
+        "\n  d L  ",
+        "\n  u L I V  ",
+        "\n  w L  ",
+        "\n  t L  ",
+        "\n  k L  ",
+        "\n  6  it has more than 200 bytes\n  7  a lane behind a turn, a turn before the first lane, ",
+    ];
+    for part in parts {
+        assert!(rt; help.contains(part), "{part}");
+    }
+    Ok(())
+}
+
+#[test]
+fn version(rt: HostRuntime) {
+    let version = told(&rt, &["ob_tool", "--version"]);
+    assert_eq!(rt; version.as_slice(), b"ob_tool 0.1.0\n".as_slice());
+}
+
+#[test]
+fn names_no_subcommand(rt: HostRuntime) -> Result<(), Fail> {
+    let text = format!(in rt.alloc(); "{}", EntryFault::NoSubcommand)?;
+    assert_eq!(rt; text.as_str(), "no subcommand");
+    assert_eq!(rt; EntryFault::NoSubcommand.status(), 1);
+    Ok(())
+}
+
+#[test]
+fn faults_of_asks(rt: HostRuntime) -> Result<(), Fail> {
+    let cases = [
+        (AskFault::UnknownLane, "there is no such lane"),
+        (AskFault::NoRoom, "the charge is above the room of the lane"),
+        (AskFault::Owing, "the lane owes a charge already"),
+        (AskFault::NotOwing, "the lane owes nothing"),
+        (AskFault::NotHeld, "the lane does not hold the bit"),
+        (AskFault::NotInside, "the lane is in the middle of no call"),
+    ];
+    for (fault, text) in cases {
+        let shown = format!(in rt.alloc(); "{fault}")?;
+        assert_eq!(rt; shown.as_str(), text);
+    }
+    Ok(())
+}
+
+#[test]
+fn faults_of_worlds(rt: HostRuntime) -> Result<(), Fail> {
+    let cases = [
+        (WorldFault::BadCount, "a world has 1 to 64 lanes"),
+        (
+            WorldFault::TooMuchRoom,
+            "the rooms of the lanes add up to more than 4294967295",
+        ),
+        (
+            WorldFault::BitsTwice,
+            "a bit is held twice, or bit 0 is held",
+        ),
+        (WorldFault::NoMemory, "out of memory"),
+    ];
+    for (fault, text) in cases {
+        let shown = format!(in rt.alloc(); "{fault}")?;
+        assert_eq!(rt; shown.as_str(), text);
+    }
+    Ok(())
+}
