@@ -1,4 +1,9 @@
-//! The caller that the README shows. There `crate` is `ob_seq`.
+//! The callers that the README and `docs/PROVED.md` show. There `crate` is `ob_seq`.
+
+ghost use Rattle.std.specs.Prelude.{◌≡◌, ◌↔◌, List, IsTrue};
+ghost use Rattle.ob_types.specs.declared.command.Command.{Command};
+ghost use Rattle.ob_seq.specs.Pending.{StandsFor};
+ghost use Rattle.ob_seq.specs.Word.{word_after};
 
 use crate::Buffer;
 use crate::tests::calls::buffer;
@@ -51,6 +56,14 @@ fn tell<P: Peer>(peer: &mut P, reply: &Reply) {
     if let Some(change) = reply.change {
         peer.set_reading(change == Change::Writable);
     }
+}
+
+/// Whether more may be written: whatever commands the buffer was given, just where the word after them is 0.
+pub fn may_write(buffer: &Buffer) -> bool
+    ensures { (commands : List Command) → StandsFor buffer.now commands
+        → IsTrue result ↔ (word_after buffer.now.settings commands ≡ 0) }
+{
+    buffer.look().word == 0
 }
 
 /// A connection whose socket takes at most so many bytes at a time.
@@ -107,14 +120,14 @@ fn a_slow_peer_is_not_read_until_it_has_caught_up(rt: HostRuntime) -> Result<(),
     respond(&mut buffer, &mut peer, response(alloc, 1, 304)?)?;
     assert!(rt; peer.reading);
     respond(&mut buffer, &mut peer, response(alloc, 2, 4)?)?;
-    assert!(rt; !peer.reading);
+    assert!(rt; !peer.reading && !may_write(&buffer));
     send(&mut buffer, &mut peer)?;
     assert!(rt; !peer.reading);
     assert_eq!(rt; (peer.sent.len(), buffer.look().total), (300, 500));
     assert_eq!(rt; peer.settled.len(), 0);
 
     send(&mut buffer, &mut peer)?;
-    assert!(rt; peer.reading);
+    assert!(rt; peer.reading && may_write(&buffer));
     let both = [
         (PromiseId(0), Outcome::Success),
         (PromiseId(1), Outcome::Success),
