@@ -1,4 +1,4 @@
-//! The callers that the README and `docs/PROVED.md` show. There `crate` is `ob_seq`.
+//! The callers that the README, `docs/calls.md` and `docs/PROVED.md` show. There `crate` is `ob_seq`.
 
 ghost use Rattle.std.specs.Prelude.{◌≡◌, ◌↔◌, List, IsTrue};
 ghost use Rattle.ob_types.specs.declared.command.Command.{Command};
@@ -8,7 +8,7 @@ ghost use Rattle.ob_seq.specs.Word.{word_after};
 use crate::Buffer;
 use crate::tests::calls::buffer;
 use bytes::Bytes;
-use ob_types::{Change, Estimate, Message, Outcome, PromiseId, Refusal, Reply, WaterMark};
+use ob_types::{Cause, Change, Estimate, Message, Outcome, PromiseId, Refusal, Reply, WaterMark};
 use std::alloc::Global;
 use std::test::Fail;
 
@@ -58,6 +58,15 @@ fn tell<P: Peer>(peer: &mut P, reply: &Reply) {
     }
 }
 
+/// Gives a connection up: each promise that is not settled yet fails for this cause.
+pub fn give_up<P: Peer>(buffer: &mut Buffer, peer: &mut P, cause: Cause) -> Result<(), Refusal> {
+    let failed = buffer.fail_flushed(cause, false)?;
+    tell(peer, &failed);
+    let closed = buffer.close(cause)?;
+    tell(peer, &closed);
+    Ok(())
+}
+
 /// Whether more may be written: whatever commands the buffer was given, just where the word after them is 0.
 pub fn may_write(buffer: &Buffer) -> bool
     ensures { (commands : List Command) → StandsFor buffer.now commands
@@ -101,6 +110,15 @@ impl Peer for SlowPeer {
     }
 }
 
+fn slow_peer(alloc: Global, takes: usize) -> SlowPeer {
+    SlowPeer {
+        takes,
+        sent: Vec::new(alloc),
+        settled: Vec::new(alloc),
+        reading: true,
+    }
+}
+
 /// So many bytes of one value.
 fn response(alloc: Global, value: u8, length: usize) -> Result<Bytes, Refusal> {
     Ok(Bytes::from_vec(vec![in alloc; value; length]?)?)
@@ -111,12 +129,7 @@ fn response(alloc: Global, value: u8, length: usize) -> Result<Bytes, Refusal> {
 fn a_slow_peer_is_not_read_until_it_has_caught_up(rt: HostRuntime) -> Result<(), Fail> {
     let alloc = rt.alloc();
     let mut buffer = buffer(alloc, 200, 400)?;
-    let mut peer = SlowPeer {
-        takes: 100,
-        sent: Vec::new(alloc),
-        settled: Vec::new(alloc),
-        reading: true,
-    };
+    let mut peer = slow_peer(alloc, 100);
     respond(&mut buffer, &mut peer, response(alloc, 1, 304)?)?;
     assert!(rt; peer.reading);
     respond(&mut buffer, &mut peer, response(alloc, 2, 4)?)?;
@@ -148,5 +161,28 @@ fn a_new_buffer_has_room_up_to_the_high_mark(rt: HostRuntime) -> Result<(), Fail
     let written = buffer.write(Message::Block(response(rt.alloc(), 0, 65440)?))?;
     assert_eq!(rt; written.change, None);
     assert_eq!(rt; buffer.look().before_unwritable, 1);
+    Ok(())
+}
+
+/// A socket that takes nothing: two responses are flushed and one is not. Failed without notice, the responses leave
+/// the peer unread.
+#[test]
+fn a_connection_that_is_given_up_fails_what_waits(rt: HostRuntime) -> Result<(), Fail> {
+    let alloc = rt.alloc();
+    let mut buffer = buffer(alloc, 200, 400)?;
+    let mut peer = slow_peer(alloc, 0);
+    respond(&mut buffer, &mut peer, response(alloc, 1, 304)?)?;
+    respond(&mut buffer, &mut peer, response(alloc, 2, 4)?)?;
+    tell(&mut peer, &buffer.write(Message::Other(7))?);
+    give_up(&mut buffer, &mut peer, Cause(9))?;
+    let failed = Outcome::Failed(Cause(9));
+    let all = [
+        (PromiseId(0), failed),
+        (PromiseId(1), failed),
+        (PromiseId(2), failed),
+    ];
+    assert_eq!(rt; peer.settled.as_slice(), all.as_slice());
+    assert_eq!(rt; (peer.reading, buffer.look().total), (false, 0));
+    assert_eq!(rt; send(&mut buffer, &mut peer), Err(Refusal::Closed));
     Ok(())
 }
