@@ -1,4 +1,5 @@
 mod byte_run;
+mod caller;
 mod calls;
 mod ending;
 mod limits;
