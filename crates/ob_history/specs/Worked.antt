@@ -14,7 +14,7 @@ use Rattle.ob_seq.specs.Settings.{Settings}
 use Rattle.ob_history.specs.Accepted.{accepted_commands}
 use Rattle.ob_history.specs.Call.{call_answer, history_after}
 use Rattle.ob_history.specs.First.{IsFirstBreak}
-use Rattle.ob_history.specs.Glance.{Glance, glance_after}
+use Rattle.ob_history.specs.Glance.{glance_after}
 use Rattle.ob_history.specs.History.{History}
 use Rattle.ob_history.specs.Legal.{IsLegal}
 use Rattle.ob_history.specs.Own.{AreOwn, records_of}
