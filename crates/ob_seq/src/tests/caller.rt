@@ -67,6 +67,20 @@ pub fn give_up<P: Peer>(buffer: &mut Buffer, peer: &mut P, cause: Cause) -> Resu
     Ok(())
 }
 
+/// Where few writes are left, takes no more work until all is sent, and goes on with a new buffer.
+pub fn renew<P: Peer>(buffer: &mut Buffer, peer: &mut P, alloc: Global) -> Result<(), Refusal> {
+    if buffer.writes_left() >= 1000 {
+        return Ok(());
+    }
+    peer.set_reading(false);
+    send(buffer, peer)?;
+    if buffer.look().total == 0 {
+        *buffer = open(alloc)?;
+        peer.set_reading(true);
+    }
+    Ok(())
+}
+
 /// Whether more may be written: whatever commands the buffer was given, just where the word after them is 0.
 pub fn may_write(buffer: &Buffer) -> bool
     ensures { (commands : List Command) → StandsFor buffer.now commands
@@ -184,5 +198,28 @@ fn a_connection_that_is_given_up_fails_what_waits(rt: HostRuntime) -> Result<(),
     assert_eq!(rt; peer.settled.as_slice(), all.as_slice());
     assert_eq!(rt; (peer.reading, buffer.look().total), (false, 0));
     assert_eq!(rt; send(&mut buffer, &mut peer), Err(Refusal::Closed));
+    Ok(())
+}
+
+/// With 1000 writes left the buffer stays. With 999 it waits for what is pending, and then a new one takes its place.
+#[test]
+fn a_buffer_near_its_limit_of_writes_is_renewed(rt: HostRuntime) -> Result<(), Fail> {
+    let alloc = rt.alloc();
+    let mut buffer = open(alloc)?;
+    let mut peer = slow_peer(alloc, 0);
+    for _ in 0..1_047_576 {
+        let _ = buffer.write(Message::Region(0))?;
+        let _ = buffer.flush()?;
+        let _ = buffer.remove()?;
+    }
+    renew(&mut buffer, &mut peer, alloc)?;
+    assert_eq!(rt; (peer.reading, buffer.writes_left()), (true, 1000));
+    respond(&mut buffer, &mut peer, response(alloc, 1, 4)?)?;
+    renew(&mut buffer, &mut peer, alloc)?;
+    assert_eq!(rt; (peer.reading, buffer.writes_left()), (false, 999));
+    peer.takes = 100;
+    renew(&mut buffer, &mut peer, alloc)?;
+    assert_eq!(rt; (peer.reading, buffer.writes_left()), (true, 1048576));
+    assert_eq!(rt; peer.sent.as_slice(), [1, 1, 1, 1].as_slice());
     Ok(())
 }
