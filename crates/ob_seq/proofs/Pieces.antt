@@ -6,7 +6,7 @@ use Rattle.std.proofs.Math.Nat.{le-max_left, le-max_right, max-le}
 use Rattle.std.proofs.lemmas.Bool.{cases_Bool}
 use Rattle.std.proofs.lemmas.Bool.Decides.{nat_tests}
 use Rattle.std.proofs.lemmas.List.Sums.{sum_by-cons}
-use Rattle.ob_seq.specs.declared.buffer.cut.Cut.{Cut}
+use Rattle.ob_seq.specs.declared.contents.cut.Cut.{Cut}
 use Rattle.ob_seq.specs.Pieces.{bytes_in, pieces_within}
 use Rattle.ob_seq.specs.Steps.{cut_of}
 

@@ -22,7 +22,7 @@ use Rattle.ob_seq.specs.Line.{is_in_line}
 use Rattle.ob_seq.specs.Effect.{cancelled, progressed_row, rows_after, with_cancelled, with_front}
 use Rattle.ob_types.specs.Waiting.{is_waiting}
 use Rattle.ob_seq.specs.Answer.{first_refusal, outcome_of, promise_at, reply_of, settlement, settlements_from, unless_refused, still_waits}
-use Rattle.ob_seq.specs.declared.buffer.cut.Cut.{Cut}
+use Rattle.ob_seq.specs.declared.contents.cut.Cut.{Cut}
 use Rattle.ob_seq.specs.Entry.{PendingEntry, blocks_left}
 use Rattle.ob_seq.specs.Pieces.{bytes_in, pieces_within}
 use Rattle.ob_types.specs.Block.{is_block}

@@ -4,7 +4,7 @@ use Rattle.ob_types.specs.Limits.{greatest_overhead, greatest_total, greatest_un
 use Rattle.ob_seq.specs.Entry.{PendingEntry}
 use Rattle.ob_seq.specs.Pending.{Pending}
 use Rattle.ob_seq.specs.declared.entry.Entry.{Entry}
-use Rattle.ob_seq.specs.declared.buffer.Buffer.TheInside.{Inside}
+use Rattle.ob_seq.specs.declared.contents.Contents.TheInside.{Inside}
 
 -- what a contract sees of an entry
 abbrev pub pending_entry : Entry → PendingEntry

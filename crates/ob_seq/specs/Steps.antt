@@ -7,7 +7,7 @@ use Rattle.ob_types.specs.declared.promise.Outcome.{Outcome}
 use Rattle.ob_types.specs.declared.promise.Cause.{Cause}
 use Rattle.ob_types.specs.declared.promise.Outcome.TheVariants.{Success, Failed}
 use Rattle.ob_types.specs.declared.promise.PromiseState.TheVariants.{Waiting, Fixed, Settled}
-use Rattle.ob_seq.specs.declared.buffer.cut.Cut.{Cut}
+use Rattle.ob_seq.specs.declared.contents.cut.Cut.{Cut}
 use Rattle.ob_types.specs.Limits.{greatest_progress}
 use Rattle.ob_types.specs.Waiting.{is_waiting}
 use Rattle.ob_seq.specs.Entry.{PendingEntry, blocks_left}

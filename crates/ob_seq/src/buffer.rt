@@ -1,33 +1,15 @@
-ghost use Rattle.std.specs.Prelude.{◌≡◌, ◌≤◌, false, [], IsTrue, IsErrOf, OnErr};
-ghost use Rattle.ob_types.specs.Change.{change_between};
-ghost use Rattle.ob_types.specs.Limits.{greatest_overhead, greatest_total, greatest_unknown};
+ghost use Rattle.std.specs.Prelude.{◌≡◌, ◌≤◌, false, [], List, IsTrue, IsErrOf, OnErr};
+ghost use Rattle.ob_types.specs.Limits.{greatest_overhead, greatest_unknown};
 ghost use Rattle.ob_types.specs.Write.{is_write};
-ghost use Rattle.ob_seq.specs.Inside.{pending_entries};
+ghost use Rattle.ob_types.specs.declared.command.Command.{Command};
 ghost use Rattle.ob_seq.specs.Pending.{StandsFor, Answers, Follows, Accepts, takes_no_memory};
 ghost use Rattle.ob_seq.specs.Settles.{SparesMemory};
-ghost use Rattle.ob_seq.specs.Steps.{sum_of};
 
-mod cancel;
-mod close;
-mod cut;
-mod fail_flushed;
-mod flush;
-mod gather;
-mod look;
-mod progress;
-mod remove;
-mod remove_bytes;
-mod settles;
-mod state;
-mod taking;
-mod user_bit;
-mod word;
-mod write;
+mod commands;
+mod looks;
 
-use crate::entry::Entry;
-use ob_types::{
-    Answer, Change, Command, Estimate, PromiseState, Refusal, Reply, Settlements, WaterMark,
-};
+use crate::contents::Contents;
+use ob_types::{Command, Estimate, Refusal, Reply, WaterMark};
 use std::alloc::Global;
 use std::marker::Model;
 
@@ -35,28 +17,20 @@ use std::marker::Model;
 /// `ChannelOutboundBuffer`), for one thread.
 #[derive(Debug, Drop)]
 pub struct Buffer {
-    marks: WaterMark,
-    estimate: Estimate,
-    /// What stands in line, and behind it what no flush has reached, each oldest first.
-    entries: Vec<Entry>,
-    /// How many of the entries stand in line.
-    flushed: usize,
-    /// The state of each promise, by its id.
-    promises: Vec<PromiseState>,
-    word: u32,
-    closed: bool,
+    contents: Contents,
 }
 
+/// Each buffer holds what some list of accepted commands leaves.
 impl Model for Buffer {
-    ghost use Rattle.ob_seq.specs.Pending.{Pending};
+    ghost use Rattle.std.specs.Prelude.{List};
+    ghost use Rattle.ob_types.specs.declared.command.Command.{Command};
+    ghost use Rattle.ob_seq.specs.Pending.{Pending, StandsFor};
 
     ghost Value = { Pending };
 
-    ghost use Rattle.ob_seq.specs.Inside.{pending_of, IsSound};
+    ghost view = { λ buffer. buffer.contents };
 
-    ghost view = { pending_of };
-
-    ghost invariant = { IsSound };
+    ghost invariant = { λ buffer. (commands : List Command) × StandsFor buffer.contents commands };
 }
 
 impl Buffer {
@@ -68,14 +42,16 @@ impl Buffer {
         ensures stands { StandsFor result [] }
     {
         Buffer {
-            marks,
-            estimate,
-            entries: Vec::new(alloc),
-            flushed: 0,
-            promises: Vec::new(alloc),
-            word: 0,
-            closed: false,
+            contents: Contents::new(alloc, marks, estimate),
         }
+    }
+
+    /// Each buffer stands for some list of accepted commands, so what its calls promise is promised of some list. It
+    /// does nothing.
+    pub fn stands_for_some_commands(&self)
+        ensures { (commands : List Command) × StandsFor self.now commands }
+    {
+        let _contents = &self.contents;
     }
 
     /// Gives one command: the call of the same name.
@@ -107,30 +83,4 @@ impl Buffer {
             Command::UserBit(index, writable) => self.user_bit(index, writable),
         }
     }
-
-    /// The reply of a call that found the word `before`.
-    fn reply(&self, answer: Answer, settled: Settlements, before: u32) -> Reply
-        ensures { result ≡ record { answer = answer; settled = settled; change = change_between before self.now.word } }
-    {
-        Reply {
-            answer,
-            settled,
-            change: Change::between(before, self.word),
-        }
-    }
-
-    /// A reply's list of settlements, still empty.
-    fn no_settlements(&self) -> Settlements
-        ensures { result ≡ [] }
-    {
-        Settlements::new(*self.entries.allocator())
-    }
-}
-
-/// The bytes that the entries count together.
-fn total_of(entries: &[Entry]) -> u32
-    requires { sum_of (pending_entries entries.now) ≤ greatest_total }
-    ensures { result ≡ sum_of (pending_entries entries.now) }
-{
-    entries.iter().map(|entry| entry.size).sum()
 }

@@ -2,6 +2,7 @@
 #![tactic(auto)]
 
 mod buffer;
+mod contents;
 mod entry;
 mod flushed;
 mod laws;

@@ -1,6 +1,0 @@
-use Rattle.std.proofs.Common.{◌≡◌}
-use Rattle.ob_seq.specs.Steps.{next_flushed, times}
-use Rattle.ob_seq.proofs.buffer.Buffer.flush_all.Given as goal
-
-abbrev pub invariant-loop : goal.invariant-loop
-invariant-loop l = l.self ≡ times l.counter next_flushed l.fn.self

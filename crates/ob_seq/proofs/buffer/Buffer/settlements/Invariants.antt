@@ -1,6 +1,0 @@
-use Rattle.std.proofs.Common.{◌≡◌, take}
-use Rattle.ob_seq.specs.Steps.{front_id, entry_settlements}
-use Rattle.ob_seq.proofs.buffer.Buffer.settlements.Given as goal
-
-abbrev pub invariant-loop-place : goal.invariant-loop-place
-invariant-loop-place l = l.settled ≡ entry_settlements l.fn.outcome (front_id l.self) (take l.place l.self.line)

@@ -1,6 +1,0 @@
-use Rattle.std.proofs.Common.{◌≡◌}
-use Rattle.ob_seq.specs.Steps.{front_taken, times}
-use Rattle.ob_seq.proofs.buffer.Buffer.take_first.Given as goal
-
-abbrev pub invariant-loop : goal.invariant-loop
-invariant-loop l = l.self ≡ times l.counter (front_taken l.fn.notice l.fn.outcome) l.fn.self

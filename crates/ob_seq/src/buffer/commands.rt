@@ -1,0 +1,171 @@
+//! One call for each command.
+
+ghost use Rattle.std.specs.Prelude.{◌≡◌, IsErrOf, OnErr};
+ghost use Rattle.ob_types.specs.declared.command.Command.TheVariants.{Write, Flush, Remove, RemoveWith, RemoveBytes, Progress, Cancel, FailFlushed, Close, UserBit};
+ghost use Rattle.ob_seq.specs.Pending.{Answers, Follows, Accepts};
+ghost use Rattle.ob_seq.specs.Settles.{SparesMemory};
+
+use crate::buffer::Buffer;
+use ob_types::{Cause, Message, PromiseId, Refusal, Reply};
+
+impl Buffer {
+    /// Adds a message behind all others (Netty's `addMessage`), and answers its promise.
+    ///
+    /// `Closed` comes where the buffer is closed, then `Oversize` where the message counts more than 2147483647 bytes or
+    /// is a region longer than 9223372036854775807, then `TooMuch` where more than 4294967295 bytes would be pending or
+    /// 1048576 writes were accepted, and then `NoMemory` where the allocator refused. Each leaves everything as it was,
+    /// but for the message, which is dropped.
+    pub fn write(&mut self, message: Message) -> Result<Reply, Refusal>
+        ensures answer { ¬ IsErrOf result Refusal.NoMemory → Answers self.old (Write message) result }
+        ensures stands { Follows self.old (Write message) result self.new }
+        ensures settings { self.new.settings ≡ self.old.settings }
+        ensures refused { OnErr result (self.new ≡ self.old) }
+        ensures no_memory_last { IsErrOf result Refusal.NoMemory → Accepts self.old (Write message) }
+    {
+        self.contents.write(message)
+    }
+
+    /// Lets the transport have all that was written so far (Netty's `addFlush`), fixes the promises of those
+    /// messages, and answers how many they are. A message whose promise was cancelled is voided: it becomes an
+    /// empty block that counts nothing, and stays in line. It takes no memory.
+    ///
+    /// `Closed` comes where the buffer is closed.
+    pub fn flush(&mut self) -> Result<Reply, Refusal>
+        ensures answer { Answers self.old Flush result }
+        ensures stands { Follows self.old Flush result self.new }
+        ensures settings { self.new.settings ≡ self.old.settings }
+        ensures refused { OnErr result (self.new ≡ self.old) }
+        ensures frugal { ¬ IsErrOf result Refusal.NoMemory }
+    {
+        self.contents.flush()
+    }
+
+    /// Takes the first flushed message away, as sent (Netty's `remove()`): unless it was voided its promise
+    /// succeeds, and the pending bytes fall with notice. With nothing flushed it answers false, and all is as it
+    /// was. It takes no memory.
+    ///
+    /// `Closed` comes where the buffer is closed.
+    pub fn remove(&mut self) -> Result<Reply, Refusal>
+        ensures answer { Answers self.old Remove result }
+        ensures stands { Follows self.old Remove result self.new }
+        ensures settings { self.new.settings ≡ self.old.settings }
+        ensures refused { OnErr result (self.new ≡ self.old) }
+        ensures frugal { ¬ IsErrOf result Refusal.NoMemory }
+    {
+        self.contents.remove()
+    }
+
+    /// Takes the first flushed message away as `remove` does, but as failed for this cause (Netty's
+    /// `remove(Throwable)`). It takes no memory.
+    ///
+    /// `Closed` comes where the buffer is closed.
+    pub fn remove_with(&mut self, cause: Cause) -> Result<Reply, Refusal>
+        ensures answer { Answers self.old (RemoveWith cause) result }
+        ensures stands { Follows self.old (RemoveWith cause) result self.new }
+        ensures settings { self.new.settings ≡ self.old.settings }
+        ensures refused { OnErr result (self.new ≡ self.old) }
+        ensures frugal { ¬ IsErrOf result Refusal.NoMemory }
+    {
+        self.contents.remove_with(cause)
+    }
+
+    /// Takes so many bytes off the flushed blocks in front, as sent (Netty's `removeBytes`), and answers how many
+    /// messages it took away.
+    ///
+    /// Each message that is gone whole is taken away as by `remove`, empty and voided ones along with the others;
+    /// what is left of the bytes is skipped in the next message, and added to its progress, which stops at
+    /// 9223372036854775807. So 0 bytes take away the empty messages in front. Bytes that are skipped stay pending
+    /// until their message is gone.
+    ///
+    /// `Closed` comes where the buffer is closed, then `TooManyBytes` where the flushed blocks before the first other
+    /// message hold fewer bytes, and then `NoMemory` where more than four promises are settled and the allocator
+    /// refused; all leave everything as it was.
+    pub fn remove_bytes(&mut self, n: u64) -> Result<Reply, Refusal>
+        ensures answer { ¬ IsErrOf result Refusal.NoMemory → Answers self.old (RemoveBytes n) result }
+        ensures stands { Follows self.old (RemoveBytes n) result self.new }
+        ensures settings { self.new.settings ≡ self.old.settings }
+        ensures refused { OnErr result (self.new ≡ self.old) }
+        ensures no_memory_last { IsErrOf result Refusal.NoMemory → Accepts self.old (RemoveBytes n) }
+        ensures spares { SparesMemory self.old (RemoveBytes n) result }
+    {
+        self.contents.remove_bytes(n)
+    }
+
+    /// Tells of so many more bytes of progress of the first flushed message (Netty's `progress`). It takes no memory.
+    ///
+    /// `Closed` comes where the buffer is closed, then `NothingFlushed` where no message is flushed, and then `TooFar`
+    /// where the progress would pass 9223372036854775807.
+    pub fn progress(&mut self, n: u64) -> Result<Reply, Refusal>
+        ensures answer { Answers self.old (Progress n) result }
+        ensures stands { Follows self.old (Progress n) result self.new }
+        ensures settings { self.new.settings ≡ self.old.settings }
+        ensures refused { OnErr result (self.new ≡ self.old) }
+        ensures frugal { ¬ IsErrOf result Refusal.NoMemory }
+    {
+        self.contents.progress(n)
+    }
+
+    /// Takes a promise back (Netty's `Future.cancel`), and answers whether that came in time: a promise that a
+    /// flush has fixed, or that is settled, stays as it is. The pending bytes stay too: they fall at the flush. It
+    /// takes no memory.
+    ///
+    /// `Closed` comes where the buffer is closed, and then `UnknownPromise` where no write was accepted under the id.
+    pub fn cancel(&mut self, id: PromiseId) -> Result<Reply, Refusal>
+        ensures answer { Answers self.old (Cancel id) result }
+        ensures stands { Follows self.old (Cancel id) result self.new }
+        ensures settings { self.new.settings ≡ self.old.settings }
+        ensures refused { OnErr result (self.new ≡ self.old) }
+        ensures frugal { ¬ IsErrOf result Refusal.NoMemory }
+    {
+        self.contents.cancel(id)
+    }
+
+    /// Takes all flushed messages away, oldest first, as failed for this cause (Netty's `failFlushed`), and answers how
+    /// many they were, voided ones too. The promise of each that was not voided fails. Where `notify` is not set the
+    /// pending bytes fall without notice: the word stays as it was, below the low mark too.
+    ///
+    /// `Closed` comes where the buffer is closed, and then `NoMemory` where more than four promises are settled and the
+    /// allocator refused; both leave all as it was.
+    pub fn fail_flushed(&mut self, cause: Cause, notify: bool) -> Result<Reply, Refusal>
+        ensures answer { ¬ IsErrOf result Refusal.NoMemory → Answers self.old (FailFlushed cause notify) result }
+        ensures stands { Follows self.old (FailFlushed cause notify) result self.new }
+        ensures settings { self.new.settings ≡ self.old.settings }
+        ensures refused { OnErr result (self.new ≡ self.old) }
+        ensures no_memory_last { IsErrOf result Refusal.NoMemory → Accepts self.old (FailFlushed cause notify) }
+        ensures spares { SparesMemory self.old (FailFlushed cause notify) result }
+    {
+        self.contents.fail_flushed(cause, notify)
+    }
+
+    /// Closes the buffer for good: takes all messages away that no flush has reached, oldest first and without notice,
+    /// fails their promises for this cause unless they were cancelled, and answers how many messages they were (Netty's
+    /// `close`). The word stays as it was. After it each command is refused as `Closed`, and looks still answer.
+    ///
+    /// `Closed` comes where the buffer is closed already, then `FlushedLeft` where a flushed message is left, voided
+    /// ones too, and then `NoMemory` where more than four promises are settled and the allocator refused; all leave
+    /// everything as it was.
+    pub fn close(&mut self, cause: Cause) -> Result<Reply, Refusal>
+        ensures answer { ¬ IsErrOf result Refusal.NoMemory → Answers self.old (Close cause) result }
+        ensures stands { Follows self.old (Close cause) result self.new }
+        ensures settings { self.new.settings ≡ self.old.settings }
+        ensures refused { OnErr result (self.new ≡ self.old) }
+        ensures no_memory_last { IsErrOf result Refusal.NoMemory → Accepts self.old (Close cause) }
+        ensures spares { SparesMemory self.old (Close cause) result }
+    {
+        self.contents.close(cause)
+    }
+
+    /// Sets the user bit of this index, or clears it where `writable` is set (Netty's
+    /// `setUserDefinedWritability`). The buffer is writable while no user bit and no mark is set. It takes no memory.
+    ///
+    /// `Closed` comes where the buffer is closed, and then `BadIndex` where the index is not 1 to 31.
+    pub fn user_bit(&mut self, index: u32, writable: bool) -> Result<Reply, Refusal>
+        ensures answer { Answers self.old (UserBit index writable) result }
+        ensures stands { Follows self.old (UserBit index writable) result self.new }
+        ensures settings { self.new.settings ≡ self.old.settings }
+        ensures refused { OnErr result (self.new ≡ self.old) }
+        ensures frugal { ¬ IsErrOf result Refusal.NoMemory }
+    {
+        self.contents.user_bit(index, writable)
+    }
+}

@@ -1,0 +1,106 @@
+ghost use Rattle.std.specs.Prelude.{◌≡◌, ◌≤◌, false, [], IsTrue, IsErrOf, OnErr};
+ghost use Rattle.ob_types.specs.Change.{change_between};
+ghost use Rattle.ob_types.specs.Limits.{greatest_overhead, greatest_total, greatest_unknown};
+ghost use Rattle.ob_types.specs.Write.{is_write};
+ghost use Rattle.ob_seq.specs.Inside.{pending_entries};
+ghost use Rattle.ob_seq.specs.Pending.{StandsFor, Answers, Follows, Accepts, takes_no_memory};
+ghost use Rattle.ob_seq.specs.Settles.{SparesMemory};
+ghost use Rattle.ob_seq.specs.Steps.{sum_of};
+
+mod cancel;
+mod close;
+mod cut;
+mod fail_flushed;
+mod flush;
+mod gather;
+mod look;
+mod progress;
+mod remove;
+mod remove_bytes;
+mod settles;
+mod state;
+mod taking;
+mod user_bit;
+mod word;
+mod write;
+
+use crate::entry::Entry;
+use ob_types::{
+    Answer, Change, Command, Estimate, PromiseState, Refusal, Reply, Settlements, WaterMark,
+};
+use std::alloc::Global;
+use std::marker::Model;
+
+/// What a buffer holds. Its calls are those of `Buffer`, with the same contracts; between their steps it may stand for no
+/// list of commands.
+#[derive(Debug, Drop)]
+pub struct Contents {
+    marks: WaterMark,
+    estimate: Estimate,
+    /// What stands in line, and behind it what no flush has reached, each oldest first.
+    entries: Vec<Entry>,
+    /// How many of the entries stand in line.
+    flushed: usize,
+    /// The state of each promise, by its id.
+    promises: Vec<PromiseState>,
+    word: u32,
+    closed: bool,
+}
+
+impl Model for Contents {
+    ghost use Rattle.ob_seq.specs.Pending.{Pending};
+
+    ghost Value = { Pending };
+
+    ghost use Rattle.ob_seq.specs.Inside.{pending_of, IsSound};
+
+    ghost view = { pending_of };
+
+    ghost invariant = { IsSound };
+}
+
+impl Contents {
+    /// As `Buffer::new`.
+    pub fn new(alloc: Global, marks: WaterMark, estimate: Estimate) -> Contents
+        requires overhead { estimate.overhead ≤ greatest_overhead }
+        requires unknown { estimate.unknown ≤ greatest_unknown }
+        ensures settings { result.settings ≡ record { marks = marks; estimate = estimate } }
+        ensures stands { StandsFor result [] }
+    {
+        Contents {
+            marks,
+            estimate,
+            entries: Vec::new(alloc),
+            flushed: 0,
+            promises: Vec::new(alloc),
+            word: 0,
+            closed: false,
+        }
+    }
+
+    /// The reply of a call that found the word `before`.
+    fn reply(&self, answer: Answer, settled: Settlements, before: u32) -> Reply
+        ensures { result ≡ record { answer = answer; settled = settled; change = change_between before self.now.word } }
+    {
+        Reply {
+            answer,
+            settled,
+            change: Change::between(before, self.word),
+        }
+    }
+
+    /// A reply's list of settlements, still empty.
+    fn no_settlements(&self) -> Settlements
+        ensures { result ≡ [] }
+    {
+        Settlements::new(*self.entries.allocator())
+    }
+}
+
+/// The bytes that the entries count together.
+fn total_of(entries: &[Entry]) -> u32
+    requires { sum_of (pending_entries entries.now) ≤ greatest_total }
+    ensures { result ≡ sum_of (pending_entries entries.now) }
+{
+    entries.iter().map(|entry| entry.size).sum()
+}

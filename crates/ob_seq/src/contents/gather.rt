@@ -1,0 +1,42 @@
+ghost use Rattle.std.specs.Prelude.{◌≡◌, [], List, nat_le, nat_lt, ◌||◌, ◌&&◌, IfOk, IfErr, IsOk};
+ghost use Rattle.ob_types.specs.declared.command.Command.{Command};
+ghost use Rattle.ob_seq.specs.Gathering.{gathered_after};
+ghost use Rattle.ob_seq.specs.Pending.{AreGathered, StandsFor};
+
+use crate::contents::Contents;
+use bytes::Bytes;
+use ob_types::{Message, Refusal};
+
+impl Contents {
+    /// As `Buffer::gather`.
+    pub fn gather(&self, max_count: u32, max_bytes: u32) -> Result<Vec<Bytes>, Refusal>
+        ensures blocks { IfOk result (λ blocks. AreGathered self.now max_count max_bytes blocks.items) }
+        ensures no_memory { IfErr result (λ refusal. refusal ≡ Refusal.NoMemory) }
+        ensures frugal { (commands : List Command) → StandsFor self.now commands
+            → gathered_after self.now.settings commands max_count max_bytes ≡ [] → IsOk result }
+    {
+        let mut gathered = Vec::new(*self.entries.allocator());
+        let mut room = u64::from(max_bytes);
+        for entry in &self.entries[..self.flushed] {
+            let Message::Block(bytes) = &entry.message else {
+                break;
+            };
+            let length = bytes.len() as u64;
+            if length > 0 {
+                if !has_room(gathered.len(), max_count, length, room) {
+                    break;
+                }
+                gathered.push(bytes.clone()?)?;
+                room = room.saturating_sub(length);
+            }
+        }
+        Ok(gathered)
+    }
+}
+
+/// Whether one more block goes along with so many others, which left this much room: the first does in any case.
+fn has_room(count: usize, max_count: u32, length: u64, room: u64) -> bool
+    ensures { result ≡ (nat_lt count max_count && (nat_le count 0 || nat_le length room)) }
+{
+    count < max_count as usize && (count == 0 || length <= room)
+}

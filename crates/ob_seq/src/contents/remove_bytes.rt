@@ -1,0 +1,58 @@
+ghost use Rattle.std.specs.Prelude.{◌≡◌, ◌≤◌, length, IsErrOf, OnErr};
+ghost use Rattle.ob_types.specs.declared.command.Command.TheVariants.{RemoveBytes};
+ghost use Rattle.ob_seq.specs.ByteRun.{block_bytes};
+ghost use Rattle.ob_seq.specs.Inside.{pending_entry};
+ghost use Rattle.ob_seq.specs.Pending.{Answers, Follows, Accepts};
+ghost use Rattle.ob_seq.specs.Settles.{SparesMemory};
+ghost use Rattle.ob_seq.specs.Steps.{first_length, front_skipped, skipped_entry};
+
+use crate::contents::Contents;
+use crate::contents::cut::find_cut;
+use crate::contents::progress::MAX_PROGRESS;
+use crate::entry::Entry;
+use ob_types::{Answer, Message, Outcome, Refusal, Reply};
+
+impl Contents {
+    /// As `Buffer::remove_bytes`.
+    pub fn remove_bytes(&mut self, n: u64) -> Result<Reply, Refusal>
+        ensures answer { ¬ IsErrOf result Refusal.NoMemory → Answers self.old (RemoveBytes n) result }
+        ensures stands { Follows self.old (RemoveBytes n) result self.new }
+        ensures settings { self.new.settings ≡ self.old.settings }
+        ensures refused { OnErr result (self.new ≡ self.old) }
+        ensures no_memory_last { IsErrOf result Refusal.NoMemory → Accepts self.old (RemoveBytes n) }
+        ensures spares { SparesMemory self.old (RemoveBytes n) result }
+    {
+        if self.closed {
+            return Err(Refusal::Closed);
+        }
+        let Some(cut) = find_cut(&self.entries[..self.flushed], n) else {
+            return Err(Refusal::TooManyBytes);
+        };
+        let settled = self.settlements(cut.whole, Outcome::Success)?;
+        let before = self.word;
+        self.take_first(cut.whole, Outcome::Success, true);
+        self.skip_in_front(cut.rest);
+        Ok(self.reply(Answer::Count(cut.whole as u32), settled, before))
+    }
+
+    /// Skips so many bytes of the front; 0 of them need no front.
+    fn skip_in_front(&mut self, n: u64)
+        requires { n ≤ first_length self.old.line }
+        ensures { self.new ≡ front_skipped n self.old }
+    {
+        if n > 0 {
+            skip(&mut self.entries[0], n);
+        }
+    }
+}
+
+/// Skips so many bytes of a block, and adds them to its progress.
+fn skip(entry: &mut Entry, n: u64)
+    requires { n ≤ length (block_bytes entry.old.message) }
+    ensures { pending_entry entry.new ≡ skipped_entry n (pending_entry entry.old) }
+{
+    if let Message::Block(bytes) = &mut entry.message {
+        bytes.advance(n as usize);
+    }
+    entry.progress = entry.progress.saturating_add(n).min(MAX_PROGRESS);
+}

@@ -1,0 +1,62 @@
+//! How entries are taken away from the front of the line.
+
+ghost use Rattle.std.specs.Prelude.{◌≡◌, ◌<◌, ◌≤◌, length, take, option_to_list, option_map, IsOk, IfOk};
+ghost use Rattle.ob_seq.specs.Steps.{entry_settlements, front_id, front_settlement, front_taken, times};
+
+use crate::contents::{Contents, total_of, word};
+use ob_types::{Outcome, PromiseId, PromiseState, Settlements};
+use std::alloc::AllocError;
+
+impl Contents {
+    /// What the first so many in line settle when they are taken away with this outcome. The first four need no
+    /// memory.
+    pub(crate) fn settlements(
+        &self,
+        count: usize,
+        outcome: Outcome,
+    ) -> Result<Settlements, AllocError>
+        requires { count ≤ length self.now.line }
+        ensures value { IfOk result (λ settled. settled ≡ entry_settlements outcome (front_id self.now) (take count self.now.line)) }
+        ensures frugal { length (entry_settlements outcome (front_id self.now) (take count self.now.line)) ≤ 4 → IsOk result }
+    {
+        let first = self.promises.len() - self.entries.len();
+        let mut settled = self.no_settlements();
+        for place in 0..count {
+            if !self.entries[place].voided {
+                settled.push(PromiseId((first + place) as u32), outcome)?;
+            }
+        }
+        Ok(settled)
+    }
+
+    /// Takes the first so many in line away, as `take_front`.
+    pub(crate) fn take_first(&mut self, count: usize, outcome: Outcome, notice: bool)
+        requires { count ≤ length self.old.line }
+        ensures { self.new ≡ times count (front_taken notice outcome) self.old }
+    {
+        for _ in 0..count {
+            self.take_front(outcome, notice);
+        }
+    }
+
+    /// Takes the front away, settles its promise unless it was voided, and answers which one it settled. Without
+    /// notice the word stays.
+    pub(crate) fn take_front(&mut self, outcome: Outcome, notice: bool) -> Option<PromiseId>
+        requires { 0 < length self.old.line }
+        ensures settled { option_to_list (option_map (λ id. (id, outcome)) result) ≡ front_settlement self.old outcome }
+        ensures taken { self.new ≡ front_taken notice outcome self.old }
+    {
+        let id = self.promises.len() - self.entries.len();
+        let entry = self.entries.remove(0);
+        self.flushed -= 1;
+        if notice {
+            let total = total_of(&self.entries);
+            self.word = word::after_fall(self.marks, self.word, entry.size, total);
+        }
+        if entry.voided {
+            return None;
+        }
+        self.promises[id] = PromiseState::Settled(outcome);
+        Some(PromiseId(id as u32))
+    }
+}

@@ -1,0 +1,68 @@
+ghost use Rattle.std.specs.Prelude.{◌≡◌, ◌+◌, ◌<◌, ◌≤◌, ◌&&◌, length, nat_le, nat_lt, IsErrOf, OnOk, OnErr};
+ghost use Rattle.ob_types.specs.Limits.{greatest_total, most_writes};
+ghost use Rattle.ob_types.specs.declared.command.Command.TheVariants.{Write};
+ghost use Rattle.ob_seq.specs.Pending.{Answers, Follows, Accepts};
+ghost use Rattle.ob_seq.specs.Steps.{pending_total, written};
+
+use crate::contents::{Contents, total_of, word};
+use crate::entry::Entry;
+use ob_types::{Answer, Message, PromiseId, PromiseState, Refusal, Reply, pending_size};
+use std::alloc::AllocError;
+
+/// The most bytes that may be pending. Our own limit.
+const MAX_TOTAL: u64 = 4294967295;
+
+/// The most writes that a buffer accepts. Our own limit.
+pub const MAX_WRITES: usize = 1048576;
+
+impl Contents {
+    /// As `Buffer::write`.
+    pub fn write(&mut self, message: Message) -> Result<Reply, Refusal>
+        ensures answer { ¬ IsErrOf result Refusal.NoMemory → Answers self.old (Write message) result }
+        ensures stands { Follows self.old (Write message) result self.new }
+        ensures settings { self.new.settings ≡ self.old.settings }
+        ensures refused { OnErr result (self.new ≡ self.old) }
+        ensures no_memory_last { IsErrOf result Refusal.NoMemory → Accepts self.old (Write message) }
+    {
+        if self.closed {
+            return Err(Refusal::Closed);
+        }
+        let size = pending_size(&message, self.estimate)?;
+        if !self.has_room_for(size) {
+            return Err(Refusal::TooMuch);
+        }
+        let id = PromiseId(self.promises.len() as u32);
+        let before = self.word;
+        self.add(message, size)?;
+        Ok(self.reply(Answer::Id(id), self.no_settlements(), before))
+    }
+
+    /// Whether one more message that counts so many bytes is not too much.
+    fn has_room_for(&self, size: u32) -> bool
+        ensures { result ≡ (nat_le (pending_total self.now + size) greatest_total && nat_lt (length self.now.promises) most_writes) }
+    {
+        let total = u64::from(total_of(&self.entries)) + u64::from(size);
+        total <= MAX_TOTAL && self.promises.len() < MAX_WRITES
+    }
+
+    /// Adds a message for which there is room. Both growths come before any change.
+    fn add(&mut self, message: Message, size: u32) -> Result<(), AllocError>
+        requires fits { pending_total self.old + size ≤ greatest_total }
+        requires few { length self.old.promises < most_writes }
+        ensures ok { OnOk result (self.new ≡ written self.old message size) }
+        ensures err { OnErr result (self.new ≡ self.old) }
+    {
+        self.entries.reserve(1)?;
+        self.promises.reserve(1)?;
+        self.entries.push_reserved(Entry {
+            message,
+            size,
+            progress: 0,
+            voided: false,
+        });
+        self.promises.push_reserved(PromiseState::Waiting);
+        let total = total_of(&self.entries);
+        self.word = word::after_rise(self.marks, self.word, size, total);
+        Ok(())
+    }
+}
