@@ -2,10 +2,10 @@ pub mod LinesLemmas
 pub mod NumbersLemmas
 pub mod LineLemmas
 pub mod RangesLemmas
+pub mod CoreScriptLemmas
 pub mod CoreSessionLemmas
 pub mod SessionLemmas
 pub mod TraceLemmas
-pub mod CoreTraceLemmas
 pub mod EntryLemmas
 mod CoreRows
 mod Rows

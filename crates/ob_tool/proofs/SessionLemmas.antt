@@ -1,5 +1,5 @@
 -- What a session does with one command.
-use Rattle.std.proofs.Common.{◌≡◌, ◌∙◌, ◌++◌, ℕ, List, Result, Ok, Err, OnOk, ap}
+use Rattle.std.proofs.Common.{◌≡◌, ◌∙◌, ◌++◌, ℕ, List, [], ◌∷◌, refl, Result, Ok, Err, OnOk, ap, sym}
 use Rattle.ob_types.specs.declared.command.Command.{Command}
 use Rattle.ob_types.specs.declared.reply.Reply.{Reply}
 use Rattle.ob_types.specs.declared.refusal.Refusal.{Refusal}
@@ -9,8 +9,9 @@ use Rattle.ob_history.specs.History.{History}
 use Rattle.ob_history.specs.Seen.{seen_now}
 use Rattle.ob_tool.specs.Call.{told_after}
 use Rattle.ob_tool.specs.Text.{command_text}
-use Rattle.ob_tool.specs.Trace.{text_after}
-use Rattle.ob_tool.specs.declared.asked.Asked.TheVariants as asked
+use Rattle.ob_tool.specs.RunScript.{block_write, call_text, history_after_line, history_after_lines, line_trace}
+use Rattle.ob_tool.specs.declared.script_line.ScriptLine.{ScriptLine}
+use Rattle.ob_tool.specs.declared.script_line.ScriptLine.TheVariants.{Block}
 
 -- a fact for one that is there follows from another
 pub OnOk-follows : {T E P Q : Type 0} (r : Result T E) → (P → Q) → OnOk r P → OnOk r Q
@@ -18,9 +19,21 @@ OnOk-follows (Ok x) f p = f p
 OnOk-follows (Err e) f p = p
 
 -- the text of an answer and a look, where these are the definitions'
-pub text_after-told : (history after : History) (command : Command) (answer : Result Reply Refusal) (look : Look) (old new : List ℕ)
+pub call_text-told : (history after : History) (command : Command) (answer : Result Reply Refusal) (look : Look) (old new : List ℕ)
     → answer ≡ told_after history command → after ≡ history_after history 0 command → look ≡ (seen_now after).look
-    → new ≡ old ++ command_text answer look → new ≡ old ++ text_after history (asked.Command command)
-text_after-told history after command answer look old new asked recorded shown told =
+    → new ≡ old ++ command_text answer look → new ≡ old ++ call_text history command
+call_text-told history after command answer look old new asked recorded shown told =
     let looked : look ≡ (seen_now (history_after history 0 command)).look = shown ∙ ap (λ h. (seen_now h).look) recorded in
     told ∙ ap (λ a. old ++ command_text a look) asked ∙ ap (λ l. old ++ command_text (told_after history command) l) looked
+
+-- the history after one line more
+pub history_after_lines-more : (history : History) (lines : List ScriptLine) (line : ScriptLine)
+    → history_after_line (history_after_lines history lines) line ≡ history_after_lines history (lines ++ line ∷ [])
+history_after_lines-more history [] line = refl
+history_after_lines-more history (first ∷ lines) line = history_after_lines-more (history_after_line history first) lines line
+
+-- the text of a block's write is the trace line of its line
+pub block-told : (history : History) (size : ℕ) (command : Command) (line : ScriptLine) (old new : List ℕ) → command ≡ block_write history size
+    → line ≡ Block size → new ≡ old ++ call_text history command → new ≡ old ++ line_trace history line
+block-told history size command line old new made is told =
+    told ∙ ap (λ c. old ++ call_text history c) made ∙ ap (λ l. old ++ line_trace history l) (sym is)

@@ -1,31 +1,14 @@
 -- The trace of some first lines of a script, one line after another.
-use Rattle.std.proofs.Common.{◌≡◌, ◌∙◌, ℕ, zero, suc, ◌+◌, ◌++◌, List, [], ◌∷◌, length, take, drop, Ok, Err, Option, None, Some, refl, ap, sym, arith, append_assoc, append-nil, add-one, take-append-drop}
+use Rattle.std.proofs.Common.{◌≡◌, ◌∙◌, ℕ, zero, suc, ◌+◌, ◌++◌, Bool, true, false, not, cond, List, [], ◌∷◌, length, take, drop, Result, Ok, Err, Option, None, Some, refl, ap, sym, arith, append_assoc, append-nil, add-one, take-append-drop, take_all}
 use Rattle.std.specs.Prelude.{map}
-use Rattle.ob_history.specs.History.{History}
-use Rattle.ob_tool.specs.Script.{before_fault, first_fault, readings_of, script_lines}
-use Rattle.ob_tool.specs.Lines.{lines_of}
-use Rattle.ob_tool.specs.Line.{line_reading}
-use Rattle.ob_tool.specs.RunTable.{run_table}
-use Rattle.ob_tool.specs.Outcome.{trace_of_first}
-use Rattle.ob_tool.specs.Session.{HasTraced}
 use Rattle.std.specs.Io.KnownBytes.{Keeps, append_known}
-use Rattle.ob_tool.specs.Trace.{history_after_line, history_after_lines, line_trace, trace_from}
-use Rattle.ob_tool.specs.declared.script_line.ScriptLine.{ScriptLine}
+use Rattle.ob_tool.specs.Language.{Language}
+use Rattle.ob_tool.specs.Lines.{lines_of}
+use Rattle.ob_tool.specs.Script.{all_placed, first_fault, readings_behind, script_fault, script_lines}
+use Rattle.ob_tool.specs.Session.{HasTraced}
+use Rattle.ob_tool.specs.Trace.{text_unless, trace_behind, trace_of, trace_of_first, trace_of_lines}
 use Rattle.ob_tool.specs.declared.line_fault.LineFault.{LineFault}
-
--- the trace of two runs of lines, one after the other
-pub trace_from-append : (history : History) (xs ys : List ScriptLine)
-    → trace_from history (xs ++ ys) ≡ trace_from history xs ++ trace_from (history_after_lines history xs) ys
-trace_from-append history [] ys = refl
-trace_from-append history (x ∷ xs) ys =
-    ap (λ t. line_trace history x ++ t) (trace_from-append (history_after_line history x) xs ys)
-    ∙ sym (append_assoc (line_trace history x) _ _)
-
--- the history after two runs of lines
-pub history_after_lines-append : (history : History) (xs ys : List ScriptLine)
-    → history_after_lines history (xs ++ ys) ≡ history_after_lines (history_after_lines history xs) ys
-history_after_lines-append history [] ys = refl
-history_after_lines-append history (x ∷ xs) ys = history_after_lines-append (history_after_line history x) xs ys
+use Rattle.ob_tool.specs.declared.line_fault.LineFault.TheVariants.{Misplaced}
 
 -- one line more of a list whose rest is known
 pub take-one_more : {A : Type 0} (n : ℕ) (xs ys : List A) (y : A) → drop n xs ≡ y ∷ ys → (take (n + 1) xs ≡ take n xs ++ y ∷ []) × (drop (n + 1) xs ≡ ys)
@@ -41,54 +24,88 @@ take-one_more (suc n) (x ∷ xs) ys y e =
 pub take-drop_nil : {A : Type 0} (n : ℕ) (xs : List A) → drop n xs ≡ [] → take n xs ≡ xs
 take-drop_nil n xs e = sym (append-nil (take n xs)) ∙ ap (λ t. take n xs ++ t) (sym e) ∙ take-append-drop n xs
 
--- a good line stands before those of the rest
-pub script_lines-Ok : (script line rest : List ℕ) (asked : ScriptLine) → lines_of script ≡ line ∷ lines_of rest → line_reading run_table line ≡ Ok asked
-    → script_lines script ≡ asked ∷ script_lines rest
-script_lines-Ok script line rest asked first read =
-    ap (λ lines. before_fault (map (line_reading run_table) lines)) first ∙ ap (λ r. before_fault (r ∷ readings_of rest)) read
-
--- and its fault is that of the rest
-pub first_fault-Ok : (number : ℕ) (script line rest : List ℕ) (asked : ScriptLine) → lines_of script ≡ line ∷ lines_of rest → line_reading run_table line ≡ Ok asked
-    → first_fault number (readings_of script) ≡ first_fault (number + 1) (readings_of rest)
-first_fault-Ok number script line rest asked first read =
-    rw add-one (ap (λ lines. first_fault number (map (line_reading run_table) lines)) first ∙ ap (λ r. first_fault number (r ∷ readings_of rest)) read)
-
--- a faulty line ends the script
-pub script_lines-Err : (script line rest : List ℕ) (fault : LineFault) → lines_of script ≡ line ∷ lines_of rest → line_reading run_table line ≡ Err fault
-    → script_lines script ≡ []
-script_lines-Err script line rest fault first read =
-    ap (λ lines. before_fault (map (line_reading run_table) lines)) first ∙ ap (λ r. before_fault (r ∷ readings_of rest)) read
-
--- with its fault
-pub first_fault-Err : (number : ℕ) (script line rest : List ℕ) (fault : LineFault) → lines_of script ≡ line ∷ lines_of rest → line_reading run_table line ≡ Err fault
-    → first_fault number (readings_of script) ≡ Some (number, fault)
-first_fault-Err number script line rest fault first read =
-    ap (λ lines. first_fault number (map (line_reading run_table) lines)) first ∙ ap (λ r. first_fault number (r ∷ readings_of rest)) read
-
--- a script of no bytes has no lines and no fault
-pub script_lines-nil : (script : List ℕ) → length script ≡ 0 → script_lines script ≡ []
-script_lines-nil [] e = refl
-script_lines-nil (byte ∷ script) e = absurd (omega arith)
-
-pub first_fault-nil : (number : ℕ) (script : List ℕ) → length script ≡ 0 → first_fault number (readings_of script) ≡ None
-first_fault-nil number [] e = refl
-first_fault-nil number (byte ∷ script) e = absurd (omega arith)
+-- the trace of two runs of lines, one after the other
+trace_behind-append : {L : Type 0} (language : Language L) (before xs ys : List L)
+    → trace_behind language before (xs ++ ys) ≡ trace_behind language before xs ++ trace_behind language (before ++ xs) ys
+trace_behind-append language before [] ys = ap (λ b. trace_behind language b ys) (sym (append-nil before))
+trace_behind-append language before (x ∷ xs) ys =
+    let text = language.line_text before x in
+    let rest = trace_behind language (before ++ x ∷ []) xs in
+    ap (λ t. text ++ t) (trace_behind-append language (before ++ x ∷ []) xs ys)
+    ∙ ap (λ b. text ++ (rest ++ trace_behind language b ys)) (append_assoc before (x ∷ []) xs)
+    ∙ sym (append_assoc text rest _)
 
 -- the trace of one line more
-pub trace_of_first-more : (n : ℕ) (history : History) (script : List ℕ) (asked : ScriptLine) (rest : List ScriptLine) → drop n (script_lines script) ≡ asked ∷ rest
-    → trace_of_first (n + 1) history script ≡ trace_of_first n history script ++ line_trace (history_after_lines history (take n (script_lines script))) asked
-trace_of_first-more n history script asked rest left =
-    let after = history_after_lines history (take n (script_lines script)) in
-    ap (trace_from history) (take-one_more n (script_lines script) rest asked left).0
-    ∙ trace_from-append history (take n (script_lines script)) (asked ∷ [])
-    ∙ ap (λ t. trace_of_first n history script ++ t) (append-nil (line_trace after asked))
+pub trace_of_first-more : {L : Type 0} (n : ℕ) (language : Language L) (script : List ℕ) (line : L) (rest : List L)
+    → drop n (script_lines language script) ≡ line ∷ rest
+    → trace_of_first (n + 1) language script ≡ trace_of_first n language script ++ language.line_text (take n (script_lines language script)) line
+trace_of_first-more n language script line rest left =
+    let before = take n (script_lines language script) in
+    ap (trace_behind language []) (take-one_more n (script_lines language script) rest line left).0
+    ∙ trace_behind-append language [] before (line ∷ [])
+    ∙ ap (λ t. trace_behind language [] before ++ t) (append-nil (language.line_text before line))
 
--- the history after one line more
-pub history_after_lines-more : (n : ℕ) (history : History) (script : List ℕ) (asked : ScriptLine) (rest : List ScriptLine) → drop n (script_lines script) ≡ asked ∷ rest
-    → history_after_line (history_after_lines history (take n (script_lines script))) asked ≡ history_after_lines history (take (n + 1) (script_lines script))
-history_after_lines-more n history script asked rest left =
-    sym (ap (history_after_lines history) (take-one_more n (script_lines script) rest asked left).0
-    ∙ history_after_lines-append history (take n (script_lines script)) (asked ∷ []))
+-- a line that fits stands before those of the rest
+pub readings-Ok : {L : Type 0} (language : Language L) (before : List L) (script line rest : List ℕ) (asked : L)
+    → lines_of script ≡ line ∷ lines_of rest → language.reading line ≡ Ok asked → language.is_misplaced before asked ≡ false
+    → readings_behind language before script ≡ Ok asked ∷ readings_behind language (before ++ asked ∷ []) rest
+readings-Ok language before script line rest asked first read fits =
+    ap (λ lines. all_placed language before (map language.reading lines)) first
+    ∙ ap (λ r. all_placed language before (r ∷ map language.reading (lines_of rest))) read
+    ∙ ap (λ t. cond t (Err Misplaced) (Ok asked) ∷ readings_behind language (before ++ asked ∷ []) rest) fits
+
+-- a misplaced line ends the script
+pub readings-Misplaced : {L : Type 0} (language : Language L) (before : List L) (script line rest : List ℕ) (asked : L)
+    → lines_of script ≡ line ∷ lines_of rest → language.reading line ≡ Ok asked → language.is_misplaced before asked ≡ true
+    → readings_behind language before script ≡ Err Misplaced ∷ readings_behind language (before ++ asked ∷ []) rest
+readings-Misplaced language before script line rest asked first read misplaced =
+    ap (λ lines. all_placed language before (map language.reading lines)) first
+    ∙ ap (λ r. all_placed language before (r ∷ map language.reading (lines_of rest))) read
+    ∙ ap (λ t. cond t (Err Misplaced) (Ok asked) ∷ readings_behind language (before ++ asked ∷ []) rest) misplaced
+
+-- and so does another faulty line
+pub readings-Err : {L : Type 0} (language : Language L) (before : List L) (script line rest : List ℕ) (fault : LineFault)
+    → lines_of script ≡ line ∷ lines_of rest → language.reading line ≡ Err fault → readings_behind language before script ≡ Err fault ∷ []
+readings-Err language before script line rest fault first read =
+    ap (λ lines. all_placed language before (map language.reading lines)) first
+    ∙ ap (λ r. all_placed language before (r ∷ map language.reading (lines_of rest))) read
+
+-- a script of no bytes has no lines
+pub readings-nil : {L : Type 0} (language : Language L) (before : List L) (script : List ℕ) → length script ≡ 0 → readings_behind language before script ≡ []
+readings-nil language before [] e = refl
+readings-nil language before (byte ∷ script) e = absurd (omega arith)
+
+-- the trace of a script without a fault
+pub trace_of-whole : {L : Type 0} (language : Language L) (script : List ℕ) → script_fault language script ≡ None
+    → trace_of_lines language script ++ language.last_text (script_lines language script) ≡ trace_of language script
+trace_of-whole language script e =
+    ap (λ o. trace_of_lines language script ++ text_unless o (language.last_text (script_lines language script))) (sym e)
+
+-- the trace of a script with a fault
+pub trace_of-cut : {L : Type 0} (language : Language L) (script : List ℕ) (fault : ℕ × LineFault) → script_fault language script ≡ Some fault
+    → trace_of_lines language script ≡ trace_of language script
+trace_of-cut language script fault e =
+    sym (append-nil (trace_of_lines language script))
+    ∙ ap (λ o. trace_of_lines language script ++ text_unless o (language.last_text (script_lines language script))) (sym e)
+
+-- the trace of all lines is that of so many first lines
+pub all_lines : {L : Type 0} (language : Language L) (script : List ℕ)
+    → trace_of_first (length (script_lines language script)) language script ≡ trace_of_lines language script
+all_lines language script = ap (trace_behind language []) (take_all (length (script_lines language script)) (script_lines language script) (omega arith))
+
+-- a line that does not fit is misplaced
+pub fits-false : (fits misplaced : Bool) → fits ≡ false → fits ≡ not misplaced → misplaced ≡ true
+fits-false fits true e same = refl
+fits-false fits false e same = absurd cc
+
+-- and one that fits is not
+pub fits-true : (fits misplaced : Bool) → fits ≡ true → fits ≡ not misplaced → misplaced ≡ false
+fits-true fits true e same = absurd cc
+fits-true fits false e same = refl
+
+-- the fault behind a line that fits is that of the rest
+pub first_fault-more : {L : Type 0} (number : ℕ) (line : L) (readings : List (Result L LineFault)) → first_fault number (Ok line ∷ readings) ≡ first_fault (number + 1) readings
+first_fault-more number line readings = rw add-one refl
 
 -- what waits grows with the trace
 pub HasTraced-more : (start held : Option (List ℕ)) (waiting text more grown : List ℕ) → HasTraced start held waiting text → grown ≡ waiting ++ more

@@ -1,33 +1,74 @@
--- What a whole core script says: its lines up to the first faulty or misplaced one, and that one's fault.
-use Rattle.std.specs.Prelude.{ℕ, List, [], ◌∷◌, map, Option, Result, Ok, Err, if◌then◌else◌}
+-- The scripts of `core`: the lanes are the lane lines at the head, and the turns are the lines behind them.
+use Rattle.std.specs.Prelude.{ℕ, ◌||◌, Bool, true, false, not, List, [], ◌∷◌, ◌++◌, length, is_some, if◌then◌else◌}
 use Rattle.ob_types.specs.WaterMark.{Marks}
-use Rattle.ob_tool.specs.Lines.{lines_of}
-use Rattle.ob_tool.specs.Script.{before_fault, first_fault}
+use Rattle.ob_core.specs.CoreState.{CoreState}
+use Rattle.ob_core.specs.Opening.{new_core, opening_fault}
+use Rattle.ob_core.specs.Owed.{sum_owed}
+use Rattle.ob_core.specs.Run.{core_after_all}
+use Rattle.ob_core.specs.Turn.{event_of, core_after, change_of}
+use Rattle.ob_core.specs.declared.ask.Turn.{Turn}
+use Rattle.ob_core.specs.declared.lane_start.LaneStart.{LaneStart}
+use Rattle.ob_tool.specs.CoreQuiet.{is_quiet}
 use Rattle.ob_tool.specs.CoreTable.{core_table}
+use Rattle.ob_tool.specs.CoreText.{turn_text, lane_text, end_text}
+use Rattle.ob_tool.specs.Language.{Language}
 use Rattle.ob_tool.specs.Line.{line_reading}
-use Rattle.ob_tool.specs.CoreStage.{Stage, first_stage, is_misplaced, stage_after}
 use Rattle.ob_tool.specs.declared.core_line.CoreLine.{CoreLine}
-use Rattle.ob_tool.specs.declared.line_fault.LineFault.{LineFault}
-use Rattle.ob_tool.specs.declared.line_fault.LineFault.TheVariants.{Misplaced}
+use Rattle.ob_tool.specs.declared.core_line.CoreLine.TheVariants as line
 
--- what a line says where the script stands: one that is misplaced has that fault
-abbrev pub placed : Stage → CoreLine → Result CoreLine LineFault
-placed stage line = if is_misplaced stage line then Err Misplaced else Ok line
+-- the lanes of a script: its lane lines up to the first turn
+abbrev pub lanes_of : List CoreLine → List LaneStart
+lanes_of [] = []
+lanes_of (line.Lane start ∷ lines) = start ∷ lanes_of lines
+lanes_of (line.Turn turn ∷ lines) = []
 
--- what each of these lines says after those before it; nothing is asked of the lines behind one that cannot be read
-abbrev pub all_placed : Stage → List (Result CoreLine LineFault) → List (Result CoreLine LineFault)
-all_placed stage [] = []
-all_placed stage (Ok line ∷ readings) = placed stage line ∷ all_placed (stage_after stage line) readings
-all_placed stage (Err fault ∷ readings) = Err fault ∷ []
+-- the turns of a script
+abbrev pub turns_of : List CoreLine → List Turn
+turns_of [] = []
+turns_of (line.Lane start ∷ lines) = turns_of lines
+turns_of (line.Turn turn ∷ lines) = turn ∷ turns_of lines
 
--- what each line of a script says after those before it
-abbrev pub placed_in : Stage → List ℕ → List (Result CoreLine LineFault)
-placed_in stage script = all_placed stage (map (line_reading core_table) (lines_of script))
+-- whether there is anything in a list
+abbrev pub has_any : {A : Type 0} → List A → Bool
+has_any [] = false
+has_any (x ∷ xs) = true
 
--- the lines of a script that are carried out: those before the first faulty one
-abbrev pub core_lines : Marks → List ℕ → List CoreLine
-core_lines marks script = before_fault (placed_in (first_stage marks) script)
+-- whether there is a lane, and whether there is a turn
+abbrev pub has_lane : List CoreLine → Bool
+has_lane lines = has_any (lanes_of lines)
 
--- the fault that ends a script, with the number of its line, from 1 on, if there is one
-abbrev pub core_fault : Marks → List ℕ → Option (ℕ × LineFault)
-core_fault marks script = first_fault 1 (placed_in (first_stage marks) script)
+abbrev pub has_turn : List CoreLine → Bool
+has_turn lines = has_any (turns_of lines)
+
+-- a line is misplaced: a lane behind a turn, a lane with which those before it make no world, or a turn before any lane
+abbrev pub is_core_misplaced : List CoreLine → CoreLine → Bool
+is_core_misplaced before (line.Lane start) = has_turn before || is_some (opening_fault (lanes_of before ++ start ∷ []))
+is_core_misplaced before (line.Turn turn) = not (has_lane before)
+
+-- the core after the turns of these lines, which begins with their lanes
+abbrev pub core_behind : Marks → List CoreLine → CoreState
+core_behind marks lines = core_after_all (new_core marks (lanes_of lines)) (turns_of lines)
+
+-- the trace line of a turn of a core: its event, the two words after it, and its change
+abbrev pub turn_trace : CoreState → Turn → List ℕ
+turn_trace core turn =
+    let after = core_after core turn in turn_text (event_of core turn) after.total after.word (change_of core turn)
+
+-- the trace line of a line: the number of a lane, or the turn of the core behind the lines before it
+abbrev pub core_line_text : Marks → List CoreLine → CoreLine → List ℕ
+core_line_text marks before (line.Lane start) = lane_text (length (lanes_of before))
+core_line_text marks before (line.Turn turn) = turn_trace (core_behind marks before) turn
+
+-- the last line of a trace, none where there is no lane
+abbrev pub core_last_text : Marks → List CoreLine → List ℕ
+core_last_text marks lines =
+    let core = core_behind marks lines in if has_lane lines then end_text (is_quiet core) (sum_owed core.lanes) else []
+
+-- the language of `core` with these marks
+abbrev pub core_language : Marks → Language CoreLine
+core_language marks = record {
+  reading = λ line. line_reading core_table line;
+  is_misplaced = is_core_misplaced;
+  line_text = core_line_text marks;
+  last_text = core_last_text marks;
+}

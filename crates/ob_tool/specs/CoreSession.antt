@@ -1,9 +1,18 @@
--- A core in the midst of a script. No public clause cites this module.
-use Rattle.std.specs.Prelude.{option_map}
-use Rattle.ob_tool.specs.CoreStage.{Stage}
+-- What a core session has carried out. No public clause cites this module.
+use Rattle.std.specs.Prelude.{◌≡◌, Option, None, Some, option_map, List, if◌then◌else◌}
+use Rattle.ob_types.specs.WaterMark.{Marks}
+use Rattle.ob_core.specs.CoreState.{CoreState}
+use Rattle.ob_tool.specs.CoreScript.{core_behind, has_lane, has_turn, lanes_of}
+use Rattle.ob_tool.specs.declared.core_line.CoreLine.{CoreLine}
 use Rattle.ob_tool.specs.declared.core_session.CoreSession.{CoreSession}
 
--- where the script of a session stands
-abbrev pub stage_of : CoreSession → Stage
-stage_of session =
-    record { marks = session.marks; starts = session.starts.items; core = option_map (λ world. world.core) session.world; turned = session.turned }
+-- the core behind lines, once there is a lane
+abbrev pub core_once : Marks → List CoreLine → Option CoreState
+core_once marks lines = if has_lane lines then Some (core_behind marks lines) else None
+
+-- a session has carried out these lines: its lanes are theirs, its world is the core behind them, and it knows of a turn
+abbrev pub HasPlayed : CoreSession → List CoreLine → Type 0
+HasPlayed session lines =
+    (session.starts.items ≡ lanes_of lines)
+    × (option_map (λ world. world.core) session.world ≡ core_once session.marks lines)
+    × (session.turned ≡ has_turn lines)

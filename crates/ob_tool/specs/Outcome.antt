@@ -1,8 +1,5 @@
 -- How a run ends.
-use Rattle.std.specs.Prelude.{ℕ, List, take, Option, None, Some, Result, Ok, Err}
-use Rattle.ob_history.specs.History.{History}
-use Rattle.ob_tool.specs.Script.{script_lines}
-use Rattle.ob_tool.specs.Trace.{trace_from}
+use Rattle.std.specs.Prelude.{ℕ, Option, None, Some, Result, Ok, Err}
 use Rattle.ob_tool.specs.declared.line_fault.LineFault.{LineFault}
 use Rattle.ob_tool.specs.declared.run_fault.RunFault.{RunFault}
 use Rattle.ob_tool.specs.declared.run_fault.RunFault.TheVariants.{Line, Read, TooLong, Write, NoMemory}
@@ -24,10 +21,6 @@ WentThrough (Err Read) = ⊥
 WentThrough (Err TooLong) = ⊥
 WentThrough (Err Write) = ⊥
 WentThrough (Err NoMemory) = ⊥
-
--- the trace of the first lines of a script after a history, so many of those that are carried out
-abbrev pub trace_of_first : ℕ → History → List ℕ → List ℕ
-trace_of_first count history script = trace_from history (take count (script_lines script))
 
 -- a fault of reading a script
 abbrev pub IsReadingFault : RunFault → Type 0

@@ -1,7 +1,9 @@
 -- The table of the lines of `run`.
 use Rattle.std.specs.Prelude.{◌==◌, List, [], ◌∷◌, codes}
+use Rattle.ob_types.specs.declared.command.Command.TheVariants as command
+use Rattle.ob_types.specs.declared.message.Message.TheVariants as message
 use Rattle.ob_tool.specs.Numbers.{up_to}
-use Rattle.ob_tool.specs.Table.{Kind, Table}
+use Rattle.ob_tool.specs.Table.{Kind, Table, row}
 use Rattle.ob_tool.specs.declared.range.Range.{Range}
 use Rattle.ob_tool.specs.declared.line_word.LineWord.{LineWord}
 use Rattle.ob_tool.specs.declared.line_word.LineWord.TheVariants as word
@@ -23,26 +25,31 @@ run_words =
 
 -- the kind of line that a word begins
 abbrev pub run_kind : LineWord → Kind ScriptLine
-run_kind word.Block = record { text = codes "b"; ranges = up_to 1048576 ∷ []; asked = λ number. line.Block (number 0) }
-run_kind word.Region = record { text = codes "r"; ranges = any_64 ∷ []; asked = λ number. line.Region (number 0) }
-run_kind word.Other = record { text = codes "o"; ranges = any_32 ∷ []; asked = λ number. line.Other (number 0) }
-run_kind word.Flush = record { text = codes "f"; ranges = []; asked = λ number. line.Flush }
-run_kind word.Remove = record { text = codes "rm"; ranges = []; asked = λ number. line.Remove }
-run_kind word.RemoveWith = record { text = codes "rc"; ranges = any_32 ∷ []; asked = λ number. line.RemoveWith (record { 0 = number 0 }) }
-run_kind word.RemoveBytes = record { text = codes "rb"; ranges = any_64 ∷ []; asked = λ number. line.RemoveBytes (number 0) }
-run_kind word.Progress = record { text = codes "p"; ranges = any_64 ∷ []; asked = λ number. line.Progress (number 0) }
-run_kind word.Cancel = record { text = codes "x"; ranges = any_32 ∷ []; asked = λ number. line.Cancel (record { 0 = number 0 }) }
+run_kind word.Block = row (codes "b") (up_to 1048576 ∷ []) (λ number. line.Block (number 0))
+run_kind word.Region =
+    row (codes "r") (any_64 ∷ []) (λ number. line.Command (command.Write (message.Region (number 0))))
+run_kind word.Other =
+    row (codes "o") (any_32 ∷ []) (λ number. line.Command (command.Write (message.Other (number 0))))
+run_kind word.Flush = row (codes "f") [] (λ number. line.Command command.Flush)
+run_kind word.Remove = row (codes "rm") [] (λ number. line.Command command.Remove)
+run_kind word.RemoveWith =
+    row (codes "rc") (any_32 ∷ []) (λ number. line.Command (command.RemoveWith (record { 0 = number 0 })))
+run_kind word.RemoveBytes =
+    row (codes "rb") (any_64 ∷ []) (λ number. line.Command (command.RemoveBytes (number 0)))
+run_kind word.Progress = row (codes "p") (any_64 ∷ []) (λ number. line.Command (command.Progress (number 0)))
+run_kind word.Cancel =
+    row (codes "x") (any_32 ∷ []) (λ number. line.Command (command.Cancel (record { 0 = number 0 })))
 run_kind word.FailFlushed =
-    record { text = codes "fl"; ranges = any_32 ∷ up_to 1 ∷ []; asked = λ number. line.FailFlushed (record { 0 = number 0 }) (number 1 == 1) }
-run_kind word.Close = record { text = codes "cl"; ranges = any_32 ∷ []; asked = λ number. line.Close (record { 0 = number 0 }) }
-run_kind word.UserBit = record { text = codes "u"; ranges = up_to 255 ∷ up_to 1 ∷ []; asked = λ number. line.UserBit (number 0) (number 1 == 1) }
-run_kind word.Look = record { text = codes "?"; ranges = []; asked = λ number. line.Look }
+    row (codes "fl") (any_32 ∷ up_to 1 ∷ [])
+    (λ number. line.Command (command.FailFlushed (record { 0 = number 0 }) (number 1 == 1)))
+run_kind word.Close =
+    row (codes "cl") (any_32 ∷ []) (λ number. line.Command (command.Close (record { 0 = number 0 })))
+run_kind word.UserBit =
+    row (codes "u") (up_to 255 ∷ up_to 1 ∷ []) (λ number. line.Command (command.UserBit (number 0) (number 1 == 1)))
+run_kind word.Look = row (codes "?") [] (λ number. line.Look)
 run_kind word.Gather =
-    record {
-      text = codes "g";
-      ranges = record { least = 1; greatest = 1024 } ∷ record { least = 1; greatest = 2147483647 } ∷ [];
-      asked = λ number. line.Gather (number 0) (number 1);
-    }
+    row (codes "g") (record { least = 1; greatest = 1024 } ∷ record { least = 1; greatest = 2147483647 } ∷ [])
+    (λ number. line.Gather (number 0) (number 1))
 
 -- the lines of `run`
 abbrev pub run_table : Table LineWord ScriptLine

@@ -10,6 +10,10 @@ pub record Kind (L : Type 0) : Type 0 where
   pub ranges : List Range
   pub asked : (ℕ → ℕ) → L
 
+-- the kind of line of these three
+abbrev pub row : {L : Type 0} → List ℕ → List Range → ((ℕ → ℕ) → L) → Kind L
+row text ranges asked = record { text = text; ranges = ranges; asked = asked }
+
 -- the first words that there are, and the kind of line that each begins
 pub record Table (W L : Type 0) : Type 0 where
   pub words : List W

@@ -1,6 +1,6 @@
 ghost use Rattle.std.specs.Prelude.{◌≡◌, ◌+◌, ◌%◌, map, IfOk};
 ghost use Rattle.std.specs.List.{range_with_len};
-ghost use Rattle.ob_tool.specs.Trace.{block_bytes};
+ghost use Rattle.ob_tool.specs.RunScript.{block_bytes};
 
 use bytes::Bytes;
 use std::alloc::{AllocError, Global};

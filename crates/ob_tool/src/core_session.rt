@@ -1,10 +1,17 @@
-ghost use Rattle.std.specs.Prelude.{◌≡◌, ◌++◌, true, false, not, IfOk, OnOk, string_bytes};
-ghost use Rattle.ob_tool.specs.CoreStage.{first_stage, is_misplaced, stage_after};
-ghost use Rattle.ob_tool.specs.CoreTrace.{core_line_trace, last_line};
-ghost use Rattle.ob_tool.specs.CoreSession.{stage_of};
+ghost use Rattle.std.specs.Prelude.{◌≡◌, ◌++◌, ◌||◌, [], ◌∷◌, None, Some, true, false, not, is_some, length, option_map, IfOk, OnOk, string_bytes};
+ghost use Rattle.std.specs.Option.{option_map_or};
+ghost use Rattle.ob_core.specs.Opening.{new_core, opening_fault};
+ghost use Rattle.ob_core.specs.Turn.{core_after};
+ghost use Rattle.ob_tool.specs.CoreScript.{core_language, turn_trace};
+ghost use Rattle.ob_tool.specs.CoreSession.{HasPlayed};
+ghost use Rattle.ob_tool.specs.CoreText.{lane_text};
 
 use crate::core_line::CoreLine;
 use crate::core_text::{push_end, push_lane, push_turn};
+use crate::core_word::CoreWord;
+use crate::interpreter::Interpreter;
+use crate::line::read_line;
+use crate::line_fault::LineFault;
 use ob_core::{LaneStart, Turn, World, WorldFault};
 use ob_types::WaterMark;
 use std::alloc::{AllocError, Global};
@@ -24,32 +31,14 @@ pub struct CoreSession {
 impl CoreSession {
     /// A session before its first line.
     pub fn new(alloc: Global, marks: WaterMark) -> CoreSession
-        ensures { stage_of result ≡ first_stage marks }
+        ensures marks { result.marks ≡ marks }
+        ensures fresh { HasPlayed result [] }
     {
         CoreSession {
             marks,
             starts: Vec::new(alloc),
             world: None,
             turned: false,
-        }
-    }
-
-    /// Carries out a line and adds its trace to the text, or answers `false` where the line is misplaced. It fails
-    /// for want of memory alone. Of the session and the text nothing is said then, nor after a misplaced line.
-    pub fn carry_out(
-        &mut self,
-        alloc: Global,
-        line: CoreLine,
-        text: &mut String,
-    ) -> Result<bool, AllocError>
-        ensures fits { IfOk result (λ fits. fits ≡ not (is_misplaced (stage_of self.old) line)) }
-        ensures stage { IfOk result (λ fits. fits ≡ true → stage_of self.new ≡ stage_after (stage_of self.old) line) }
-        ensures text { IfOk result (λ fits. fits ≡ true
-            → string_bytes text.new ≡ string_bytes text.old ++ core_line_trace (stage_of self.old) line) }
-    {
-        match line {
-            CoreLine::Lane(start) => self.add_lane(alloc, start, text),
-            CoreLine::Turn(turn) => self.give_turn(turn, text),
         }
     }
 
@@ -60,10 +49,14 @@ impl CoreSession {
         start: LaneStart,
         text: &mut String,
     ) -> Result<bool, AllocError>
-        ensures fits { IfOk result (λ fits. fits ≡ not (is_misplaced (stage_of self.old) (CoreLine.Lane start))) }
-        ensures stage { IfOk result (λ fits. fits ≡ true → stage_of self.new ≡ stage_after (stage_of self.old) (CoreLine.Lane start)) }
+        ensures marks { self.new.marks ≡ self.old.marks }
+        ensures fits { IfOk result (λ fits. fits ≡ not (self.old.turned || is_some (opening_fault (self.old.starts.items ++ start ∷ [])))) }
+        ensures starts { IfOk result (λ fits. fits ≡ true → self.new.starts.items ≡ self.old.starts.items ++ start ∷ []) }
+        ensures core { IfOk result (λ fits. fits ≡ true
+            → option_map (λ world. world.core) self.new.world ≡ Some (new_core self.old.marks (self.old.starts.items ++ start ∷ []))) }
+        ensures turned { IfOk result (λ fits. fits ≡ true → (self.old.turned ≡ false) × (self.new.turned ≡ false)) }
         ensures text { IfOk result (λ fits. fits ≡ true
-            → string_bytes text.new ≡ string_bytes text.old ++ core_line_trace (stage_of self.old) (CoreLine.Lane start)) }
+            → string_bytes text.new ≡ string_bytes text.old ++ lane_text (length self.old.starts.items)) }
     {
         if self.turned {
             return Ok(false);
@@ -82,10 +75,14 @@ impl CoreSession {
 
     /// Gives a lane its turn.
     fn give_turn(&mut self, turn: Turn, text: &mut String) -> Result<bool, AllocError>
-        ensures fits { IfOk result (λ fits. fits ≡ not (is_misplaced (stage_of self.old) (CoreLine.Turn turn))) }
-        ensures stage { IfOk result (λ fits. fits ≡ true → stage_of self.new ≡ stage_after (stage_of self.old) (CoreLine.Turn turn)) }
-        ensures text { IfOk result (λ fits. fits ≡ true
-            → string_bytes text.new ≡ string_bytes text.old ++ core_line_trace (stage_of self.old) (CoreLine.Turn turn)) }
+        ensures marks { self.new.marks ≡ self.old.marks }
+        ensures fits { IfOk result (λ fits. fits ≡ is_some self.old.world) }
+        ensures starts { IfOk result (λ fits. fits ≡ true → self.new.starts.items ≡ self.old.starts.items) }
+        ensures core { IfOk result (λ fits. fits ≡ true
+            → option_map (λ world. world.core) self.new.world ≡ option_map (λ world. core_after world.core turn) self.old.world) }
+        ensures turned { IfOk result (λ fits. fits ≡ true → self.new.turned ≡ true) }
+        ensures text { IfOk result (λ fits. fits ≡ true → string_bytes text.new ≡ string_bytes text.old
+            ++ option_map_or (λ world. turn_trace world.core turn) self.old.world []) }
     {
         let Some(world) = &mut self.world else {
             return Ok(false);
@@ -101,11 +98,32 @@ impl CoreSession {
         self.turned = true;
         Ok(true)
     }
+}
 
-    /// Adds the last line of the trace.
-    pub fn push_last_line(&self, text: &mut String) -> Result<(), AllocError>
-        ensures { OnOk result (string_bytes text.new ≡ string_bytes text.old ++ last_line (stage_of self.now).core) }
-    {
+impl Interpreter for CoreSession {
+    type Line = CoreLine;
+
+    ghost language = { λ session. core_language session.marks };
+
+    ghost HasDone = { λ session lines. HasPlayed session lines };
+
+    fn read(&self, line: &[u8]) -> Result<CoreLine, LineFault> {
+        read_line::<CoreWord>(line)
+    }
+
+    fn carry_out(
+        &mut self,
+        alloc: Global,
+        line: CoreLine,
+        text: &mut String,
+    ) -> Result<bool, AllocError> {
+        match line {
+            CoreLine::Lane(start) => self.add_lane(alloc, start, text),
+            CoreLine::Turn(turn) => self.give_turn(turn, text),
+        }
+    }
+
+    fn push_last(&self, text: &mut String) -> Result<(), AllocError> {
         match &self.world {
             Some(world) => push_end(text, world.quiet(), world.owed()),
             None => Ok(()),

@@ -3,7 +3,7 @@ ghost use Rattle.ob_tool.specs.RunTable.{run_table};
 use crate::first_word::FirstWord;
 use crate::range::Range;
 use crate::script_line::ScriptLine;
-use ob_types::{Cause, PromiseId};
+use ob_types::{Cause, Command, Message, PromiseId};
 
 /// The first word of a line of `run`.
 #[derive(Clone, Copy, Debug, PartialEq, Eq)]
@@ -153,23 +153,26 @@ impl FirstWord for LineWord {
     }
 
     fn line(self, numbers: [u64; 3]) -> ScriptLine {
-        match self {
-            LineWord::Block => ScriptLine::Block(numbers[0]),
-            LineWord::Region => ScriptLine::Region(numbers[0]),
-            LineWord::Other => ScriptLine::Other(numbers[0] as u32),
-            LineWord::Flush => ScriptLine::Flush,
-            LineWord::Remove => ScriptLine::Remove,
-            LineWord::RemoveWith => ScriptLine::RemoveWith(Cause(numbers[0] as u32)),
-            LineWord::RemoveBytes => ScriptLine::RemoveBytes(numbers[0]),
-            LineWord::Progress => ScriptLine::Progress(numbers[0]),
-            LineWord::Cancel => ScriptLine::Cancel(PromiseId(numbers[0] as u32)),
+        let command = match self {
+            LineWord::Block => return ScriptLine::Block(numbers[0]),
+            LineWord::Region => Command::Write(Message::Region(numbers[0])),
+            LineWord::Other => Command::Write(Message::Other(numbers[0] as u32)),
+            LineWord::Flush => Command::Flush,
+            LineWord::Remove => Command::Remove,
+            LineWord::RemoveWith => Command::RemoveWith(Cause(numbers[0] as u32)),
+            LineWord::RemoveBytes => Command::RemoveBytes(numbers[0]),
+            LineWord::Progress => Command::Progress(numbers[0]),
+            LineWord::Cancel => Command::Cancel(PromiseId(numbers[0] as u32)),
             LineWord::FailFlushed => {
-                ScriptLine::FailFlushed(Cause(numbers[0] as u32), numbers[1] == 1)
+                Command::FailFlushed(Cause(numbers[0] as u32), numbers[1] == 1)
             }
-            LineWord::Close => ScriptLine::Close(Cause(numbers[0] as u32)),
-            LineWord::UserBit => ScriptLine::UserBit(numbers[0] as u32, numbers[1] == 1),
-            LineWord::Look => ScriptLine::Look,
-            LineWord::Gather => ScriptLine::Gather(numbers[0] as u32, numbers[1] as u32),
-        }
+            LineWord::Close => Command::Close(Cause(numbers[0] as u32)),
+            LineWord::UserBit => Command::UserBit(numbers[0] as u32, numbers[1] == 1),
+            LineWord::Look => return ScriptLine::Look,
+            LineWord::Gather => {
+                return ScriptLine::Gather(numbers[0] as u32, numbers[1] as u32);
+            }
+        };
+        ScriptLine::Command(command)
     }
 }

@@ -1,25 +1,25 @@
 //! Runs scripts of buffer commands, or of the turns of lanes, and writes a line of trace for each.
 #![tactic(auto)]
 
-mod asked;
 mod block;
 mod command_line;
 mod core_line;
 mod core_run;
 mod core_session;
 mod core_text;
-mod core_trace;
 mod core_word;
 mod entry;
 mod entry_fault;
 mod first_word;
 mod help;
+mod interpreter;
 mod line;
 mod line_fault;
 mod line_word;
 mod line_words;
 mod numbers;
 mod options;
+mod pipeline;
 mod range;
 mod request;
 mod run;

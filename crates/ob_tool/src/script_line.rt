@@ -1,34 +1,15 @@
-use ob_types::{Cause, PromiseId};
+use ob_types::Command;
 
 /// What one line of a script asks.
-#[derive(Clone, Copy, Debug, PartialEq, Eq)]
+#[derive(Debug, Drop)]
 pub enum ScriptLine {
-    /// Write a block of so many bytes.
+    /// To write a block of so many bytes, which are made up where the line is carried out.
     Block(u64),
-    /// Write a region of so many bytes.
-    Region(u64),
-    /// Write a message that is neither, by the number that means something to the application.
-    Other(u32),
-    /// Flush.
-    Flush,
-    /// Remove.
-    Remove,
-    /// Remove with a cause.
-    RemoveWith(Cause),
-    /// Remove so many bytes.
-    RemoveBytes(u64),
-    /// Tell of so many more bytes of progress.
-    Progress(u64),
-    /// Cancel a promise.
-    Cancel(PromiseId),
-    /// Fail all flushed messages with a cause, with notice of the fall where the second is set.
-    FailFlushed(Cause, bool),
-    /// Close with a cause.
-    Close(Cause),
-    /// Set the user bit of this index where the second is not set, and clear it where it is.
-    UserBit(u32, bool),
-    /// Look at the buffer.
+    /// To carry out a command.
+    Command(Command),
+    /// To show the buffer. Nothing changes, and no history tells of it.
     Look,
-    /// Gather blocks from the front: at most so many, and of at most so many bytes.
+    /// To show which blocks in front can be sent at once, at most so many, and of at most so many bytes. Nothing
+    /// changes here either.
     Gather(u32, u32),
 }

@@ -4,10 +4,14 @@ ghost use Rattle.ob_history.specs.Call.{history_after, is_full};
 ghost use Rattle.ob_history.specs.Seen.{seen_now};
 ghost use Rattle.ob_tool.specs.Call.{told_after};
 ghost use Rattle.ob_tool.specs.Options.{first_history};
-ghost use Rattle.ob_tool.specs.Trace.{asked_after, history_after_line, line_trace, text_after, writes_in};
+ghost use Rattle.ob_seq.specs.Writes.{writes_in};
+ghost use Rattle.ob_tool.specs.RunScript.{block_write, call_text, history_after_line, history_after_lines, line_trace, run_language};
 
-use crate::asked::Asked;
 use crate::block::block;
+use crate::interpreter::Interpreter;
+use crate::line::read_line;
+use crate::line_fault::LineFault;
+use crate::line_word::LineWord;
 use crate::options::Options;
 use crate::script_line::ScriptLine;
 use crate::text::{push_gathered, push_look, push_refusal, push_reply};
@@ -19,6 +23,7 @@ use std::alloc::{AllocError, Global};
 /// A recorded buffer that carries out the lines of a script, whose caller is 0.
 #[derive(Drop)]
 pub struct Session {
+    pub options: Options,
     pub booked: As,
     /// The first byte of the next block: how many writes were accepted, modulo 256.
     pub next_byte: u8,
@@ -29,10 +34,12 @@ pub struct Session {
 impl Session {
     /// A session before its first line.
     pub fn new(alloc: Global, options: Options) -> Session
-        ensures { result.booked.recorded ≡ first_history options }
+        ensures history { result.booked.recorded ≡ first_history options }
+        ensures options { result.options ≡ options }
     {
         let recorded = Recorded::new(alloc, options.marks, options.estimate, options.limit);
         Session {
+            options,
             booked: As {
                 recorded,
                 caller: 0,
@@ -41,55 +48,34 @@ impl Session {
         }
     }
 
-    /// Carries out a line and adds its trace to the text. It fails for want of memory alone, and then nothing
-    /// is said of the text, nor whether the line was carried out.
-    pub fn carry_out(
+    /// Carries out a line and adds its trace to the text. It fails for want of memory alone.
+    fn carry_out_line(
         &mut self,
         alloc: Global,
         line: ScriptLine,
         text: &mut String,
     ) -> Result<(), AllocError>
+        ensures options { self.new.options ≡ self.old.options }
         ensures after { OnOk result (self.new.booked.recorded ≡ history_after_line self.old.booked.recorded line) }
         ensures text { OnOk result (string_bytes text.new ≡ string_bytes text.old ++ line_trace self.old.booked.recorded line) }
     {
-        match self.asked(alloc, line)? {
-            Asked::Command(command) => self.give(command, text),
-            Asked::Look => push_look(text, &self.look()),
-            Asked::Gather(max_count, max_bytes) => self.gather(max_count, max_bytes, text),
+        match line {
+            ScriptLine::Block(size) => {
+                let command = self.block_write(alloc, size)?;
+                self.give(command, text)
+            }
+            ScriptLine::Command(command) => self.give(command, text),
+            ScriptLine::Look => push_look(text, &self.look()),
+            ScriptLine::Gather(max_count, max_bytes) => self.gather(max_count, max_bytes, text),
         }
     }
 
-    /// What a line asks of the buffer.
-    fn asked(&self, alloc: Global, line: ScriptLine) -> Result<Asked, AllocError>
-        ensures { IfOk result (λ asked. asked ≡ asked_after self.now.booked.recorded line) }
+    /// The write of a script's block of so many bytes.
+    fn block_write(&self, alloc: Global, size: u64) -> Result<Command, AllocError>
+        ensures { IfOk result (λ command. command ≡ block_write self.now.booked.recorded size) }
     {
-        match line {
-            ScriptLine::Block(size) => {
-                let bytes = block(alloc, self.next_byte, size)?;
-                Ok(Asked::Command(Command::Write(Message::Block(bytes))))
-            }
-            ScriptLine::Region(length) => {
-                Ok(Asked::Command(Command::Write(Message::Region(length))))
-            }
-            ScriptLine::Other(number) => {
-                Ok(Asked::Command(Command::Write(Message::Other(number))))
-            }
-            ScriptLine::Flush => Ok(Asked::Command(Command::Flush)),
-            ScriptLine::Remove => Ok(Asked::Command(Command::Remove)),
-            ScriptLine::RemoveWith(cause) => Ok(Asked::Command(Command::RemoveWith(cause))),
-            ScriptLine::RemoveBytes(count) => Ok(Asked::Command(Command::RemoveBytes(count))),
-            ScriptLine::Progress(count) => Ok(Asked::Command(Command::Progress(count))),
-            ScriptLine::Cancel(id) => Ok(Asked::Command(Command::Cancel(id))),
-            ScriptLine::FailFlushed(cause, notify) => {
-                Ok(Asked::Command(Command::FailFlushed(cause, notify)))
-            }
-            ScriptLine::Close(cause) => Ok(Asked::Command(Command::Close(cause))),
-            ScriptLine::UserBit(index, writable) => {
-                Ok(Asked::Command(Command::UserBit(index, writable)))
-            }
-            ScriptLine::Look => Ok(Asked::Look),
-            ScriptLine::Gather(max_count, max_bytes) => Ok(Asked::Gather(max_count, max_bytes)),
-        }
+        let bytes = block(alloc, self.next_byte, size)?;
+        Ok(Command::Write(Message::Block(bytes)))
     }
 
     /// A look at the buffer.
@@ -102,7 +88,7 @@ impl Session {
     /// Adds the trace of a gathering to the text.
     fn gather(&self, max_count: u32, max_bytes: u32, text: &mut String) -> Result<(), AllocError>
         ensures { OnOk result (string_bytes text.new
-            ≡ string_bytes text.old ++ text_after self.now.booked.recorded (Asked.Gather max_count max_bytes)) }
+            ≡ string_bytes text.old ++ line_trace self.now.booked.recorded (ScriptLine.Gather max_count max_bytes)) }
     {
         match self.booked.buffer().gather(max_count, max_bytes) {
             Ok(blocks) => push_gathered(text, &blocks, &self.look()),
@@ -112,9 +98,9 @@ impl Session {
 
     /// Gives a command to the buffer, and adds its trace to the text.
     fn give(&mut self, command: Command, text: &mut String) -> Result<(), AllocError>
+        ensures options { self.new.options ≡ self.old.options }
         ensures after { OnOk result (self.new.booked.recorded ≡ history_after self.old.booked.recorded 0 command) }
-        ensures text { OnOk result (string_bytes text.new
-            ≡ string_bytes text.old ++ text_after self.old.booked.recorded (Asked.Command command)) }
+        ensures text { OnOk result (string_bytes text.new ≡ string_bytes text.old ++ call_text self.old.booked.recorded command) }
     {
         match self.call(command)? {
             Ok(reply) => push_reply(text, &reply, &self.look()),
@@ -125,6 +111,7 @@ impl Session {
     /// Gives a command to the buffer and answers its reply or its refusal, that of a full history too. It fails for
     /// want of memory alone, and so never where the history is full.
     fn call(&mut self, command: Command) -> Result<Result<Reply, Refusal>, AllocError>
+        ensures options { self.new.options ≡ self.old.options }
         ensures after { OnOk result (self.new.booked.recorded ≡ history_after self.old.booked.recorded 0 command) }
         ensures answer { IfOk result (λ answer. answer ≡ told_after self.old.booked.recorded command) }
         ensures full { is_full self.old.booked.recorded ≡ true → IsOk result }
@@ -140,6 +127,32 @@ impl Session {
             Err(Refusal::HistoryFull) => Ok(Err(Refusal::HistoryFull)),
             Err(_) => Err(AllocError),
         }
+    }
+}
+
+impl Interpreter for Session {
+    type Line = ScriptLine;
+
+    ghost language = { λ session. run_language (first_history session.options) };
+
+    ghost HasDone = { λ session lines. session.booked.recorded ≡ history_after_lines (first_history session.options) lines };
+
+    fn read(&self, line: &[u8]) -> Result<ScriptLine, LineFault> {
+        read_line::<LineWord>(line)
+    }
+
+    fn carry_out(
+        &mut self,
+        alloc: Global,
+        line: ScriptLine,
+        text: &mut String,
+    ) -> Result<bool, AllocError> {
+        self.carry_out_line(alloc, line, text)?;
+        Ok(true)
+    }
+
+    fn push_last(&self, _text: &mut String) -> Result<(), AllocError> {
+        Ok(())
     }
 }
 

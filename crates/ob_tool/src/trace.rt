@@ -1,48 +1,76 @@
-ghost use Rattle.std.specs.Prelude.{◌≡◌, ◌++◌, ◌<◌, ◌≤◌, [], IsOk, OnOk, OnErr, IfErr, length};
+ghost use Rattle.std.specs.Prelude.{◌≡◌, ◌≢◌, ◌++◌, ◌<◌, ◌≤◌, [], ◌∷◌, List, true, not, Ok, IsOk, IfOk, OnOk, OnErr, IfErr, length};
 ghost use Rattle.std.specs.Io.KnownBytes.{Keeps, append_known};
-ghost use Rattle.ob_tool.specs.Trace.{history_after_line, line_trace};
+ghost use Rattle.ob_tool.specs.Ending.{Ends, LinesEnd};
+ghost use Rattle.ob_tool.specs.Script.{script_lines};
 ghost use Rattle.ob_tool.specs.Session.{HasTraced};
-ghost use Rattle.ob_tool.specs.Ending.{Ends};
 ghost use Rattle.ob_tool.specs.declared.run_fault.RunFault.TheVariants.{Write};
 
-use crate::line::read_line;
-use crate::line_word::LineWord;
+use crate::interpreter::Interpreter;
+use crate::line_fault::LineFault;
 use crate::line_words::first_line;
 use crate::run_fault::RunFault;
-use crate::script_line::ScriptLine;
-use crate::session::Session;
 use std::alloc::{AllocError, Global};
 use std::io;
 
 /// How many bytes of trace wait before they are written.
 const PIECE: usize = 65536;
 
-/// Carries out the lines of a script up to the first faulty one, and writes their trace in large pieces. The rest of
-/// the trace is left waiting, in whole lines, unless the writer failed.
-pub fn trace_lines<W: io::Write>(
+/// Carries out the lines of a script up to the first faulty one, and writes the trace in large pieces. The rest of the
+/// trace is left waiting, in whole lines, unless the writer failed.
+pub fn trace_script<I: Interpreter, W: io::Write>(
     alloc: Global,
-    session: &mut Session,
+    interpreter: &mut I,
     script: &[u8],
     waiting: &mut Vec<u8>,
     writer: &mut W,
 ) -> Result<(), RunFault>
     requires small { length script.now ≤ 16777216 }
+    requires fresh { I.HasDone interpreter.old [] }
     requires empty { waiting.old.items ≡ [] }
-    ensures { Ends session.old.booked.recorded script.now (HasTraced (W.contents writer.old) (W.contents writer.new) waiting.new.items) result }
+    ensures { Ends (I.language interpreter.old) script.now (HasTraced (W.contents writer.old) (W.contents writer.new) waiting.new.items) result }
+{
+    trace_lines(alloc, interpreter, script, waiting, writer)?;
+    match trace_last(alloc, interpreter, waiting) {
+        Ok(()) => Ok(()),
+        Err(_) => Err(RunFault::NoMemory),
+    }
+}
+
+/// Carries out the lines of a script up to the first faulty one, and traces them.
+fn trace_lines<I: Interpreter, W: io::Write>(
+    alloc: Global,
+    interpreter: &mut I,
+    script: &[u8],
+    waiting: &mut Vec<u8>,
+    writer: &mut W,
+) -> Result<(), RunFault>
+    requires small { length script.now ≤ 16777216 }
+    requires fresh { I.HasDone interpreter.old [] }
+    requires empty { waiting.old.items ≡ [] }
+    ensures lines { LinesEnd (I.language interpreter.old) script.now (HasTraced (W.contents writer.old) (W.contents writer.new) waiting.new.items) result }
+    ensures done { OnOk result (I.HasDone interpreter.new (script_lines (I.language interpreter.old) script.now)) }
+    ensures language { OnOk result (I.language interpreter.new ≡ I.language interpreter.old) }
 {
     let mut rest = script;
     let mut number = 0u32;
     let mut text = String::new(alloc);
     while !rest.is_empty() {
         let (line, others) = first_line(rest);
-        match read_line::<LineWord>(line) {
+        match interpreter.read(line) {
             Err(fault) => {
                 return Err(RunFault::Line {
                     line: number + 1,
                     fault,
                 });
             }
-            Ok(line) => trace_line(alloc, session, line, &mut text, waiting)?,
+            Ok(line) => {
+                if !trace_line(alloc, interpreter, line, &mut text, waiting)? {
+                    return Err(RunFault::Line {
+                        line: number + 1,
+                        fault: LineFault::Misplaced,
+                    });
+                }
+            }
         }
         spill(waiting, writer)?;
         number += 1;
@@ -51,25 +79,48 @@ pub fn trace_lines<W: io::Write>(
     Ok(())
 }
 
-/// Carries out one line, and adds its trace to what waits.
-fn trace_line(
+/// Carries out one line, and adds its trace to what waits, or answers `false` where the line is misplaced.
+fn trace_line<I: Interpreter>(
     alloc: Global,
-    session: &mut Session,
-    line: ScriptLine,
+    interpreter: &mut I,
+    line: I::Line,
     text: &mut String,
     waiting: &mut Vec<u8>,
-) -> Result<(), AllocError>
-    ensures after { OnOk result (session.new.booked.recorded ≡ history_after_line session.old.booked.recorded line) }
-    ensures text { OnOk result (waiting.new.items ≡ waiting.old.items ++ line_trace session.old.booked.recorded line) }
-    ensures kept { OnErr result (waiting.new.items ≡ waiting.old.items) }
+) -> Result<bool, AllocError>
+    ensures language { I.language interpreter.new ≡ I.language interpreter.old }
+    ensures fits { IfOk result (λ fits. (before : List I.Line) → I.HasDone interpreter.old before
+        → fits ≡ not ((I.language interpreter.old).is_misplaced before line)) }
+    ensures done { IfOk result (λ fits. fits ≡ true → (before : List I.Line) → I.HasDone interpreter.old before
+        → I.HasDone interpreter.new (before ++ line ∷ [])) }
+    ensures text { IfOk result (λ fits. fits ≡ true → (before : List I.Line) → I.HasDone interpreter.old before
+        → waiting.new.items ≡ waiting.old.items ++ (I.language interpreter.old).line_text before line) }
+    ensures kept { result ≢ Ok true → waiting.new.items ≡ waiting.old.items }
 {
     text.clear();
-    session.carry_out(alloc, line, text)?;
+    if !interpreter.carry_out(alloc, line, text)? {
+        return Ok(false);
+    }
+    waiting.extend_from_slice(text.as_bytes())?;
+    Ok(true)
+}
+
+/// Adds the text behind the trace of all lines to what waits.
+fn trace_last<I: Interpreter>(
+    alloc: Global,
+    interpreter: &I,
+    waiting: &mut Vec<u8>,
+) -> Result<(), AllocError>
+    ensures text { OnOk result ((lines : List I.Line) → I.HasDone interpreter.now lines
+        → waiting.new.items ≡ waiting.old.items ++ (I.language interpreter.now).last_text lines) }
+    ensures kept { OnErr result (waiting.new.items ≡ waiting.old.items) }
+{
+    let mut text = String::new(alloc);
+    interpreter.push_last(&mut text)?;
     waiting.extend_from_slice(text.as_bytes())
 }
 
 /// Writes what waits, once there is enough of it.
-pub fn spill<W: io::Write>(waiting: &mut Vec<u8>, writer: &mut W) -> Result<(), RunFault>
+fn spill<W: io::Write>(waiting: &mut Vec<u8>, writer: &mut W) -> Result<(), RunFault>
     ensures kept { OnOk result (Keeps (append_known (W.contents writer.old) waiting.old.items)
         (append_known (W.contents writer.new) waiting.new.items)) }
     ensures fault { IfErr result (λ fault. fault ≡ Write) }
