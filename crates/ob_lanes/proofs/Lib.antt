@@ -1,0 +1,7 @@
+mod Laws
+mod Ends
+mod Halves
+mod Masks
+mod Seats
+mod Views
+mod Moves

@@ -1,0 +1,15 @@
+use Rattle.std.proofs.Common.{arith}
+use Rattle.ob_lanes.proofs.Seats.{merger_allowed}
+use Rattle.ob_lanes.proofs.words.Words.merge_seats.Goals as goal
+
+pub join_seat-requires : goal.join_seat-requires
+join_seat-requires g c =
+    let seat = c.args.seat.now in
+    let other = c.args.other in
+    let asked = c.requires in (
+      cc,
+      cc,
+      asked.slots,
+      omega (arith, c.self.invariant.nine),
+      merger_allowed c.self.inside.table.shared.key seat.id other.id seat.me.0 other.me.0 g.S.Spent.facts asked.free.0 asked.free.1 asked.spent.0 asked.spent.1,
+    )

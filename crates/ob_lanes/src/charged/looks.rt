@@ -1,0 +1,40 @@
+ghost use Rattle.std.specs.Prelude.{◌≡◌, ◌≤◌, ◌+◌, ◌-◌, ◌++◌};
+ghost use Rattle.ob_core.specs.Owed.{owed_by};
+ghost use Rattle.ob_core.specs.declared.lane_step.LaneStep.TheVariants.{LoadTotal, LoadWord};
+ghost use Rattle.ob_lanes.specs.Facts.{one_step};
+ghost use Rattle.ob_lanes.specs.RunningLane.{ShowsHeld};
+
+use super::Charged;
+use crate::words::Words;
+
+impl Charged {
+    /// The total, read in one step.
+    pub fn total(&mut self, words: &Words) -> u64
+        requires { self.old.words ≡ words.now }
+        ensures words { self.new.words ≡ self.old.words }
+        ensures lane { self.new.lane ≡ self.old.lane }
+        ensures made { self.new.made ≡ self.old.made ++ one_step LoadTotal result }
+        ensures least { owed_by self.old.lane ≤ result }
+        ensures most { result ≤ owed_by self.old.lane + (self.old.words.opening.room - self.old.lane.room) }
+    {
+        words.load_total(&mut self.seat)
+    }
+
+    /// The word, read in one step.
+    pub fn word(&mut self, words: &Words) -> u32
+        requires { self.old.words ≡ words.now }
+        ensures words { self.new.words ≡ self.old.words }
+        ensures lane { self.new.lane ≡ self.old.lane }
+        ensures made { self.new.made ≡ self.old.made ++ one_step LoadWord result }
+        ensures held { ShowsHeld self.old.lane result }
+    {
+        words.load_word(&mut self.seat) as u32
+    }
+
+    /// The bytes that it charged.
+    pub fn owed(&self) -> u32
+        ensures { result ≡ owed_by self.now.lane }
+    {
+        self.owed
+    }
+}

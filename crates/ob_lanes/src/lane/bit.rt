@@ -1,0 +1,59 @@
+ghost use Rattle.std.specs.Prelude.{◌≡◌, ◌&&◌, ◌<◌, nat_lt, false, true, IsErr, OnErr, IsOkAnd};
+ghost use Rattle.ob_core.specs.AskFault.{is_held};
+ghost use Rattle.ob_core.specs.Bits.{is_set};
+ghost use Rattle.ob_core.specs.Found.{change_of_setting, change_of_clearing};
+ghost use Rattle.ob_lanes.specs.Bit.{IsBit, bit_step};
+
+use super::Lane;
+use crate::fault::NotHeld;
+use crate::words::Words;
+use ob_types::Change;
+
+impl Lane {
+    /// Sets or clears a user bit that the lane holds.
+    pub fn bit(
+        &mut self,
+        words: &Words,
+        index: u32,
+        writable: bool,
+    ) -> Result<Option<Change>, NotHeld>
+        requires { self.old.words ≡ words.now }
+        ensures not_held { is_held self.old.lane index ≡ false → IsErr result }
+        ensures unchanged { OnErr result (self.new ≡ self.old) }
+        ensures words { self.new.words ≡ self.old.words }
+        ensures made { is_held self.old.lane index ≡ true → IsOkAnd result (λ change.
+            IsBit (bit_step index writable) self.old self.new change) }
+    {
+        if !is_bit_held(self.held, index) {
+            return Err(NotHeld);
+        }
+        let change = if writable {
+            change_of_clearing(words.clear_bit(&mut self.seat, index), index)
+        } else {
+            change_of_setting(words.set_bit(&mut self.seat, index))
+        };
+        Ok(change)
+    }
+}
+
+/// The change of setting a bit in a word.
+fn change_of_setting(found: u64) -> Option<Change>
+    ensures { result ≡ change_of_setting found }
+{
+    (found == 0).then_some(Change::Unwritable)
+}
+
+/// The change of clearing the bit with this index in a word.
+fn change_of_clearing(found: u64, index: u32) -> Option<Change>
+    requires { index < 32 }
+    ensures { result ≡ change_of_clearing index found }
+{
+    (found == 1 << index).then_some(Change::Writable)
+}
+
+/// Whether a mask has the bit with this index. No mask has a bit with an index outside 1 to 31.
+fn is_bit_held(held: u32, index: u32) -> bool
+    ensures { result ≡ (nat_lt 0 index && nat_lt index 32 && is_set held index) }
+{
+    0 < index && index < 32 && (held >> index) & 1 == 1
+}

@@ -1,0 +1,46 @@
+ghost use Rattle.std.specs.Prelude.{◌≡◌, ◌≤◌, ◌+◌};
+ghost use Rattle.ob_lanes.specs.Joined.{IsJoined};
+
+use super::Lane;
+use crate::shares::Spent;
+use crate::words::Words;
+use std::marker::Brand;
+
+impl Lane {
+    /// Takes in the room and the bits of another lane.
+    pub fn join(self, words: &Words, other: Lane) -> Lane
+        requires words { self.words ≡ words.now }
+        requires other { other.words ≡ words.now }
+        ensures words { result.words ≡ self.words }
+        ensures lane { IsJoined self.words.opening.room self.lane other.lane result.lane }
+        ensures made { result.made ≡ self.made }
+    {
+        self.merge::<Brand>(words, other)
+    }
+
+    fn merge<S: Spent>(self, words: &Words, other: Lane) -> Lane
+        requires words { self.words ≡ words.now }
+        requires other { other.words ≡ words.now }
+        requires spent { (S.facts.opening ≡ other.words.opening) × (S.facts.made ≡ other.made) }
+        ensures words { result.words ≡ self.words }
+        ensures lane { IsJoined self.words.opening.room self.lane other.lane result.lane }
+        ensures made { result.made ≡ self.made }
+    {
+        let Lane {
+            mut seat,
+            room,
+            held,
+        } = self;
+        let Lane {
+            seat: other_seat,
+            room: other_room,
+            held: other_held,
+        } = other;
+        words.merge_seats::<S>(&mut seat, other_seat);
+        Lane {
+            seat,
+            room: room.saturating_add(other_room).min(words.opening.room),
+            held: held | other_held,
+        }
+    }
+}

@@ -1,0 +1,31 @@
+ghost use Rattle.std.specs.Prelude.{◌≡◌, IfOk, IfErr};
+
+mod end;
+mod seats;
+mod steps;
+
+use crate::facts::Facts;
+use crate::opening::Opening;
+use crate::rule::Rule;
+use atomic_table::Table;
+use std::alloc::Global;
+use std::marker::Model;
+
+/// The two words that the lanes step on: the total, and the word with the bits. Threads share it by reference.
+#[derive(Drop)]
+pub struct Words {
+    pub(crate) table: Table<(), Facts, Opening, Rule, Global>,
+    pub(crate) opening: Opening,
+}
+
+impl Model for Words {
+    ghost use Rattle.ob_lanes.specs.RunningLane.{WordsValue};
+
+    ghost Value = { WordsValue };
+
+    ghost use Rattle.ob_lanes.specs.Inside.{AreWords};
+
+    ghost view = { λ words. record { table_id = words.table.shared.table_id; opening = words.opening } };
+
+    ghost invariant = { AreWords };
+}
