@@ -1,4 +1,4 @@
-mod Laws
+mod KeptAccounts
 mod Ends
 mod Halves
 mod Masks

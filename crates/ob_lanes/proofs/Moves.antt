@@ -7,6 +7,7 @@ use Rattle.std.proofs.lemmas.List.{map-set, get_or-set_same, get_or-set_other}
 use Rattle.std.proofs.lemmas.List.Elements.{All-set}
 use Rattle.std.proofs.lemmas.Option.{slice_get_within, get_or_from_slice_get}
 use Rattle.atomic_table.specs.Table.{State, Me, step, keeps, Allows}
+use Rattle.atomic_table.proofs.Lists.{set_here}
 use Rattle.ob_types.specs.WaterMark.{Marks}
 use Rattle.ob_core.specs.CoreState.{CoreState}
 use Rattle.ob_core.specs.CoreStep.{IsCoreStep}
@@ -20,14 +21,15 @@ use Rattle.ob_lanes.specs.Ruled.{Ruled, HasRun, core_of}
 use Rattle.ob_lanes.specs.Run.{steps}
 use Rattle.ob_core.specs.Found.{value_found}
 use Rattle.ob_core.specs.Opening.{Opening}
-use Rattle.ob_lanes.specs.Told.{Told, Tells, TotalTold, WordTold, ToldSetting, ToldClearing}
+use Rattle.ob_lanes.specs.InRun.{IsInRun}
+use Rattle.ob_lanes.specs.Told.{Told, Tells, TotalTold, WordTold, ToldSetting, ToldClearing, KnowsItsRun}
 use Rattle.ob_lanes.specs.declared.facts.Facts.{Facts}
 use Rattle.ob_lanes.specs.declared.facts.Made.{Made}
 use Rattle.ob_core.proofs.AccountsLemmas.{owed_by-le-total, total-le-outside, shown-held}
 use Rattle.ob_core.proofs.BitLemmas.{or-is-with_bit, and-is-without_bit}
-use Rattle.ob_lanes.proofs.Laws.{accounts_after_step, word_fits}
+use Rattle.ob_lanes.proofs.KeptAccounts.{accounts_after_step, word_fits}
 use Rattle.ob_lanes.proofs.Masks.{held_below}
-use Rattle.ob_lanes.proofs.Views.{slice_get_elem, slice_get_map, made_at-set}
+use Rattle.ob_lanes.proofs.Views.{slice_get_elem, slice_get_map, made_at-set, made_at-here}
 
 abbrev pub St : Type 0
 St = State (Unit {0}) Facts
@@ -42,6 +44,21 @@ opening_known opening s id facts ruled at =
     let here = slice_get_elem s.views id facts at in
     let P : Facts → Type 0 = λ f. f.opening ≡ opening in
     subst P (get_or_from_slice_get s.views id facts facts here) (ruled.one_opening id facts (slice_get_within s.views id facts here))
+
+-- each seat stands in the run that there is
+pub stands : (opening : Opening) (s : St) (id : ℕ) (facts : Facts) → Ruled opening s → get_elem? s.views id ≡ some facts → IsInRun opening (core opening s) facts.lane facts.made
+stands opening s id facts ruled at = record {
+  moves = ruled.run.moves;
+  leads = ruled.run.leads;
+  seat = id;
+  is_lane = slice_get_map (λ (f : Facts). f.lane) s.views id facts at;
+  is_made = ruled.run.own id ∙ made_at-here s.views id facts at;
+}
+
+-- so it knows
+knows : (opening : Opening) (s : St) (id : ℕ) (facts : Facts) → Ruled opening s → get_elem? s.views id ≡ some facts → KnowsItsRun facts
+knows opening s id facts ruled at =
+    (core opening s, subst (λ o. IsInRun o (core opening s) facts.lane facts.made) (sym (opening_known opening s id facts ruled at)) (stands opening s id facts ruled at))
 
 -- where a step leaves its lane is read off the value that it found
 lane_after_found : (step : LaneStep) (marks : Marks) (lane : Lane) (c : CoreState) → lane_after step marks (total_after step (value_found step c)) lane ≡ lane_after step marks (total_after step c.total) lane
@@ -100,6 +117,19 @@ module _ (opening : Opening) (s : St) (id : ℕ) (facts : Facts) (step : LaneSte
     run = has_run;
   }
 
+-- a step tells the lane that makes it
+told_after : (opening : Opening) (s : St) (id : ℕ) (me : Me (Unit {0}) Facts) (step : LaneStep) (found : ℕ) (words : List ℕ) → Ruled opening s → Steps opening s id me.0 step found words → Tells step me.0 found
+    → Told step me found (facts_after step found me.0, me.1)
+told_after opening s id me step found words ruled t tells =
+    let new = facts_after step found me.0 in
+    let there = slice_get_within s.views id me.0 (slice_get_elem s.views id me.0 t.at) in
+    record {
+      after = refl;
+      slots = refl;
+      tells = tells;
+      run = knows opening _ id new (Ruled-step opening s id me.0 step found words ruled t) (set_here s.views id new there);
+    }
+
 -- what a seat learns from a total that it finds
 total_told : (opening : Opening) (s : St) (id : ℕ) (facts : Facts) → Ruled opening s → get_elem? s.views id ≡ some facts → TotalTold facts (get_or s.words 0 0)
 total_told opening s id facts ruled at =
@@ -123,20 +153,16 @@ total_allowed step on f opening slots id me may computes s ruled _ at small =
     let told = total_told opening s id me.0 ruled at in
     let total = get_or s.words 0 0 in
     let nine = ruled.nine_words in
-    let after : f total ≡ total_after step total = computes total told small (opening_known opening s id me.0 ruled at) in (
-      facts_after step total me.0,
-      keeps,
-      tt,
-      Ruled-step opening s id me.0 step total (set s.words 0 (f total)) ruled (record {
-        at = at;
-        may = may;
-        nine = length-set s.words 0 (f total) ∙ nine;
-        finds = on.finds (core opening s);
-        total = get_or-set_same s.words 0 (f total) 0 (omega arith) ∙ after;
-        word = get_or-set_other s.words 0 8 (f total) 0 (omega arith) ∙ on.leaves (get_or s.words 8 0);
-      }),
-      record { after = refl; slots = refl; tells = on.tells me.0 total told },
-    )
+    let after : f total ≡ total_after step total = computes total told small (opening_known opening s id me.0 ruled at) in
+    let made : Steps opening s id me.0 step total (set s.words 0 (f total)) = record {
+      at = at;
+      may = may;
+      nine = length-set s.words 0 (f total) ∙ nine;
+      finds = on.finds (core opening s);
+      total = get_or-set_same s.words 0 (f total) 0 (omega arith) ∙ after;
+      word = get_or-set_other s.words 0 8 (f total) 0 (omega arith) ∙ on.leaves (get_or s.words 8 0);
+    } in
+    (facts_after step total me.0, keeps, tt, Ruled-step opening s id me.0 step total _ ruled made, told_after opening s id me step total _ ruled made (on.tells me.0 total told))
 
 -- what a seat learns from a word that it finds
 word_told : (opening : Opening) (s : St) (id : ℕ) (facts : Facts) → opening.bits < 2 ^ 32 → Ruled opening s → get_elem? s.views id ≡ some facts → WordTold facts (get_or s.words 8 0)
@@ -157,20 +183,16 @@ word_allowed : (step : LaneStep) → OnWord step → (f : ℕ → ℕ) (opening 
 word_allowed step on f opening slots id me may bits computes s ruled _ at small =
     let told = word_told opening s id me.0 bits ruled at in
     let word = get_or s.words 8 0 in
-    let nine = ruled.nine_words in (
-      facts_after step word me.0,
-      keeps,
-      tt,
-      Ruled-step opening s id me.0 step word (set s.words 8 (f word)) ruled (record {
-        at = at;
-        may = may;
-        nine = length-set s.words 8 (f word) ∙ nine;
-        finds = on.finds (core opening s);
-        total = get_or-set_other s.words 8 0 (f word) 0 (omega arith) ∙ on.leaves (get_or s.words 0 0);
-        word = get_or-set_same s.words 8 (f word) 0 (omega arith) ∙ computes word small;
-      }),
-      record { after = refl; slots = refl; tells = on.tells me.0 word told },
-    )
+    let nine = ruled.nine_words in
+    let made : Steps opening s id me.0 step word (set s.words 8 (f word)) = record {
+      at = at;
+      may = may;
+      nine = length-set s.words 8 (f word) ∙ nine;
+      finds = on.finds (core opening s);
+      total = get_or-set_other s.words 8 0 (f word) 0 (omega arith) ∙ on.leaves (get_or s.words 0 0);
+      word = get_or-set_same s.words 8 (f word) 0 (omega arith) ∙ computes word small;
+    } in
+    (facts_after step word me.0, keeps, tt, Ruled-step opening s id me.0 step word _ ruled made, told_after opening s id me step word _ ruled made (on.tells me.0 word told))
 
 -- an add
 pub add_allowed : (opening : Opening) (slots id amount : ℕ) (me : Me (Unit {0}) Facts) → CanMake me.0.lane (Add amount) → opening.room < 2 ^ 32

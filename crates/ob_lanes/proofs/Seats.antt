@@ -21,7 +21,7 @@ use Rattle.ob_core.specs.Shares.{IsFree, AreShares, IsDivision, IsMerger, spent_
 use Rattle.ob_lanes.specs.declared.facts.Facts.{Facts}
 use Rattle.ob_lanes.proofs.Halves.{are_shares, are_merged}
 use Rattle.ob_core.proofs.LaneSums.{all_at}
-use Rattle.ob_lanes.proofs.Laws.{accounts_after_division, accounts_after_merger}
+use Rattle.ob_lanes.proofs.KeptAccounts.{accounts_after_division, accounts_after_merger}
 use Rattle.ob_lanes.proofs.Moves.{St, core, opening_known}
 use Rattle.ob_lanes.proofs.Views.{slice_get_map, made_at-kept, made_at-new, two_of_sum}
 

@@ -2,8 +2,8 @@ pub mod Bit
 pub mod Charge
 pub mod Divided
 pub mod Facts
+pub mod InRun
 pub mod Inside
-pub mod Finish
 pub mod Joined
 pub mod RunningLane
 pub mod Run

@@ -21,10 +21,10 @@ IsMove old (steps seat step found) new = IsCoreStep old seat step new × (found 
 IsMove old (divides seat kept given) new = IsDivision old seat kept given new
 IsMove old (merges seat other both) new = IsMerger old seat other both new
 
--- the moves, the latest first, lead from the core state of the opening to this one
+-- moves, the latest of which comes first in the list, lead from the first core state to the last
 abbrev pub Leads : CoreState → List Move → CoreState → Type 0
-Leads opening [] core = core ≡ opening
-Leads opening (move ∷ earlier) core = (before : CoreState) × Leads opening earlier before × IsMove before move core
+Leads first [] last = last ≡ first
+Leads first (move ∷ earlier) last = (before : CoreState) × Leads first earlier before × IsMove before move last
 
 -- the step of this seat that a move is, if it is one
 abbrev pub own_step : ℕ → Move → List Made

@@ -2,11 +2,13 @@
 use Rattle.std.specs.Prelude.{◌≡◌, ◌≤◌, ◌+◌, ◌<◌, ◌^◌, ℕ}
 use Rattle.std.specs.Int.{bit_not, w64}
 use Rattle.atomic_table.specs.Table.{Me, Step}
+use Rattle.ob_core.specs.CoreState.{CoreState}
 use Rattle.ob_core.specs.Owed.{owed_by}
 use Rattle.ob_core.specs.declared.lane_step.LaneStep.{LaneStep}
 use Rattle.ob_core.specs.declared.lane_step.LaneStep.TheVariants.{Add, Subtract, Raise, Lower, SetBit, ClearBit, LoadWord, LoadTotal}
 use Rattle.atomic_table.specs.declared.shared.Seat.{Seat}
 use Rattle.ob_lanes.specs.Facts.{facts_after}
+use Rattle.ob_lanes.specs.InRun.{IsInRun}
 use Rattle.ob_lanes.specs.RunningLane.{WordsValue, ShowsHeld}
 use Rattle.ob_lanes.specs.declared.facts.Facts.{Facts}
 
@@ -31,10 +33,16 @@ Tells (ClearBit index) facts found = WordTold facts found
 Tells LoadWord facts found = WordTold facts found
 Tells LoadTotal facts found = TotalTold facts found
 
--- the step leaves the lane as the core says, is one more of its own steps, and tells what the value found tells
+-- what a seat knows of its lane stands in a run
+abbrev pub KnowsItsRun : Facts → Type 0
+KnowsItsRun facts = (core : CoreState) × IsInRun facts.opening core facts.lane facts.made
+
+-- the step leaves the lane as the core says, is one more of its own steps in some run, and tells what the
+-- value found tells
 pub record Told (step : LaneStep) (old : Me (Unit {0}) Facts) (found : ℕ) (new : Me (Unit {0}) Facts) : Type 0 where
   pub after : new.0 ≡ facts_after step found old.0
   pub slots : new.1 ≡ old.1
+  pub run : KnowsItsRun new.0
   pub tells : Tells step old.0 found
 
 -- a step that sets a bit tells so of the bit that its mask is

@@ -6,16 +6,20 @@ mod charged;
 mod facts;
 mod fault;
 mod lane;
+mod laws;
 mod opened;
 mod opening;
 mod plays;
 mod rule;
 mod shares;
+#[cfg(test)]
+mod tests;
 mod words;
 
 pub use charged::Charged;
 pub use facts::Made;
 pub use fault::{NoRoom, NotHeld, RoomOut, SplitFault};
 pub use lane::Lane;
+pub use laws::{a_stuck_mark_waits_for_a_lower, every_run_keeps_the_accounts};
 pub use opened::lanes;
 pub use words::Words;

@@ -2,7 +2,8 @@ ghost use Rattle.std.specs.Prelude.{◌≡◌, ◌<◌, None, Some};
 ghost use Rattle.ob_core.specs.Owed.{owed_by};
 ghost use Rattle.ob_core.specs.declared.lane.Phase.TheVariants.{Idle};
 ghost use Rattle.ob_lanes.specs.Charge.{debt_of, IsDischarge};
-ghost use Rattle.ob_lanes.specs.Told.{IsSeatOf, IsSameSeat};
+ghost use Rattle.ob_lanes.specs.InRun.{StandsInRun};
+ghost use Rattle.ob_lanes.specs.Told.{IsSeatOf, IsSameSeat, KnowsItsRun};
 
 use super::Charged;
 use crate::facts::Facts;
@@ -19,6 +20,7 @@ impl Charged {
         ensures owes { result.0.lane ≡ record self.lane { debt = None } }
         ensures made { 0 < owed_by self.lane →
             IsDischarge self.words.opening.marks.low (owed_by self.lane) self.made result.0.made result.1 }
+        ensures run { 0 < owed_by self.lane → StandsInRun result.0 }
         ensures nothing { owed_by self.lane ≡ 0 → (result.0.made ≡ self.made) × (result.1 ≡ None) }
     {
         let Charged {
@@ -44,6 +46,7 @@ impl Words {
         ensures owes { seat.new.me.0.lane ≡ record seat.old.me.0.lane { debt = None } }
         ensures made { 0 < amount →
             IsDischarge self.now.opening.marks.low amount seat.old.me.0.made seat.new.me.0.made result }
+        ensures run { 0 < amount → KnowsItsRun seat.new.me.0 }
         ensures nothing { amount ≡ 0 → (seat.new.me.0.made ≡ seat.old.me.0.made) × (result ≡ None) }
     {
         if amount == 0 {

@@ -2,6 +2,7 @@ ghost use Rattle.std.specs.Prelude.{◌≡◌, ◌≤◌, ◌+◌, ◌-◌, ◌+
 ghost use Rattle.ob_core.specs.Owed.{owed_by};
 ghost use Rattle.ob_core.specs.declared.lane_step.LaneStep.TheVariants.{LoadTotal, LoadWord};
 ghost use Rattle.ob_lanes.specs.Facts.{one_step};
+ghost use Rattle.ob_lanes.specs.InRun.{StandsInRun};
 ghost use Rattle.ob_lanes.specs.RunningLane.{ShowsHeld};
 
 use super::Charged;
@@ -14,6 +15,7 @@ impl Charged {
         ensures words { self.new.words ≡ self.old.words }
         ensures lane { self.new.lane ≡ self.old.lane }
         ensures made { self.new.made ≡ self.old.made ++ one_step LoadTotal result }
+        ensures run { StandsInRun self.new }
         ensures least { owed_by self.old.lane ≤ result }
         ensures most { result ≤ owed_by self.old.lane + (self.old.words.opening.room - self.old.lane.room) }
     {
@@ -26,6 +28,7 @@ impl Charged {
         ensures words { self.new.words ≡ self.old.words }
         ensures lane { self.new.lane ≡ self.old.lane }
         ensures made { self.new.made ≡ self.old.made ++ one_step LoadWord result }
+        ensures run { StandsInRun self.new }
         ensures held { ShowsHeld self.old.lane result }
     {
         words.load_word(&mut self.seat) as u32

@@ -1,7 +1,8 @@
-ghost use Rattle.std.specs.Prelude.{◌≡◌, ◌&&◌, ◌<◌, nat_lt, false, true, IsErr, OnErr, IsOkAnd};
+ghost use Rattle.std.specs.Prelude.{◌≡◌, ◌&&◌, ◌<◌, nat_lt, false, true, IsErr, OnErr, OnOk, IsOkAnd};
 ghost use Rattle.ob_core.specs.AskFault.{is_held};
 ghost use Rattle.ob_core.specs.Bits.{is_set};
 ghost use Rattle.ob_core.specs.Found.{change_of_setting, change_of_clearing};
+ghost use Rattle.ob_lanes.specs.InRun.{StandsInRun};
 ghost use Rattle.ob_lanes.specs.Bit.{IsBit, bit_step};
 
 use super::Lane;
@@ -23,6 +24,7 @@ impl Lane {
         ensures words { self.new.words ≡ self.old.words }
         ensures made { is_held self.old.lane index ≡ true → IsOkAnd result (λ change.
             IsBit (bit_step index writable) self.old self.new change) }
+        ensures run { OnOk result (StandsInRun self.new) }
     {
         if !is_bit_held(self.held, index) {
             return Err(NotHeld);

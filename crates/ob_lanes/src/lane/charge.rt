@@ -1,7 +1,8 @@
 ghost use Rattle.std.specs.Prelude.{◌≡◌, ◌<◌, ◌≤◌, IsOk, IfOk, IsErrAnd, None};
 ghost use Rattle.ob_lanes.specs.Charge.{debt_of, IsCharge};
 ghost use Rattle.ob_core.specs.Shares.{IsFree};
-ghost use Rattle.ob_lanes.specs.Told.{IsSeatOf, IsSameSeat};
+ghost use Rattle.ob_lanes.specs.InRun.{StandsInRun};
+ghost use Rattle.ob_lanes.specs.Told.{IsSeatOf, IsSameSeat, KnowsItsRun};
 
 use super::Lane;
 use crate::charged::Charged;
@@ -25,6 +26,7 @@ impl Lane {
         ensures owes { IfOk result (λ ok. ok.0.lane ≡ record self.lane { debt = debt_of amount }) }
         ensures made { IfOk result (λ ok. 0 < amount →
             IsCharge self.words.opening.marks.high amount self.made ok.0.made ok.1) }
+        ensures run { IfOk result (λ ok. 0 < amount → StandsInRun ok.0) }
         ensures nothing { amount ≡ 0 → IfOk result (λ ok. (ok.0.made ≡ self.made) × (ok.1 ≡ None)) }
     {
         if amount > self.room {
@@ -58,6 +60,7 @@ impl Words {
         ensures owes { seat.new.me.0.lane ≡ record seat.old.me.0.lane { debt = debt_of amount } }
         ensures made { 0 < amount →
             IsCharge self.now.opening.marks.high amount seat.old.me.0.made seat.new.me.0.made result }
+        ensures run { 0 < amount → KnowsItsRun seat.new.me.0 }
         ensures nothing { amount ≡ 0 → (seat.new.me.0.made ≡ seat.old.me.0.made) × (result ≡ None) }
     {
         if amount == 0 {

@@ -1,7 +1,7 @@
 ghost use Rattle.std.specs.Prelude.{◌≡◌, ℕ, ◌<◌, ◌≤◌, false, IfOk, IsOk, IsErrAnd};
 ghost use Rattle.std.specs.Int.{bit_at};
 ghost use Rattle.ob_core.specs.Bits.{is_set};
-ghost use Rattle.ob_lanes.specs.Finish.{EndsRun};
+ghost use Rattle.ob_lanes.specs.InRun.{EndsRun};
 ghost use Rattle.ob_lanes.specs.RunningLane.{ShowsHeld};
 
 use super::Lane;

@@ -1,4 +1,4 @@
-ghost use Rattle.ob_lanes.specs.Finish.{IsEnd};
+ghost use Rattle.ob_lanes.specs.Inside.{IsEnd};
 ghost use Rattle.ob_lanes.specs.Told.{IsSeatOf};
 ghost use Rattle.std.specs.Prelude.{◌<◌, ◌^◌};
 

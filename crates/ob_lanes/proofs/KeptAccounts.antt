@@ -1,5 +1,5 @@
 -- The accounts, kept by each move, and what they say of a word of 32 bits.
-use Rattle.std.proofs.Common.{◌≡◌, ℕ, ◌+◌, ◌*◌, ◌/◌, ◌%◌, ◌^◌, ◌<◌, ◌≤◌, ⊎_elim, subst, sym, ap, ◌∙◌, arith}
+use Rattle.std.proofs.Common.{◌≡◌, ℕ, List, [], ◌∷◌, false, ◌+◌, ◌*◌, ◌/◌, ◌%◌, ◌^◌, ◌<◌, ◌≤◌, ⊎_elim, subst, sym, ap, ◌∙◌, arith}
 use Rattle.std.specs.List.{All}
 use Rattle.std.specs.Int.{bit_at}
 use Rattle.std.proofs.Math.Nat.{mod-lt}
@@ -7,12 +7,15 @@ use Rattle.std.proofs.lemmas.Bool.{cases_lt}
 use Rattle.std.proofs.lemmas.Nat.{div-add-mod', pow_pos}
 use Rattle.std.proofs.lemmas.Nat.Bits.{bit_at_above, bit_at_cat_low, same_from_bits}
 use Rattle.ob_core.proofs.AccountsLemmas.{AccountsHold-step}
+use Rattle.ob_core.proofs.OpeningLemmas.{AccountsHold-one_lane}
+use Rattle.ob_lanes.specs.Run.{Move, steps, divides, merges, IsMove, Leads}
+use Rattle.ob_core.specs.Bits.{is_set}
 use Rattle.ob_core.proofs.LaneSums.{sum_by-le-each}
 use Rattle.ob_core.proofs.ShareLemmas.{AccountsHold-division, AccountsHold-merger}
 use Rattle.ob_core.specs.Accounts.{AccountsHold}
 use Rattle.ob_core.specs.CoreState.{CoreState}
 use Rattle.ob_core.specs.CoreStep.{IsCoreStep}
-use Rattle.ob_core.specs.Opening.{Opening}
+use Rattle.ob_core.specs.Opening.{Opening, one_lane}
 use Rattle.ob_core.specs.Shares.{IsDivision, IsMerger}
 use Rattle.ob_core.specs.declared.lane.Lane.{Lane}
 use Rattle.ob_core.specs.declared.lane_step.LaneStep.{LaneStep}
@@ -28,6 +31,17 @@ pub accounts_after_merger : (opening : Opening) (old new : CoreState) (index oth
 accounts_after_merger opening old new index other both is holds =
     subst (AccountsHold opening) (sym is.after)
     (AccountsHold-merger opening old index other is.lane is.other_lane both (record { is_lane = is.is_lane; is_other = is.is_other; apart = is.apart }) is.shares holds)
+
+-- so each move keeps them, and a run
+accounts_after_move : (opening : Opening) (old new : CoreState) (move : Move) → IsMove old move new → AccountsHold opening old → AccountsHold opening new
+accounts_after_move opening old new (steps seat step found) is holds = accounts_after_step opening old new seat step is.0 holds
+accounts_after_move opening old new (divides seat kept given) is holds = accounts_after_division opening old new seat kept given is holds
+accounts_after_move opening old new (merges seat other both) is holds = accounts_after_merger opening old new seat other both is holds
+
+pub accounts_after_run : (opening : Opening) (moves : List Move) (core : CoreState) → is_set opening.bits 0 ≡ false → Leads (one_lane opening) moves core → AccountsHold opening core
+accounts_after_run opening [] core mark leads = subst (AccountsHold opening) (sym leads) (AccountsHold-one_lane opening mark)
+accounts_after_run opening (move ∷ earlier) core mark leads =
+    accounts_after_move opening leads.0 core move leads.2 (accounts_after_run opening earlier leads.0 mark leads.1)
 
 -- no lane has raised a bit that the opening has not, so the word does not show it
 pub not_opened : (opening : Opening) (core : CoreState) (index : ℕ) → AccountsHold opening core → 0 < index → bit_at opening.bits index ≡ 0 → bit_at core.word index ≡ 0
