@@ -12,19 +12,7 @@ use Rattle.ob_core.specs.Bits.{AreAmong, ShareOut}
 use Rattle.ob_core.specs.Shares.{IsFree, AreShares}
 use Rattle.ob_lanes.specs.declared.fault.SplitFault.TheVariants.{NoRoom, NotHeld}
 
--- no fault is a fact of each kind
-no_fault : (less held : Bool) → first_fault ((less, NoRoom) ∷ (not held, NotHeld) ∷ []) ≡ None → (less ≡ false) × (held ≡ true)
-no_fault true held none = absurd (cc)
-no_fault false true none = (refl, refl)
-no_fault false false none = absurd (cc)
-
-module _ (room bits : ℕ) (lane : Lane) (fine : split_fault lane room bits ≡ None) where
-  enough : room ≤ lane.room
-  enough = let none = no_fault (nat_lt lane.room room) (are_held bits lane.held) fine in grind (arith, nat_tests, none.0)
-
-  among : bit_or lane.held bits ≡ lane.held
-  among = let none = no_fault (nat_lt lane.room room) (are_held bits lane.held) fine in grind (arith, nat_tests, none.1)
-
+module _ (room bits : ℕ) (lane : Lane) (enough : room ≤ lane.room) (among : bit_or lane.held bits ≡ lane.held) where
   bit_among : (i : ℕ) → bit_at bits i ≤ bit_at lane.held i
   bit_among i = omega (arith, bit_at_or lane.held bits i, ap (λ n. bit_at n i) among)
 
@@ -51,8 +39,8 @@ module _ (room bits : ℕ) (lane : Lane) (fine : split_fault lane room bits ≡ 
   first_among within i = omega (arith, raised_shared i, held_shared i, within i, bit_at_and lane.raised bits i, bit_among i, bit_at-lt lane.held i)
 
   -- what the core asks of a division
-  pub are_shares : IsFree lane → AreAmong lane.raised lane.held → AreShares lane (kept_lane room bits lane) (given_lane room bits lane)
-  are_shares free within = record {
+  shares : IsFree lane → AreAmong lane.raised lane.held → AreShares lane (kept_lane room bits lane) (given_lane room bits lane)
+  shares free within = record {
     whole_free = free;
     first_free = record { idle = refl; debt = refl };
     second_free = record { idle = refl; debt = refl };
@@ -63,11 +51,23 @@ module _ (room bits : ℕ) (lane : Lane) (fine : split_fault lane room bits ≡ 
     second_among = λ i. omega (arith, bit_at_and lane.raised bits i);
   }
 
+-- no fault is a fact of each kind
+no_fault : (less held : Bool) → first_fault ((less, NoRoom) ∷ (not held, NotHeld) ∷ []) ≡ None → (less ≡ false) × (held ≡ true)
+no_fault true held none = absurd (cc)
+no_fault false true none = (refl, refl)
+no_fault false false none = absurd (cc)
+
+-- what the core asks of a division that is not refused
+pub are_shares : (room bits : ℕ) (lane : Lane) → split_fault lane room bits ≡ None → IsFree lane → AreAmong lane.raised lane.held → AreShares lane (kept_lane room bits lane) (given_lane room bits lane)
+are_shares room bits lane fine free within =
+    let none = no_fault (nat_lt lane.room room) (are_held bits lane.held) fine in
+    shares room bits lane (grind (arith, nat_tests, none.0)) (grind (arith, nat_tests, none.1)) free within
+
 -- the same in the words of the caller
-pub split_told : (room bits room_picked bits_picked : ℕ) (lane seated first second : Lane) → room_picked ≡ room → bits_picked ≡ bits → seated ≡ lane → split_fault lane room bits ≡ None
-    → first ≡ kept_lane room_picked bits_picked seated → second ≡ given_lane room_picked bits_picked seated → IsSplit room bits lane first second
-split_told room bits room_picked bits_picked lane seated first second is_room is_bits is_lane fine is_first is_second =
-    rw (is_first, is_second, is_room, is_bits, is_lane) (is_split room bits lane fine)
+pub split_told : (room bits : ℕ) (lane seated first second : Lane) → seated ≡ lane → room ≤ seated.room → bit_or seated.held bits ≡ seated.held
+    → first ≡ kept_lane room bits seated → second ≡ given_lane room bits seated → IsSplit room bits lane first second
+split_told room bits lane seated first second is_lane enough among is_first is_second =
+    rw (is_first, is_second, ← is_lane) (is_split room bits seated enough among)
 
 -- what a caller is told of a join
 is_joined : (whole : ℕ) (lane other : Lane) → IsJoined whole lane other (both_lanes whole lane other)

@@ -1,7 +1,7 @@
 -- What a charge and a discharge do: the steps that they make, and the change that they report.
 use Rattle.std.specs.Prelude.{◌≡◌, ℕ, ◌+◌, ◌-◌, ◌==◌, nat_lt, List, [], ◌++◌, Option, Some, None, if◌then◌else◌}
 use Rattle.ob_types.specs.declared.reply.Change.{Change}
-use Rattle.ob_types.specs.declared.reply.Change.TheVariants.{Unwritable, Writable}
+use Rattle.ob_core.specs.Found.{change_found}
 use Rattle.ob_core.specs.declared.lane_step.LaneStep.TheVariants.{Add, Subtract, Raise, Lower}
 use Rattle.ob_lanes.specs.Facts.{one_step}
 use Rattle.ob_lanes.specs.declared.facts.Made.{Made}
@@ -16,7 +16,7 @@ pub record IsCharge (high amount : ℕ) (before after : List Made) (change : Opt
   pub total : ℕ
   pub word : ℕ
   pub steps : after ≡ before ++ one_step (Add amount) total ++ (if nat_lt high (total + amount) then one_step Raise word else [])
-  pub turn : change ≡ (if nat_lt high (total + amount) then (if word == 0 then Some Unwritable else None) else None)
+  pub turn : change ≡ (if nat_lt high (total + amount) then change_found Raise word else None)
 
 -- a discharge of more than 0 is a subtract and, exactly where the subtract found a total that the discharge brings below
 -- the low mark, a lower; its change is Writable exactly where it lowered and found bit 0 set and no other
@@ -24,4 +24,4 @@ pub record IsDischarge (low amount : ℕ) (before after : List Made) (change : O
   pub total : ℕ
   pub word : ℕ
   pub steps : after ≡ before ++ one_step (Subtract amount) total ++ (if nat_lt (total - amount) low then one_step Lower word else [])
-  pub turn : change ≡ (if nat_lt (total - amount) low then (if word == 1 then Some Writable else None) else None)
+  pub turn : change ≡ (if nat_lt (total - amount) low then change_found Lower word else None)

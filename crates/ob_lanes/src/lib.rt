@@ -2,6 +2,7 @@
 //! steps, take no lock, and never try again. Each step is one step of the core of `ob_core`.
 #![tactic(auto)]
 
+mod change;
 mod charged;
 mod facts;
 mod fault;

@@ -1,11 +1,11 @@
-ghost use Rattle.std.specs.Prelude.{◌≡◌, ◌&&◌, ◌<◌, nat_lt, false, true, IsErr, OnErr, OnOk, IsOkAnd};
+ghost use Rattle.std.specs.Prelude.{◌≡◌, ◌&&◌, nat_lt, false, true, IsErr, OnErr, OnOk, IsOkAnd};
 ghost use Rattle.ob_core.specs.AskFault.{is_held};
 ghost use Rattle.ob_core.specs.Bits.{is_set};
-ghost use Rattle.ob_core.specs.Found.{change_of_setting, change_of_clearing};
 ghost use Rattle.ob_lanes.specs.InRun.{StandsInRun};
 ghost use Rattle.ob_lanes.specs.Bit.{IsBit, bit_step};
 
 use super::Lane;
+use crate::change::{change_of_clearing, change_of_setting};
 use crate::fault::NotHeld;
 use crate::words::Words;
 use ob_types::Change;
@@ -36,21 +36,6 @@ impl Lane {
         };
         Ok(change)
     }
-}
-
-/// The change of setting a bit in a word.
-fn change_of_setting(found: u64) -> Option<Change>
-    ensures { result ≡ change_of_setting found }
-{
-    (found == 0).then_some(Change::Unwritable)
-}
-
-/// The change of clearing the bit with this index in a word.
-fn change_of_clearing(found: u64, index: u32) -> Option<Change>
-    requires { index < 32 }
-    ensures { result ≡ change_of_clearing index found }
-{
-    (found == 1 << index).then_some(Change::Writable)
 }
 
 /// Whether a mask has the bit with this index. No mask has a bit with an index outside 1 to 31.

@@ -1,15 +1,12 @@
 ghost use Rattle.std.specs.Prelude.{◌≡◌, ◌<◌, ◌≤◌, IsOk, IfOk, IsErrAnd, None};
 ghost use Rattle.ob_lanes.specs.Charge.{debt_of, IsCharge};
-ghost use Rattle.ob_core.specs.Shares.{IsFree};
 ghost use Rattle.ob_lanes.specs.InRun.{StandsInRun};
-ghost use Rattle.ob_lanes.specs.Told.{IsSeatOf, IsSameSeat, KnowsItsRun};
 
 use super::Lane;
+use crate::change::change_of_setting;
 use crate::charged::Charged;
-use crate::facts::Facts;
 use crate::fault::NoRoom;
 use crate::words::Words;
-use atomic_table::Seat;
 use ob_types::Change;
 
 impl Lane {
@@ -37,7 +34,13 @@ impl Lane {
             room,
             held,
         } = self;
-        let change = words.add_and_raise(&mut seat, amount);
+        let mut change = None;
+        if amount > 0 {
+            let total = words.add(&mut seat, amount) + amount as u64;
+            if total > words.high() {
+                change = change_of_setting(words.raise(&mut seat));
+            }
+        }
         let charged = Charged {
             seat,
             room,
@@ -45,34 +48,5 @@ impl Lane {
             owed: amount,
         };
         Ok((charged, change))
-    }
-}
-
-impl Words {
-    /// The steps of a charge.
-    fn add_and_raise(&self, seat: &mut Seat<(), Facts>, amount: u32) -> Option<Change>
-        requires words { IsSeatOf self.now seat.old }
-        requires free { IsFree seat.old.me.0.lane }
-        requires room { amount ≤ seat.old.me.0.lane.room }
-        ensures seat { IsSameSeat seat.old seat.new }
-        ensures slots { seat.new.me.1 ≡ seat.old.me.1 }
-        ensures opening { seat.new.me.0.opening ≡ seat.old.me.0.opening }
-        ensures owes { seat.new.me.0.lane ≡ record seat.old.me.0.lane { debt = debt_of amount } }
-        ensures made { 0 < amount →
-            IsCharge self.now.opening.marks.high amount seat.old.me.0.made seat.new.me.0.made result }
-        ensures run { 0 < amount → KnowsItsRun seat.new.me.0 }
-        ensures nothing { amount ≡ 0 → (seat.new.me.0.made ≡ seat.old.me.0.made) × (result ≡ None) }
-    {
-        if amount == 0 {
-            return None;
-        }
-        let total = self.add(seat, amount) + amount as u64;
-        if total <= self.opening.marks.high() as u64 {
-            return None;
-        }
-        match self.raise(seat) {
-            0 => Some(Change::Unwritable),
-            _ => None,
-        }
     }
 }

@@ -2,7 +2,6 @@ ghost use Rattle.std.specs.Prelude.{◌≡◌, ◌≤◌, ◌+◌};
 ghost use Rattle.ob_lanes.specs.Joined.{IsJoined};
 
 use super::Lane;
-use crate::shares::Spent;
 use crate::words::Words;
 use std::marker::Brand;
 
@@ -11,17 +10,6 @@ impl Lane {
     pub fn join(self, words: &Words, other: Lane) -> Lane
         requires words { self.words ≡ words.now }
         requires other { other.words ≡ words.now }
-        ensures words { result.words ≡ self.words }
-        ensures lane { IsJoined self.words.opening.room self.lane other.lane result.lane }
-        ensures made { result.made ≡ self.made }
-    {
-        self.merge::<Brand>(words, other)
-    }
-
-    fn merge<S: Spent>(self, words: &Words, other: Lane) -> Lane
-        requires words { self.words ≡ words.now }
-        requires other { other.words ≡ words.now }
-        requires spent { (S.facts.opening ≡ other.words.opening) × (S.facts.made ≡ other.made) }
         ensures words { result.words ≡ self.words }
         ensures lane { IsJoined self.words.opening.room self.lane other.lane result.lane }
         ensures made { result.made ≡ self.made }
@@ -36,7 +24,7 @@ impl Lane {
             room: other_room,
             held: other_held,
         } = other;
-        words.merge_seats::<S>(&mut seat, other_seat);
+        words.merge_seats::<Brand>(&mut seat, other_seat);
         Lane {
             seat,
             room: room.saturating_add(other_room).min(words.opening.room),

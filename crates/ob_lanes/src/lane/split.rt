@@ -3,7 +3,6 @@ ghost use Rattle.ob_lanes.specs.Split.{split_fault, IsSplit};
 
 use super::Lane;
 use crate::fault::SplitFault;
-use crate::shares::Share;
 use crate::words::Words;
 use std::marker::Brand;
 
@@ -29,24 +28,12 @@ impl Lane {
         if self.held | bits != self.held {
             return Err((self, SplitFault::NotHeld));
         }
-        Ok(self.divide::<Brand>(words, room, bits))
-    }
-
-    /// Gives this room and these bits, both of which it has, to a new lane.
-    fn divide<S: Share>(self, words: &Words, room: u32, bits: u32) -> (Lane, Lane)
-        requires words { self.words ≡ words.now }
-        requires share { (S.room ≡ room) × (S.bits ≡ bits) }
-        requires fits { split_fault self.lane room bits ≡ None }
-        ensures words { (result.0.words ≡ self.words) × (result.1.words ≡ self.words) }
-        ensures shares { IsSplit room bits self.lane result.0.lane result.1.lane }
-        ensures made { (result.0.made ≡ self.made) × (result.1.made ≡ []) }
-    {
         let Lane {
             mut seat,
             room: whole,
             held,
         } = self;
-        let other = words.divide_seat::<S>(&mut seat);
+        let other = words.divide_seat::<Brand>(&mut seat, room, bits);
         let kept = Lane {
             seat,
             room: whole - room,
@@ -57,6 +44,6 @@ impl Lane {
             room,
             held: bits,
         };
-        (kept, given)
+        Ok((kept, given))
     }
 }

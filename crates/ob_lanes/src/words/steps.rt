@@ -1,5 +1,5 @@
 //! One atomic step each, made by the lane whose seat is passed.
-ghost use Rattle.std.specs.Prelude.{◌+◌, ◌<◌, ◌^◌};
+ghost use Rattle.std.specs.Prelude.{◌≡◌, ◌+◌, ◌<◌, ◌^◌};
 ghost use Rattle.ob_core.specs.LaneStep.{CanMake};
 ghost use Rattle.ob_core.specs.declared.lane_step.LaneStep.TheVariants.{Add, Subtract, Raise, Lower, SetBit, ClearBit, LoadWord, LoadTotal};
 ghost use Rattle.ob_lanes.specs.Told.{Told, IsSeatOf, IsSameSeat};
@@ -11,6 +11,18 @@ use crate::rule::{TOTAL, WORD};
 use atomic_table::Seat;
 
 impl Words {
+    pub(crate) fn high(&self) -> u64
+        ensures { result ≡ self.now.opening.marks.high }
+    {
+        self.opening.marks.high() as u64
+    }
+
+    pub(crate) fn low(&self) -> u64
+        ensures { result ≡ self.now.opening.marks.low }
+    {
+        self.opening.marks.low() as u64
+    }
+
     pub(crate) fn add(&self, seat: &mut Seat<(), Facts>, amount: u32) -> u64
         requires words { IsSeatOf self.now seat.old }
         requires may { CanMake seat.old.me.0.lane (Add amount) }

@@ -1,4 +1,5 @@
-use Rattle.std.proofs.Common.{arith}
+use Rattle.std.proofs.Common.{ap, arith}
+use Rattle.ob_lanes.specs.declared.facts.Facts.{Facts}
 use Rattle.ob_lanes.proofs.Seats.{merger_allowed}
 use Rattle.ob_lanes.proofs.words.Words.merge_seats.Goals as goal
 
@@ -11,5 +12,5 @@ join_seat-requires g c =
       cc,
       asked.slots,
       omega (arith, c.self.invariant.nine),
-      merger_allowed c.self.inside.table.shared.key seat.id other.id seat.me.0 other.me.0 g.S.Spent.facts asked.free.0 asked.free.1 asked.spent.0 asked.spent.1,
+      merger_allowed c.self.inside.table.shared.key seat.id other.id seat.me.0 other.me.0 g.S.Spent.facts asked.free.0 asked.free.1 (ap (λ (f : Facts). f.opening) asked.spent) (ap (λ (f : Facts). f.made) asked.spent),
     )

@@ -1,9 +1,9 @@
 use Rattle.std.proofs.Common.{ap}
 use Rattle.ob_lanes.proofs.Halves.{join_told}
-use Rattle.ob_lanes.proofs.lane.Lane.merge.Goals as goal
+use Rattle.ob_lanes.proofs.lane.Lane.join.Goals as goal
 
 pub returns-clause-lane : goal.returns-clause-lane
-returns-clause-lane g c =
+returns-clause-lane c =
     let a = c.args in
     let mine = c.self.inside.seat.me.0 in
     join_told a.self.words.opening.room mine.opening.room a.self.lane a.other.lane mine.lane c.other.inside.seat.me.0.lane _
