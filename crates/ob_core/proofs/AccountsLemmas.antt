@@ -24,39 +24,69 @@ use Rattle.ob_core.proofs.StepLemmas.{room-lane_after, held-lane_after, moved-st
 -- ---- what is read off the accounts
 
 -- a lane owes no more than the total
-pub owed_by-le-total : (opening : Opening) (core : CoreState) (index : ℕ) (lane : Lane) → BytesAgree opening core → slice_get core.lanes index ≡ Some lane → owed_by lane ≤ core.total
-owed_by-le-total opening core index lane agree is_lane = omega (arith, at-le-sum_by owed_by core.lanes index lane is_lane, agree.total)
+pub owed_by-le-total : (opening : Opening) (core : CoreState) (index : ℕ) (lane : Lane) → BytesAgree opening core
+    → slice_get core.lanes index ≡ Some lane → owed_by lane ≤ core.total
+owed_by-le-total opening core index lane agree is_lane =
+    omega (arith, at-le-sum_by owed_by core.lanes index lane is_lane, agree.total)
 
 -- what all others owe fits the room outside the lane
-pub total-le-outside : (opening : Opening) (core : CoreState) (index : ℕ) (lane : Lane) → BytesAgree opening core → slice_get core.lanes index ≡ Some lane → core.total + lane.room ≤ opening.room + owed_by lane
+pub total-le-outside : (opening : Opening) (core : CoreState) (index : ℕ) (lane : Lane) → BytesAgree opening core
+    → slice_get core.lanes index ≡ Some lane → core.total + lane.room ≤ opening.room + owed_by lane
 total-le-outside opening core index lane agree is_lane =
-    let each : All (λ (l : Lane). owed_by l ≤ l.room) core.lanes = All-weaker IsWithinRoom (λ l. owed_by l ≤ l.room) (λ l within. within.owes) core.lanes agree.within in
+    let each : All (λ (l : Lane). owed_by l ≤ l.room) core.lanes =
+    All-weaker IsWithinRoom (λ l. owed_by l ≤ l.room) (λ l within. within.owes) core.lanes agree.within in
     omega (arith, sum_by-le-outside owed_by (λ l. l.room) core.lanes index lane is_lane each, agree.total, agree.rooms)
 
 -- the total fits the whole room
 pub total-le-room : (opening : Opening) (core : CoreState) → BytesAgree opening core → core.total ≤ opening.room
 total-le-room opening core agree =
-    let each : All (λ (l : Lane). owed_by l ≤ l.room) core.lanes = All-weaker IsWithinRoom (λ l. owed_by l ≤ l.room) (λ l within. within.owes) core.lanes agree.within in
+    let each : All (λ (l : Lane). owed_by l ≤ l.room) core.lanes =
+    All-weaker IsWithinRoom (λ l. owed_by l ≤ l.room) (λ l within. within.owes) core.lanes agree.within in
     omega (arith, sum_by-le-each owed_by (λ l. l.room) core.lanes each, agree.total, agree.rooms)
 
 -- outside a lane that holds a bit no lane raises it
-pub raisers-le-lane : (opening : Opening) (core : CoreState) (index : ℕ) (lane : Lane) (i : ℕ) → BitsAgree opening core → slice_get core.lanes index ≡ Some lane → bit_at lane.held i ≡ 1 → raisers core.lanes i ≤ bit_at lane.raised i
+pub raisers-le-lane : (opening : Opening) (core : CoreState) (index : ℕ) (lane : Lane) (i : ℕ)
+    → BitsAgree opening core → slice_get core.lanes index ≡ Some lane → bit_at lane.held i ≡ 1
+    → raisers core.lanes i ≤ bit_at lane.raised i
 raisers-le-lane opening core index lane i agree is_lane held =
-    let each : All (λ (l : Lane). bit_at l.raised i ≤ bit_at l.held i) core.lanes = All-weaker (λ (l : Lane). AreAmong l.raised l.held) (λ l. bit_at l.raised i ≤ bit_at l.held i) (λ l among. among i) core.lanes agree.among in
-    omega (arith, sum_by-le-outside (λ l. bit_at l.raised i) (λ l. bit_at l.held i) core.lanes index lane is_lane each, agree.held i, bit_at-lt opening.bits i, held)
+    let each : All (λ (l : Lane). bit_at l.raised i ≤ bit_at l.held i) core.lanes =
+    All-weaker (λ (l : Lane). AreAmong l.raised l.held) (λ l. bit_at l.raised i ≤ bit_at l.held i)
+    (λ l among. among i) core.lanes agree.among in
+    omega (
+      arith,
+      sum_by-le-outside (λ l. bit_at l.raised i)
+          (λ l. bit_at l.held i) core.lanes index lane is_lane each,
+      agree.held i,
+      bit_at-lt opening.bits i,
+      held,
+    )
 
 -- a lane does not hold bit 0
-held-above : (opening : Opening) (core : CoreState) (index : ℕ) (lane : Lane) (i : ℕ) → BitsAgree opening core → slice_get core.lanes index ≡ Some lane → bit_at lane.held i ≡ 1 → 0 < i
+held-above : (opening : Opening) (core : CoreState) (index : ℕ) (lane : Lane) (i : ℕ) → BitsAgree opening core
+    → slice_get core.lanes index ≡ Some lane → bit_at lane.held i ≡ 1 → 0 < i
 held-above opening core index lane zero agree is_lane held =
     let clear : bit_at opening.bits 0 ≢ 1 = λ is_one. absurd (grind (arith, nat_tests, agree.mark)) in
-    absurd (clear (omega (arith, agree.held 0, at-le-sum_by (λ l. bit_at l.held 0) core.lanes index lane is_lane, held, bit_at-lt opening.bits 0)))
+    absurd (clear (omega (
+      arith,
+      agree.held 0,
+      at-le-sum_by (λ l. bit_at l.held 0) core.lanes index lane is_lane,
+      held,
+      bit_at-lt opening.bits 0,
+    )))
 held-above opening core index lane (suc i) agree is_lane held = omega arith
 
 -- so of the bits that a lane holds, the word shows those that it raised
-pub shown-held : (opening : Opening) (core : CoreState) (index : ℕ) (lane : Lane) (i : ℕ) → BitsAgree opening core → slice_get core.lanes index ≡ Some lane → bit_at lane.held i ≡ 1 → bit_at core.word i ≡ bit_at lane.raised i
+pub shown-held : (opening : Opening) (core : CoreState) (index : ℕ) (lane : Lane) (i : ℕ) → BitsAgree opening core
+    → slice_get core.lanes index ≡ Some lane → bit_at lane.held i ≡ 1 → bit_at core.word i ≡ bit_at lane.raised i
 shown-held opening core index lane i agree is_lane held =
     let above : 0 < i = held-above opening core index lane i agree is_lane held in
-    omega (arith, agree.shown i above, raisers-le-lane opening core index lane i agree is_lane held, at-le-sum_by (λ l. bit_at l.raised i) core.lanes index lane is_lane)
+    omega (
+      arith,
+      agree.shown i above,
+      raisers-le-lane opening core index lane i agree is_lane held,
+      at-le-sum_by
+          (λ l. bit_at l.raised i) core.lanes index lane is_lane,
+    )
 
 -- ---- after a step
 
@@ -64,17 +94,26 @@ shown-held opening core index lane i agree is_lane held =
 lower-below : (total low : ℕ) → total < low → is_to_lower (if nat_lt total low then ToLower else Idle) ≡ true
 lower-below total low below = let yes : nat_lt total low ≡ true = grind (arith, nat_tests) in rw yes refl
 
-abbrev lowers : Lane → ℕ
+-- 1 for a lane that is about to lower the mark
+abbrev pub lowers : Lane → ℕ
 lowers lane = cond (is_to_lower lane.phase) 1 0
 
 -- a lane that is as much about to lower as the one before it leaves their number as it is
-same_lowerers : (lanes : List Lane) (index : ℕ) (lane new : Lane) → slice_get lanes index ≡ Some lane → is_to_lower new.phase ≡ is_to_lower lane.phase → lowerers (set lanes index new) ≡ lowerers lanes
-same_lowerers lanes index lane new is_lane same = omega (arith, sum_by-put lowers lanes index lane new is_lane, ap {B = ℕ} (λ b. cond b 1 0) same)
+same_lowerers : (lanes : List Lane) (index : ℕ) (lane new : Lane) → slice_get lanes index ≡ Some lane
+    → is_to_lower new.phase ≡ is_to_lower lane.phase → lowerers (set lanes index new) ≡ lowerers lanes
+same_lowerers lanes index lane new is_lane same =
+    omega (arith, sum_by-put lowers lanes index lane new is_lane, ap {B = ℕ} (λ b. cond b 1 0) same)
 
 -- one that is about to lower is one of them
-one_lowers : (lanes : List Lane) (index : ℕ) (lane new : Lane) → slice_get lanes index ≡ Some lane → is_to_lower new.phase ≡ true → 0 < lowerers (set lanes index new)
+one_lowers : (lanes : List Lane) (index : ℕ) (lane new : Lane) → slice_get lanes index ≡ Some lane
+    → is_to_lower new.phase ≡ true → 0 < lowerers (set lanes index new)
 one_lowers lanes index lane new is_lane lower =
-    omega (arith, sum_by-put lowers lanes index lane new is_lane, at-le-sum_by lowers lanes index lane is_lane, ap {B = ℕ} (λ b. cond b 1 0) lower)
+    omega (
+      arith,
+      sum_by-put lowers lanes index lane new is_lane,
+      at-le-sum_by lowers lanes index lane is_lane,
+      ap {B = ℕ} (λ b. cond b 1 0) lower,
+    )
 
 -- a bit that is set is 1
 set-one : (word i : ℕ) → is_set word i ≡ true → bit_at word i ≡ 1
@@ -84,11 +123,15 @@ set-one word i is_one = grind (arith, nat_tests)
 was_set : (before after : ℕ) → bit_at after 0 ≡ bit_at before 0 → is_set after 0 ≡ true → is_set before 0 ≡ true
 was_set before after same is_one = ap (λ n. eqb n 1) (sym same) ∙ is_one
 
-empty-step : (step : LaneStep) (opening : Opening) (core : CoreState) (index : ℕ) (lane : Lane) → slice_get core.lanes index ≡ Some lane → CanMake lane step → BytesAgree opening core → 0 < opening.marks.low → total_after step core.total ≡ 0 → is_set (word_after step core.word) 0 ≡ true → 0 < lowerers (set core.lanes index (lane_after step core.marks (total_after step core.total) lane))
+empty-step : (step : LaneStep) (opening : Opening) (core : CoreState) (index : ℕ) (lane : Lane)
+    → slice_get core.lanes index ≡ Some lane → CanMake lane step → BytesAgree opening core → 0 < opening.marks.low
+    → total_after step core.total ≡ 0 → is_set (word_after step core.word) 0 ≡ true
+    → 0 < lowerers (set core.lanes index (lane_after step core.marks (total_after step core.total) lane))
 empty-step (Add amount) opening core index lane is_lane may agree low none is_one = absurd (omega (arith, may.2, none))
 empty-step (Subtract amount) opening core index lane is_lane may agree low none is_one =
     let same_low : core.marks.low ≡ opening.marks.low = ap (λ (m : Marks). m.low) agree.marks in
-    one_lowers core.lanes index lane _ is_lane (lower-below (core.total - amount) core.marks.low (omega (arith, none, low, same_low)))
+    one_lowers core.lanes index lane _ is_lane
+    (lower-below (core.total - amount) core.marks.low (omega (arith, none, low, same_low)))
 empty-step Raise opening core index lane is_lane may agree low none is_one =
     let within : IsWithinRoom lane = all_at IsWithinRoom core.lanes index lane is_lane agree.within in
     absurd (omega (arith, within.raising may, none, owed_by-le-total opening core index lane agree is_lane))
@@ -96,50 +139,98 @@ empty-step Lower opening core index lane is_lane may agree low none is_one =
     absurd (omega (arith, (ClearsBit-without_bit core.word 0).here, set-one (without_bit core.word 0) 0 is_one))
 empty-step (SetBit bit) opening core index lane is_lane may agree low none is_one =
     let above : 0 < bit = is_held-above lane bit may.1 in
-    let before = agree.empty low none (was_set core.word _ ((SetsBit-with_bit core.word bit).others 0 (λ at. absurd (omega (arith, at, above)))) is_one) in
-    omega (arith, before, same_lowerers core.lanes index lane (lane_after (SetBit bit) core.marks core.total lane) is_lane refl)
+    let before = agree.empty low none
+    (was_set core.word _ ((SetsBit-with_bit core.word bit).others 0
+    (λ at. absurd (omega (arith, at, above)))) is_one) in
+    omega (
+      arith,
+      before,
+      same_lowerers core.lanes index lane
+          (lane_after (SetBit bit) core.marks core.total lane) is_lane refl,
+    )
 empty-step (ClearBit bit) opening core index lane is_lane may agree low none is_one =
     let above : 0 < bit = is_held-above lane bit may.1 in
-    let before = agree.empty low none (was_set core.word _ ((ClearsBit-without_bit core.word bit).others 0 (λ at. absurd (omega (arith, at, above)))) is_one) in
-    omega (arith, before, same_lowerers core.lanes index lane (lane_after (ClearBit bit) core.marks core.total lane) is_lane refl)
+    let before = agree.empty low none
+    (was_set core.word _ ((ClearsBit-without_bit core.word bit).others 0
+    (λ at. absurd (omega (arith, at, above)))) is_one) in
+    omega (
+      arith,
+      before,
+      same_lowerers core.lanes index lane
+          (lane_after (ClearBit bit) core.marks core.total lane) is_lane refl,
+    )
 empty-step LoadWord opening core index lane is_lane may agree low none is_one =
     omega (arith, agree.empty low none is_one, same_lowerers core.lanes index lane lane is_lane refl)
 empty-step LoadTotal opening core index lane is_lane may agree low none is_one =
     omega (arith, agree.empty low none is_one, same_lowerers core.lanes index lane lane is_lane refl)
 
-pub BytesAgree-step : (opening : Opening) (core : CoreState) (index : ℕ) (lane : Lane) (step : LaneStep) → slice_get core.lanes index ≡ Some lane → CanMake lane step → BytesAgree opening core → BytesAgree opening (core_after_step core index lane step)
+pub BytesAgree-step : (opening : Opening) (core : CoreState) (index : ℕ) (lane : Lane) (step : LaneStep)
+    → slice_get core.lanes index ≡ Some lane → CanMake lane step → BytesAgree opening core
+    → BytesAgree opening (core_after_step core index lane step)
 BytesAgree-step opening core index lane step is_lane may agree =
     let total = total_after step core.total in
     let new : Lane = lane_after step core.marks total lane in
     let owes : owed_by lane ≤ core.total = owed_by-le-total opening core index lane agree is_lane in
     record {
       marks = agree.marks;
-      total = omega (arith, sum_by-put owed_by core.lanes index lane new is_lane, moved-step step core.marks core.total lane may owes, agree.total);
-      rooms = omega (arith, sum_by-put (λ l. l.room) core.lanes index lane new is_lane, room-lane_after step core.marks total lane, agree.rooms);
-      within = All-set IsWithinRoom core.lanes index new (IsWithinRoom-step step core.marks total lane may (all_at IsWithinRoom core.lanes index lane is_lane agree.within)) agree.within;
+      total = omega (
+        arith,
+        sum_by-put owed_by core.lanes index lane new is_lane,
+        moved-step step core.marks core.total lane may owes,
+        agree.total,
+      );
+      rooms = omega (
+        arith,
+        sum_by-put (λ l. l.room) core.lanes index lane new is_lane,
+        room-lane_after step core.marks total lane,
+        agree.rooms,
+      );
+      within = All-set IsWithinRoom core.lanes index new
+          (IsWithinRoom-step step core.marks total lane may
+          (all_at IsWithinRoom core.lanes index lane is_lane agree.within)) agree.within;
       empty = λ low none is_one. empty-step step opening core index lane is_lane may agree low none is_one;
     }
 
 -- of a bit, those who raise it but for the lane
-raising : (opening : Opening) (core : CoreState) (index : ℕ) (lane : Lane) (i : ℕ) → slice_get core.lanes index ≡ Some lane → BitsAgree opening core → 0 < i → Raising i core.word lane (raisers core.lanes i - bit_at lane.raised i)
+raising : (opening : Opening) (core : CoreState) (index : ℕ) (lane : Lane) (i : ℕ)
+    → slice_get core.lanes index ≡ Some lane → BitsAgree opening core → 0 < i
+    → Raising i core.word lane (raisers core.lanes i - bit_at lane.raised i)
 raising opening core index lane i is_lane agree above = record {
   shown = omega (arith, agree.shown i above, at-le-sum_by (λ l. bit_at l.raised i) core.lanes index lane is_lane);
   alone = λ held. omega (arith, raisers-le-lane opening core index lane i agree is_lane held);
 }
 
-pub BitsAgree-step : (opening : Opening) (core : CoreState) (index : ℕ) (lane : Lane) (step : LaneStep) → slice_get core.lanes index ≡ Some lane → CanMake lane step → BitsAgree opening core → BitsAgree opening (core_after_step core index lane step)
+pub BitsAgree-step : (opening : Opening) (core : CoreState) (index : ℕ) (lane : Lane) (step : LaneStep)
+    → slice_get core.lanes index ≡ Some lane → CanMake lane step → BitsAgree opening core
+    → BitsAgree opening (core_after_step core index lane step)
 BitsAgree-step opening core index lane step is_lane may agree =
     let total = total_after step core.total in
     let new : Lane = lane_after step core.marks total lane in
     let Among : Lane → Type 0 = λ l. AreAmong l.raised l.held in
     record {
       mark = agree.mark;
-      held = λ i. omega (arith, sum_by-put (λ l. bit_at l.held i) core.lanes index lane new is_lane, ap (λ n. bit_at n i) (held-lane_after step core.marks total lane), agree.held i);
-      among = All-set Among core.lanes index new (AreAmong-step step core.marks total lane may (all_at Among core.lanes index lane is_lane agree.among)) agree.among;
-      shown = λ i above. omega (arith, sum_by-put (λ l. bit_at l.raised i) core.lanes index lane new is_lane, at-le-sum_by (λ l. bit_at l.raised i) core.lanes index lane is_lane, shown-step step core.marks total core.word lane i _ may above (raising opening core index lane i is_lane agree above));
+      held = λ i. omega (
+        arith,
+        sum_by-put (λ l. bit_at l.held i) core.lanes index lane new is_lane,
+        ap
+            (λ n. bit_at n i) (held-lane_after step core.marks total lane),
+        agree.held i,
+      );
+      among = All-set Among core.lanes index new
+          (AreAmong-step step core.marks total lane may
+          (all_at Among core.lanes index lane is_lane agree.among)) agree.among;
+      shown = λ i above. omega (
+        arith,
+        sum_by-put (λ l. bit_at l.raised i) core.lanes index lane new is_lane,
+        at-le-sum_by (λ l. bit_at l.raised i) core.lanes index lane is_lane,
+        shown-step step core.marks total core.word lane i _ may above
+            (raising opening core index lane i is_lane agree above),
+      );
     }
 
-pub AccountsHold-step : (opening : Opening) (core : CoreState) (index : ℕ) (lane : Lane) (step : LaneStep) → slice_get core.lanes index ≡ Some lane → CanMake lane step → AccountsHold opening core → AccountsHold opening (core_after_step core index lane step)
+pub AccountsHold-step : (opening : Opening) (core : CoreState) (index : ℕ) (lane : Lane) (step : LaneStep)
+    → slice_get core.lanes index ≡ Some lane → CanMake lane step → AccountsHold opening core
+    → AccountsHold opening (core_after_step core index lane step)
 AccountsHold-step opening core index lane step is_lane may accounts = record {
   bytes = BytesAgree-step opening core index lane step is_lane may accounts.bytes;
   bits = BitsAgree-step opening core index lane step is_lane may accounts.bits;
@@ -163,28 +254,53 @@ within_alike lane new alike within = record {
 }
 
 among_alike : (lane new : Lane) → IsAlike lane new → AreAmong lane.raised lane.held → AreAmong new.raised new.held
-among_alike lane new alike among = λ i. omega (arith, ap (λ n. bit_at n i) alike.held, ap (λ n. bit_at n i) alike.raised, among i)
+among_alike lane new alike among =
+    λ i. omega (arith, ap (λ n. bit_at n i) alike.held, ap (λ n. bit_at n i) alike.raised, among i)
 
-pub BytesAgree-alike : (opening : Opening) (core : CoreState) (index : ℕ) (lane new : Lane) → slice_get core.lanes index ≡ Some lane → IsAlike lane new → BytesAgree opening core → BytesAgree opening (record core { lanes = set core.lanes index new })
+pub BytesAgree-alike : (opening : Opening) (core : CoreState) (index : ℕ) (lane new : Lane)
+    → slice_get core.lanes index ≡ Some lane → IsAlike lane new → BytesAgree opening core
+    → BytesAgree opening (record core { lanes = set core.lanes index new })
 BytesAgree-alike opening core index lane new is_lane alike agree = record {
   marks = agree.marks;
   total = omega (arith, sum_by-put owed_by core.lanes index lane new is_lane, alike.debt, agree.total);
   rooms = omega (arith, sum_by-put (λ l. l.room) core.lanes index lane new is_lane, alike.room, agree.rooms);
-  within = All-set IsWithinRoom core.lanes index new (within_alike lane new alike (all_at IsWithinRoom core.lanes index lane is_lane agree.within)) agree.within;
-  empty = λ low none is_one. omega (arith, agree.empty low none is_one, same_lowerers core.lanes index lane new is_lane (ap is_to_lower alike.phase));
+  within = All-set IsWithinRoom core.lanes index new
+      (within_alike lane new alike (all_at IsWithinRoom core.lanes index lane is_lane agree.within)) agree.within;
+  empty = λ low none is_one. omega (
+    arith,
+    agree.empty low none is_one,
+    same_lowerers core.lanes index lane new is_lane (ap is_to_lower alike.phase),
+  );
 }
 
-BitsAgree-alike : (opening : Opening) (core : CoreState) (index : ℕ) (lane new : Lane) → slice_get core.lanes index ≡ Some lane → IsAlike lane new → BitsAgree opening core → BitsAgree opening (record core { lanes = set core.lanes index new })
+BitsAgree-alike : (opening : Opening) (core : CoreState) (index : ℕ) (lane new : Lane)
+    → slice_get core.lanes index ≡ Some lane → IsAlike lane new → BitsAgree opening core
+    → BitsAgree opening (record core { lanes = set core.lanes index new })
 BitsAgree-alike opening core index lane new is_lane alike agree =
     let Among : Lane → Type 0 = λ l. AreAmong l.raised l.held in
     record {
       mark = agree.mark;
-      held = λ i. omega (arith, sum_by-put (λ l. bit_at l.held i) core.lanes index lane new is_lane, ap (λ n. bit_at n i) alike.held, agree.held i);
-      among = All-set Among core.lanes index new (among_alike lane new alike (all_at Among core.lanes index lane is_lane agree.among)) agree.among;
-      shown = λ i above. omega (arith, sum_by-put (λ l. bit_at l.raised i) core.lanes index lane new is_lane, ap (λ n. bit_at n i) alike.raised, agree.shown i above);
+      held = λ i. omega (
+        arith,
+        sum_by-put (λ l. bit_at l.held i) core.lanes index lane new is_lane,
+        ap
+            (λ n. bit_at n i) alike.held,
+        agree.held i,
+      );
+      among = All-set Among core.lanes index new
+          (among_alike lane new alike (all_at Among core.lanes index lane is_lane agree.among)) agree.among;
+      shown = λ i above. omega (
+        arith,
+        sum_by-put (λ l. bit_at l.raised i) core.lanes index lane new is_lane,
+        ap
+            (λ n. bit_at n i) alike.raised,
+        agree.shown i above,
+      );
     }
 
-pub AccountsHold-alike : (opening : Opening) (core : CoreState) (index : ℕ) (lane new : Lane) → slice_get core.lanes index ≡ Some lane → IsAlike lane new → AccountsHold opening core → AccountsHold opening (record core { lanes = set core.lanes index new })
+pub AccountsHold-alike : (opening : Opening) (core : CoreState) (index : ℕ) (lane new : Lane)
+    → slice_get core.lanes index ≡ Some lane → IsAlike lane new → AccountsHold opening core
+    → AccountsHold opening (record core { lanes = set core.lanes index new })
 AccountsHold-alike opening core index lane new is_lane alike accounts = record {
   bytes = BytesAgree-alike opening core index lane new is_lane alike accounts.bytes;
   bits = BitsAgree-alike opening core index lane new is_lane alike accounts.bits;

@@ -8,7 +8,7 @@ use Rattle.std.proofs.lemmas.Nat.{pow_pos, div-mul-add, div-add-mod'}
 use Rattle.std.proofs.Math.Nat.{mul-add-div_right}
 use Rattle.std.proofs.Math.Pow.{pow-lt}
 use Rattle.std.proofs.lemmas.Nat.Bits.{bit_at-lt, bit_at-suc, bit_at_and, bit_at_or, bit_at_not, bit_at-pow_same, bit_at-pow_other, bit_at_cat_low, bit_at_cat_high, bit_at_above, same_from_bits}
-use Rattle.ob_core.specs.Bits.{is_set, with_bit, without_bit, SetsBit, ClearsBit}
+use Rattle.ob_core.specs.Bits.{is_set, with_bit, without_bit, SetsBit, ClearsBit, AreAmong, ShareOut}
 
 -- ---- one bit and the others
 
@@ -22,7 +22,8 @@ others_agree : (q p r k i : ℕ) → q / 2 ≡ p / 2 → r < 2 ^ k → i ≢ k �
 others_agree q p r k i same small other =
     ⊎_elim
     (λ below. bit_at_cat_low q k r i below ∙ sym (bit_at_cat_low p k r i below))
-    (λ above. bit_at_cat_high q k r i small above ∙ above_lowest q p (i - k) same (omega arith) ∙ sym (bit_at_cat_high p k r i small above))
+    (λ above. bit_at_cat_high q k r i small above ∙ above_lowest q p (i - k) same (omega arith) ∙ sym
+    (bit_at_cat_high p k r i small above))
     (cases_lt i k)
 
 -- a word whose bit is clear, and what it is with what that bit counts
@@ -34,8 +35,10 @@ differ : (q r k : ℕ) → q % 2 ≡ 0 → r < 2 ^ k → DifferBy k (q * 2 ^ k +
 differ q r k even small =
     let half : q / 2 ≡ (q + 1) / 2 = omega (arith, even) in
     let low : bit_at (q * 2 ^ k + r) k ≡ 0 = ap (λ n. n % 2) (div-mul-add q (2 ^ k) r small) ∙ even in
-    let high : bit_at ((q + 1) * 2 ^ k + r) k ≡ 1 = ap (λ n. n % 2) (div-mul-add (q + 1) (2 ^ k) r small) ∙ omega (arith, even) in
-    let same : (i : ℕ) → i ≢ k → bit_at (q * 2 ^ k + r) i ≡ bit_at ((q + 1) * 2 ^ k + r) i = λ i other. others_agree q (q + 1) r k i half small other in
+    let high : bit_at ((q + 1) * 2 ^ k + r) k ≡ 1 =
+    ap (λ n. n % 2) (div-mul-add (q + 1) (2 ^ k) r small) ∙ omega (arith, even) in
+    let same : (i : ℕ) → i ≢ k → bit_at (q * 2 ^ k + r) i ≡ bit_at ((q + 1) * 2 ^ k + r) i =
+    λ i other. others_agree q (q + 1) r k i half small other in
     record {
       sets = record { here = high; others = λ i other. sym (same i other) };
       clears = record { here = low; others = same };
@@ -46,11 +49,13 @@ differ_by low high k more clear =
     let small : low % 2 ^ k < 2 ^ k = omega (arith, pow_pos k) in
     let is_low : low / 2 ^ k * 2 ^ k + low % 2 ^ k ≡ low = div-add-mod' low (2 ^ k) in
     let is_high : (low / 2 ^ k + 1) * 2 ^ k + low % 2 ^ k ≡ high = grind (arith, is_low, more) in
-    subst (λ n. DifferBy k n high) is_low (subst (DifferBy k (low / 2 ^ k * 2 ^ k + low % 2 ^ k)) is_high (differ (low / 2 ^ k) (low % 2 ^ k) k clear small))
+    subst (λ n. DifferBy k n high) is_low
+    (subst (DifferBy k (low / 2 ^ k * 2 ^ k + low % 2 ^ k)) is_high (differ (low / 2 ^ k) (low % 2 ^ k) k clear small))
 
 -- ---- a bit set
 
-with_bit_unless : (word k : ℕ) (there : Bool) → eqb (bit_at word k) 1 ≡ there → SetsBit word k (if there then word else word + 2 ^ k)
+with_bit_unless : (word k : ℕ) (there : Bool) → eqb (bit_at word k) 1 ≡ there
+    → SetsBit word k (if there then word else word + 2 ^ k)
 with_bit_unless word k true there = record { here = grind (arith, nat_tests); others = λ i other. refl }
 with_bit_unless word k false there =
     let clear : bit_at word k ≡ 0 = grind (arith, nat_tests, bit_at-lt word k) in
@@ -66,15 +71,18 @@ pub pow-le-of_bit : (word k : ℕ) → bit_at word k ≡ 1 → 2 ^ k ≤ word
 pow-le-of_bit word k there =
     let some : 0 < word / 2 ^ k = omega (arith, there) in grind (arith, div-add-mod' word (2 ^ k))
 
-without_bit_unless : (word k : ℕ) (there : Bool) → eqb (bit_at word k) 1 ≡ there → ClearsBit word k (if there then word - 2 ^ k else word)
+without_bit_unless : (word k : ℕ) (there : Bool) → eqb (bit_at word k) 1 ≡ there
+    → ClearsBit word k (if there then word - 2 ^ k else word)
 without_bit_unless word k true there =
     let set : bit_at word k ≡ 1 = grind (arith, nat_tests) in
     let more : word - 2 ^ k + 2 ^ k ≡ word = omega (arith, pow-le-of_bit word k set) in
-    let halves : (1 * 2 ^ k + (word - 2 ^ k)) / 2 ^ k ≡ 1 + (word - 2 ^ k) / 2 ^ k = mul-add-div_right (pow_pos k) 1 (word - 2 ^ k) in
+    let halves : (1 * 2 ^ k + (word - 2 ^ k)) / 2 ^ k ≡ 1 + (word - 2 ^ k) / 2 ^ k =
+    mul-add-div_right (pow_pos k) 1 (word - 2 ^ k) in
     let same : 1 * 2 ^ k + (word - 2 ^ k) ≡ word = omega (arith, more) in
     let clear : bit_at (word - 2 ^ k) k ≡ 0 = omega (arith, set, sym (ap (λ n. n / 2 ^ k) same) ∙ halves) in
     (differ_by (word - 2 ^ k) word k more clear).clears
-without_bit_unless word k false there = record { here = grind (arith, nat_tests, bit_at-lt word k); others = λ i other. refl }
+without_bit_unless word k false there =
+    record { here = grind (arith, nat_tests, bit_at-lt word k); others = λ i other. refl }
 
 pub ClearsBit-without_bit : (word k : ℕ) → ClearsBit word k (without_bit word k)
 ClearsBit-without_bit word k = without_bit_unless word k (is_set word k) refl
@@ -88,12 +96,14 @@ same_but a b k here others =
 pub is-with_bit : (word k new : ℕ) → SetsBit word k new → new ≡ with_bit word k
 is-with_bit word k new sets =
     let meant = SetsBit-with_bit word k in
-    same_but new (with_bit word k) k (sets.here ∙ sym meant.here) (λ i other. sets.others i other ∙ sym (meant.others i other))
+    same_but new (with_bit word k) k (sets.here ∙ sym meant.here)
+    (λ i other. sets.others i other ∙ sym (meant.others i other))
 
 pub is-without_bit : (word k new : ℕ) → ClearsBit word k new → new ≡ without_bit word k
 is-without_bit word k new clears =
     let meant = ClearsBit-without_bit word k in
-    same_but new (without_bit word k) k (clears.here ∙ sym meant.here) (λ i other. clears.others i other ∙ sym (meant.others i other))
+    same_but new (without_bit word k) k (clears.here ∙ sym meant.here)
+    (λ i other. clears.others i other ∙ sym (meant.others i other))
 
 -- "or" with one bit sets it
 pub or-is-with_bit : (word k : ℕ) → bit_or word (2 ^ k) ≡ with_bit word k
@@ -103,11 +113,45 @@ or-is-with_bit word k = is-with_bit word k (bit_or word (2 ^ k)) (record {
 })
 
 -- "and" with all bits but one clears that, in a word of the width in which these bits are
-pub and-is-without_bit : (w : Width) (word k : ℕ) → word < 2 ^ bits w → k < bits w → bit_and word (bit_not w (2 ^ k)) ≡ without_bit word k
+pub and-is-without_bit : (w : Width) (word k : ℕ) → word < 2 ^ bits w → k < bits w
+    → bit_and word (bit_not w (2 ^ k)) ≡ without_bit word k
 and-is-without_bit w word k fits within = is-without_bit word k (bit_and word (bit_not w (2 ^ k))) (record {
-  here = omega (arith, bit_at_and word (bit_not w (2 ^ k)) k, bit_at_not w (2 ^ k) k (pow-lt within) within, bit_at-pow_same k);
+  here = omega (
+    arith,
+    bit_at_and word (bit_not w (2 ^ k)) k,
+    bit_at_not w (2 ^ k) k (pow-lt within) within,
+    bit_at-pow_same k,
+  );
   others = λ i other. ⊎_elim
-      (λ below. omega (arith, bit_at_and word (bit_not w (2 ^ k)) i, bit_at_not w (2 ^ k) i (pow-lt within) below, bit_at-pow_other k i other, bit_at-lt word i))
+      (λ below. omega (
+        arith,
+        bit_at_and word (bit_not w (2 ^ k)) i,
+        bit_at_not w (2 ^ k) i (pow-lt within) below,
+        bit_at-pow_other k i other,
+        bit_at-lt word i,
+      ))
       (λ above. omega (arith, bit_at_and word (bit_not w (2 ^ k)) i, bit_at_above word (bits w) i fits above))
       (cases_lt i (bits w));
 })
+
+-- ---- masks
+
+-- a mask is shared out to its bits outside another mask and those within it
+pub ShareOut-and : (w : Width) (mask taken : ℕ) → mask < 2 ^ bits w → taken < 2 ^ bits w
+    → ShareOut mask (bit_and mask (bit_not w taken)) (bit_and mask taken)
+ShareOut-and w mask taken small fits = λ i.
+    let outside = bit_at_and mask (bit_not w taken) i in
+    let within = bit_at_and mask taken i in
+    ⊎_elim
+    (λ below. omega (arith, outside, within, bit_at_not w taken i fits below, bit_at-lt mask i, bit_at-lt taken i))
+    (λ above. omega (arith, outside, within, bit_at_above mask (bits w) i small above))
+    (cases_lt i (bits w))
+
+-- two masks that have no bit in common share out both together
+pub ShareOut-or : (first second : ℕ) → ((i : ℕ) → bit_at first i + bit_at second i ≤ 1)
+    → ShareOut (bit_or first second) first second
+ShareOut-or first second apart = λ i. omega (arith, bit_at_or first second i, apart i)
+
+-- what is among a mask is so within another mask too
+pub AreAmong-and : (bits mask other : ℕ) → AreAmong bits mask → AreAmong (bit_and bits other) (bit_and mask other)
+AreAmong-and bits mask other among = λ i. omega (arith, bit_at_and bits other i, bit_at_and mask other i, among i)

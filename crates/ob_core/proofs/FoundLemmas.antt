@@ -17,13 +17,15 @@ use Rattle.ob_core.proofs.TurnLemmas.{change_between-same}
 
 -- a word with a set bit is not 0
 not_zero : (word k : ℕ) → bit_at word k ≡ 1 → eqb word 0 ≡ false
-not_zero word k there = let some : word ≢ 0 = λ none. absurd (omega (arith, ap (λ n. bit_at n k) none, bit_at-zero k, there)) in grind (arith, nat_tests)
+not_zero word k there = let some : word ≢ 0 =
+    λ none. absurd (omega (arith, ap (λ n. bit_at n k) none, bit_at-zero k, there)) in grind (arith, nat_tests)
 
 turn_off : (writable : Bool) → turn writable false ≡ (if writable then Some Unwritable else None)
 turn_off true = refl
 turn_off false = refl
 
-turn_on : (before after alone : Bool) → (before ≡ true → after ≡ true) → (before ≡ true → alone ≡ false) → (before ≡ false → after ≡ alone) → turn before after ≡ (if alone then Some Writable else None)
+turn_on : (before after alone : Bool) → (before ≡ true → after ≡ true) → (before ≡ true → alone ≡ false)
+    → (before ≡ false → after ≡ alone) → turn before after ≡ (if alone then Some Writable else None)
 turn_on true after alone stays apart same = rw (stays refl, apart refl) refl
 turn_on false true alone stays apart same = rw (← same refl) refl
 turn_on false false alone stays apart same = rw (← same refl) refl
@@ -40,13 +42,15 @@ not_power : (word k : ℕ) → word ≡ 0 → eqb word (2 ^ k) ≡ false
 not_power word k none = let some : 0 < 2 ^ k = pow_pos k in grind (arith, nat_tests)
 
 -- a bit that is cleared leaves 0 where it stood alone, or where there was 0 before
-cleared_by : (word k : ℕ) (there : Bool) → is_set word k ≡ there → eqb word 0 ≡ false → eqb (if there then word - 2 ^ k else word) 0 ≡ eqb word (2 ^ k)
+cleared_by : (word k : ℕ) (there : Bool) → is_set word k ≡ there → eqb word 0 ≡ false
+    → eqb (if there then word - 2 ^ k else word) 0 ≡ eqb word (2 ^ k)
 cleared_by word k true there some =
     let set : bit_at word k ≡ 1 = grind (arith, nat_tests) in
     let least : 2 ^ k ≤ word = pow-le-of_bit word k set in
     grind (arith, nat_tests)
 cleared_by word k false there some =
-    let other : word ≢ 2 ^ k = λ same. absurd (grind (arith, nat_tests, ap (λ n. bit_at n k) same, bit_at-pow_same k)) in
+    let other : word ≢ 2 ^ k = λ same. absurd
+    (grind (arith, nat_tests, ap (λ n. bit_at n k) same, bit_at-pow_same k)) in
     grind (arith, nat_tests)
 
 cleared_none : (word k : ℕ) (there : Bool) → word ≡ 0 → eqb (if there then word - 2 ^ k else word) 0 ≡ true
@@ -60,7 +64,8 @@ change-of_clearing word k =
     (λ none. not_power word k (zero-from word none))
     (λ some. cleared_by word k (is_set word k) refl some))
 
-pub change_found-between : (step : LaneStep) (core : CoreState) → change_found step (value_found step core) ≡ change_between core.word (word_after step core.word)
+pub change_found-between : (step : LaneStep) (core : CoreState)
+    → change_found step (value_found step core) ≡ change_between core.word (word_after step core.word)
 change_found-between (Add amount) core = sym (change_between-same core.word)
 change_found-between (Subtract amount) core = sym (change_between-same core.word)
 change_found-between Raise core = change-of_setting core.word 0

@@ -29,7 +29,8 @@ use Rattle.ob_core.proofs.TurnLemmas.{owed_by-lane_after_nothing, room-lane_afte
 -- ---- the accounts
 
 -- an ask that is no step leaves a lane that is like the one before
-pub IsAlike-nothing : (lane : Lane) (ask : Ask) → refusal_of lane ask ≡ None → step_of lane ask ≡ None → IsAlike lane (lane_after_nothing lane ask)
+pub IsAlike-nothing : (lane : Lane) (ask : Ask) → refusal_of lane ask ≡ None → step_of lane ask ≡ None
+    → IsAlike lane (lane_after_nothing lane ask)
 IsAlike-nothing lane ask accepted no_step = record {
   debt = owed_by-lane_after_nothing lane ask accepted no_step;
   room = room-lane_after_nothing lane ask;
@@ -38,20 +39,24 @@ IsAlike-nothing lane ask accepted no_step = record {
   phase = phase-lane_after_nothing lane ask;
 }
 
-pub AccountsHold-turn : (opening : Opening) (core : CoreState) (turn : Turn) → AccountsHold opening core → AccountsHold opening (core_after core turn)
+pub AccountsHold-turn : (opening : Opening) (core : CoreState) (turn : Turn) → AccountsHold opening core
+    → AccountsHold opening (core_after core turn)
 AccountsHold-turn opening core turn accounts =
     kept_by_turn (AccountsHold opening) core turn (record {
       by_step = λ lane step is_lane may. AccountsHold-step opening core turn.lane lane step is_lane may accounts;
-      by_nothing = λ lane is_lane accepted no_step. AccountsHold-alike opening core turn.lane lane _ is_lane (IsAlike-nothing lane turn.ask accepted no_step) accounts;
+      by_nothing = λ lane is_lane accepted no_step. AccountsHold-alike opening core turn.lane lane _ is_lane
+          (IsAlike-nothing lane turn.ask accepted no_step) accounts;
     }) accounts
 
 -- those of the bytes hold after any turns, whatever bits the lanes hold
-pub BytesAgree-all : (marks : Marks) (starts : List LaneStart) (turns : List Turn) → BytesAgree (opening_of marks starts) (core_after_all (new_core marks starts) turns)
+pub BytesAgree-all : (marks : Marks) (starts : List LaneStart) (turns : List Turn)
+    → BytesAgree (opening_of marks starts) (core_after_all (new_core marks starts) turns)
 BytesAgree-all marks starts turns =
     let opening : Opening = opening_of marks starts in
     kept_by_all (BytesAgree opening) (λ core turn agree. record {
       by_step = λ lane step is_lane may. BytesAgree-step opening core turn.lane lane step is_lane may agree;
-      by_nothing = λ lane is_lane accepted no_step. BytesAgree-alike opening core turn.lane lane _ is_lane (IsAlike-nothing lane turn.ask accepted no_step) agree;
+      by_nothing = λ lane is_lane accepted no_step. BytesAgree-alike opening core turn.lane lane _ is_lane
+          (IsAlike-nothing lane turn.ask accepted no_step) agree;
     }) turns (new_core marks starts) (BytesAgree-new marks starts)
 
 -- ---- at rest
@@ -66,9 +71,12 @@ not-true true never = absurd (omega (arith, never refl))
 not-true false never = refl
 
 -- where no lane is about to lower the mark and nothing is owed, bit 0 is clear
-pub clear_at_rest : (opening : Opening) (core : CoreState) → BytesAgree opening core → 0 < opening.marks.low → sum_owed core.lanes ≡ 0 → IsQuiet core → is_set core.word 0 ≡ false
+pub clear_at_rest : (opening : Opening) (core : CoreState) → BytesAgree opening core → 0 < opening.marks.low
+    → sum_owed core.lanes ≡ 0 → IsQuiet core → is_set core.word 0 ≡ false
 clear_at_rest opening core agree low nothing quiet =
-    let none : lowerers core.lanes ≡ 0 = sum_by-none (λ l. cond (is_to_lower l.phase) 1 0) core.lanes (λ k d within. ap {B = ℕ} (λ b. cond b 1 0) (idle-not-lower _ (quiet k d within))) in
+    let none : lowerers core.lanes ≡ 0 =
+    sum_by-none (λ l. cond (is_to_lower l.phase) 1 0) core.lanes
+    (λ k d within. ap {B = ℕ} (λ b. cond b 1 0) (idle-not-lower _ (quiet k d within))) in
     not-true (is_set core.word 0) (λ is_one. omega (arith, agree.empty low (agree.total ∙ nothing) is_one, none))
 
 -- ---- changes
@@ -78,13 +86,16 @@ abbrev next_change : Bool → Change
 next_change true = Unwritable
 next_change false = Writable
 
-alternate_more : (before after : Bool) (changes : List Change) → AlternateFrom (next_change after) changes → AlternateFrom (next_change before) (cons_option (turned before after) changes)
+alternate_more : (before after : Bool) (changes : List Change) → AlternateFrom (next_change after) changes
+    → AlternateFrom (next_change before) (cons_option (turned before after) changes)
 alternate_more true true changes later = later
 alternate_more true false changes later = (refl, later)
 alternate_more false true changes later = (refl, later)
 alternate_more false false changes later = later
 
-pub changes_go_to_and_fro : (turns : List Turn) (core : CoreState) → AlternateFrom (next_change (is_writable core.word)) (changes_in (answers_of core turns))
+pub changes_go_to_and_fro : (turns : List Turn) (core : CoreState)
+    → AlternateFrom (next_change (is_writable core.word)) (changes_in (answers_of core turns))
 changes_go_to_and_fro [] core = tt
 changes_go_to_and_fro (turn ∷ turns) core =
-    alternate_more (is_writable core.word) (is_writable (core_after core turn).word) (changes_in (answers_of (core_after core turn) turns)) (changes_go_to_and_fro turns (core_after core turn))
+    alternate_more (is_writable core.word) (is_writable (core_after core turn).word)
+    (changes_in (answers_of (core_after core turn) turns)) (changes_go_to_and_fro turns (core_after core turn))

@@ -19,7 +19,9 @@ use Rattle.ob_core.specs.declared.world_fault.WorldFault.TheVariants.{BadCount, 
 -- ---- no fault
 
 -- no fault is a fact of each kind
-no_fault : (bad_count too_much twice : Bool) → first_fault ((bad_count, BadCount) ∷ (too_much, TooMuchRoom) ∷ (twice, BitsTwice) ∷ []) ≡ None → (bad_count ≡ false) × (too_much ≡ false) × (twice ≡ false)
+no_fault : (bad_count too_much twice : Bool)
+    → first_fault ((bad_count, BadCount) ∷ (too_much, TooMuchRoom) ∷ (twice, BitsTwice) ∷ []) ≡ None
+    → (bad_count ≡ false) × (too_much ≡ false) × (twice ≡ false)
 no_fault true too_much twice none = absurd (cc)
 no_fault false true twice none = absurd (cc)
 no_fault false false true none = absurd (cc)
@@ -42,7 +44,13 @@ pub AreFine-no_fault : (starts : List LaneStart) → opening_fault starts ≡ No
 AreFine-no_fault starts none =
     let fine = no_fault (is_bad_count starts) _ _ none in
     let count : (0 < length starts) × (length starts ≤ 64) = count_fits (length starts) fine.0 in
-    record { some_lane = count.0; few_lanes = count.1; rooms_fit = room_fits (room_of starts) fine.1; bits_apart = fine.2 }
+    record {
+      some_lane = count.0;
+      few_lanes = count.1;
+      rooms_fit = room_fits (room_of starts) fine.1;
+      bits_apart =
+          fine.2;
+    }
 
 -- ---- the bytes
 
@@ -53,12 +61,24 @@ no_debts (start ∷ starts) = omega (arith, sum_by-cons owed_by (new_lane start)
 same_rooms : (starts : List LaneStart) → sum_of_rooms (map new_lane starts) ≡ room_of starts
 same_rooms [] = refl
 same_rooms (start ∷ starts) =
-    omega (arith, sum_by-cons (λ (l : Lane). l.room) (new_lane start) (map new_lane starts), sum_by-cons (λ (s : LaneStart). s.room) start starts, same_rooms starts)
+    omega (
+      arith,
+      sum_by-cons (λ (l : Lane). l.room) (new_lane start) (map new_lane starts),
+      sum_by-cons
+          (λ (s : LaneStart). s.room) start starts,
+      same_rooms starts,
+    )
 
 within_new : (start : LaneStart) → IsWithinRoom (new_lane start)
-within_new start = record { owes = omega arith; busy = λ inside. absurd (inside refl); raising = λ is_raise. absurd (cc) }
+within_new start = record {
+  owes = omega arith;
+  busy = λ inside. absurd (inside refl);
+  raising =
+      λ is_raise. absurd (cc);
+}
 
-pub BytesAgree-new : (marks : Marks) (starts : List LaneStart) → BytesAgree (opening_of marks starts) (new_core marks starts)
+pub BytesAgree-new : (marks : Marks) (starts : List LaneStart)
+    → BytesAgree (opening_of marks starts) (new_core marks starts)
 BytesAgree-new marks starts = record {
   marks = refl;
   total = sym (no_debts starts);
@@ -79,30 +99,54 @@ apart_at a b apart i =
     let none : bit_and a b ≡ 0 = grind (arith, nat_tests) in
     omega (arith, ap (λ n. bit_at n i) none, bit_at_and a b i, bit_at-zero i, bit_at-lt a i, bit_at-lt b i)
 
-apart_of_all : (mask : ℕ) (starts : List LaneStart) → list_any (share_a_bit mask) (map (λ start. start.bits) starts) ≡ false → (i : ℕ) → bit_at mask i + bit_at (bits_of starts) i ≤ 1
+apart_of_all : (mask : ℕ) (starts : List LaneStart)
+    → list_any (share_a_bit mask) (map (λ start. start.bits) starts) ≡ false → (i : ℕ)
+    → bit_at mask i + bit_at (bits_of starts) i ≤ 1
 apart_of_all mask [] none i = omega (arith, bit_at-zero i, bit_at-lt mask i)
 apart_of_all mask (start ∷ starts) none i =
     let both = neither (share_a_bit mask start.bits) _ none in
-    omega (arith, apart_at mask start.bits both.0 i, apart_of_all mask starts both.1 i, bit_at_or start.bits (bits_of starts) i)
+    omega (
+      arith,
+      apart_at mask start.bits both.0 i,
+      apart_of_all mask starts both.1 i,
+      bit_at_or start.bits
+          (bits_of starts) i,
+    )
 
 -- so the lanes hold each bit as often as all masks together have it
-held_once : (starts : List LaneStart) → any_overlap (map (λ start. start.bits) starts) ≡ false → (i : ℕ) → holders (map new_lane starts) i ≤ bit_at (bits_of starts) i
+held_once : (starts : List LaneStart) → any_overlap (map (λ start. start.bits) starts) ≡ false → (i : ℕ)
+    → holders (map new_lane starts) i ≤ bit_at (bits_of starts) i
 held_once [] none i = omega arith
 held_once (start ∷ starts) none i =
     let both = neither (list_any (share_a_bit start.bits) (map (λ s. s.bits) starts)) _ none in
-    omega (arith, sum_by-cons (λ (l : Lane). bit_at l.held i) (new_lane start) (map new_lane starts), held_once starts both.1 i, apart_of_all start.bits starts both.0 i, bit_at_or start.bits (bits_of starts) i)
+    omega (
+      arith,
+      sum_by-cons (λ (l : Lane). bit_at l.held i) (new_lane start) (map new_lane starts),
+      held_once starts both.1 i,
+      apart_of_all start.bits starts both.0 i,
+      bit_at_or start.bits (bits_of starts) i,
+    )
 
 none_raised : (starts : List LaneStart) (i : ℕ) → raisers (map new_lane starts) i ≡ 0
 none_raised [] i = refl
-none_raised (start ∷ starts) i = omega (arith, sum_by-cons (λ (l : Lane). bit_at l.raised i) (new_lane start) (map new_lane starts), none_raised starts i, bit_at-zero i)
+none_raised (start ∷ starts) i =
+    omega (
+      arith,
+      sum_by-cons (λ (l : Lane). bit_at l.raised i) (new_lane start) (map new_lane starts),
+      none_raised starts i,
+      bit_at-zero i,
+    )
 
 none_among : (starts : List LaneStart) → All (λ (l : Lane). AreAmong l.raised l.held) (map new_lane starts)
-none_among starts = All-map (λ (l : Lane). AreAmong l.raised l.held) new_lane starts (λ k d inside i. omega (arith, bit_at-zero i))
+none_among starts = All-map (λ (l : Lane). AreAmong l.raised l.held) new_lane starts
+    (λ k d inside i. omega (arith, bit_at-zero i))
 
 clear-not_one : (word : ℕ) → bit_at word 0 ≡ 0 → is_set word 0 ≡ false
 clear-not_one word clear = grind (arith, nat_tests)
 
-pub BitsAgree-new : (marks : Marks) (starts : List LaneStart) → any_overlap (holders_of (map (λ start. start.bits) starts)) ≡ false → BitsAgree (opening_of marks starts) (new_core marks starts)
+pub BitsAgree-new : (marks : Marks) (starts : List LaneStart)
+    → any_overlap (holders_of (map (λ start. start.bits) starts)) ≡ false
+    → BitsAgree (opening_of marks starts) (new_core marks starts)
 BitsAgree-new marks starts apart =
     let both = neither (list_any (share_a_bit 1) (map (λ s. s.bits) starts)) _ apart in
     record {
@@ -112,7 +156,8 @@ BitsAgree-new marks starts apart =
       shown = λ i above. omega (arith, none_raised starts i, bit_at-zero i);
     }
 
-pub AccountsHold-new : (marks : Marks) (starts : List LaneStart) → opening_fault starts ≡ None → AccountsHold (opening_of marks starts) (new_core marks starts)
+pub AccountsHold-new : (marks : Marks) (starts : List LaneStart) → opening_fault starts ≡ None
+    → AccountsHold (opening_of marks starts) (new_core marks starts)
 AccountsHold-new marks starts none = record {
   bytes = BytesAgree-new marks starts;
   bits = BitsAgree-new marks starts (AreFine-no_fault starts none).bits_apart;
@@ -120,12 +165,20 @@ AccountsHold-new marks starts none = record {
 
 -- ---- a lone lane
 
-pub AccountsHold-one_lane : (opening : Opening) → is_set opening.bits 0 ≡ false → AccountsHold opening (one_lane opening)
+pub AccountsHold-one_lane : (opening : Opening) → is_set opening.bits 0 ≡ false
+    → AccountsHold opening (one_lane opening)
 AccountsHold-one_lane opening mark =
     let starts : List LaneStart = record { room = opening.room; bits = opening.bits } ∷ [] in
     let bytes = BytesAgree-new opening.marks starts in
     record {
-      bytes = record { marks = refl; total = bytes.total; rooms = omega (arith, bytes.rooms); within = bytes.within; empty = bytes.empty };
+      bytes = record {
+        marks = refl;
+        total = bytes.total;
+        rooms = omega (arith, bytes.rooms);
+        within =
+            bytes.within;
+        empty = bytes.empty;
+      };
       bits = record {
         mark = mark;
         held = λ i. omega arith;

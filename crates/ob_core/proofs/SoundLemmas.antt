@@ -12,6 +12,7 @@ use Rattle.ob_core.specs.Owed.{owed_by, sum_owed}
 use Rattle.ob_core.specs.Sound.{IsSound}
 use Rattle.ob_core.specs.Turn.{step_of, lane_after_nothing}
 use Rattle.ob_core.specs.declared.ask.Ask.{Ask}
+use Rattle.ob_core.specs.declared.ask.Turn.{Turn}
 use Rattle.ob_core.specs.declared.lane.Lane.{Lane}
 use Rattle.ob_core.specs.declared.lane_start.LaneStart.{LaneStart}
 use Rattle.ob_core.specs.declared.lane_step.LaneStep.{LaneStep}
@@ -19,8 +20,10 @@ use Rattle.ob_core.specs.declared.lane_step.LaneStep.TheVariants.{Add, Subtract,
 use Rattle.ob_core.proofs.AccountsLemmas.{AccountsHold-step, AccountsHold-alike, owed_by-le-total, total-le-room}
 use Rattle.ob_core.proofs.LawLemmas.{IsAlike-nothing}
 use Rattle.ob_core.proofs.OpeningLemmas.{AccountsHold-new, AreFine-no_fault}
+use Rattle.ob_core.proofs.TurnLemmas.{HasTurn, can_make-step_of}
 
-pub IsSound-new : (marks : Marks) (starts : List LaneStart) → opening_fault starts ≡ None → IsSound (new_core marks starts)
+pub IsSound-new : (marks : Marks) (starts : List LaneStart) → opening_fault starts ≡ None
+    → IsSound (new_core marks starts)
 IsSound-new marks starts none =
     let fine = AreFine-no_fault starts none in
     record {
@@ -31,7 +34,9 @@ IsSound-new marks starts none =
       few_lanes = omega (arith, length-map starts new_lane, fine.few_lanes);
     }
 
-pub IsSound-step : (core : CoreState) (index : ℕ) (lane : Lane) (step : LaneStep) → slice_get core.lanes index ≡ Some lane → CanMake lane step → IsSound core → IsSound (core_after_step core index lane step)
+pub IsSound-step : (core : CoreState) (index : ℕ) (lane : Lane) (step : LaneStep)
+    → slice_get core.lanes index ≡ Some lane → CanMake lane step → IsSound core
+    → IsSound (core_after_step core index lane step)
 IsSound-step core index lane step is_lane may sound =
     let same_length = length-set core.lanes index (lane_after step core.marks (total_after step core.total) lane) in
     record {
@@ -42,12 +47,15 @@ IsSound-step core index lane step is_lane may sound =
       few_lanes = omega (arith, same_length, sound.few_lanes);
     }
 
-pub IsSound-nothing : (core : CoreState) (index : ℕ) (lane : Lane) (ask : Ask) → slice_get core.lanes index ≡ Some lane → refusal_of lane ask ≡ None → step_of lane ask ≡ None → IsSound core → IsSound (record core { lanes = set core.lanes index (lane_after_nothing lane ask) })
+pub IsSound-nothing : (core : CoreState) (index : ℕ) (lane : Lane) (ask : Ask)
+    → slice_get core.lanes index ≡ Some lane → refusal_of lane ask ≡ None → step_of lane ask ≡ None → IsSound core
+    → IsSound (record core { lanes = set core.lanes index (lane_after_nothing lane ask) })
 IsSound-nothing core index lane ask is_lane accepted no_step sound =
     let same_length = length-set core.lanes index (lane_after_nothing lane ask) in
     record {
       opening = sound.opening;
-      accounts = AccountsHold-alike sound.opening core index lane (lane_after_nothing lane ask) is_lane (IsAlike-nothing lane ask accepted no_step) sound.accounts;
+      accounts = AccountsHold-alike sound.opening core index lane (lane_after_nothing lane ask) is_lane
+          (IsAlike-nothing lane ask accepted no_step) sound.accounts;
       rooms_fit = sound.rooms_fit;
       some_lane = omega (arith, same_length, sound.some_lane);
       few_lanes = omega (arith, same_length, sound.few_lanes);
@@ -55,10 +63,12 @@ IsSound-nothing core index lane ask is_lane accepted no_step sound =
 
 -- what the lanes owe fits a u32
 pub sum_owed-fits : (core : CoreState) → IsSound core → sum_owed core.lanes ≤ 4294967295
-sum_owed-fits core sound = omega (arith, total-le-room sound.opening core sound.accounts.bytes, sound.accounts.bytes.total, sound.rooms_fit)
+sum_owed-fits core sound = omega
+    (arith, total-le-room sound.opening core sound.accounts.bytes, sound.accounts.bytes.total, sound.rooms_fit)
 
 -- so the total takes a step that a lane may make
-pub FitsTotal-step : (core : CoreState) (index : ℕ) (lane : Lane) (step : LaneStep) → slice_get core.lanes index ≡ Some lane → CanMake lane step → IsSound core → FitsTotal step core.total
+pub FitsTotal-step : (core : CoreState) (index : ℕ) (lane : Lane) (step : LaneStep)
+    → slice_get core.lanes index ≡ Some lane → CanMake lane step → IsSound core → FitsTotal step core.total
 FitsTotal-step core index lane (Add amount) is_lane may sound =
     let after = IsSound-step core index lane (Add amount) is_lane may sound in
     omega (arith, total-le-room after.opening _ after.accounts.bytes, after.rooms_fit)
@@ -82,3 +92,21 @@ FitsWord-step lane (SetBit bit) may = grind (arith, nat_tests, may.1)
 FitsWord-step lane (ClearBit bit) may = grind (arith, nat_tests, may.1)
 FitsWord-step lane LoadWord may = tt
 FitsWord-step lane LoadTotal may = tt
+
+-- ---- in a turn
+
+pub IsSound-turn_step : (core : CoreState) (turn : Turn) (lane : Lane) (step : LaneStep) → HasTurn core turn lane
+    → step_of lane turn.ask ≡ Some step → IsSound core → IsSound (core_after_step core turn.lane lane step)
+IsSound-turn_step core turn lane step has is_step sound =
+    IsSound-step core turn.lane lane step has.is_lane (can_make-step_of lane turn.ask step has.accepted is_step) sound
+
+pub IsSound-turn_nothing : (core : CoreState) (turn : Turn) (lane : Lane) → HasTurn core turn lane
+    → step_of lane turn.ask ≡ None → IsSound core
+    → IsSound (record core { lanes = set core.lanes turn.lane (lane_after_nothing lane turn.ask) })
+IsSound-turn_nothing core turn lane has no_step sound =
+    IsSound-nothing core turn.lane lane turn.ask has.is_lane has.accepted no_step sound
+
+pub FitsTotal-turn : (core : CoreState) (turn : Turn) (lane : Lane) (step : LaneStep) → HasTurn core turn lane
+    → step_of lane turn.ask ≡ Some step → IsSound core → FitsTotal step core.total
+FitsTotal-turn core turn lane step has is_step sound =
+    FitsTotal-step core turn.lane lane step has.is_lane (can_make-step_of lane turn.ask step has.accepted is_step) sound

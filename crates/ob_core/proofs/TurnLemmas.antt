@@ -1,19 +1,17 @@
 -- What a lane does at an ask that is not refused.
-use Rattle.std.proofs.Common.{◌≡◌, ℕ, zero, suc, ◌<◌, ◌≤◌, Bool, true, false, not, eqb, [], ◌∷◌, nat_lt, is_some, Option, Some, None, refl, ap, subst, slice_get, slice_set, unwrap_or, arith}
+use Rattle.std.proofs.Common.{◌≡◌, ℕ, zero, suc, ◌<◌, ◌≤◌, Bool, true, false, not, eqb, [], ◌∷◌, nat_lt, is_some, Option, Some, None, refl, ap, subst, slice_get, unwrap_or, arith}
 use Rattle.std.proofs.lemmas.Bool.Decides.{nat_tests}
 use Rattle.ob_types.specs.Change.{change_between, is_writable, turn}
 use Rattle.ob_core.specs.AskFault.{is_held, idle_refusal, phase_refusal, refusal_of}
 use Rattle.ob_core.specs.FirstFault.{first_fault}
 use Rattle.ob_core.specs.LaneStep.{CanMake}
 use Rattle.ob_core.specs.CoreState.{CoreState}
-use Rattle.ob_core.specs.CoreStep.{core_after_step}
 use Rattle.ob_core.specs.Owed.{owed_by}
-use Rattle.ob_core.specs.Turn.{charge_step, discharge_step, idle_step, phase_step, step_of, lane_after_nothing, event_of_step, event_of, core_after}
+use Rattle.ob_core.specs.Turn.{charge_step, discharge_step, idle_step, phase_step, step_of, lane_after_nothing}
 use Rattle.ob_core.specs.declared.ask.Ask.{Ask}
 use Rattle.ob_core.specs.declared.ask.Ask.TheVariants.{Charge, Discharge, Bit, Word, Total, Go}
 use Rattle.ob_core.specs.declared.ask.Turn.{Turn}
 use Rattle.ob_core.specs.declared.ask_fault.AskFault.TheVariants.{NoRoom, Owing, NotHeld}
-use Rattle.ob_core.specs.declared.event.Event.TheVariants.{Nothing}
 use Rattle.ob_core.specs.declared.lane.Lane.{Lane}
 use Rattle.ob_core.specs.declared.lane.Phase.{Phase}
 use Rattle.ob_core.specs.declared.lane.Phase.TheVariants.{Idle, ToRaise, ToLower}
@@ -29,17 +27,21 @@ pub change_between-same : (word : ℕ) → change_between word word ≡ None
 change_between-same word = same_writability (is_writable word)
 
 -- a charge that is not refused is by a lane without a debt, within its room
-pub accepted_charge : (debt : Option ℕ) (room amount : ℕ) → first_fault ((is_some debt, Owing) ∷ (nat_lt room amount, NoRoom) ∷ []) ≡ None → (debt ≡ None) × (amount ≤ room)
+pub accepted_charge : (debt : Option ℕ) (room amount : ℕ)
+    → first_fault ((is_some debt, Owing) ∷ (nat_lt room amount, NoRoom) ∷ []) ≡ None → (debt ≡ None) × (amount ≤ room)
 accepted_charge None room amount accepted = (refl, grind (arith, nat_tests))
 accepted_charge (Some owed) room amount accepted = absurd (cc)
 
 -- the step of a charge
-pub charge_step-some : (amount : ℕ) (step : LaneStep) → charge_step amount ≡ Some step → (0 < amount) × (Add amount ≡ step)
+pub charge_step-some : (amount : ℕ) (step : LaneStep) → charge_step amount ≡ Some step
+    → (0 < amount) × (Add amount ≡ step)
 charge_step-some zero step some_step = absurd (cc)
-charge_step-some (suc amount) step some_step = let not_zero : eqb (suc amount) 0 ≡ false = grind (arith, nat_tests) in (omega arith, cc)
+charge_step-some (suc amount) step some_step =
+    let not_zero : eqb (suc amount) 0 ≡ false = grind (arith, nat_tests) in (omega arith, cc)
 
 -- the step of a discharge
-pub discharge_step-some : (debt : Option ℕ) (step : LaneStep) → discharge_step debt ≡ Some step → (amount : ℕ) × (debt ≡ Some amount) × (0 < amount) × (Subtract amount ≡ step)
+pub discharge_step-some : (debt : Option ℕ) (step : LaneStep) → discharge_step debt ≡ Some step
+    → (amount : ℕ) × (debt ≡ Some amount) × (0 < amount) × (Subtract amount ≡ step)
 discharge_step-some None step some_step = absurd (cc)
 discharge_step-some (Some zero) step some_step = absurd (cc)
 discharge_step-some (Some (suc amount)) step some_step =
@@ -50,7 +52,8 @@ pub accepted_bit : (held : Bool) → first_fault ((not held, NotHeld) ∷ []) �
 accepted_bit true accepted = refl
 accepted_bit false accepted = absurd (cc)
 
-can_make_idle : (lane : Lane) (ask : Ask) (step : LaneStep) → lane.phase ≡ Idle → idle_refusal lane ask ≡ None → idle_step lane ask ≡ Some step → CanMake lane step
+can_make_idle : (lane : Lane) (ask : Ask) (step : LaneStep) → lane.phase ≡ Idle → idle_refusal lane ask ≡ None
+    → idle_step lane ask ≡ Some step → CanMake lane step
 can_make_idle lane (Charge amount) step idle accepted some_step =
     let within = accepted_charge lane.debt lane.room amount accepted in
     let is_add = charge_step-some amount step some_step in
@@ -64,17 +67,23 @@ can_make_idle lane (Bit index true) step idle accepted some_step =
 can_make_idle lane (Bit index false) step idle accepted some_step =
     let is_set : SetBit index ≡ step = cc in
     subst (CanMake lane) is_set (idle, accepted_bit (is_held lane index) accepted)
-can_make_idle lane Word step idle accepted some_step = let is_load : LoadWord ≡ step = cc in subst (CanMake lane) is_load idle
-can_make_idle lane Total step idle accepted some_step = let is_load : LoadTotal ≡ step = cc in subst (CanMake lane) is_load idle
+can_make_idle lane Word step idle accepted some_step =
+    let is_load : LoadWord ≡ step = cc in subst (CanMake lane) is_load idle
+can_make_idle lane Total step idle accepted some_step =
+    let is_load : LoadTotal ≡ step = cc in subst (CanMake lane) is_load idle
 can_make_idle lane Go step idle accepted some_step = absurd (cc)
 
-can_make_in : (phase : Phase) (lane : Lane) (ask : Ask) (step : LaneStep) → lane.phase ≡ phase → phase_refusal phase lane ask ≡ None → phase_step phase lane ask ≡ Some step → CanMake lane step
+can_make_in : (phase : Phase) (lane : Lane) (ask : Ask) (step : LaneStep) → lane.phase ≡ phase
+    → phase_refusal phase lane ask ≡ None → phase_step phase lane ask ≡ Some step → CanMake lane step
 can_make_in Idle lane ask step here accepted some_step = can_make_idle lane ask step here accepted some_step
-can_make_in ToRaise lane ask step here accepted some_step = let is_raise : Raise ≡ step = cc in subst (CanMake lane) is_raise here
-can_make_in ToLower lane ask step here accepted some_step = let is_lower : Lower ≡ step = cc in subst (CanMake lane) is_lower here
+can_make_in ToRaise lane ask step here accepted some_step =
+    let is_raise : Raise ≡ step = cc in subst (CanMake lane) is_raise here
+can_make_in ToLower lane ask step here accepted some_step =
+    let is_lower : Lower ≡ step = cc in subst (CanMake lane) is_lower here
 
 -- a step that follows an ask that is not refused is one that the lane may make
-pub can_make-step_of : (lane : Lane) (ask : Ask) (step : LaneStep) → refusal_of lane ask ≡ None → step_of lane ask ≡ Some step → CanMake lane step
+pub can_make-step_of : (lane : Lane) (ask : Ask) (step : LaneStep) → refusal_of lane ask ≡ None
+    → step_of lane ask ≡ Some step → CanMake lane step
 can_make-step_of lane ask step accepted some_step = can_make_in lane.phase lane ask step refl accepted some_step
 
 -- a lane has its turn, and its ask is not refused
@@ -82,33 +91,23 @@ pub record HasTurn (core : CoreState) (turn : Turn) (lane : Lane) : Type 0 where
   pub is_lane : slice_get core.lanes turn.lane ≡ Some lane
   pub accepted : refusal_of lane turn.ask ≡ None
 
--- such a turn, where the ask is a step
-pub event_of-step : (core : CoreState) (turn : Turn) (lane : Lane) (step : LaneStep) → HasTurn core turn lane → step_of lane turn.ask ≡ Some step → event_of core turn ≡ event_of_step step
-event_of-step core turn lane step has some_step = rw (has.is_lane, has.accepted, some_step)
-
-pub core_after-step : (core : CoreState) (turn : Turn) (lane : Lane) (step : LaneStep) → HasTurn core turn lane → step_of lane turn.ask ≡ Some step → core_after core turn ≡ core_after_step core turn.lane lane step
-core_after-step core turn lane step has some_step = rw (has.is_lane, has.accepted, some_step)
-
--- such a turn, where it is none
-pub event_of-nothing : (core : CoreState) (turn : Turn) (lane : Lane) → HasTurn core turn lane → step_of lane turn.ask ≡ None → event_of core turn ≡ Nothing
-event_of-nothing core turn lane has no_step = rw (has.is_lane, has.accepted, no_step)
-
-pub core_after-nothing : (core : CoreState) (turn : Turn) (lane : Lane) → HasTurn core turn lane → step_of lane turn.ask ≡ None → core_after core turn ≡ record core { lanes = slice_set core.lanes turn.lane (lane_after_nothing lane turn.ask) }
-core_after-nothing core turn lane has no_step = rw (has.is_lane, has.accepted, no_step)
-
 -- an ask that is no step leaves what the lane owes as it is: it owes 0 before and after
 charge_step-none : (amount : ℕ) → charge_step amount ≡ None → amount ≡ 0
 charge_step-none zero no_step = refl
-charge_step-none (suc amount) no_step = let not_zero : eqb (suc amount) 0 ≡ false = grind (arith, nat_tests) in absurd (cc)
+charge_step-none (suc amount) no_step =
+    let not_zero : eqb (suc amount) 0 ≡ false = grind (arith, nat_tests) in absurd (cc)
 
 discharge_step-none : (debt : Option ℕ) → discharge_step debt ≡ None → 0 ≡ unwrap_or debt 0
 discharge_step-none None no_step = refl
 discharge_step-none (Some zero) no_step = refl
-discharge_step-none (Some (suc amount)) no_step = let not_zero : eqb (suc amount) 0 ≡ false = grind (arith, nat_tests) in absurd (cc)
+discharge_step-none (Some (suc amount)) no_step =
+    let not_zero : eqb (suc amount) 0 ≡ false = grind (arith, nat_tests) in absurd (cc)
 
-owed_after_idle : (lane : Lane) (ask : Ask) → idle_refusal lane ask ≡ None → idle_step lane ask ≡ None → owed_by (lane_after_nothing lane ask) ≡ owed_by lane
+owed_after_idle : (lane : Lane) (ask : Ask) → idle_refusal lane ask ≡ None → idle_step lane ask ≡ None
+    → owed_by (lane_after_nothing lane ask) ≡ owed_by lane
 owed_after_idle lane (Charge amount) accepted no_step =
-    let no_debt : owed_by lane ≡ 0 = ap (λ debt. unwrap_or debt 0) (accepted_charge lane.debt lane.room amount accepted).0 in
+    let no_debt : owed_by lane ≡ 0 =
+    ap (λ debt. unwrap_or debt 0) (accepted_charge lane.debt lane.room amount accepted).0 in
     omega (arith, no_debt, charge_step-none amount no_step)
 owed_after_idle lane Discharge accepted no_step = discharge_step-none lane.debt no_step
 owed_after_idle lane (Bit index writable) accepted no_step = refl
@@ -116,12 +115,14 @@ owed_after_idle lane Word accepted no_step = refl
 owed_after_idle lane Total accepted no_step = refl
 owed_after_idle lane Go accepted no_step = refl
 
-owed_after_in : (phase : Phase) (lane : Lane) (ask : Ask) → phase_refusal phase lane ask ≡ None → phase_step phase lane ask ≡ None → owed_by (lane_after_nothing lane ask) ≡ owed_by lane
+owed_after_in : (phase : Phase) (lane : Lane) (ask : Ask) → phase_refusal phase lane ask ≡ None
+    → phase_step phase lane ask ≡ None → owed_by (lane_after_nothing lane ask) ≡ owed_by lane
 owed_after_in Idle lane ask accepted no_step = owed_after_idle lane ask accepted no_step
 owed_after_in ToRaise lane ask accepted no_step = absurd (cc)
 owed_after_in ToLower lane ask accepted no_step = absurd (cc)
 
-pub owed_by-lane_after_nothing : (lane : Lane) (ask : Ask) → refusal_of lane ask ≡ None → step_of lane ask ≡ None → owed_by (lane_after_nothing lane ask) ≡ owed_by lane
+pub owed_by-lane_after_nothing : (lane : Lane) (ask : Ask) → refusal_of lane ask ≡ None → step_of lane ask ≡ None
+    → owed_by (lane_after_nothing lane ask) ≡ owed_by lane
 owed_by-lane_after_nothing lane ask accepted no_step = owed_after_in lane.phase lane ask accepted no_step
 
 -- and it leaves the rest of the lane

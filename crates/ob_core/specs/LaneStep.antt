@@ -33,8 +33,10 @@ word_after LoadTotal word = word
 -- the lane after its step, where `total` is the total after that step: an add that passes the high mark leaves the
 -- mark to be raised, a subtract that comes below the low mark leaves it to be lowered, and both are steps of their own
 abbrev pub lane_after : LaneStep → Marks → ℕ → Lane → Lane
-lane_after (Add amount) marks total lane = record lane { debt = Some amount; phase = if nat_lt marks.high total then ToRaise else Idle }
-lane_after (Subtract amount) marks total lane = record lane { debt = None; phase = if nat_lt total marks.low then ToLower else Idle }
+lane_after (Add amount) marks total lane =
+    record lane { debt = Some amount; phase = if nat_lt marks.high total then ToRaise else Idle }
+lane_after (Subtract amount) marks total lane =
+    record lane { debt = None; phase = if nat_lt total marks.low then ToLower else Idle }
 lane_after Raise marks total lane = record lane { phase = Idle }
 lane_after Lower marks total lane = record lane { phase = Idle }
 lane_after (SetBit index) marks total lane = record lane { raised = with_bit lane.raised index }

@@ -14,4 +14,5 @@ pub mod Run
 pub mod Shares
 pub mod Sound
 pub mod Turn
+pub mod Worked
 pub mod WorldFault

@@ -87,7 +87,8 @@ event_of core turn =
 
 -- the core state after an ask that is not refused
 abbrev pub core_after_ask : CoreState → ℕ → Lane → Ask → Option LaneStep → CoreState
-core_after_ask core index lane ask None = record core { lanes = slice_set core.lanes index (lane_after_nothing lane ask) }
+core_after_ask core index lane ask None =
+    record core { lanes = slice_set core.lanes index (lane_after_nothing lane ask) }
 core_after_ask core index lane ask (Some step) = core_after_step core index lane step
 
 -- the core state after an ask, by its refusal: a refused ask changes nothing

@@ -1,3 +1,5 @@
+mod worked;
+
 use super::*;
 use crate::ask::Ask::{Bit, Charge, Discharge, Go, Total, Word};
 use crate::ask_fault::AskFault::{NoRoom, NotHeld, NotInside, NotOwing, Owing, UnknownLane};

@@ -81,7 +81,12 @@ module _ (opening : Opening) (seat : Seat (Unit {0}) Facts) (total word : ℕ) (
   pub runs : (lane : RunningLane) → lane.words.opening ≡ opening → lane.lane ≡ facts.lane → lane.made ≡ facts.made → EndsRun lane total word
   runs lane same_opening same_lane same_made =
       let here = stands opening end.state seat.id facts end.ruled end.at in
-      (core opening end.state, rw (same_opening, same_lane, same_made) here, end.total_is, end.word_is)
+      record {
+        core = core opening end.state;
+        in_run = rw (same_opening, same_lane, same_made) here;
+        total_is = end.total_is;
+        word_is = end.word_is;
+      }
 
   -- each lane is within its room
   lane_within : (at : ℕ) (lane : Lane) → slice_get lanes at ≡ Some lane → IsWithinRoom lane

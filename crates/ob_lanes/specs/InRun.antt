@@ -16,11 +16,13 @@ pub record IsInRun (opening : Opening) (core : CoreState) (lane : Lane) (made : 
   pub is_lane : slice_get core.lanes seat ≡ Some lane
   pub is_made : own_steps seat moves ≡ made
 
--- a running lane is one of the lanes of a core state that some run leads to, and what it has made are its own steps in it
+-- a running lane is one of the lanes of a core state that some run leads to, and its own steps are those in that run
 abbrev pub StandsInRun : RunningLane → Type 0
 StandsInRun lane = (core : CoreState) × IsInRun lane.words.opening core lane.lane lane.made
 
 -- the same of a core state with this total and this word
-abbrev pub EndsRun : RunningLane → ℕ → ℕ → Type 0
-EndsRun lane total word =
-    (core : CoreState) × IsInRun lane.words.opening core lane.lane lane.made × (core.total ≡ total) × (core.word ≡ word)
+pub record EndsRun (lane : RunningLane) (total word : ℕ) : Type 0 where
+  pub core : CoreState
+  pub in_run : IsInRun lane.words.opening core lane.lane lane.made
+  pub total_is : core.total ≡ total
+  pub word_is : core.word ≡ word

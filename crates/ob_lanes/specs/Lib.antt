@@ -2,6 +2,7 @@ pub mod Bit
 pub mod Charge
 pub mod Divided
 pub mod Facts
+pub mod Fields
 pub mod InRun
 pub mod Inside
 pub mod Joined

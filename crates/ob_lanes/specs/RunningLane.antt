@@ -1,5 +1,5 @@
 -- What a contract sees of a running lane, and of the words that it steps on.
-use Rattle.std.specs.Prelude.{◌≡◌, ℕ, List}
+use Rattle.std.specs.Prelude.{◌≡◌, ◌-◌, ℕ, List}
 use Rattle.std.specs.Int.{bit_at}
 use Rattle.atomic_table.specs.Seated.{TableId}
 use Rattle.ob_core.specs.declared.lane.Lane.{Lane}
@@ -16,6 +16,10 @@ pub record RunningLane : Type 0 where
   pub words : WordsValue
   pub lane : Lane
   pub made : List Made
+
+-- the room that is not the lane's
+abbrev pub room_outside : RunningLane → ℕ
+room_outside lane = lane.words.opening.room - lane.lane.room
 
 -- of the bits that a lane holds, the word shows exactly those that it has raised
 abbrev pub ShowsHeld : Lane → ℕ → Type 0

@@ -19,7 +19,8 @@ are_held bits held = bit_or held bits == held
 
 -- the first refusal of a split that asks for this room and these bits, or none
 abbrev pub split_fault : Lane → ℕ → ℕ → Option SplitFault
-split_fault lane room bits = first_fault ((nat_lt lane.room room, NoRoom) ∷ (not (are_held bits lane.held), NotHeld) ∷ [])
+split_fault lane room bits =
+    first_fault ((nat_lt lane.room room, NoRoom) ∷ (not (are_held bits lane.held), NotHeld) ∷ [])
 
 -- two lanes that are free have together the room and the bits of the lane that was split; the second has this room and
 -- these bits, raised where they were

@@ -5,12 +5,17 @@ use Rattle.atomic_table.specs.Table.{Me, Step}
 use Rattle.ob_core.specs.CoreState.{CoreState}
 use Rattle.ob_core.specs.Owed.{owed_by}
 use Rattle.ob_core.specs.declared.lane_step.LaneStep.{LaneStep}
-use Rattle.ob_core.specs.declared.lane_step.LaneStep.TheVariants.{Add, Subtract, Raise, Lower, SetBit, ClearBit, LoadWord, LoadTotal}
+use Rattle.ob_core.specs.declared.lane_step.LaneStep.TheVariants.{Add, Subtract, Raise, Lower, SetBit, ClearBit}
+use Rattle.ob_core.specs.declared.lane_step.LaneStep.TheVariants.{LoadWord, LoadTotal}
 use Rattle.atomic_table.specs.declared.shared.Seat.{Seat}
 use Rattle.ob_lanes.specs.Facts.{facts_after}
 use Rattle.ob_lanes.specs.InRun.{IsInRun}
 use Rattle.ob_lanes.specs.RunningLane.{WordsValue, ShowsHeld}
 use Rattle.ob_lanes.specs.declared.facts.Facts.{Facts}
+
+-- what a seat knows, and the slots that it has
+abbrev pub Knows : Type 0
+Knows = Me (Unit {0}) Facts
 
 -- a total that a lane finds is at least its debt, and at most that and all room outside the lane
 pub record TotalTold (facts : Facts) (total : ℕ) : Type 0 where
@@ -39,20 +44,20 @@ KnowsItsRun facts = (core : CoreState) × IsInRun facts.opening core facts.lane 
 
 -- the step leaves the lane as the core says, is one more of its own steps in some run, and tells what the
 -- value found tells
-pub record Told (step : LaneStep) (old : Me (Unit {0}) Facts) (found : ℕ) (new : Me (Unit {0}) Facts) : Type 0 where
+pub record Told (step : LaneStep) (old : Knows) (found : ℕ) (new : Knows) : Type 0 where
   pub after : new.0 ≡ facts_after step found old.0
   pub slots : new.1 ≡ old.1
   pub run : KnowsItsRun new.0
   pub tells : Tells step old.0 found
 
 -- a step that sets a bit tells so of the bit that its mask is
-pub record ToldSetting (step : Step (Unit {0})) (old : Me (Unit {0}) Facts) (found : ℕ) (new : Me (Unit {0}) Facts) : Type 0 where
+pub record ToldSetting (step : Step (Unit {0})) (old : Knows) (found : ℕ) (new : Knows) : Type 0 where
   pub index : ℕ
   pub mask : step.first ≡ 2 ^ index
   pub told : Told (SetBit index) old found new
 
 -- a step that clears a bit tells so of the bit that its mask leaves out
-pub record ToldClearing (step : Step (Unit {0})) (old : Me (Unit {0}) Facts) (found : ℕ) (new : Me (Unit {0}) Facts) : Type 0 where
+pub record ToldClearing (step : Step (Unit {0})) (old : Knows) (found : ℕ) (new : Knows) : Type 0 where
   pub index : ℕ
   pub within : index < 64
   pub mask : step.first ≡ bit_not w64 (2 ^ index)

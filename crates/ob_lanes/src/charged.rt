@@ -5,7 +5,9 @@ use crate::facts::Facts;
 use atomic_table::Seat;
 use std::marker::Model;
 
-/// A lane that has charged.
+/// A lane between a charge and its discharge. It may go to another thread, and be discharged there.
+///
+/// One that is dropped keeps its charge in the total, and its room, for good: `finish` is refused from then on.
 #[derive(Drop)]
 pub struct Charged {
     pub(crate) seat: Seat<(), Facts>,
@@ -15,12 +17,11 @@ pub struct Charged {
 }
 
 impl Model for Charged {
-    ghost use Rattle.std.specs.Prelude.{◌≡◌, []};
-    ghost use Rattle.ob_core.specs.declared.lane.Phase.TheVariants.{Idle};
-    ghost use Rattle.ob_lanes.specs.Charge.{debt_of};
     ghost use Rattle.ob_lanes.specs.RunningLane.{RunningLane};
 
     ghost Value = { RunningLane };
+
+    ghost use Rattle.ob_lanes.specs.Fields.{IsCharged};
 
     ghost view = { λ l. record {
       words = record { table_id = l.seat.table_id; opening = l.seat.me.0.opening };
@@ -28,5 +29,5 @@ impl Model for Charged {
       made = l.seat.me.0.made;
     } };
 
-    ghost invariant = { λ l. (l.seat.me.1 ≡ []) × (l.seat.me.0.lane.room ≡ l.room) × (l.seat.me.0.lane.held ≡ l.held) × (l.seat.me.0.lane.phase ≡ Idle) × (l.seat.me.0.lane.debt ≡ debt_of l.owed) };
+    ghost invariant = { IsCharged };
 }

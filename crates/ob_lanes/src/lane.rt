@@ -9,7 +9,9 @@ use crate::facts::Facts;
 use atomic_table::Seat;
 use std::marker::Model;
 
-/// A lane that owes nothing.
+/// A lane that owes nothing. It may go to another thread.
+///
+/// A lane that is dropped keeps its room and its bits for good: `finish` is refused from then on.
 #[derive(Drop)]
 pub struct Lane {
     pub(crate) seat: Seat<(), Facts>,
@@ -18,11 +20,11 @@ pub struct Lane {
 }
 
 impl Model for Lane {
-    ghost use Rattle.std.specs.Prelude.{◌≡◌, [], None};
-    ghost use Rattle.ob_core.specs.declared.lane.Phase.TheVariants.{Idle};
     ghost use Rattle.ob_lanes.specs.RunningLane.{RunningLane};
 
     ghost Value = { RunningLane };
+
+    ghost use Rattle.ob_lanes.specs.Fields.{IsLane};
 
     ghost view = { λ l. record {
       words = record { table_id = l.seat.table_id; opening = l.seat.me.0.opening };
@@ -30,5 +32,5 @@ impl Model for Lane {
       made = l.seat.me.0.made;
     } };
 
-    ghost invariant = { λ l. (l.seat.me.1 ≡ []) × (l.seat.me.0.lane.room ≡ l.room) × (l.seat.me.0.lane.held ≡ l.held) × (l.seat.me.0.lane.phase ≡ Idle) × (l.seat.me.0.lane.debt ≡ None) };
+    ghost invariant = { IsLane };
 }

@@ -1,5 +1,9 @@
-//! The two words of an outbound buffer on real threads: lanes charge and discharge bytes in flight by single atomic
-//! steps, take no lock, and never try again. Each step is one step of the core of `ob_core`.
+//! The two words of an outbound buffer on real threads: lanes charge and discharge bytes in flight by one or two atomic
+//! operations a call, take no lock, and never try again.
+//!
+//! Netty has these words in `totalPendingSize` and `unwritable`. Here each atomic operation is one step of the core of
+//! `ob_core`, whatever the schedule: between any two of them the words and the lanes are a core state that some run of
+//! the core leads to. What holds of every such run holds of these threads.
 #![tactic(auto)]
 
 mod change;

@@ -9,7 +9,10 @@ use atomic_table::Table;
 use ob_types::{Refusal, WaterMark};
 use std::alloc::Global;
 
-/// Two words, and the lane that has the whole room and all bits.
+/// Two words, both 0, and the lane that has the whole room and all bits, none of which it has set.
+///
+/// `room` is the most bytes that all lanes together may owe at a time, and `bits` the mask of the user bits, with an
+/// index of 1 to 31 each. `NoMemory` comes only where the allocator refuses; no later call takes memory.
 pub fn lanes(
     alloc: Global,
     marks: WaterMark,

@@ -11,7 +11,10 @@ use atomic_table::Table;
 use std::alloc::Global;
 use std::marker::Model;
 
-/// The two words that the lanes step on: the total, and the word with the bits. Threads share it by reference.
+/// The two words that lanes step on: the total, and the word with the bits, each in a cache line of its own.
+///
+/// Threads share them by reference. Which words they are is part of what a contract sees of them and of a lane: each
+/// call wants the words that its lane came from.
 #[derive(Drop)]
 pub struct Words {
     pub(crate) table: Table<(), Facts, Opening, Rule, Global>,

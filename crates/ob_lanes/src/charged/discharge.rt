@@ -10,7 +10,10 @@ use crate::words::Words;
 use ob_types::Change;
 
 impl Charged {
-    /// Takes the bytes off the total.
+    /// Takes the bytes off the total and, where that comes below the low mark, clears bit 0 of the word.
+    ///
+    /// The change is `Writable` where this call cleared bit 0 and found no other bit set, and else none. The discharge
+    /// of a charge of 0 touches no word. It never fails.
     pub fn discharge(self, words: &Words) -> (Lane, Option<Change>)
         requires { self.words ≡ words.now }
         ensures words { result.0.words ≡ self.words }

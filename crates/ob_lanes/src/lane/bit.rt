@@ -11,7 +11,10 @@ use crate::words::Words;
 use ob_types::Change;
 
 impl Lane {
-    /// Sets or clears a user bit that the lane holds.
+    /// Sets the user bit with this index, or clears it where it is to be `writable` (Netty's user-defined writability).
+    ///
+    /// The change is that between the word that it found and the word that it left. `NotHeld` comes exactly where the
+    /// lane does not hold the bit, so also for an index outside 1 to 31, and changes nothing.
     pub fn bit(
         &mut self,
         words: &Words,

@@ -10,7 +10,11 @@ use crate::words::Words;
 use ob_types::Change;
 
 impl Lane {
-    /// Adds bytes to the total.
+    /// Adds bytes to the total and, where that passes the high mark, sets bit 0 of the word.
+    ///
+    /// The change is `Unwritable` where this call set bit 0 and found no bit set, and else none. `NoRoom` comes exactly
+    /// where the amount is above the lane's room, and hands the lane back as it was. A charge of 0 touches no word.
+    /// Between the two steps other lanes may make theirs, so the mark may be lost above high while something is owed.
     pub fn charge(
         self,
         words: &Words,

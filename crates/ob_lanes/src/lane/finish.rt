@@ -9,7 +9,10 @@ use crate::fault::RoomOut;
 use crate::words::Words;
 
 impl Lane {
-    /// Ends the words, and tells what is in them.
+    /// Ends the words, and tells the total, which is 0 then, and the word.
+    ///
+    /// `RoomOut` comes exactly where the lane has less than the whole room, and hands back what came in. Bit 0 is clear
+    /// where the low mark is positive; at a low mark of 0 nothing ever clears it.
     pub fn finish(self, words: Words) -> Result<(u64, u32), (Words, Lane, RoomOut)>
         requires { self.words ≡ words }
         ensures room_out { self.lane.room < words.opening.room →

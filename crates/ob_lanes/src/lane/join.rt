@@ -6,7 +6,9 @@ use crate::words::Words;
 use std::marker::Brand;
 
 impl Lane {
-    /// Takes in the room and the bits of another lane.
+    /// One lane with the room and the bits of both, set as they were. Its own steps are those of the first lane.
+    ///
+    /// The rooms of two lanes never add up to more than the whole room.
     pub fn join(self, words: &Words, other: Lane) -> Lane
         requires words { self.words ≡ words.now }
         requires other { other.words ≡ words.now }

@@ -1,15 +1,16 @@
-ghost use Rattle.std.specs.Prelude.{◌≡◌, ◌≤◌, ◌+◌, ◌-◌, ◌++◌};
+ghost use Rattle.std.specs.Prelude.{◌≡◌, ◌≤◌, ◌+◌, ◌++◌};
 ghost use Rattle.ob_core.specs.Owed.{owed_by};
 ghost use Rattle.ob_core.specs.declared.lane_step.LaneStep.TheVariants.{LoadTotal, LoadWord};
 ghost use Rattle.ob_lanes.specs.Facts.{one_step};
 ghost use Rattle.ob_lanes.specs.InRun.{StandsInRun};
-ghost use Rattle.ob_lanes.specs.RunningLane.{ShowsHeld};
+ghost use Rattle.ob_lanes.specs.RunningLane.{ShowsHeld, room_outside};
 
 use super::Lane;
 use crate::words::Words;
 
 impl Lane {
-    /// The total, read in one step.
+    /// The bytes that all lanes owe, read in one step: at least what this lane owes, and at most that and all room
+    /// outside the lane.
     pub fn total(&mut self, words: &Words) -> u64
         requires { self.old.words ≡ words.now }
         ensures words { self.new.words ≡ self.old.words }
@@ -17,12 +18,12 @@ impl Lane {
         ensures made { self.new.made ≡ self.old.made ++ one_step LoadTotal result }
         ensures run { StandsInRun self.new }
         ensures least { owed_by self.old.lane ≤ result }
-        ensures most { result ≤ owed_by self.old.lane + (self.old.words.opening.room - self.old.lane.room) }
+        ensures most { result ≤ owed_by self.old.lane + room_outside self.old }
     {
         words.load_total(&mut self.seat)
     }
 
-    /// The word, read in one step.
+    /// The word, read in one step: writable is 0. Of the bits that the lane holds, it shows exactly those that it set.
     pub fn word(&mut self, words: &Words) -> u32
         requires { self.old.words ≡ words.now }
         ensures words { self.new.words ≡ self.old.words }

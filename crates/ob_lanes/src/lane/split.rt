@@ -7,7 +7,10 @@ use crate::words::Words;
 use std::marker::Brand;
 
 impl Lane {
-    /// Gives part of the room and of the bits to a new lane.
+    /// Gives this much of the room, and these bits, to a new lane. The bits go as they are, set or not.
+    ///
+    /// `NoRoom` comes where the lane has less room, and then `NotHeld` where it does not hold one of the bits; both hand
+    /// the lane back as it was. The new lane has made no step.
     pub fn split(
         self,
         words: &Words,

@@ -1,7 +1,8 @@
 //! One atomic step each, made by the lane whose seat is passed.
 ghost use Rattle.std.specs.Prelude.{◌≡◌, ◌+◌, ◌<◌, ◌^◌};
 ghost use Rattle.ob_core.specs.LaneStep.{CanMake};
-ghost use Rattle.ob_core.specs.declared.lane_step.LaneStep.TheVariants.{Add, Subtract, Raise, Lower, SetBit, ClearBit, LoadWord, LoadTotal};
+ghost use Rattle.ob_core.specs.declared.lane_step.LaneStep.TheVariants.{Add, Subtract, Raise, Lower};
+ghost use Rattle.ob_core.specs.declared.lane_step.LaneStep.TheVariants.{SetBit, ClearBit, LoadWord, LoadTotal};
 ghost use Rattle.ob_lanes.specs.Told.{Told, IsSeatOf, IsSameSeat};
 
 use super::Words;

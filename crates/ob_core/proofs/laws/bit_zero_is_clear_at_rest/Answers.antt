@@ -5,5 +5,6 @@ use Rattle.ob_core.proofs.laws.bit_zero_is_clear_at_rest.Goals as goal
 
 pub returns : goal.returns
 returns c = record {
-  clear = λ marks starts turns low nothing quiet. clear_at_rest (opening_of marks starts) (core_after_all (new_core marks starts) turns) (BytesAgree-all marks starts turns) low nothing quiet;
+  clear = λ marks starts turns low nothing quiet. clear_at_rest (opening_of marks starts)
+      (core_after_all (new_core marks starts) turns) (BytesAgree-all marks starts turns) low nothing quiet;
 }

@@ -5,5 +5,6 @@ use Rattle.ob_core.proofs.laws.accounts.a_division_keeps_the_accounts.Goals as g
 
 pub returns : goal.returns
 returns c = record {
-  kept = λ opening old new index kept given made accounts. subst (AccountsHold opening) (sym made.after) (AccountsHold-division opening old index made.lane kept given made.is_lane made.shares accounts);
+  kept = λ opening old new index kept given made accounts. subst (AccountsHold opening) (sym made.after)
+      (AccountsHold-division opening old index made.lane kept given made.is_lane made.shares accounts);
 }

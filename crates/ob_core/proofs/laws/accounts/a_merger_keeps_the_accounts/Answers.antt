@@ -5,5 +5,7 @@ use Rattle.ob_core.proofs.laws.accounts.a_merger_keeps_the_accounts.Goals as goa
 
 pub returns : goal.returns
 returns c = record {
-  kept = λ opening old new index other both made accounts. subst (AccountsHold opening) (sym made.after) (AccountsHold-merger opening old index other made.lane made.other_lane both (record { is_lane = made.is_lane; is_other = made.is_other; apart = made.apart }) made.shares accounts);
+  kept = λ opening old new index other both made accounts. subst (AccountsHold opening) (sym made.after)
+      (AccountsHold-merger opening old index other made.lane made.other_lane both
+      (record { is_lane = made.is_lane; is_other = made.is_other; apart = made.apart }) made.shares accounts);
 }

@@ -2,4 +2,7 @@ use Rattle.ob_core.proofs.AccountsLemmas.{shown-held}
 use Rattle.ob_core.proofs.laws.accounts.accounts_show_held_bits.Goals as goal
 
 pub returns : goal.returns
-returns c = record { shown = λ opening core index lane bit accounts is_lane held. shown-held opening core index lane bit accounts.bits is_lane held }
+returns c = record {
+  shown = λ opening core index lane bit accounts is_lane held.
+      shown-held opening core index lane bit accounts.bits is_lane held;
+}

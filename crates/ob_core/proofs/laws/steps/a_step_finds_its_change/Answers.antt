@@ -6,5 +6,6 @@ use Rattle.ob_core.proofs.laws.steps.a_step_finds_its_change.Goals as goal
 
 pub returns : goal.returns
 returns c = record {
-  change = λ old new index step made. change_found-between step old ∙ sym (ap (λ (core : CoreState). change_between old.word core.word) made.after);
+  change = λ old new index step made. change_found-between step old ∙ sym
+      (ap (λ (core : CoreState). change_between old.word core.word) made.after);
 }

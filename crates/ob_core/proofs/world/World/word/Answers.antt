@@ -6,6 +6,13 @@ use Rattle.ob_core.proofs.world.World.word.Goals as goal
 
 pub returns-clause-at_rest : goal.returns-clause-at_rest
 returns-clause-at_rest c =
-    let core : CoreState = record { total = c.self.inside.total; word = c.self.inside.word; marks = c.self.inside.marks; lanes = c.self.inside.lanes.items } in
+    let core : CoreState = record {
+      total = c.self.inside.total;
+      word = c.self.inside.word;
+      marks =
+          c.self.inside.marks;
+      lanes = c.self.inside.lanes.items;
+    } in
     let bytes = c.self.invariant.accounts.bytes in
-    rw (← c.self.view_is) (λ low nothing quiet. clear_at_rest c.self.invariant.opening core bytes (omega (arith, low, ap (λ (m : Marks). m.low) bytes.marks)) nothing quiet)
+    rw (← c.self.view_is) (λ low nothing quiet. clear_at_rest c.self.invariant.opening core bytes
+    (omega (arith, low, ap (λ (m : Marks). m.low) bytes.marks)) nothing quiet)

@@ -4,14 +4,14 @@ use Rattle.ob_lanes.proofs.Ends.{nothing_left, mark_clear, held_shown, foreign_c
 use Rattle.ob_lanes.proofs.lane.Lane.finish.Goals as goal
 
 free : (c : goal.After-end-total) → IsFree c.self.inside.seat.me.0.lane
-free c = record { idle = c.self.invariant.3; debt = c.self.invariant.4 }
+free c = record { idle = c.self.invariant.idle; debt = c.self.invariant.debt }
 
 whole : (c : goal.After-end-total) → c.args.words.opening.room ≤ c.self.inside.seat.me.0.lane.room
 whole c =
     let read : c.words-inside.inside.0.1.0.room ≡ c.words.inside.opening.room = ap (λ w. w.opening.room) c.words-inside.view_is in
     let seen : c.words.inside.opening.room ≡ c.args.words.opening.room = ap (λ w. w.opening.room) c.words.view_is in
     let enough = c.if-self-words.false in
-    let mine = c.self.invariant.1 in
+    let mine = c.self.invariant.room in
     omega (arith, read, seen, enough, mine)
 
 pub overflow_cast-result : goal.overflow_cast-result

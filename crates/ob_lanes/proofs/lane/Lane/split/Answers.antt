@@ -6,8 +6,8 @@ pub returns-clause-shares : goal.returns-clause-shares
 returns-clause-shares c =
     let seats = c.divide_seat-other.ensures in
     let mine = c.self.inside.seat.me.0.lane in
-    let room = c.self.invariant.1 in
-    let held = c.self.invariant.2 in
+    let room = c.self.invariant.room in
+    let held = c.self.invariant.held in
     let has_room = c.if-room-self.false in
     let enough : c.args.room ≤ mine.room = omega (arith, room, has_room) in
     let among : bit_or mine.held c.args.bits ≡ mine.held = rw held c.if-self-bits.false in

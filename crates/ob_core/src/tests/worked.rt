@@ -1,0 +1,33 @@
+//! The definitions, computed on small core states and steps.
+
+ghost use Rattle.ob_core.specs.Worked.{GoodAccounts, WrongTotal, ShownAndNotRaised, RaisedAndNotShown, HeldTwice, RaisedAndNotHeld, LostRoom, ForgottenMark, RaisingNothing, BitGiven, BitGivenAndKept, Finds, Changes, WideBits};
+
+fn worked_accounts()
+    ensures good { GoodAccounts }
+    ensures wrong_total { WrongTotal }
+    ensures shown_and_not_raised { ShownAndNotRaised }
+    ensures raised_and_not_shown { RaisedAndNotShown }
+    ensures held_twice { HeldTwice }
+    ensures raised_and_not_held { RaisedAndNotHeld }
+    ensures lost_room { LostRoom }
+    ensures forgotten_mark { ForgottenMark }
+    ensures raising_nothing { RaisingNothing }
+{}
+
+fn worked_shares()
+    ensures bit_given { BitGiven }
+    ensures bit_given_and_kept { BitGivenAndKept }
+{}
+
+fn worked_steps()
+    ensures finds { Finds }
+    ensures changes { Changes }
+    ensures wide_bits { WideBits }
+{}
+
+#[test]
+fn definitions_give_the_worked_rows() {
+    worked_accounts();
+    worked_shares();
+    worked_steps();
+}
