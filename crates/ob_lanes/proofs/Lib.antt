@@ -1,0 +1,7 @@
+mod KeptAccounts
+mod Ends
+mod Halves
+mod Masks
+mod Seats
+mod Views
+mod Moves

@@ -1,0 +1,67 @@
+-- Views, read by the table's way to index a list and by std's; and what each seat has made.
+use Rattle.std.proofs.Common.{◌≡◌, ◌≢◌, ℕ, zero, suc, ◌+◌, ◌≤◌, List, [], ◌∷◌, ◌++◌, map, set, cond, eqb, sym, refl, ap, ◌∙◌, arith, Some}
+use Rattle.std.proofs.Math.Dec.{eqb-suc-zero, eqb-zero-suc, eqb-suc-suc}
+use Rattle.std.proofs.lemmas.List.{append-nil}
+use Rattle.std.proofs.lemmas.List.Sums.{sum_by-cons, get_or-le-sum_by}
+use Rattle.std.proofs.lemmas.Option.{slice_get_within, get_or_from_slice_get, same_Some}
+use mathlib.Core.Option.{some, some-injective, some-ne-none}
+use lib.ListN.{get_elem?}
+use Rattle.std.specs.List.{slice_get, sum_by}
+use Rattle.ob_lanes.specs.Facts.{made_at}
+use Rattle.ob_lanes.specs.declared.facts.Facts.{Facts}
+use Rattle.ob_lanes.specs.declared.facts.Made.{Made}
+
+-- what the table finds, std finds
+pub slice_get_elem : {X : Type 0} (xs : List X) (i : ℕ) (x : X) → get_elem? xs i ≡ some x → slice_get xs i ≡ Some x
+slice_get_elem [] i x at = absurd (some-ne-none x (sym at))
+slice_get_elem (y ∷ ys) zero x at = ap Some (some-injective y x at)
+slice_get_elem (y ∷ ys) (suc i) x at = slice_get_elem ys i x at
+
+-- the same of what a function makes of the elements
+pub slice_get_map : {X Y : Type 0} (f : X → Y) (xs : List X) (i : ℕ) (x : X) → get_elem? xs i ≡ some x → slice_get (map f xs) i ≡ Some (f x)
+slice_get_map f [] i x at = absurd (some-ne-none x (sym at))
+slice_get_map f (y ∷ ys) zero x at = ap (λ z. Some (f z)) (some-injective y x at)
+slice_get_map f (y ∷ ys) (suc i) x at = slice_get_map f ys i x at
+
+-- what the seats have made, once one of them has made more
+pub made_at-set : (views : List Facts) (id : ℕ) (old new : Facts) (more : List Made) → get_elem? views id ≡ some old → new.made ≡ old.made ++ more
+    → (seat : ℕ) → made_at (set views id new) seat ≡ made_at views seat ++ cond (eqb id seat) more []
+made_at-set [] id old new more at makes seat = absurd (some-ne-none old (sym at))
+made_at-set (v ∷ views) zero old new more at makes zero = makes ∙ ap (λ (f : Facts). f.made ++ more) (sym (some-injective v old at))
+made_at-set (v ∷ views) zero old new more at makes (suc seat) = rw (eqb-zero-suc seat) (sym (append-nil (made_at views seat)))
+made_at-set (v ∷ views) (suc id) old new more at makes zero = rw (eqb-suc-zero id) (sym (append-nil v.made))
+made_at-set (v ∷ views) (suc id) old new more at makes (suc seat) = rw (eqb-suc-suc id seat) (made_at-set views id old new more at makes seat)
+
+-- and once one of them knows more, but has made nothing
+pub made_at-kept : (views : List Facts) (id : ℕ) (old new : Facts) → get_elem? views id ≡ some old → new.made ≡ old.made → (seat : ℕ) → made_at (set views id new) seat ≡ made_at views seat
+made_at-kept [] id old new at makes seat = refl
+made_at-kept (v ∷ views) zero old new at makes zero = makes ∙ ap (λ (f : Facts). f.made) (sym (some-injective v old at))
+made_at-kept (v ∷ views) zero old new at makes (suc seat) = refl
+made_at-kept (v ∷ views) (suc id) old new at makes zero = refl
+made_at-kept (v ∷ views) (suc id) old new at makes (suc seat) = made_at-kept views id old new at makes seat
+
+-- what a seat that is there has made
+pub made_at-here : (views : List Facts) (id : ℕ) (facts : Facts) → get_elem? views id ≡ some facts → made_at views id ≡ facts.made
+made_at-here [] id facts at = absurd (some-ne-none facts (sym at))
+made_at-here (v ∷ views) zero facts at = ap (λ (f : Facts). f.made) (some-injective v facts at)
+made_at-here (v ∷ views) (suc id) facts at = made_at-here views id facts at
+
+-- a new seat has made nothing
+pub made_at-new : (views : List Facts) (new : Facts) → new.made ≡ [] → (seat : ℕ) → made_at (views ++ new ∷ []) seat ≡ made_at views seat
+made_at-new [] new none zero = none
+made_at-new [] new none (suc seat) = refl
+made_at-new (v ∷ views) new none zero = refl
+made_at-new (v ∷ views) new none (suc seat) = made_at-new views new none seat
+
+-- an element of a list has at most the sum of the list
+one_of_sum : {X : Type 0} (f : X → ℕ) (xs : List X) (i : ℕ) (x : X) → slice_get xs i ≡ Some x → f x ≤ sum_by f xs
+one_of_sum f xs i x at = omega (arith, get_or-le-sum_by f xs i x (slice_get_within xs i x at), ap f (get_or_from_slice_get xs i x x at))
+
+-- two elements of a list have at most the sum of the list
+pub two_of_sum : {X : Type 0} (f : X → ℕ) (xs : List X) (i j : ℕ) (x y : X) → i ≢ j → slice_get xs i ≡ Some x → slice_get xs j ≡ Some y → f x + f y ≤ sum_by f xs
+two_of_sum f [] i j x y apart at_i at_j = absurd (cc)
+two_of_sum f (z ∷ zs) zero zero x y apart at_i at_j = absurd (apart refl)
+two_of_sum f (z ∷ zs) zero (suc j) x y apart at_i at_j = omega (arith, sum_by-cons f z zs, ap f (same_Some z x at_i), one_of_sum f zs j y at_j)
+two_of_sum f (z ∷ zs) (suc i) zero x y apart at_i at_j = omega (arith, sum_by-cons f z zs, ap f (same_Some z y at_j), one_of_sum f zs i x at_i)
+two_of_sum f (z ∷ zs) (suc i) (suc j) x y apart at_i at_j =
+    omega (arith, sum_by-cons f z zs, two_of_sum f zs i j x y (λ same. apart (ap suc same)) at_i at_j)

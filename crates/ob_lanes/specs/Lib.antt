@@ -1,0 +1,13 @@
+pub mod Bit
+pub mod Charge
+pub mod Divided
+pub mod Facts
+pub mod Fields
+pub mod InRun
+pub mod Inside
+pub mod Joined
+pub mod RunningLane
+pub mod Run
+pub mod Ruled
+pub mod Split
+pub mod Told

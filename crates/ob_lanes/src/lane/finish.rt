@@ -1,0 +1,39 @@
+ghost use Rattle.std.specs.Prelude.{◌≡◌, ℕ, ◌<◌, ◌≤◌, false, IfOk, IsOk, IsErrAnd};
+ghost use Rattle.std.specs.Int.{bit_at};
+ghost use Rattle.ob_core.specs.Bits.{is_set};
+ghost use Rattle.ob_lanes.specs.InRun.{EndsRun};
+ghost use Rattle.ob_lanes.specs.RunningLane.{ShowsHeld};
+
+use super::Lane;
+use crate::fault::RoomOut;
+use crate::words::Words;
+
+impl Lane {
+    /// Ends the words, and tells the total, which is 0 then, and the word.
+    ///
+    /// `RoomOut` comes exactly where the lane has less than the whole room, and hands back what came in. Bit 0 is clear
+    /// where the low mark is positive; at a low mark of 0 nothing ever clears it.
+    pub fn finish(self, words: Words) -> Result<(u64, u32), (Words, Lane, RoomOut)>
+        requires { self.words ≡ words }
+        ensures room_out { self.lane.room < words.opening.room →
+            IsErrAnd result (λ refused. (refused.0 ≡ words) × (refused.1 ≡ self)) }
+        ensures whole { words.opening.room ≤ self.lane.room → IsOk result }
+        ensures total { IfOk result (λ ok. ok.0 ≡ 0) }
+        ensures mark { 0 < words.opening.marks.low → IfOk result (λ ok. is_set ok.1 0 ≡ false) }
+        ensures held { IfOk result (λ ok. ShowsHeld self.lane ok.1) }
+        ensures foreign { IfOk result (λ ok. (index : ℕ) → 0 < index →
+            bit_at words.opening.bits index ≡ 0 → bit_at ok.1 index ≡ 0) }
+        ensures run { IfOk result (λ ok. EndsRun self ok.0 ok.1) }
+    {
+        if self.room < words.opening.room {
+            return Err((words, self, RoomOut));
+        }
+        let Lane {
+            seat,
+            room: _,
+            held: _,
+        } = self;
+        let (total, word) = words.end(seat);
+        Ok((total, word as u32))
+    }
+}

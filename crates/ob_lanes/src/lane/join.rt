@@ -1,0 +1,36 @@
+ghost use Rattle.std.specs.Prelude.{◌≡◌, ◌≤◌, ◌+◌};
+ghost use Rattle.ob_lanes.specs.Joined.{IsJoined};
+
+use super::Lane;
+use crate::words::Words;
+use std::marker::Brand;
+
+impl Lane {
+    /// One lane with the room and the bits of both, set as they were. Its own steps are those of the first lane.
+    ///
+    /// The rooms of two lanes never add up to more than the whole room.
+    pub fn join(self, words: &Words, other: Lane) -> Lane
+        requires words { self.words ≡ words.now }
+        requires other { other.words ≡ words.now }
+        ensures words { result.words ≡ self.words }
+        ensures lane { IsJoined self.words.opening.room self.lane other.lane result.lane }
+        ensures made { result.made ≡ self.made }
+    {
+        let Lane {
+            mut seat,
+            room,
+            held,
+        } = self;
+        let Lane {
+            seat: other_seat,
+            room: other_room,
+            held: other_held,
+        } = other;
+        words.merge_seats::<Brand>(&mut seat, other_seat);
+        Lane {
+            seat,
+            room: room.saturating_add(other_room).min(words.opening.room),
+            held: held | other_held,
+        }
+    }
+}

@@ -1,0 +1,52 @@
+ghost use Rattle.std.specs.Prelude.{◌≡◌, [], None, IfSome, IfOk, IfErr, IsOk, IsErrAnd};
+ghost use Rattle.ob_lanes.specs.Split.{split_fault, IsSplit};
+
+use super::Lane;
+use crate::fault::SplitFault;
+use crate::words::Words;
+use std::marker::Brand;
+
+impl Lane {
+    /// Gives this much of the room, and these bits, to a new lane. The bits go as they are, set or not.
+    ///
+    /// `NoRoom` comes where the lane has less room, and then `NotHeld` where it does not hold one of the bits; both hand
+    /// the lane back as it was. The new lane has made no step.
+    pub fn split(
+        self,
+        words: &Words,
+        room: u32,
+        bits: u32,
+    ) -> Result<(Lane, Lane), (Lane, SplitFault)>
+        requires { self.words ≡ words.now }
+        ensures refused { IfSome (split_fault self.lane room bits) (λ fault.
+            IsErrAnd result (λ refused. (refused.0 ≡ self) × (refused.1 ≡ fault))) }
+        ensures split { split_fault self.lane room bits ≡ None → IsOk result }
+        ensures words { IfOk result (λ lanes. (lanes.0.words ≡ self.words) × (lanes.1.words ≡ self.words)) }
+        ensures shares { IfOk result (λ lanes. IsSplit room bits self.lane lanes.0.lane lanes.1.lane) }
+        ensures made { IfOk result (λ lanes. (lanes.0.made ≡ self.made) × (lanes.1.made ≡ [])) }
+    {
+        if room > self.room {
+            return Err((self, SplitFault::NoRoom));
+        }
+        if self.held | bits != self.held {
+            return Err((self, SplitFault::NotHeld));
+        }
+        let Lane {
+            mut seat,
+            room: whole,
+            held,
+        } = self;
+        let other = words.divide_seat::<Brand>(&mut seat, room, bits);
+        let kept = Lane {
+            seat,
+            room: whole - room,
+            held: held ^ bits,
+        };
+        let given = Lane {
+            seat: other,
+            room,
+            held: bits,
+        };
+        Ok((kept, given))
+    }
+}

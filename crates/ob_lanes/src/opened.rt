@@ -1,0 +1,36 @@
+ghost use Rattle.std.specs.Prelude.{◌≡◌, false, [], IfOk, IsOkUnless};
+ghost use Rattle.ob_core.specs.Bits.{is_set};
+ghost use Rattle.ob_lanes.specs.Facts.{first_lane};
+
+use crate::lane::Lane;
+use crate::opening::Opening;
+use crate::words::Words;
+use atomic_table::Table;
+use ob_types::{Refusal, WaterMark};
+use std::alloc::Global;
+
+/// Two words, both 0, and the lane that has the whole room and all bits, none of which it has set.
+///
+/// `room` is the most bytes that all lanes together may owe at a time, and `bits` the mask of the user bits, with an
+/// index of 1 to 31 each. `NoMemory` comes only where the allocator refuses; no later call takes memory.
+pub fn lanes(
+    alloc: Global,
+    marks: WaterMark,
+    room: u32,
+    bits: u32,
+) -> Result<(Words, Lane), Refusal>
+    requires { is_set bits 0 ≡ false }
+    ensures no_memory { IsOkUnless result Refusal.NoMemory }
+    ensures words { IfOk result (λ ok. ok.0.opening ≡ record { marks = marks; room = room; bits = bits }) }
+    ensures lane { IfOk result (λ ok. ok.1 ≡ record { words = ok.0; lane = first_lane ok.0.opening; made = [] }) }
+{
+    let opening = Opening { marks, room, bits };
+    let (table, seat) = Table::of_words(alloc, &[0; 9], &opening)?;
+    let words = Words { table, opening };
+    let lane = Lane {
+        seat,
+        room,
+        held: bits,
+    };
+    Ok((words, lane))
+}

@@ -1,0 +1,23 @@
+use ob_types::WaterMark;
+use std::marker::Model;
+
+/// What two words are opened with.
+#[derive(Clone, Copy, Debug, PartialEq, Eq)]
+pub struct Opening {
+    /// The marks that the total is held against.
+    pub marks: WaterMark,
+    /// The most bytes that all lanes together may owe at a time.
+    pub room: u32,
+    /// The mask of the user bits that the lanes hold together.
+    pub bits: u32,
+}
+
+impl Model for Opening {
+    ghost use Rattle.ob_core.specs.Opening.{Opening as CoreOpening};
+
+    ghost Value = { CoreOpening };
+
+    ghost view = { λ o. record { marks = o.marks; room = o.room; bits = o.bits } };
+
+    ghost inverse = { λ o. record { marks = o.marks; room = o.room; bits = o.bits } };
+}
