@@ -1,5 +1,6 @@
 ghost use Rattle.std.specs.Prelude.{◌≡◌, ◌≤◌, ◌+◌, ◌++◌};
 ghost use Rattle.ob_core.specs.Owed.{owed_by};
+ghost use Rattle.ob_core.specs.declared.lane.Phase.TheVariants.{Idle};
 ghost use Rattle.ob_core.specs.declared.lane_step.LaneStep.TheVariants.{LoadTotal, LoadWord};
 ghost use Rattle.ob_lanes.specs.Facts.{one_step};
 ghost use Rattle.ob_lanes.specs.InRun.{StandsInRun};
@@ -35,9 +36,10 @@ impl Charged {
         words.load_word(&mut self.seat) as u32
     }
 
-    /// The bytes that it charged and has not taken back.
+    /// The bytes that it charged and has not taken back. It is between two calls.
     pub fn owed(&self) -> u32
-        ensures { result ≡ owed_by self.now.lane }
+        ensures value { result ≡ owed_by self.now.lane }
+        ensures idle { self.now.lane.phase ≡ Idle }
     {
         self.owed
     }

@@ -1,4 +1,5 @@
 ghost use Rattle.std.specs.Prelude.{◌≡◌, ◌≤◌, ◌+◌, ◌++◌};
+ghost use Rattle.ob_core.specs.Shares.{IsFree};
 ghost use Rattle.ob_core.specs.Owed.{owed_by};
 ghost use Rattle.ob_core.specs.declared.lane_step.LaneStep.TheVariants.{LoadTotal, LoadWord};
 ghost use Rattle.ob_lanes.specs.Facts.{one_step};
@@ -35,9 +36,10 @@ impl Lane {
         words.load_word(&mut self.seat) as u32
     }
 
-    /// The most bytes that a charge of the lane may have.
+    /// The most bytes that a charge of the lane may have. A lane is between two calls, and owes nothing.
     pub fn room(&self) -> u32
-        ensures { result ≡ self.now.lane.room }
+        ensures value { result ≡ self.now.lane.room }
+        ensures free { IsFree self.now.lane }
     {
         self.room
     }
