@@ -14,7 +14,7 @@ use std::test::Fail;
 
 /// What a server does for one of its connections.
 pub trait Peer {
-    /// Sends bytes from the front of these blocks, as `writev` does, and tells how many went out.
+    /// Sends bytes from the front of these blocks, as `writev` does, and tells how many went out: 0 where it failed.
     fn send(&mut self, blocks: &[Bytes]) -> u64;
     /// The response of this promise has gone out, or is given up.
     fn settled(&mut self, id: PromiseId, outcome: Outcome);
@@ -40,7 +40,7 @@ pub fn respond<P: Peer>(buffer: &mut Buffer, peer: &mut P, response: Bytes) -> R
     send(buffer, peer)
 }
 
-/// Sends what the socket takes: to be called again when it is ready for more.
+/// Sends at most 64 blocks and 65536 bytes: to be called again when the socket is ready, and at once where it took all.
 pub fn send<P: Peer>(buffer: &mut Buffer, peer: &mut P) -> Result<(), Refusal> {
     let blocks = buffer.gather(64, 65536)?;
     let removed = buffer.remove_bytes(peer.send(&blocks))?;
@@ -72,12 +72,13 @@ pub fn renew<P: Peer>(buffer: &mut Buffer, peer: &mut P, alloc: Global) -> Resul
     if buffer.writes_left() >= 1000 {
         return Ok(());
     }
-    peer.set_reading(false);
     send(buffer, peer)?;
-    if buffer.look().total == 0 {
+    let sent = buffer.look().total == 0;
+    if sent {
         *buffer = open(alloc)?;
-        peer.set_reading(true);
     }
+    // behind the send, whose removal may have told that the old buffer is writable
+    peer.set_reading(sent);
     Ok(())
 }
 
