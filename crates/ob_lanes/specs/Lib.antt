@@ -11,3 +11,4 @@ pub mod Run
 pub mod Ruled
 pub mod Split
 pub mod Told
+pub mod Worked

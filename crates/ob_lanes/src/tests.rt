@@ -2,6 +2,7 @@ mod bits;
 mod crossing;
 mod meeting;
 mod splitting;
+mod worked;
 
 ghost use Rattle.std.specs.Prelude.{◌≡◌, false, IfOk};
 ghost use Rattle.ob_core.specs.Bits.{is_set};
