@@ -1,0 +1,3 @@
+pub mod Held
+pub mod Maker
+pub mod Opened

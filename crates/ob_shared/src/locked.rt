@@ -1,0 +1,112 @@
+ghost use Rattle.std.specs.Prelude.{◌≡◌, ◌≤◌, ◌↔◌, false, IsErrOf, IsOk, IsOkUnless, OnOk, OnErr};
+ghost use Rattle.ob_seq.specs.Pending.{StandsFor};
+ghost use Rattle.ob_history.specs.Accepted.{accepted_commands};
+ghost use Rattle.ob_history.specs.Call.{IsCovered, call_answer, history_after, is_full};
+ghost use Rattle.ob_history.specs.History.{IsBounded, LacksPlaces, new_history, with_reserved};
+ghost use Rattle.ob_history.specs.Legal.{IsLegal};
+ghost use Rattle.ob_history.specs.Seen.{seen_now};
+ghost use Rattle.ob_shared.specs.Maker.{one_more};
+ghost use Rattle.ob_shared.specs.Opened.{IsAsOpened};
+
+use crate::named::Named;
+use crate::share::Share;
+use ob_history::{Receipt, Recorded, Seen};
+use ob_seq::Buffer;
+use ob_types::{Command, Refusal};
+use std::marker::Model;
+use std::sync::ledger;
+use std::sync::ledger::Book;
+
+/// What lies under the lock. Contracts see the history.
+#[derive(Drop)]
+pub struct Locked<L: Named> {
+    recorded: Recorded,
+    /// How many records all shares made.
+    book: Book<L>,
+    /// What is left of the ledger when each caller has its share.
+    rest: ledger::Share<L>,
+}
+
+impl<L: Named> Model for Locked<L> {
+    ghost use Rattle.std.specs.Prelude.{◌≡◌, length};
+    ghost use Rattle.ob_history.specs.History.{History};
+
+    ghost Value = { History };
+
+    ghost view = { λ locked. locked.recorded };
+
+    ghost invariant = { λ locked. (length locked.recorded.records ≡ locked.book.total)
+        × (locked.recorded.settings ≡ L.opened.settings)
+        × (locked.recorded.limit ≡ L.opened.limit)
+        × (locked.rest.parts ≡ 0) × (locked.rest.amount ≡ 0) };
+}
+
+impl<L: Named> Locked<L> {
+    /// A history without a record.
+    pub fn new(recorded: Recorded, book: Book<L>, rest: ledger::Share<L>) -> Locked<L>
+        requires opened { recorded ≡ new_history L.opened.settings L.opened.limit }
+        requires book { book.total ≡ 0 }
+        requires rest { (rest.parts ≡ 0) × (rest.amount ≡ 0) }
+        ensures { result ≡ new_history L.opened.settings L.opened.limit }
+    {
+        Locked {
+            recorded,
+            book,
+            rest,
+        }
+    }
+
+    /// The history is one of what was opened. It does nothing else than to say so.
+    pub fn is_as_opened(&self)
+        ensures { IsAsOpened L.opened self.now }
+    {
+        let _records = self.recorded.records();
+    }
+
+    /// One call in the name of the caller of a share.
+    pub fn call(&mut self, share: &mut Share<L>, command: Command) -> Result<Receipt, Refusal>
+        ensures answer { ¬ IsErrOf result Refusal.NoMemory → result ≡ call_answer self.old share.old.caller command }
+        ensures after { ¬ IsErrOf result Refusal.NoMemory → self.new ≡ history_after self.old share.old.caller command }
+        ensures made { OnOk result (share.new ≡ one_more share.old) }
+
+        ensures no_memory_last { IsErrOf result Refusal.NoMemory → is_full self.old ≡ false }
+        ensures frugal { IsCovered self.old command → IsOk result }
+        ensures refused { OnErr result (self.new ≡ self.old) }
+        ensures none_made { OnErr result (share.new ≡ share.old) }
+    {
+        let _records = self.recorded.records();
+        let receipt = self.recorded.call(share.caller(), command)?;
+        share.count(&mut self.book);
+        Ok(receipt)
+    }
+
+    /// Reserves so many calls.
+    pub fn reserve(&mut self, count: u32) -> Result<(), Refusal>
+        ensures reserved { OnOk result (self.new ≡ with_reserved self.old count) }
+
+        ensures full { IsErrOf result Refusal.HistoryFull ↔ LacksPlaces self.old count }
+        ensures no_memory { ¬ LacksPlaces self.old count → IsOkUnless result Refusal.NoMemory }
+        ensures frugal { count ≤ self.old.reserved → IsOk result }
+        ensures refused { OnErr result (self.new ≡ self.old) }
+    {
+        self.recorded.reserve(count)
+    }
+
+    /// The buffer after the accepted commands of the records.
+    pub fn buffer(&self) -> &Buffer
+        ensures stands { StandsFor result.now (accepted_commands self.now.records) }
+        ensures settings { result.now.settings ≡ self.now.settings }
+        ensures legal { IsLegal self.now.settings self.now.records }
+        ensures bounded { IsBounded self.now }
+    {
+        self.recorded.buffer()
+    }
+
+    /// What is pending now, and how many calls are recorded.
+    pub fn look(&self) -> Seen
+        ensures seen { result ≡ seen_now self.now }
+        ensures bounded { IsBounded self.now }
+    {
+        self.recorded.look()
+    }
+}
