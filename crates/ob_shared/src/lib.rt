@@ -3,6 +3,9 @@
 
 mod callers;
 mod desk;
+mod done;
+mod finish;
+mod finish_fault;
 mod locked;
 mod named;
 mod opening;
@@ -10,6 +13,8 @@ mod share;
 mod shared_buffer;
 
 pub use desk::Desk;
+pub use done::{Done, Final, Unfinished};
+pub use finish_fault::FinishFault;
 pub use named::Named;
 pub use opening::Opening;
 pub use share::Share;

@@ -1,13 +1,16 @@
-ghost use Rattle.std.specs.Prelude.{◌≡◌, ◌≤◌, ◌↔◌, false, IsErrOf, IsOk, IsOkUnless, OnOk, OnErr};
+ghost use Rattle.std.specs.Prelude.{◌≡◌, ◌+◌, ◌<◌, ◌≤◌, ◌↔◌, false, length, IsErrOf, IsOk, IsOkUnless, OnOk, OnErr};
 ghost use Rattle.ob_seq.specs.Pending.{StandsFor};
 ghost use Rattle.ob_history.specs.Accepted.{accepted_commands};
 ghost use Rattle.ob_history.specs.Call.{IsCovered, call_answer, history_after, is_full};
 ghost use Rattle.ob_history.specs.History.{IsBounded, LacksPlaces, new_history, with_reserved};
 ghost use Rattle.ob_history.specs.Legal.{IsLegal};
 ghost use Rattle.ob_history.specs.Seen.{seen_now};
+ghost use Rattle.ob_shared.specs.Handed.{LacksShare, made_by};
 ghost use Rattle.ob_shared.specs.Maker.{one_more};
 ghost use Rattle.ob_shared.specs.Opened.{IsAsOpened};
 
+use crate::callers::Callers;
+use crate::done::Done;
 use crate::named::Named;
 use crate::share::Share;
 use ob_history::{Receipt, Recorded, Seen};
@@ -109,4 +112,33 @@ impl<L: Named> Locked<L> {
     {
         self.recorded.look()
     }
+    /// The recorded buffer, for the callers who handed in, each with its share.
+    pub fn into_recorded(self, callers: &Callers<L>, dones: Vec<Done<L>>) -> Recorded
+        requires all { ¬ LacksShare callers.now.count dones.items }
+        ensures recorded { result ≡ self }
+        ensures counted { length result.records ≡ made_by dones.items }
+    {
+        let Locked {
+            recorded,
+            mut book,
+            rest,
+        } = self;
+        let mut all = merged(rest, dones);
+        book.audit(&mut all);
+        recorded
+    }
+}
+
+/// All parts of the ledger that callers handed in, with those that a share has.
+fn merged<L: Named>(rest: ledger::Share<L>, dones: Vec<Done<L>>) -> ledger::Share<L>
+    requires { rest.parts ≤ L.parts }
+    ensures parts { result.parts ≡ rest.parts + length dones.items }
+    ensures amount { result.amount ≡ rest.amount + made_by dones.items }
+    ensures within { result.parts ≤ L.parts }
+{
+    let mut all = rest;
+    for done in dones {
+        all.merge(done.share.into_part());
+    }
+    all
 }

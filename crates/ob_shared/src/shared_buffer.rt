@@ -1,11 +1,19 @@
-ghost use Rattle.std.specs.Prelude.{◌≡◌};
+ghost use Rattle.std.specs.Prelude.{◌≡◌, ◌≤◌, ◌↔◌, length, IsErr, IfOk, IfErr};
+ghost use Rattle.ob_types.specs.declared.promise.PromiseId.{PromiseId};
+ghost use Rattle.ob_seq.specs.Settles.{times_settled};
+ghost use Rattle.ob_history.specs.Settlements.{settlements_in};
+ghost use Rattle.ob_shared.specs.Handed.{LacksShare, made_by};
 ghost use Rattle.ob_shared.specs.Opened.{IsAsOpened};
 
 use crate::callers::Callers;
 use crate::desk::Desk;
+use crate::done::{Done, Final, Unfinished};
+use crate::finish::lacks_share;
+use crate::finish_fault::FinishFault;
 use crate::locked::Locked;
 use crate::named::Named;
 use crate::share::Share;
+use ob_history::a_history_settles_each_promise_once;
 use std::sync::{Condvar, Mutex, Wait};
 
 /// A buffer with its whole history under a lock. Callers give it commands from a desk, each with its share.
@@ -33,6 +41,40 @@ impl<L: Named> SharedBuffer<L> {
         ensures opened { IsAsOpened L.opened result.history }
     {
         Desk::new(self, self.locked.lock(rt), share)
+    }
+
+    /// Ends the buffer, where each caller has handed in its share, and gives the whole history. The records are then a
+    /// legal history, as many as were made with all shares together, and no promise is settled twice.
+    ///
+    /// `SharesMissing` comes just where a caller's share is not handed in. Then all that was handed in is given back, and the buffer stays as it was.
+    pub fn finish(self, dones: Vec<Done<L>>) -> Result<Final, Unfinished<L>>
+        ensures missing { IsErr result ↔ LacksShare L.opened.callers dones.items }
+        ensures fault { IfErr result (λ unfinished. unfinished.fault ≡ FinishFault.SharesMissing) }
+        ensures back { IfErr result (λ unfinished. unfinished.dones ≡ dones) }
+
+        ensures opened { IfOk result (λ finished. IsAsOpened L.opened finished.recorded) }
+        ensures counted { IfOk result (λ finished. length finished.recorded.records ≡ made_by dones.items) }
+        ensures once { IfOk result (λ finished. (id : PromiseId) →
+            times_settled id (settlements_in finished.recorded.records) ≤ 1) }
+    {
+        let SharedBuffer {
+            locked,
+            settled: _,
+            callers,
+        } = self;
+        let locked = locked.into_inner();
+        if lacks_share(callers.count, &dones) {
+            return Err(Unfinished {
+                buffer: SharedBuffer::new(locked, callers),
+                dones,
+                fault: FinishFault::SharesMissing,
+            });
+        }
+        locked.is_as_opened();
+        a_history_settles_each_promise_once();
+        Ok(Final {
+            recorded: locked.into_recorded(&callers, dones),
+        })
     }
 
     /// Wakes all who wait for a promise.
