@@ -1,5 +1,6 @@
 ghost use Rattle.std.specs.Prelude.{◌≡◌, ◌<◌, ◌≤◌, IfOk, IsOkUnless, OnOk};
 ghost use Rattle.ob_shared.specs.Maker.{new_makers};
+ghost use Rattle.ob_shared.specs.Opened.{IsNameOf};
 
 use crate::callers::Callers;
 use crate::locked::Locked;
@@ -76,9 +77,7 @@ impl Opening {
     /// The buffer under its lock, with an empty history, and a share for each caller, numbered from 0. `NoMemory` comes
     /// where the allocator refused, and then the opening is given up.
     pub fn begin<L: Named>(self) -> Result<(SharedBuffer<L>, Vec<Share<L>>), Refusal>
-        requires named { L.opened ≡ self }
-        requires ledger { L.name ≡ self.ledger }
-        requires parts { L.parts ≡ self.callers }
+        requires { IsNameOf self L.opened L.name L.parts }
         ensures shares { IfOk result (λ begun. begun.1.items ≡ new_makers self.callers) }
         ensures no_memory { IsOkUnless result Refusal.NoMemory }
     {
