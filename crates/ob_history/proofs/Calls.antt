@@ -1,13 +1,17 @@
--- A call of a history that has a place left.
-use Rattle.std.proofs.Common.{◌≡◌, ℕ, Bool, false, Result, Ok, Err, ap}
-use Rattle.std.specs.Prelude.{if◌then◌else◌}
+-- A call of a history, full or not.
+use Rattle.std.proofs.Common.{◌≡◌, ℕ, Bool, true, false, Result, Ok, Err, length, refl, ap, arith}
+use Rattle.std.specs.Prelude.{◌≢◌, if◌then◌else◌}
+use Rattle.std.proofs.lemmas.Bool.{eqb-false}
+use Rattle.std.proofs.lemmas.List.{length_push}
 use Rattle.ob_types.specs.declared.command.Command.{Command}
 use Rattle.ob_types.specs.declared.refusal.Refusal.{Refusal}
 use Rattle.ob_types.specs.declared.refusal.Refusal.TheVariants.{HistoryFull}
 use Rattle.ob_history.specs.Call.{call_answer, history_after, is_full, next_record, with_record}
-use Rattle.ob_history.specs.History.{History}
+use Rattle.ob_history.specs.History.{History, IsBounded}
+use Rattle.ob_history.specs.Legal.{IsLegal}
 use Rattle.ob_history.specs.Receipt.{receipt_of}
 use Rattle.ob_history.specs.declared.receipt.Receipt.{Receipt}
+use Rattle.ob_history.proofs.Histories.{legal_with_next}
 
 -- a history that is not full answers a call with the receipt of its record
 pub answer_with_place : (history : History) (caller : ℕ) (command : Command) → is_full history ≡ false →
@@ -22,3 +26,38 @@ pub after_with_place : (history : History) (caller : ℕ) (command : Command) �
 after_with_place history caller command free =
     let after : Bool → History = λ full. if full then history else with_record history (next_record history caller command) in
     ap after free
+
+module _ (history : History) (caller : ℕ) (command : Command) where
+  -- the history after a call that is answered so
+  abbrev after_by : Bool → History
+  after_by full = if full then history else with_record history (next_record history caller command)
+
+  pub legal_after : IsLegal history.settings history.records → IsLegal history.settings (history_after history caller command).records
+  legal_after legal = by_full (is_full history)
+    where
+      by_full : (full : Bool) → IsLegal history.settings (after_by full).records
+      by_full true = legal
+      by_full false = legal_with_next history.settings history.records (next_record history caller command) legal refl refl
+
+  pub bounded_after : IsBounded history → IsBounded (history_after history caller command)
+  bounded_after bounded = by_full (is_full history) refl
+    where
+      by_full : (full : Bool) → is_full history ≡ full → IsBounded (after_by full)
+      by_full true is = bounded
+      by_full false is =
+          let below : length history.records ≢ history.limit = eqb-false (length history.records) history.limit is in
+          record { places = omega (arith, length_push history.records (next_record history caller command), bounded.places, below); limit = bounded.limit }
+
+  pub settings_after : (history_after history caller command).settings ≡ history.settings
+  settings_after = by_full (is_full history)
+    where
+      by_full : (full : Bool) → (after_by full).settings ≡ history.settings
+      by_full true = refl
+      by_full false = refl
+
+  pub limit_after : (history_after history caller command).limit ≡ history.limit
+  limit_after = by_full (is_full history)
+    where
+      by_full : (full : Bool) → (after_by full).limit ≡ history.limit
+      by_full true = refl
+      by_full false = refl

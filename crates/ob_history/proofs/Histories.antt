@@ -101,10 +101,10 @@ found_at (first ∷ records) (suc index) one within is =
     let rest = found_at records index one (omega arith) is in
     (rest.0, ap (λ more. first ∷ more) rest.1)
 
--- all of a list
-pub take_all : (records : List Record) → take (length records) records ≡ records
-take_all [] = refl
-take_all (first ∷ records) = ap (λ rest. first ∷ rest) (take_all records)
+-- what stands behind a beginning
+pub found_behind : (before : List Record) (one : Record) (more : List Record) → slice_get (before ++ one ∷ more) (length before) ≡ Some one
+found_behind [] one more = refl
+found_behind (first ∷ before) one more = found_behind before one more
 
 -- what stands at an index of a beginning stands there in the whole, behind the same records
 in_beginning : (records : List Record) (count index : ℕ) (one : Record) → slice_get (take count records) index ≡ Some one →

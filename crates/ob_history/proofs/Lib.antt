@@ -1,3 +1,6 @@
 pub mod Calls
+pub mod First
 pub mod Histories
+pub mod Own
 pub mod Settling
+pub mod Told

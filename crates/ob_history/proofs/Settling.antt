@@ -1,6 +1,5 @@
 -- The settlements of a legal history are what its commands settle, given one after another.
 use Rattle.std.proofs.Common.{◌≡◌, List, [], ◌∷◌, ◌++◌, length, map, refl, sym, ap, ◌∙◌, append_assoc, subst}
-use Rattle.std.specs.Prelude.{Some, slice_get}
 use Rattle.std.proofs.Math.Seq.{take-append_seam}
 use Rattle.ob_seq.specs.Settings.{Settings}
 use Rattle.ob_seq.specs.Answer.{answer_to}
@@ -9,11 +8,7 @@ use Rattle.ob_history.specs.Accepted.{accepted_commands}
 use Rattle.ob_history.specs.Legal.{IsLegal}
 use Rattle.ob_history.specs.Settlements.{settlements_in}
 use Rattle.ob_history.specs.declared.record.Record.{Record}
-use Rattle.ob_history.proofs.Histories.{accepted_with_next, command_of}
-
-found_behind : (before : List Record) (one : Record) (more : List Record) → slice_get (before ++ one ∷ more) (length before) ≡ Some one
-found_behind [] one more = refl
-found_behind (first ∷ before) one more = found_behind before one more
+use Rattle.ob_history.proofs.Histories.{accepted_with_next, command_of, found_behind}
 
 settled_behind : (settings : Settings) (before more : List Record) → IsLegal settings (before ++ more) →
     settlements_in more ≡ settled_along settings (accepted_commands before) (map command_of more)

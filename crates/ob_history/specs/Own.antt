@@ -1,7 +1,6 @@
 -- The records of one caller, and its own receipts of them.
-use Rattle.std.specs.Prelude.{◌≡◌, ℕ, ◌==◌, List, filter, map}
-use Rattle.std.specs.List.{All}
-use Rattle.std.specs.List.Sorted.{IsStrictlyIncreasing}
+use Rattle.std.specs.Prelude.{◌≡◌, ◌≢◌, ℕ, ◌<◌, ◌==◌, List, filter, length, sum_by}
+use Rattle.std.specs.List.{All, AllPairs}
 use Rattle.ob_history.specs.Receipt.{IsReceiptIn}
 use Rattle.ob_history.specs.declared.record.Record.{Record}
 use Rattle.ob_history.specs.declared.receipt.Receipt.{Receipt}
@@ -14,4 +13,15 @@ records_of caller records = filter (λ one. one.caller == caller) records
 pub record AreOwn (caller : ℕ) (records : List Record) (receipts : List Receipt) : Type 0 where
   pub kept : All (IsReceiptIn records) receipts
   pub named : All (λ receipt. receipt.caller ≡ caller) receipts
-  pub rising : IsStrictlyIncreasing (map (λ receipt. receipt.place) receipts)
+  pub rising : AllPairs (λ earlier later. earlier.place < later.place) receipts
+
+-- a caller with the receipts that it holds
+pub record Holding : Type 0 where
+  pub caller : ℕ
+  pub receipts : List Receipt
+
+-- distinct callers hold receipts of their own, and together as many as there are records
+pub record HoldAll (records : List Record) (holdings : List Holding) : Type 0 where
+  pub distinct : AllPairs (λ one other. one.caller ≢ other.caller) holdings
+  pub own : All (λ one. AreOwn one.caller records one.receipts) holdings
+  pub as_many : sum_by (λ one. length one.receipts) holdings ≡ length records

@@ -1,14 +1,31 @@
 //! What holds of every legal history.
 
-ghost use Rattle.std.specs.Prelude.{◌≤◌, List};
+ghost use Rattle.std.specs.List.{All, Contains};
+ghost use Rattle.std.specs.Prelude.{◌≡◌, ℕ, ◌<◌, ◌≤◌, ◌↔◌, true, List, [], ◌∷◌, ◌++◌, None, Some, map, take};
+ghost use Rattle.ob_types.specs.declared.command.Command.{Command};
+ghost use Rattle.ob_types.specs.declared.command.Command.TheVariants.{RemoveBytes};
+ghost use Rattle.ob_types.specs.declared.promise.Outcome.{Outcome};
 ghost use Rattle.ob_types.specs.declared.promise.PromiseId.{PromiseId};
+ghost use Rattle.ob_types.specs.declared.promise.PromiseState.TheVariants.{Settled};
+ghost use Rattle.ob_seq.specs.Answer.{commands_after};
+ghost use Rattle.ob_seq.specs.Looks.{promise_after};
 ghost use Rattle.ob_seq.specs.Settings.{Settings};
 ghost use Rattle.ob_seq.specs.Settles.{times_settled};
+ghost use Rattle.ob_seq.specs.Writes.{writes_in};
+ghost use Rattle.ob_history.specs.Accepted.{accepted_commands, is_accepted};
+ghost use Rattle.ob_history.specs.Call.{history_after, next_record};
+ghost use Rattle.ob_history.specs.Glance.{glance_after};
+ghost use Rattle.ob_history.specs.History.{History, IsBounded};
 ghost use Rattle.ob_history.specs.Legal.{IsLegal};
+ghost use Rattle.ob_history.specs.Own.{HoldAll, Holding, records_of};
+ghost use Rattle.ob_history.specs.Receipt.{record_of};
 ghost use Rattle.ob_history.specs.Settlements.{settlements_in};
 ghost use Rattle.ob_history.specs.declared.record.Record.{Record};
 
-use ob_seq::no_promise_is_settled_twice;
+use ob_seq::{
+    a_promise_is_unknown_past_the_writes, accepted_commands_keep_to_the_limits,
+    no_promise_is_settled_twice, the_word_is_the_mark_and_the_user_bits,
+};
 
 /// In a legal history each promise stands at most once among the settlements.
 pub fn a_history_settles_each_promise_once()
@@ -17,3 +34,57 @@ pub fn a_history_settles_each_promise_once()
 {
     no_promise_is_settled_twice();
 }
+
+/// In a legal history a promise is settled with an outcome exactly where the two stand together among the settlements. It
+/// is unknown exactly where its id is not below the number of accepted writes.
+pub fn a_history_tells_each_settled_promise()
+    ensures told { (settings : Settings) (records : List Record) (id : PromiseId) (outcome : Outcome) →
+        IsLegal settings records → promise_after settings (accepted_commands records) id ≡ Some (Settled outcome)
+        ↔ Contains (settlements_in records) (id, outcome) }
+    ensures unknown { (settings : Settings) (records : List Record) (id : PromiseId) →
+        promise_after settings (accepted_commands records) id ≡ None ↔ writes_in (accepted_commands records) ≤ id.0 }
+{
+    a_promise_is_unknown_past_the_writes();
+}
+
+/// A beginning of a legal history is legal.
+pub fn a_beginning_of_a_history_is_legal()
+    ensures legal { (settings : Settings) (records : List Record) (count : ℕ) →
+        IsLegal settings records → IsLegal settings (take count records) }
+{}
+
+/// A call keeps a history legal and bounded, and leaves its settings and its limit. The record of one more call adds its
+/// command to the accepted ones, if it is accepted.
+pub fn a_call_keeps_a_history_legal()
+    ensures legal { (history : History) (caller : ℕ) (command : Command) → IsLegal history.settings history.records
+        → IsLegal history.settings (history_after history caller command).records }
+    ensures bounded { (history : History) (caller : ℕ) (command : Command) →
+        IsBounded history → IsBounded (history_after history caller command) }
+    ensures settings { (history : History) (caller : ℕ) (command : Command) →
+        (history_after history caller command).settings ≡ history.settings }
+    ensures limit { (history : History) (caller : ℕ) (command : Command) →
+        (history_after history caller command).limit ≡ history.limit }
+    ensures accepted { (history : History) (caller : ℕ) (command : Command) →
+        accepted_commands (history.records ++ next_record history caller command ∷ [])
+        ≡ commands_after history.settings (accepted_commands history.records) command }
+{}
+
+/// A legal history keeps to the limits: an accepted removal of n bytes has n at most 4294967295, at most 4294967295 bytes
+/// are pending, and the word is below 4294967296.
+pub fn a_history_keeps_to_the_limits()
+    ensures removal { (settings : Settings) (records : List Record) (one : Record) (n : ℕ) → IsLegal settings records
+        → Contains records one → is_accepted one ≡ true → one.command ≡ RemoveBytes n → n ≤ 4294967295 }
+    ensures total { (settings : Settings) (records : List Record) →
+        IsLegal settings records → (glance_after settings records).total ≤ 4294967295 }
+    ensures word { (settings : Settings) (records : List Record) → (glance_after settings records).word < 4294967296 }
+{
+    accepted_commands_keep_to_the_limits();
+    the_word_is_the_mark_and_the_user_bits();
+}
+
+/// Where distinct callers hold receipts of their own, and together as many as there are records, each holds the receipts
+/// of all its records, in order.
+pub fn own_receipts_are_all_records()
+    ensures all { (records : List Record) (holdings : List Holding) → HoldAll records holdings
+        → All (λ one. map record_of one.receipts ≡ records_of one.caller records) holdings }
+{}

@@ -12,7 +12,11 @@ mod seen;
 mod tests;
 
 pub use booked::{As, Booked};
-pub use laws::a_history_settles_each_promise_once;
+pub use laws::{
+    a_beginning_of_a_history_is_legal, a_call_keeps_a_history_legal, a_history_keeps_to_the_limits,
+    a_history_settles_each_promise_once, a_history_tells_each_settled_promise,
+    own_receipts_are_all_records,
+};
 pub use receipt::Receipt;
 pub use record::Record;
 pub use recorded::Recorded;

@@ -7,8 +7,10 @@ ghost use Rattle.ob_history.specs.History.{IsBounded, new_history};
 mod call;
 mod check;
 mod copies;
+mod foreign;
 mod look;
 mod reserve;
+mod settling;
 
 use crate::record::Record;
 use ob_seq::Buffer;

@@ -1,4 +1,5 @@
 mod Acceptance
+pub mod Accepting
 mod Along
 mod Blocks
 mod BytesRemoved
@@ -15,10 +16,12 @@ mod Gathered
 mod Held
 mod History
 mod Kept
+mod Limits
 mod Looks
 mod Marks
 mod Once
 mod Order
+mod Ordered
 mod Parts
 mod Pieces
 mod Progressed
@@ -28,10 +31,14 @@ mod Rows
 mod Sending
 mod Sent
 mod Settled
+mod Shrinking
 mod Sizes
 mod Skipped
 mod Taken
 mod Times
+pub mod Told
+mod Unknown
 mod UserBits
 mod WordBits
+mod WordDigits
 mod Written

@@ -1,3 +1,4 @@
+pub mod Accepted
 pub mod Answer
 pub mod ByteRun
 pub mod Closed
@@ -8,6 +9,7 @@ pub mod Line
 pub mod Looks
 pub mod Mark
 pub mod Moment
+pub mod Order
 pub mod Pending
 pub mod Pieces
 pub mod Row
@@ -18,3 +20,9 @@ pub mod Total
 pub mod UserBit
 pub mod Word
 pub mod Worked
+pub mod WorkedBytes
+pub mod WorkedEndings
+pub mod WorkedHistories
+pub mod WorkedLimits
+pub mod WorkedLooks
+pub mod Writes

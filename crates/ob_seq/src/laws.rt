@@ -1,24 +1,95 @@
 //! What holds of the answers to every list of commands. The calls of a buffer answer by the definitions that these
 //! laws speak of.
 
-ghost use Rattle.std.specs.Prelude.{◌≡◌, Some, ◌+◌, ◌-◌, ◌<◌, ◌≤◌, ◌↔◌, ℕ, List, []};
+ghost use Rattle.std.specs.Int.{bit_at};
+ghost use Rattle.std.specs.List.{Contains};
+ghost use Rattle.std.specs.Prelude.{◌≡◌, None, Some, ◌+◌, ◌-◌, ◌<◌, ◌≤◌, ◌↔◌, ℕ, List, [], length, true};
 ghost use Rattle.ob_types.specs.WaterMark.{Marks};
 ghost use Rattle.ob_types.specs.declared.command.Command.{Command};
+ghost use Rattle.ob_types.specs.declared.command.Command.TheVariants.{RemoveBytes};
+ghost use Rattle.ob_types.specs.declared.estimate.Estimate.{Estimate};
 ghost use Rattle.ob_types.specs.declared.promise.Outcome.{Outcome};
 ghost use Rattle.ob_types.specs.declared.promise.PromiseId.{PromiseId};
 ghost use Rattle.ob_types.specs.declared.promise.PromiseState.TheVariants.{Settled};
-ghost use Rattle.ob_seq.specs.Answer.{commands_after};
+ghost use Rattle.ob_seq.specs.Accepted.{accepted_among};
+ghost use Rattle.ob_seq.specs.Answer.{are_accepted, commands_after, first_refusal};
+ghost use Rattle.ob_seq.specs.Effect.{rows_after};
 ghost use Rattle.ob_seq.specs.Looks.{before_unwritable, before_writable, promise_after};
+ghost use Rattle.ob_seq.specs.Mark.{mark_after};
+ghost use Rattle.ob_seq.specs.Order.{StandInOrder};
 ghost use Rattle.ob_seq.specs.Settings.{Settings};
 ghost use Rattle.ob_seq.specs.Settles.{settled_along, times_settled};
+ghost use Rattle.ob_seq.specs.Total.{total};
+ghost use Rattle.ob_seq.specs.UserBit.{user_bit};
+ghost use Rattle.ob_seq.specs.Word.{word_after};
+ghost use Rattle.ob_seq.specs.Writes.{writes_in};
 
 /// Whatever commands a new buffer is given, no promise is settled twice, and one that is settled keeps its outcome.
 pub fn no_promise_is_settled_twice()
     ensures once { (settings : Settings) (commands : List Command) (id : PromiseId) →
         times_settled id (settled_along settings [] commands) ≤ 1 }
-    ensures kept { (settings : Settings) (commands : List Command) (command : Command) (id : PromiseId) (outcome : Outcome) →
-        promise_after settings commands id ≡ Some (Settled outcome)
+    ensures kept { (settings : Settings) (commands : List Command) (command : Command) (id : PromiseId)
+        (outcome : Outcome) → promise_after settings commands id ≡ Some (Settled outcome)
         → promise_after settings (commands_after settings commands command) id ≡ Some (Settled outcome) }
+{}
+
+/// Whatever commands a new buffer is given, a promise is settled with an outcome exactly where the two stand together
+/// among what the commands settle. The second clause says the same of commands that are all accepted.
+pub fn a_settled_promise_is_told()
+    ensures told { (settings : Settings) (commands : List Command) (id : PromiseId) (outcome : Outcome) →
+        promise_after settings (accepted_among settings commands) id ≡ Some (Settled outcome)
+        ↔ Contains (settled_along settings [] commands) (id, outcome) }
+    ensures accepted { (settings : Settings) (commands : List Command) (id : PromiseId) (outcome : Outcome) →
+        are_accepted settings.estimate [] commands ≡ true
+        → promise_after settings commands id ≡ Some (Settled outcome)
+        ↔ Contains (settled_along settings [] commands) (id, outcome) }
+{}
+
+/// Of the commands that a new buffer is given those that are accepted are so without the refused ones too, and settle
+/// what all of them do. Of accepted commands none is left out.
+pub fn refused_commands_leave_no_trace()
+    ensures accepted { (settings : Settings) (commands : List Command) →
+        are_accepted settings.estimate [] (accepted_among settings commands) ≡ true }
+    ensures settled { (settings : Settings) (commands : List Command) →
+        settled_along settings [] (accepted_among settings commands) ≡ settled_along settings [] commands }
+    ensures all { (settings : Settings) (commands : List Command) →
+        are_accepted settings.estimate [] commands ≡ true → accepted_among settings commands ≡ commands }
+{}
+
+/// After accepted commands a promise is unknown exactly where its id is not below the number of writes among them, and
+/// there is one row for each of those.
+pub fn a_promise_is_unknown_past_the_writes()
+    ensures unknown { (settings : Settings) (commands : List Command) (id : PromiseId) →
+        promise_after settings commands id ≡ None ↔ writes_in commands ≤ id.0 }
+    ensures rows { (estimate : Estimate) (commands : List Command) →
+        length (rows_after estimate commands) ≡ writes_in commands }
+{}
+
+/// After accepted commands the rows stand in order: first those that are gone, then those in line, then those
+/// that no flush has reached.
+pub fn the_rows_stand_in_order()
+    ensures order { (estimate : Estimate) (commands : List Command) → StandInOrder (rows_after estimate commands) }
+{}
+
+/// Bit 0 of the word is the mark, each of bits 1 to 31 the user bit of that index, and no higher bit is set.
+pub fn the_word_is_the_mark_and_the_user_bits()
+    ensures mark { (settings : Settings) (commands : List Command) →
+        bit_at (word_after settings commands) 0 ≡ 1 ↔ mark_after settings commands ≡ true }
+    ensures user_bits { (settings : Settings) (commands : List Command) (index : ℕ) → 1 ≤ index → index ≤ 31
+        → bit_at (word_after settings commands) index ≡ 1 ↔ user_bit commands index ≡ true }
+    ensures no_higher { (settings : Settings) (commands : List Command) → word_after settings commands < 4294967296 }
+{}
+
+/// Accepted commands keep to the limits: at most 4294967295 bytes are pending after them, at most 1048576 of them are
+/// writes, and a removal of n bytes that is accepted next has n at most 4294967295.
+pub fn accepted_commands_keep_to_the_limits()
+    ensures total { (estimate : Estimate) (commands : List Command) →
+        are_accepted estimate [] commands ≡ true → total (rows_after estimate commands) ≤ 4294967295 }
+    ensures writes { (estimate : Estimate) (commands : List Command) →
+        are_accepted estimate [] commands ≡ true → writes_in commands ≤ 1048576 }
+    ensures removal { (estimate : Estimate) (commands : List Command) (n : ℕ) →
+        are_accepted estimate [] commands ≡ true → first_refusal estimate commands (RemoveBytes n) ≡ None
+        → n ≤ 4294967295 }
 {}
 
 /// The look's `before_unwritable`, where it is not 0, is the least rise that brings the pending bytes above the high
@@ -31,6 +102,6 @@ pub fn before_unwritable_is_the_least_rise()
 /// Under a positive low mark the look's `before_writable`, where it is not 0, is the least fall that brings the pending
 /// bytes below the low mark. No buffer has more than 4294967295 of them.
 pub fn before_writable_is_the_least_fall()
-    ensures least { (marks : Marks) (word sum fall : ℕ) → 0 < marks.low → sum ≤ 4294967295 → fall ≤ sum
+    ensures least { (marks : Marks) (word sum fall : ℕ) → 0 < marks.low → sum ≤ 4294967295
         → 0 < before_writable marks word sum → before_writable marks word sum ≤ fall ↔ sum - fall < marks.low }
 {}

@@ -4,8 +4,10 @@ use Rattle.ob_types.specs.declared.command.Command.{Command}
 use Rattle.ob_types.specs.declared.reply.Reply.{Reply}
 use Rattle.ob_types.specs.declared.refusal.Refusal.{Refusal}
 use Rattle.ob_seq.specs.declared.look.Look.{Look}
+use Rattle.ob_history.specs.Call.{history_after}
 use Rattle.ob_history.specs.History.{History}
-use Rattle.ob_tool.specs.Call.{call_answer, history_after_call, look_at}
+use Rattle.ob_history.specs.Seen.{seen_now}
+use Rattle.ob_tool.specs.Call.{told_after}
 use Rattle.ob_tool.specs.Text.{command_text}
 use Rattle.ob_tool.specs.Trace.{text_after}
 use Rattle.ob_tool.specs.declared.asked.Asked.TheVariants as asked
@@ -17,8 +19,8 @@ OnOk-follows (Err e) f p = p
 
 -- the text of an answer and a look, where these are the definitions'
 pub text_after-told : (history after : History) (command : Command) (answer : Result Reply Refusal) (look : Look) (old new : List ℕ)
-    → answer ≡ call_answer history command → after ≡ history_after_call history command → look ≡ look_at after
+    → answer ≡ told_after history command → after ≡ history_after history 0 command → look ≡ (seen_now after).look
     → new ≡ old ++ command_text answer look → new ≡ old ++ text_after history (asked.Command command)
 text_after-told history after command answer look old new asked recorded shown told =
-    let looked : look ≡ look_at (history_after_call history command) = shown ∙ ap look_at recorded in
-    told ∙ ap (λ a. old ++ command_text a look) asked ∙ ap (λ l. old ++ command_text (call_answer history command) l) looked
+    let looked : look ≡ (seen_now (history_after history 0 command)).look = shown ∙ ap (λ h. (seen_now h).look) recorded in
+    told ∙ ap (λ a. old ++ command_text a look) asked ∙ ap (λ l. old ++ command_text (told_after history command) l) looked

@@ -7,8 +7,10 @@ use Rattle.ob_types.specs.declared.command.Command.TheVariants as command
 use Rattle.ob_types.specs.Write.{is_write}
 use Rattle.ob_seq.specs.Gathering.{gathered_after}
 use Rattle.ob_history.specs.Accepted.{accepted_commands}
+use Rattle.ob_history.specs.Call.{history_after}
 use Rattle.ob_history.specs.History.{History}
-use Rattle.ob_tool.specs.Call.{call_answer, history_after_call, look_at}
+use Rattle.ob_history.specs.Seen.{seen_now}
+use Rattle.ob_tool.specs.Call.{told_after}
 use Rattle.ob_tool.specs.Script.{script_lines}
 use Rattle.ob_tool.specs.Text.{command_text, gathered_text, look_text}
 use Rattle.ob_tool.specs.declared.asked.Asked.{Asked}
@@ -43,14 +45,14 @@ asked_of accepted (line.Gather max_count max_bytes) = asked.Gather max_count max
 
 -- the text of what is asked of the buffer of a history
 abbrev pub text_after : History → Asked → List ℕ
-text_after history (asked.Command command) = command_text (call_answer history command) (look_at (history_after_call history command))
-text_after history asked.Look = look_text (look_at history)
+text_after history (asked.Command command) = command_text (told_after history command) (seen_now (history_after history 0 command)).look
+text_after history asked.Look = look_text (seen_now history).look
 text_after history (asked.Gather max_count max_bytes) =
-    gathered_text (gathered_after history.settings (accepted_commands history.records) max_count max_bytes) (look_at history)
+    gathered_text (gathered_after history.settings (accepted_commands history.records) max_count max_bytes) (seen_now history).look
 
 -- the history after what is asked: only a command leaves a record
 abbrev pub history_after_asked : History → Asked → History
-history_after_asked history (asked.Command command) = history_after_call history command
+history_after_asked history (asked.Command command) = history_after history 0 command
 history_after_asked history asked.Look = history
 history_after_asked history (asked.Gather max_count max_bytes) = history
 

@@ -1,7 +1,8 @@
-ghost use Rattle.std.specs.Prelude.{◌≡◌, ◌+◌, ◌++◌, ◌%◌, [], ◌∷◌, IsOk, IfOk, OnOk, string_bytes};
+ghost use Rattle.std.specs.Prelude.{◌≡◌, true, ◌+◌, ◌++◌, ◌%◌, [], ◌∷◌, IsOk, IfOk, OnOk, string_bytes};
 ghost use Rattle.ob_history.specs.Accepted.{accepted_commands};
-ghost use Rattle.ob_history.specs.History.{IsFull};
-ghost use Rattle.ob_tool.specs.Call.{call_answer, history_after_call, look_at};
+ghost use Rattle.ob_history.specs.Call.{history_after, is_full};
+ghost use Rattle.ob_history.specs.Seen.{seen_now};
+ghost use Rattle.ob_tool.specs.Call.{told_after};
 ghost use Rattle.ob_tool.specs.Options.{first_history};
 ghost use Rattle.ob_tool.specs.Trace.{asked_after, history_after_line, line_trace, text_after, writes_in};
 
@@ -93,7 +94,7 @@ impl Session {
 
     /// A look at the buffer.
     fn look(&self) -> Look
-        ensures { result ≡ look_at self.now.booked.recorded }
+        ensures { result ≡ (seen_now self.now.booked.recorded).look }
     {
         self.booked.buffer().look()
     }
@@ -111,7 +112,7 @@ impl Session {
 
     /// Gives a command to the buffer, and adds its trace to the text.
     fn give(&mut self, command: Command, text: &mut String) -> Result<(), AllocError>
-        ensures after { OnOk result (self.new.booked.recorded ≡ history_after_call self.old.booked.recorded command) }
+        ensures after { OnOk result (self.new.booked.recorded ≡ history_after self.old.booked.recorded 0 command) }
         ensures text { OnOk result (string_bytes text.new
             ≡ string_bytes text.old ++ text_after self.old.booked.recorded (Asked.Command command)) }
     {
@@ -124,9 +125,9 @@ impl Session {
     /// Gives a command to the buffer and answers its reply or its refusal, that of a full history too. It fails for
     /// want of memory alone, and so never where the history is full.
     fn call(&mut self, command: Command) -> Result<Result<Reply, Refusal>, AllocError>
-        ensures after { OnOk result (self.new.booked.recorded ≡ history_after_call self.old.booked.recorded command) }
-        ensures answer { IfOk result (λ answer. answer ≡ call_answer self.old.booked.recorded command) }
-        ensures full { IsFull self.old.booked.recorded → IsOk result }
+        ensures after { OnOk result (self.new.booked.recorded ≡ history_after self.old.booked.recorded 0 command) }
+        ensures answer { IfOk result (λ answer. answer ≡ told_after self.old.booked.recorded command) }
+        ensures full { is_full self.old.booked.recorded ≡ true → IsOk result }
     {
         let next_byte = next_byte(self.next_byte, &command);
         match self.booked.call(command) {

@@ -1,6 +1,17 @@
 //! The definitions, computed on small histories.
 
-ghost use Rattle.ob_seq.specs.Worked.{TheFirstRun, EqualityWithLow, LowZero, LongRegion, CancelledEntry, FixedPromise, ProgressTold, RemovedBytes, EmptyFront, EndOfTheByteRun, MarksOfZero, GatheredBlocks, Looks, SharedWord, SeveralUserBits, FailedWithoutNotice, FailedWithNotice, FailedVoided, ClosedOnce};
+ghost use Rattle.ob_seq.specs.Worked.{TheFirstRun, EqualityWithLow, LowZero, LongRegion, CancelledEntry};
+ghost use Rattle.ob_seq.specs.Worked.{FixedPromise, ProgressTold, RemovedBytes, EmptyFront, EndOfTheByteRun};
+ghost use Rattle.ob_seq.specs.Worked.{MarksOfZero, GatheredBlocks, Looks, SharedWord, SeveralUserBits};
+ghost use Rattle.ob_seq.specs.Worked.{FailedWithoutNotice, FailedWithNotice, FailedVoided, ClosedOnce};
+ghost use Rattle.ob_seq.specs.WorkedBytes.{TwoSkips, LeftAfterTwoSkips, VoidedRegion, LeftOfAVoidedRegion};
+ghost use Rattle.ob_seq.specs.WorkedBytes.{WritableByBytes, WritableByManyBytes, WritableByFailure, RegionInFront};
+ghost use Rattle.ob_seq.specs.WorkedEndings.{ClosedPastAVoided, EachEnd, NothingLeftAfterAClose};
+ghost use Rattle.ob_seq.specs.WorkedEndings.{PromisesAfterAClose, PromisesBeforeAnEnd};
+ghost use Rattle.ob_seq.specs.WorkedHistories.{AcceptedOfThem, FourWrites, SettledInTurn, OneOfEachPlace, OutOfOrder};
+ghost use Rattle.ob_seq.specs.WorkedLimits.{TotalAtItsLimit, LookAtTheLimit, SizesAtTheirLimits, ProgressAtItsTop};
+ghost use Rattle.ob_seq.specs.WorkedLooks.{WritableAtTheMarks, UnwritableAtTheMarks, UnwritableBelowLow};
+ghost use Rattle.ob_seq.specs.WorkedLooks.{UnderAUserBit, UnderALowMarkOfZero};
 
 #[tactic(auto, unfolding(crate::specs::Word::user_bits))]
 fn worked_rows()
@@ -25,7 +36,59 @@ fn worked_rows()
     ensures closed_once { ClosedOnce }
 {}
 
+#[tactic(auto, unfolding(crate::specs::Word::user_bits))]
+fn worked_bytes()
+    ensures two_skips { TwoSkips }
+    ensures left_after_two_skips { LeftAfterTwoSkips }
+    ensures writable_by_bytes { WritableByBytes }
+    ensures writable_by_many_bytes { WritableByManyBytes }
+    ensures writable_by_failure { WritableByFailure }
+    ensures voided_region { VoidedRegion }
+    ensures left_of_a_voided_region { LeftOfAVoidedRegion }
+    ensures region_in_front { RegionInFront }
+{}
+
+#[tactic(auto, unfolding(crate::specs::Word::user_bits))]
+fn worked_limits()
+    ensures total_at_its_limit { TotalAtItsLimit }
+    ensures look_at_the_limit { LookAtTheLimit }
+    ensures sizes_at_their_limits { SizesAtTheirLimits }
+    ensures progress_at_its_top { ProgressAtItsTop }
+{}
+
+#[tactic(auto, unfolding(crate::specs::Word::user_bits))]
+fn worked_endings()
+    ensures closed_past_a_voided { ClosedPastAVoided }
+    ensures each_end { EachEnd }
+    ensures promises_after_a_close { PromisesAfterAClose }
+    ensures nothing_left_after_a_close { NothingLeftAfterAClose }
+    ensures promises_before_an_end { PromisesBeforeAnEnd }
+{}
+
+#[tactic(auto, unfolding(crate::specs::Word::user_bits))]
+fn worked_looks()
+    ensures writable_at_the_marks { WritableAtTheMarks }
+    ensures unwritable_at_the_marks { UnwritableAtTheMarks }
+    ensures unwritable_below_low { UnwritableBelowLow }
+    ensures under_a_user_bit { UnderAUserBit }
+    ensures under_a_low_mark_of_zero { UnderALowMarkOfZero }
+{}
+
+#[tactic(auto, unfolding(crate::specs::Word::user_bits))]
+fn worked_histories()
+    ensures accepted_of_them { AcceptedOfThem }
+    ensures four_writes { FourWrites }
+    ensures settled_in_turn { SettledInTurn }
+    ensures one_of_each_place { OneOfEachPlace }
+    ensures out_of_order { OutOfOrder }
+{}
+
 #[test]
 fn definitions_give_the_worked_rows() {
     worked_rows();
+    worked_bytes();
+    worked_limits();
+    worked_endings();
+    worked_looks();
+    worked_histories();
 }

@@ -1,0 +1,28 @@
+use Rattle.std.proofs.Common.{◌≡◌, true, Option, Some, refl, sym, ap, ◌∙◌, take}
+use Rattle.std.specs.Prelude.{None, is_ok, slice_get}
+use Rattle.std.proofs.lemmas.Option.{slice_get-get_or}
+use Rattle.ob_types.specs.declared.refusal.Refusal.{Refusal}
+use Rattle.ob_types.specs.declared.reply.Reply.{Reply}
+use Rattle.ob_seq.specs.Answer.{first_refusal, reply_of, unless_refused}
+use Rattle.ob_history.specs.Accepted.{accepted_commands}
+use Rattle.ob_history.proofs.Histories.{legal_beginning}
+use Rattle.ob_history.proofs.Told.{legal_are_accepted}
+use Rattle.ob_history.proofs.laws.a_history_keeps_to_the_limits.Goals as goal
+
+not_refused : (refusal : Option Refusal) (reply : Reply) → is_ok (unless_refused refusal reply) ≡ true → refusal ≡ None
+not_refused None reply accepted = refl
+not_refused (Some refusal) reply accepted = absurd (cc)
+
+pub returns : goal.returns
+returns c = record {
+  removal = λ settings records one n legal there accepted removes.
+      let index = there.0 in
+      let found : slice_get records index ≡ Some one = slice_get-get_or records index one there.1 ∙ ap Some there.2 in
+      let before = accepted_commands (take index records) in
+      let all = legal_are_accepted settings (take index records) (legal_beginning settings records index legal) in
+      let taken : first_refusal settings.estimate before one.command ≡ None = not_refused (first_refusal settings.estimate before one.command) (reply_of settings before one.command)
+      (ap is_ok (sym (legal index one found).reply) ∙ accepted) in
+      c.accepted_commands_keep_to_the_limits.ensures.removal settings.estimate before n all (ap (first_refusal settings.estimate before) (sym removes) ∙ taken);
+  total = λ settings records legal. c.accepted_commands_keep_to_the_limits.ensures.total settings.estimate (accepted_commands records) (legal_are_accepted settings records legal);
+  word = λ settings records. c.the_word_is_the_mark_and_the_user_bits.ensures.no_higher settings (accepted_commands records);
+}

@@ -1,0 +1,23 @@
+use Rattle.std.specs.List.{All}
+use Rattle.std.specs.Prelude.{IsTrue}
+use Rattle.std.proofs.Common.{arith}
+use Rattle.std.proofs.lemmas.List.Elements.{All-more}
+use Rattle.ob_history.specs.Seen.{IsSeenIn}
+use Rattle.ob_history.proofs.First.{first_against, up_to_end}
+use Rattle.ob_history.proofs.recorded.Recorded.first_foreign_seen.Goals as goal
+
+pub loop-index-preserved : goal.loop-index-preserved
+loop-index-preserved c =
+    All-more (IsSeenIn c.args.self.now.settings c.args.self.now.records) c.args.seen.now c.loop-index.index _
+    c.loop-index-test.true c.loop-index.invariant (c.in_ok-check_seen.ensures.answer.0 c.if-not-branch.false)
+
+pub returns-clause-seen : goal.returns-clause-seen
+returns-clause-seen c none =
+    up_to_end (All (IsSeenIn c.args.self.now.settings c.args.self.now.records)) c.args.seen.now c.loop-index.index (omega arith) c.loop-index.invariant
+
+pub returns-then-not-branch-clause-foreign : goal.returns-then-not-branch-clause-foreign
+returns-then-not-branch-clause-foreign c =
+    let IsSeen = IsSeenIn c.args.self.now.settings c.args.self.now.records in
+    let told = c.in_ok-check_seen.ensures.answer.1 in
+    first_against IsSeen c.args.seen.now c.loop-index.index _ c.loop-index-test.true c.loop-index.invariant
+    (λ seen. let is : IsTrue c.in_ok-check_seen.field-0 = told seen in absurd (cc))

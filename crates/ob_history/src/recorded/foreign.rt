@@ -1,0 +1,70 @@
+ghost use Rattle.std.specs.List.{All};
+ghost use Rattle.std.specs.Prelude.{◌≡◌, ◌-◌, ◌<◌, ◌↔◌, length, IfOk, IfSome, IsNone, IsOk, IsOkUnless, IsTrue, slice_index_or};
+ghost use Rattle.ob_history.specs.First.{IsFirstBreak};
+ghost use Rattle.ob_history.specs.Own.{AreOwn};
+ghost use Rattle.ob_history.specs.Receipt.{IsReceiptIn};
+ghost use Rattle.ob_history.specs.Seen.{IsSeenIn};
+ghost use Rattle.ob_history.specs.declared.receipt.Receipt.{Receipt};
+
+use crate::receipt::Receipt;
+use crate::recorded::Recorded;
+use crate::seen::Seen;
+use ob_types::Refusal;
+
+impl Recorded {
+    /// The index of the first receipt with which a list is no longer the caller's own: one that is not the record at its
+    /// place, or names another caller, or whose place is not above the one before it. It changes nothing and takes no
+    /// memory.
+    pub fn first_foreign_receipt(&self, caller: u32, receipts: &[Receipt]) -> Option<usize>
+        ensures own { IsNone result → AreOwn caller self.now.records receipts.now }
+        ensures foreign { IfSome result (IsFirstBreak (AreOwn caller self.now.records) receipts.now) }
+    {
+        for (index, receipt) in receipts.iter().enumerate() {
+            if receipt.caller != caller || !self.check(receipt) || !rises(receipts, index) {
+                return Some(index);
+            }
+        }
+        None
+    }
+
+    /// The index of the first receipt that is not the record at its place, whoever made the call. It changes nothing and
+    /// takes no memory.
+    pub fn first_foreign_told(&self, told: &[Receipt]) -> Option<usize>
+        ensures kept { IsNone result → All (IsReceiptIn self.now.records) told.now }
+        ensures foreign { IfSome result (IsFirstBreak (All (IsReceiptIn self.now.records)) told.now) }
+    {
+        for (index, receipt) in told.iter().enumerate() {
+            if !self.check(receipt) {
+                return Some(index);
+            }
+        }
+        None
+    }
+
+    /// The index of the first look that is not of the history, as `check_seen` asks it. It changes nothing here.
+    /// `NoMemory` comes where the allocator refused, or a block has more owners than can be counted, and not where each
+    /// look names more records than there are.
+    pub fn first_foreign_seen(&self, seen: &[Seen]) -> Result<Option<usize>, Refusal>
+        ensures seen { IfOk result (λ found. IsNone found → All (IsSeenIn self.now.settings self.now.records) seen.now) }
+        ensures foreign { IfOk result (λ found.
+            IfSome found (IsFirstBreak (All (IsSeenIn self.now.settings self.now.records)) seen.now)) }
+        ensures no_memory { IsOkUnless result Refusal.NoMemory }
+        ensures frugal { All (λ one. length self.now.records < one.place) seen.now → IsOk result }
+    {
+        for (index, one) in seen.iter().enumerate() {
+            if !self.check_seen(one)? {
+                return Ok(Some(index));
+            }
+        }
+        Ok(None)
+    }
+}
+
+/// Whether the place of a receipt is above that of the one before it, if there is one.
+fn rises(receipts: &[Receipt], index: usize) -> bool
+    requires { index < length receipts.now }
+    ensures { IsTrue result ↔ ((other : Receipt) → 0 < index →
+        (slice_index_or receipts.now (index - 1) other).place < (slice_index_or receipts.now index other).place) }
+{
+    index == 0 || receipts[index - 1].place < receipts[index].place
+}

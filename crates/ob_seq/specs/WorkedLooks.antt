@@ -1,0 +1,48 @@
+-- The two numbers of a look where the pending bytes equal a mark, computed by hand beforehand.
+use Rattle.std.specs.Prelude.{◌≡◌, ℕ, false, List, [], ◌∷◌}
+use Rattle.ob_types.specs.declared.command.Command.{Command}
+use Rattle.ob_types.specs.declared.command.Command.TheVariants.{Flush, Remove, FailFlushed, UserBit}
+use Rattle.ob_seq.specs.Looks.{before_writable, look_after}
+use Rattle.ob_seq.specs.Worked.{block, marked}
+
+-- a writable buffer at the low mark and at the high mark: the next byte above high makes it unwritable
+abbrev pub WritableAtTheMarks : Type 0
+WritableAtTheMarks =
+    (look_after (marked 200 400) (block 104 ∷ [])
+    ≡ record { total = 200; word = 0; size = 0; before_unwritable = 201; before_writable = 0; current_progress = 0 })
+    × (look_after (marked 200 400) (block 304 ∷ [])
+    ≡ record { total = 400; word = 0; size = 0; before_unwritable = 1; before_writable = 0; current_progress = 0 })
+
+-- an unwritable buffer at the high mark and at the low mark: the next byte below low makes it writable
+abbrev pub UnwritableAtTheMarks : Type 0
+UnwritableAtTheMarks =
+    (look_after (marked 200 400) (block 4 ∷ block 304 ∷ Flush ∷ Remove ∷ [])
+    ≡ record { total = 400; word = 1; size = 1; before_unwritable = 0; before_writable = 201; current_progress = 0 })
+    × (look_after (marked 200 400) (block 204 ∷ block 104 ∷ Flush ∷ Remove ∷ [])
+    ≡ record { total = 200; word = 1; size = 1; before_unwritable = 0; before_writable = 1; current_progress = 0 })
+
+-- below the low mark with the mark still set, after a failing without notice, both numbers are 0
+abbrev pub UnwritableBelowLow : Type 0
+UnwritableBelowLow =
+    look_after (marked 200 400) (block 400 ∷ Flush ∷ block 103 ∷ FailFlushed (record { 0 = 7 }) false ∷ [])
+    ≡ record { total = 199; word = 1; size = 0; before_unwritable = 0; before_writable = 0; current_progress = 0 }
+
+-- under a user bit the numbers are those of an unwritable buffer, though the mark is clear
+abbrev pub UnderAUserBit : Type 0
+UnderAUserBit =
+    (look_after (marked 200 400) (UserBit 5 false ∷ block 103 ∷ [])
+    ≡ record { total = 199; word = 32; size = 0; before_unwritable = 0; before_writable = 0; current_progress = 0 })
+    × (look_after (marked 200 400) (UserBit 5 false ∷ block 104 ∷ [])
+    ≡ record { total = 200; word = 32; size = 0; before_unwritable = 0; before_writable = 1; current_progress = 0 })
+    × (look_after (marked 200 400) (UserBit 5 false ∷ block 304 ∷ [])
+    ≡ record { total = 400; word = 32; size = 0; before_unwritable = 0; before_writable = 201; current_progress = 0 })
+    × (look_after (marked 200 400) (UserBit 5 false ∷ block 305 ∷ [])
+    ≡ record { total = 401; word = 33; size = 0; before_unwritable = 0; before_writable = 202; current_progress = 0 })
+
+-- under a low mark of 0 no fall is enough: the number is one more than is pending, up to its own limit
+abbrev pub UnderALowMarkOfZero : Type 0
+UnderALowMarkOfZero =
+    (look_after (marked 0 400) (block 400 ∷ [])
+    ≡ record { total = 496; word = 1; size = 0; before_unwritable = 0; before_writable = 497; current_progress = 0 })
+    × (before_writable (record { low = 0; high = 400 }) 1 4294967294 ≡ 4294967295)
+    × (before_writable (record { low = 0; high = 400 }) 1 4294967295 ≡ 4294967295)
