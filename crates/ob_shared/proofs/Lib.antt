@@ -1,1 +1,2 @@
 pub mod HandedIn
+pub mod Promises

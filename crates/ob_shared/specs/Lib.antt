@@ -2,3 +2,4 @@ pub mod Handed
 pub mod Held
 pub mod Maker
 pub mod Opened
+pub mod Told

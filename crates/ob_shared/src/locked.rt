@@ -1,21 +1,28 @@
-ghost use Rattle.std.specs.Prelude.{◌≡◌, ◌+◌, ◌<◌, ◌≤◌, ◌↔◌, false, length, IsErrOf, IsOk, IsOkUnless, OnOk, OnErr};
+ghost use Rattle.std.specs.Prelude.{◌≡◌, ◌+◌, ◌<◌, ◌≤◌, ◌↔◌, false, length, Some, IfSome, IsNone, IfOk, IsErrOf, IsOk, IsOkUnless, OnOk, OnErr};
+ghost use Rattle.std.specs.List.{Contains};
+ghost use Rattle.ob_types.specs.declared.promise.Outcome.{Outcome};
+ghost use Rattle.ob_types.specs.declared.promise.PromiseState.TheVariants.{Settled};
+ghost use Rattle.ob_seq.specs.Looks.{promise_after};
 ghost use Rattle.ob_seq.specs.Pending.{StandsFor};
 ghost use Rattle.ob_history.specs.Accepted.{accepted_commands};
 ghost use Rattle.ob_history.specs.Call.{IsCovered, call_answer, history_after, is_full};
 ghost use Rattle.ob_history.specs.History.{IsBounded, LacksPlaces, new_history, with_reserved};
 ghost use Rattle.ob_history.specs.Legal.{IsLegal};
+ghost use Rattle.ob_history.specs.Receipt.{receipt_of};
 ghost use Rattle.ob_history.specs.Seen.{seen_now};
+ghost use Rattle.ob_history.specs.Settlements.{settlements_in};
 ghost use Rattle.ob_shared.specs.Handed.{LacksShare, made_by};
 ghost use Rattle.ob_shared.specs.Maker.{one_more};
 ghost use Rattle.ob_shared.specs.Opened.{IsAsOpened};
+ghost use Rattle.ob_shared.specs.Told.{IsCopiedFreely, IsToldFreely, IsUnknown, IsUnsettled, TellsOf};
 
 use crate::callers::Callers;
 use crate::done::Done;
 use crate::named::Named;
 use crate::share::Share;
-use ob_history::{Receipt, Recorded, Seen};
+use ob_history::{Receipt, Record, Recorded, Seen, a_history_tells_each_settled_promise};
 use ob_seq::Buffer;
-use ob_types::{Command, Refusal};
+use ob_types::{Command, PromiseId, PromiseState, Refusal};
 use std::marker::Model;
 use std::sync::ledger;
 use std::sync::ledger::Book;
@@ -112,6 +119,40 @@ impl<L: Named> Locked<L> {
     {
         self.recorded.look()
     }
+    /// The receipt of the record that settled a promise, or nothing while it is not settled. It asks what has become of
+    /// the promise, and only then looks for the record.
+    pub fn told(&self, id: PromiseId) -> Option<Result<Receipt, Refusal>>
+        ensures waits { IsNone result ↔ (¬ IsUnknown self.now.records id × IsUnsettled self.now.records id) }
+        ensures told { IfSome result (λ answer. IfOk answer (TellsOf self.now.records id)) }
+        ensures unknown { IfSome result (λ answer.
+            IsErrOf answer Refusal.UnknownPromise ↔ IsUnknown self.now.records id) }
+        ensures no_memory { ¬ IsUnknown self.now.records id
+            → IfSome result (λ answer. IsOkUnless answer Refusal.NoMemory) }
+        ensures frugal { IsToldFreely self.now.records id
+            → IfSome result (λ answer. ¬ IsErrOf answer Refusal.NoMemory) }
+    {
+        match self.promise(id) {
+            None => Some(Err(Refusal::UnknownPromise)),
+            Some(PromiseState::Waiting) => None,
+            Some(PromiseState::Fixed) => None,
+            Some(PromiseState::Settled(_)) => {
+                let settling = self.recorded.settling(id)?;
+                Some(receipt(settling))
+            }
+        }
+    }
+
+    /// What has become of a promise.
+    fn promise(&self, id: PromiseId) -> Option<PromiseState>
+        ensures state { result ≡ promise_after self.now.settings (accepted_commands self.now.records) id }
+        ensures unknown { IsNone result ↔ IsUnknown self.now.records id }
+        ensures settled { (outcome : Outcome) →
+            result ≡ Some (Settled outcome) ↔ Contains (settlements_in self.now.records) (id, outcome) }
+    {
+        a_history_tells_each_settled_promise();
+        self.recorded.buffer().promise(id)
+    }
+
     /// The recorded buffer, for the callers who handed in, each with its share.
     pub fn into_recorded(self, callers: &Callers<L>, dones: Vec<Done<L>>) -> Recorded
         requires all { ¬ LacksShare callers.now.count dones.items }
@@ -141,4 +182,13 @@ fn merged<L: Named>(rest: ledger::Share<L>, dones: Vec<Done<L>>) -> ledger::Shar
         all.merge(done.share.into_part());
     }
     all
+}
+
+/// The receipt of a record. It fails for want of memory alone.
+fn receipt(one: &Record) -> Result<Receipt, Refusal>
+    ensures same { IfOk result (λ receipt. receipt ≡ receipt_of one.now) }
+    ensures no_memory { IsOkUnless result Refusal.NoMemory }
+    ensures succeeds { IsCopiedFreely one.now → IsOk result }
+{
+    Ok(one.receipt()?)
 }

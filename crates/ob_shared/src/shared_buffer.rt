@@ -1,9 +1,10 @@
-ghost use Rattle.std.specs.Prelude.{◌≡◌, ◌≤◌, ◌↔◌, length, IsErr, IfOk, IfErr};
+ghost use Rattle.std.specs.Prelude.{◌≡◌, ◌≤◌, ◌↔◌, length, IsErr, IsErrOf, IsOk, IsOkUnless, IfOk, IfErr};
 ghost use Rattle.ob_types.specs.declared.promise.PromiseId.{PromiseId};
 ghost use Rattle.ob_seq.specs.Settles.{times_settled};
 ghost use Rattle.ob_history.specs.Settlements.{settlements_in};
 ghost use Rattle.ob_shared.specs.Handed.{LacksShare, made_by};
 ghost use Rattle.ob_shared.specs.Opened.{IsAsOpened};
+ghost use Rattle.ob_shared.specs.Told.{IsToldFreely, IsUnknown, IsUnsettled, TellsOf};
 
 use crate::callers::Callers;
 use crate::desk::Desk;
@@ -13,7 +14,8 @@ use crate::finish_fault::FinishFault;
 use crate::locked::Locked;
 use crate::named::Named;
 use crate::share::Share;
-use ob_history::a_history_settles_each_promise_once;
+use ob_history::{Receipt, a_history_settles_each_promise_once};
+use ob_types::{PromiseId, Refusal};
 use std::sync::{Condvar, Mutex, Wait};
 
 /// A buffer with its whole history under a lock. Callers give it commands from a desk, each with its share.
@@ -41,6 +43,35 @@ impl<L: Named> SharedBuffer<L> {
         ensures opened { IsAsOpened L.opened result.history }
     {
         Desk::new(self, self.locked.lock(rt), share)
+    }
+
+    /// Waits until a promise is settled, and gives a desk for the caller of the share, with the receipt of the record that
+    /// settled it.
+    ///
+    /// `UnknownPromise` comes at once, and just where no write was accepted under the id. `NoMemory` comes where the promise is settled and the allocator refused, and not where it was settled with at most three others.
+    pub fn wait_settled<R: Wait>(
+        &self,
+        rt: &R,
+        share: Share<L>,
+        id: PromiseId,
+    ) -> (Desk<'_, L>, Result<Receipt, Refusal>)
+        ensures maker { result.0.maker ≡ share }
+        ensures opened { IsAsOpened L.opened result.0.history }
+        ensures told { IfOk result.1 (TellsOf result.0.history.records id) }
+
+        ensures unknown { IsErrOf result.1 Refusal.UnknownPromise ↔ IsUnknown result.0.history.records id }
+        ensures no_memory { ¬ IsUnknown result.0.history.records id → IsOkUnless result.1 Refusal.NoMemory }
+        ensures settled { ¬ IsUnknown result.0.history.records id → ¬ IsUnsettled result.0.history.records id }
+        ensures frugal { IsToldFreely result.0.history.records id → ¬ IsErrOf result.1 Refusal.NoMemory }
+    {
+        let mut locked = self.locked.lock(rt);
+        for _ in rt.forever() {
+            match locked.told(id) {
+                Some(answer) => return (Desk::new(self, locked, share), answer),
+                None => locked = self.settled.wait(rt, locked),
+            }
+        }
+        unreachable!()
     }
 
     /// Ends the buffer, where each caller has handed in its share, and gives the whole history. The records are then a

@@ -1,1 +1,3 @@
+mod openings;
+mod told;
 mod two_callers;

@@ -1,50 +1,16 @@
 //! Two callers, and what they hand in at the end.
 
-ghost use Rattle.std.specs.Prelude.{◌≡◌, ◌<◌, ◌≤◌, IfOk};
 ghost use Rattle.ob_shared.specs.Opened.{IsNameOf};
 
-use crate::{Done, FinishFault, Named, Opening, Share, SharedBuffer};
-use bytes::Bytes;
+use crate::tests::openings::{block, done, opening};
+use crate::{FinishFault, Named, Opening};
 use ob_history::Booked;
-use ob_types::{Command, Estimate, Message, PromiseId, Refusal, WaterMark};
-use std::alloc::{AllocError, Global};
+use ob_types::Command;
+use std::alloc::Global;
 use std::marker::Brand;
 use std::process::Abort;
 use std::sync::Wait;
 use std::test::Fail;
-
-fn opening(alloc: Global, limit: u32, callers: u32) -> Result<Opening, Refusal>
-    requires some_record { 0 < limit }
-    requires few_records { limit ≤ 1048576 }
-    requires some_caller { 0 < callers }
-    requires few_callers { callers ≤ 65 }
-{
-    let estimate = Estimate {
-        overhead: 96,
-        unknown: 8,
-    };
-    Opening::new(
-        alloc,
-        WaterMark::new(32768, 65536)?,
-        estimate,
-        limit,
-        callers,
-    )
-}
-
-fn block(alloc: Global, length: usize) -> Result<Command, AllocError> {
-    let bytes = Bytes::from_vec(vec![in alloc; 0u8; length]?)?;
-    Ok(Command::Write(Message::Block(bytes)))
-}
-
-fn done<L: Named>(alloc: Global, share: Share<L>) -> Done<L> {
-    Done {
-        share,
-        receipts: Vec::new(alloc),
-        told: Vec::new(alloc),
-        seen: Vec::new(alloc),
-    }
-}
 
 #[test]
 fn two_callers_finish(rt: HostRuntime) -> Result<(), Fail> {
