@@ -1,4 +1,5 @@
 pub mod Calls
+pub mod Counts
 pub mod First
 pub mod Histories
 pub mod Own

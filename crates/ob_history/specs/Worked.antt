@@ -1,19 +1,26 @@
 -- The definitions on a small history, worked out by hand beforehand.
-use Rattle.std.specs.Prelude.{◌≡◌, ℕ, true, List, [], ◌∷◌, replicate, None, Result, Ok, Err}
+use Rattle.std.specs.Prelude.{◌≡◌, ℕ, true, false, List, [], ◌∷◌, replicate, take, None, Result, Ok, Err}
 use Rattle.ob_types.specs.declared.command.Command.TheVariants.{Write, Flush, Remove, Cancel}
 use Rattle.ob_types.specs.declared.message.Message.TheVariants.{Block}
 use Rattle.ob_types.specs.declared.promise.PromiseId.{PromiseId}
 use Rattle.ob_types.specs.declared.promise.Outcome.{Outcome}
 use Rattle.ob_types.specs.declared.promise.Outcome.TheVariants.{Success}
 use Rattle.ob_types.specs.declared.refusal.Refusal.{Refusal}
-use Rattle.ob_types.specs.declared.refusal.Refusal.TheVariants.{UnknownPromise}
+use Rattle.ob_types.specs.declared.refusal.Refusal.TheVariants.{HistoryFull, UnknownPromise}
 use Rattle.ob_types.specs.declared.reply.Reply.{Reply}
 use Rattle.ob_types.specs.declared.reply.Answer.{Answer}
 use Rattle.ob_types.specs.declared.reply.Answer.TheVariants.{Id, Count, Yes}
 use Rattle.ob_seq.specs.Settings.{Settings}
 use Rattle.ob_history.specs.Accepted.{accepted_commands}
+use Rattle.ob_history.specs.Call.{call_answer, history_after}
+use Rattle.ob_history.specs.First.{IsFirstBreak}
+use Rattle.ob_history.specs.Glance.{Glance, glance_after}
+use Rattle.ob_history.specs.History.{History}
 use Rattle.ob_history.specs.Legal.{IsLegal}
-use Rattle.ob_history.specs.Settlements.{settlements_in}
+use Rattle.ob_history.specs.Own.{AreOwn, records_of}
+use Rattle.ob_history.specs.Receipt.{receipt_of}
+use Rattle.ob_history.specs.Seen.{seen_now}
+use Rattle.ob_history.specs.Settlements.{settlements_in, settles}
 use Rattle.ob_history.specs.declared.record.Record.{Record}
 
 -- Netty's marks and sizes
@@ -63,3 +70,59 @@ IllegalAtAnotherPlace = ¬ IsLegal settings (write_at 1 ∷ [])
 -- and so does a reply that the buffer would not have given there
 abbrev pub IllegalWithAnotherReply : Type 0
 IllegalWithAnotherReply = ¬ IsLegal settings (write_at 0 ∷ refused_cancel ∷ flush_of 2 ∷ [])
+
+-- a history of so many of these records, of which there may be four, with one call reserved
+abbrev pub stored : ℕ → History
+stored count = record { settings = settings; limit = 4; records = take count worked_records; reserved = 1 }
+
+-- the fourth record fits, and uses the reserved call up
+abbrev pub LastPlace : Type 0
+LastPlace =
+    (call_answer (stored 3) 7 Remove ≡ Ok (receipt_of removal))
+    × (history_after (stored 3) 7 Remove ≡ record { settings = settings; limit = 4; records = worked_records; reserved = 0 })
+
+-- a fifth is refused, whatever it asks, and changes nothing
+abbrev pub FullHistory : Type 0
+FullHistory = (call_answer (stored 4) 7 Flush ≡ Err HistoryFull) × (history_after (stored 4) 7 Flush ≡ stored 4)
+
+-- before the removal one message of 4 bytes and an overhead of 96 is in line
+abbrev pub SeenBeforeTheRemoval : Type 0
+SeenBeforeTheRemoval =
+    seen_now (stored 3) ≡ record {
+      place = 3;
+      look = record { total = 100; word = 0; size = 1; before_unwritable = 65437; before_writable = 0; current_progress = 0 };
+    }
+
+-- a glance shows the same total before it, and nothing after
+abbrev pub Glances : Type 0
+Glances =
+    (glance_after settings (take 3 worked_records) ≡ record { word = 0; total = 100 })
+    × (glance_after settings worked_records ≡ record { word = 0; total = 0 })
+
+-- the removal alone settles the promise, and no other one
+abbrev pub SettledByOneRecord : Type 0
+SettledByOneRecord =
+    (settles (record { 0 = 0 }) removal ≡ true) × (settles (record { 0 = 1 }) removal ≡ false)
+    × (settles (record { 0 = 0 }) (write_at 0) ≡ false) × (settles (record { 0 = 5 }) refused_cancel ≡ false)
+
+-- three records are caller 7's, and one is caller 2's
+abbrev pub RecordsOfTwoCallers : Type 0
+RecordsOfTwoCallers =
+    (records_of 7 worked_records ≡ write_at 0 ∷ flush_of 1 ∷ removal ∷ [])
+    × (records_of 2 worked_records ≡ refused_cancel ∷ []) × (records_of 0 worked_records ≡ [])
+
+-- two receipts of caller 7, in the order of its calls, are its own
+abbrev pub OwnReceipts : Type 0
+OwnReceipts = AreOwn 7 worked_records (receipt_of (write_at 0) ∷ receipt_of removal ∷ [])
+
+-- but not in another order, nor one of them twice
+abbrev pub ExchangedReceipts : Type 0
+ExchangedReceipts =
+    (¬ AreOwn 7 worked_records (receipt_of removal ∷ receipt_of (write_at 0) ∷ []))
+    × (¬ AreOwn 7 worked_records (receipt_of removal ∷ receipt_of removal ∷ []))
+
+-- nor is another caller's receipt, nor one that says another count: it is the first that is not
+abbrev pub ForeignReceipts : Type 0
+ForeignReceipts =
+    (¬ AreOwn 7 worked_records (receipt_of refused_cancel ∷ []))
+    × IsFirstBreak (AreOwn 7 worked_records) (receipt_of (write_at 0) ∷ receipt_of (flush_of 2) ∷ receipt_of removal ∷ []) 1

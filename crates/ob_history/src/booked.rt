@@ -11,8 +11,14 @@ use ob_seq::Buffer;
 use ob_types::{Command, Refusal};
 
 /// A buffer whose calls are recorded, in the hands of one caller.
+///
+/// One may hold another and do more with each call. One that keeps the receipts wants memory for them too, and has a
+/// reserve of its own: how many receipts it can keep without asking for more. As `reserved` of its history it shows the
+/// lesser of that and of what the inner one shows. Its `reserve` asks the inner one first, and then for room for as many
+/// receipts. Its `call`, where there is no room for a receipt, asks the inner one to reserve one call, so that
+/// HistoryFull still comes first, and then for the room; so the number that it shows is 0 before and after a refusal.
 pub trait Booked {
-    /// The history of the buffer, and how many more calls are reserved.
+    /// The history of the buffer, and how many more calls are reserved here.
     ghost history: { Self → History };
 
     /// Who makes the calls.
@@ -20,7 +26,8 @@ pub trait Booked {
 
     /// Gives the buffer one command, records the call, and answers the receipt of the record, as `Recorded::call`.
     fn call(&mut self, command: Command) -> Result<Receipt, Refusal>
-        ensures answer { ¬ IsErrOf result Refusal.NoMemory → result ≡ call_answer (history self.old) (caller self.old) command }
+        ensures answer { ¬ IsErrOf result Refusal.NoMemory
+            → result ≡ call_answer (history self.old) (caller self.old) command }
         ensures after { ¬ IsErrOf result Refusal.NoMemory
             → history self.new ≡ history_after (history self.old) (caller self.old) command }
         ensures caller { caller self.new ≡ caller self.old }

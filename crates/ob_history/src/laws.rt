@@ -35,8 +35,8 @@ pub fn a_history_settles_each_promise_once()
     no_promise_is_settled_twice();
 }
 
-/// In a legal history a promise is settled with an outcome exactly where the two stand together among the settlements. It
-/// is unknown exactly where its id is not below the number of accepted writes.
+/// In a legal history a promise is settled with an outcome exactly where the two stand together among the settlements.
+/// It is unknown exactly where its id is not below the number of accepted writes.
 pub fn a_history_tells_each_settled_promise()
     ensures told { (settings : Settings) (records : List Record) (id : PromiseId) (outcome : Outcome) →
         IsLegal settings records → promise_after settings (accepted_commands records) id ≡ Some (Settled outcome)
@@ -53,8 +53,8 @@ pub fn a_beginning_of_a_history_is_legal()
         IsLegal settings records → IsLegal settings (take count records) }
 {}
 
-/// A call keeps a history legal and bounded, and leaves its settings and its limit. The record of one more call adds its
-/// command to the accepted ones, if it is accepted.
+/// A call keeps a history legal and bounded, and leaves its settings and its limit. The record of one more call adds
+/// its command to the accepted ones, if it is accepted.
 pub fn a_call_keeps_a_history_legal()
     ensures legal { (history : History) (caller : ℕ) (command : Command) → IsLegal history.settings history.records
         → IsLegal history.settings (history_after history caller command).records }
@@ -69,8 +69,8 @@ pub fn a_call_keeps_a_history_legal()
         ≡ commands_after history.settings (accepted_commands history.records) command }
 {}
 
-/// A legal history keeps to the limits: an accepted removal of n bytes has n at most 4294967295, at most 4294967295 bytes
-/// are pending, and the word is below 4294967296.
+/// A legal history keeps to the limits: an accepted removal of n bytes has n at most 4294967295, at most 4294967295
+/// bytes are pending, and the word is below 4294967296.
 pub fn a_history_keeps_to_the_limits()
     ensures removal { (settings : Settings) (records : List Record) (one : Record) (n : ℕ) → IsLegal settings records
         → Contains records one → is_accepted one ≡ true → one.command ≡ RemoveBytes n → n ≤ 4294967295 }
@@ -82,8 +82,8 @@ pub fn a_history_keeps_to_the_limits()
     the_word_is_the_mark_and_the_user_bits();
 }
 
-/// Where distinct callers hold receipts of their own, and together as many as there are records, each holds the receipts
-/// of all its records, in order.
+/// Where distinct callers hold receipts of their own, and together as many as there are records, each holds the
+/// receipts of all its records, in order.
 pub fn own_receipts_are_all_records()
     ensures all { (records : List Record) (holdings : List Holding) → HoldAll records holdings
         → All (λ one. map record_of one.receipts ≡ records_of one.caller records) holdings }

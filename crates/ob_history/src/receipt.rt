@@ -1,10 +1,8 @@
 ghost use Rattle.std.specs.Prelude.{◌≡◌, ◌≤◌, false, length, IsOk, IfOk};
 ghost use Rattle.ob_types.specs.Copy.{carries_shared};
 ghost use Rattle.ob_seq.specs.Settles.{settled_by};
-ghost use Rattle.ob_history.specs.Receipt.{receipt_of};
 
 use crate::answer;
-use crate::record::Record;
 use ob_types::{Command, Refusal, Reply};
 use std::alloc::AllocError;
 
@@ -23,32 +21,19 @@ pub struct Receipt {
 
 impl Receipt {
     /// The same receipt, of which a written block shares its memory. It fails where the allocator refused, or the block
-    /// has more owners than can be counted, and not where the command writes no block and its reply settles at most four
-    /// promises.
+    /// has more owners than can be counted, and not where the command writes no block and its reply settles at most
+    /// four promises.
     pub fn copy(&self) -> Result<Receipt, AllocError>
         ensures same { IfOk result (λ copy. copy ≡ self.now) }
         ensures succeeds { carries_shared self.now.command ≡ false → length (settled_by self.now.reply) ≤ 4
             → IsOk result }
     {
-        told(self.place, self.caller, &self.command, &self.reply)
-    }
-}
-
-impl Record {
-    /// A receipt of the record, of which a written block shares its memory. It fails where the allocator refused, or the
-    /// block has more owners than can be counted, and not where the command writes no block and its reply settles at most
-    /// four promises.
-    pub fn receipt(&self) -> Result<Receipt, AllocError>
-        ensures same { IfOk result (λ receipt. receipt ≡ receipt_of self.now) }
-        ensures succeeds { carries_shared self.now.command ≡ false → length (settled_by self.now.reply) ≤ 4
-            → IsOk result }
-    {
-        told(self.place, self.caller, &self.command, &self.reply)
+        copied(self.place, self.caller, &self.command, &self.reply)
     }
 }
 
 /// A receipt with a copy of what was asked and of what was answered. It fails for want of memory alone.
-fn told(
+pub fn copied(
     place: u32,
     caller: u32,
     command: &Command,

@@ -1,4 +1,11 @@
+ghost use Rattle.std.specs.Prelude.{◌≡◌, ◌≤◌, false, length, IsOk, IfOk};
+ghost use Rattle.ob_types.specs.Copy.{carries_shared};
+ghost use Rattle.ob_seq.specs.Settles.{settled_by};
+ghost use Rattle.ob_history.specs.Receipt.{receipt_of};
+
+use crate::receipt::{Receipt, copied};
 use ob_types::{Command, Refusal, Reply};
+use std::alloc::AllocError;
 
 /// A call of a buffer, as a history keeps it.
 #[derive(Debug, Drop)]
@@ -11,4 +18,17 @@ pub struct Record {
     pub command: Command,
     /// What the buffer answered: a reply, or the refusal of a command that changed nothing.
     pub reply: Result<Reply, Refusal>,
+}
+
+impl Record {
+    /// A receipt of the record, of which a written block shares its memory. It fails where the allocator refused, or
+    /// the block has more owners than can be counted, and not where the command writes no block and its reply settles
+    /// at most four promises.
+    pub fn receipt(&self) -> Result<Receipt, AllocError>
+        ensures same { IfOk result (λ receipt. receipt ≡ receipt_of self.now) }
+        ensures succeeds { carries_shared self.now.command ≡ false → length (settled_by self.now.reply) ≤ 4
+            → IsOk result }
+    {
+        copied(self.place, self.caller, &self.command, &self.reply)
+    }
 }

@@ -1,2 +1,3 @@
 mod calls;
+mod threads;
 mod worked;

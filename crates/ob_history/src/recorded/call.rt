@@ -14,8 +14,8 @@ impl Recorded {
     ///
     /// `HistoryFull` comes first, and just where the history holds as many records as it may, whatever the buffer
     /// would have answered. `NoMemory` comes where the allocator refused, or the written block has more owners than can
-    /// be counted, and not to a reserved call of a command that is no write and settles at most four promises. Then there
-    /// is no record, and all is as it was.
+    /// be counted, and not to a reserved call of a command that is no write and settles at most four promises. Then
+    /// there is no record, and all is as it was.
     pub fn call(&mut self, caller: u32, command: Command) -> Result<Receipt, Refusal>
         ensures answer { ¬ IsErrOf result Refusal.NoMemory → result ≡ call_answer self.old caller command }
         ensures after { ¬ IsErrOf result Refusal.NoMemory → self.new ≡ history_after self.old caller command }

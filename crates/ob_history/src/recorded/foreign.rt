@@ -1,5 +1,6 @@
 ghost use Rattle.std.specs.List.{All};
-ghost use Rattle.std.specs.Prelude.{◌≡◌, ◌-◌, ◌<◌, ◌↔◌, length, IfOk, IfSome, IsNone, IsOk, IsOkUnless, IsTrue, slice_index_or};
+ghost use Rattle.std.specs.Prelude.{◌≡◌, ◌-◌, ◌<◌, ◌↔◌, length, IfOk, IfSome, IsNone, IsOk, IsOkUnless, IsTrue};
+ghost use Rattle.std.specs.Prelude.{slice_index_or};
 ghost use Rattle.ob_history.specs.First.{IsFirstBreak};
 ghost use Rattle.ob_history.specs.Own.{AreOwn};
 ghost use Rattle.ob_history.specs.Receipt.{IsReceiptIn};
@@ -12,9 +13,9 @@ use crate::seen::Seen;
 use ob_types::Refusal;
 
 impl Recorded {
-    /// The index of the first receipt with which a list is no longer the caller's own: one that is not the record at its
-    /// place, or names another caller, or whose place is not above the one before it. It changes nothing and takes no
-    /// memory.
+    /// The index of the first receipt with which a list is no longer the caller's own: one that is not the record at
+    /// its place, or names another caller, or whose place is not above the one before it. Nothing where all are the
+    /// caller's own. It changes nothing and takes no memory.
     pub fn first_foreign_receipt(&self, caller: u32, receipts: &[Receipt]) -> Option<usize>
         ensures own { IsNone result → AreOwn caller self.now.records receipts.now }
         ensures foreign { IfSome result (IsFirstBreak (AreOwn caller self.now.records) receipts.now) }
@@ -27,8 +28,8 @@ impl Recorded {
         None
     }
 
-    /// The index of the first receipt that is not the record at its place, whoever made the call. It changes nothing and
-    /// takes no memory.
+    /// The index of the first receipt that is not the record at its place, whoever made the call; nothing where each
+    /// is. It changes nothing and takes no memory.
     pub fn first_foreign_told(&self, told: &[Receipt]) -> Option<usize>
         ensures kept { IsNone result → All (IsReceiptIn self.now.records) told.now }
         ensures foreign { IfSome result (IsFirstBreak (All (IsReceiptIn self.now.records)) told.now) }
@@ -41,11 +42,12 @@ impl Recorded {
         None
     }
 
-    /// The index of the first look that is not of the history, as `check_seen` asks it. It changes nothing here.
-    /// `NoMemory` comes where the allocator refused, or a block has more owners than can be counted, and not where each
-    /// look names more records than there are.
+    /// The index of the first look that is not of the history, as `check_seen` asks it; nothing where each is. It gives
+    /// a new buffer the commands for each look, and changes nothing here. `NoMemory` comes where the allocator refused,
+    /// or a block has more owners than can be counted, and not where each look names more records than there are.
     pub fn first_foreign_seen(&self, seen: &[Seen]) -> Result<Option<usize>, Refusal>
-        ensures seen { IfOk result (λ found. IsNone found → All (IsSeenIn self.now.settings self.now.records) seen.now) }
+        ensures seen { IfOk result (λ found.
+            IsNone found → All (IsSeenIn self.now.settings self.now.records) seen.now) }
         ensures foreign { IfOk result (λ found.
             IfSome found (IsFirstBreak (All (IsSeenIn self.now.settings self.now.records)) seen.now)) }
         ensures no_memory { IsOkUnless result Refusal.NoMemory }

@@ -8,7 +8,7 @@ use ob_types::{Answer, Command, Estimate, Message, Outcome, PromiseId, Refusal, 
 use std::alloc::{AllocError, Global};
 use std::test::Fail;
 
-fn recorded(alloc: Global, limit: u32) -> Result<Recorded, Refusal>
+pub fn recorded(alloc: Global, limit: u32) -> Result<Recorded, Refusal>
     requires some_record { 0 < limit }
     requires few_records { limit ≤ 1048576 }
 {
@@ -136,5 +136,71 @@ fn a_removal_settles_one_promise(rt: HostRuntime) -> Result<(), Fail> {
         reply.settled.as_slice(),
         [(PromiseId(0), Outcome::Success)].as_slice()
     );
+    Ok(())
+}
+
+#[test]
+fn the_settling_record_is_found(rt: HostRuntime) -> Result<(), Fail> {
+    let mut recorded = recorded(rt.alloc(), 6)?;
+    recorded.call(3, block(rt.alloc(), 4)?)?;
+    recorded.call(3, Command::Cancel(PromiseId(7)))?;
+    recorded.call(4, Command::Flush)?;
+    assert!(rt; recorded.settling(PromiseId(0)).is_none());
+    recorded.call(4, Command::Remove)?;
+    recorded.call(4, Command::Flush)?;
+    assert!(rt; recorded.settling(PromiseId(1)).is_none());
+    let settling = recorded
+        .settling(PromiseId(0))
+        .ok_or(Refusal::UnknownPromise)?;
+    assert_eq!(rt; (settling.place, settling.caller), (3, 4));
+    assert!(rt; recorded.check(&settling.receipt()?));
+    Ok(())
+}
+
+#[test]
+fn the_first_foreign_receipt_is_found(rt: HostRuntime) -> Result<(), Fail> {
+    let mut recorded = recorded(rt.alloc(), 3)?;
+    let written = [recorded.call(3, block(rt.alloc(), 4)?)?];
+    let flushed = recorded.call(4, Command::Flush)?;
+    let removed = recorded.call(4, Command::Remove)?;
+    assert_eq!(rt; recorded.first_foreign_receipt(3, &written), None);
+    assert_eq!(rt; recorded.first_foreign_receipt(4, &written), Some(0));
+    assert_eq!(rt; recorded.first_foreign_told(&written), None);
+    let exchanged = [removed.copy()?, flushed.copy()?];
+    assert_eq!(rt; recorded.first_foreign_receipt(4, &exchanged), Some(1));
+    assert_eq!(rt; recorded.first_foreign_told(&exchanged), None);
+    let mut own = [flushed, removed];
+    assert_eq!(rt; recorded.first_foreign_receipt(4, &own), None);
+    own[1].command = Command::Flush;
+    assert_eq!(rt; recorded.first_foreign_receipt(4, &own), Some(1));
+    assert_eq!(rt; recorded.first_foreign_told(&own), Some(1));
+    Ok(())
+}
+
+#[test]
+fn the_first_foreign_look_is_found(rt: HostRuntime) -> Result<(), Fail> {
+    let mut recorded = recorded(rt.alloc(), 3)?;
+    let empty = recorded.look();
+    recorded.call(1, block(rt.alloc(), 4)?)?;
+    let written = recorded.look();
+    recorded.call(1, Command::Flush)?;
+    let flushed = recorded.look();
+    assert_eq!(rt;
+        recorded.first_foreign_seen(&[flushed, empty, written]),
+        Ok(None)
+    );
+    let early = Seen {
+        place: 1,
+        look: flushed.look,
+    };
+    assert_eq!(rt;
+        recorded.first_foreign_seen(&[empty, written, early, flushed]),
+        Ok(Some(2))
+    );
+    let late = Seen {
+        place: 3,
+        look: flushed.look,
+    };
+    assert_eq!(rt; recorded.first_foreign_seen(&[late]), Ok(Some(0)));
     Ok(())
 }

@@ -1,6 +1,9 @@
 //! The definitions, computed on a small history.
 
-ghost use Rattle.ob_history.specs.Worked.{IsLegalWithARefusal, AcceptedWithoutTheRefused, SettledByTheRemoval, IllegalAtAnotherPlace, IllegalWithAnotherReply};
+ghost use Rattle.ob_history.specs.Worked.{IsLegalWithARefusal, AcceptedWithoutTheRefused, SettledByTheRemoval};
+ghost use Rattle.ob_history.specs.Worked.{IllegalAtAnotherPlace, IllegalWithAnotherReply, LastPlace, FullHistory};
+ghost use Rattle.ob_history.specs.Worked.{SeenBeforeTheRemoval, Glances, SettledByOneRecord, RecordsOfTwoCallers};
+ghost use Rattle.ob_history.specs.Worked.{OwnReceipts, ExchangedReceipts, ForeignReceipts};
 
 #[tactic(auto, unfolding(ob_seq::specs::Word::user_bits))]
 fn worked_history()
@@ -11,7 +14,25 @@ fn worked_history()
     ensures another_reply { IllegalWithAnotherReply }
 {}
 
+#[tactic(auto, unfolding(ob_seq::specs::Word::user_bits))]
+fn worked_calls()
+    ensures last_place { LastPlace }
+    ensures full { FullHistory }
+    ensures seen { SeenBeforeTheRemoval }
+    ensures glances { Glances }
+    ensures settled { SettledByOneRecord }
+{}
+
+fn worked_receipts()
+    ensures records { RecordsOfTwoCallers }
+    ensures own { OwnReceipts }
+    ensures exchanged { ExchangedReceipts }
+    ensures foreign { ForeignReceipts }
+{}
+
 #[test]
 fn definitions_give_the_worked_history() {
     worked_history();
+    worked_calls();
+    worked_receipts();
 }
