@@ -2,9 +2,9 @@
 
 ghost use Rattle.ob_shared.specs.Opened.{IsNameOf};
 
-use crate::tests::openings::{block, done, opening};
+use crate::tests::openings::{block, both, finished, one_call, opening, pair};
 use crate::{Named, Opening, Share, SharedBuffer};
-use ob_history::{Booked, Receipt};
+use ob_history::Receipt;
 use ob_types::{Command, Outcome, PromiseId, Refusal};
 use std::alloc::Global;
 use std::marker::Brand;
@@ -25,40 +25,25 @@ fn waits_for_another<L: Named + Send + Sync, R: Threads + Wait + Abort + Sync>(
 ) -> Result<(), Fail>
     requires { IsNameOf opening L.opened L.name L.parts }
 {
-    let (buffer, mut shares) = opening.begin::<L>()?;
-    let second = shares.pop().ok_or("a second share")?;
-    let first = shares.pop().ok_or("a first share")?;
-
-    let mut desk = buffer.desk(rt, first);
-    let written = desk.call(block(alloc, 4)?)?;
-    let first = desk.leave();
-    assert_eq!(rt; written.place, 0);
-    let (desk, nobody) = buffer.wait_settled(rt, first, PromiseId(9));
+    let (buffer, shares) = opening.begin::<L>()?;
+    let (first, second) = pair(shares)?;
+    let (first, written) = one_call(rt, &buffer, first, block(alloc, 4)?);
+    assert_eq!(rt; written?.place, 0);
+    let (first, nobody) = told(rt, &buffer, first, PromiseId(9));
     assert_eq!(rt; nobody.err(), Some(Refusal::UnknownPromise));
-    let first = desk.leave();
 
     let shared = &buffer;
-    let (sent, (first, told)) = join(
+    let (sent, waited) = join(
         rt,
         move || send(rt, shared, second),
-        move || wait(rt, shared, first),
+        move || told(rt, shared, first, PromiseId(0)),
     );
     let (second, flushed, removed) = sent;
+    let (first, told) = waited;
     assert_eq!(rt; (flushed?.place, removed?.place), (1, 2));
-    let told = told?;
-    assert_eq!(rt; (told.place, told.caller), (2, 1));
-    assert_eq!(rt;
-        told.reply?.settled.as_slice(),
-        [(PromiseId(0), Outcome::Success)].as_slice()
-    );
-
-    let mut dones = Vec::new(alloc);
-    dones.push(done(alloc, first))?;
-    dones.push(done(alloc, second))?;
-    let Ok(finished) = buffer.finish(dones) else {
-        return Err(Fail::from("all is handed in"));
-    };
-    assert_eq!(rt; finished.recorded.records().len(), 3);
+    is_the_removal(rt, told?)?;
+    let recorded = finished(buffer, both(alloc, first, second)?)?;
+    assert_eq!(rt; recorded.records().len(), 3);
     Ok(())
 }
 
@@ -68,19 +53,27 @@ fn send<L: Named, R: Wait>(
     buffer: &SharedBuffer<L>,
     share: Share<L>,
 ) -> (Share<L>, Result<Receipt, Refusal>, Result<Receipt, Refusal>) {
-    let mut desk = buffer.desk(rt, share);
-    let flushed = desk.call(Command::Flush);
-    let share = desk.leave();
-    let mut desk = buffer.desk(rt, share);
-    let removed = desk.call(Command::Remove);
-    (desk.leave(), flushed, removed)
+    let (share, flushed) = one_call(rt, buffer, share, Command::Flush);
+    let (share, removed) = one_call(rt, buffer, share, Command::Remove);
+    (share, flushed, removed)
 }
 
-fn wait<L: Named, R: Wait>(
+/// Waits for a promise, and leaves the desk.
+fn told<L: Named, R: Wait>(
     rt: &R,
     buffer: &SharedBuffer<L>,
     share: Share<L>,
+    id: PromiseId,
 ) -> (Share<L>, Result<Receipt, Refusal>) {
-    let (desk, told) = buffer.wait_settled(rt, share, PromiseId(0));
+    let (desk, told) = buffer.wait_settled(rt, share, id);
     (desk.leave(), told)
+}
+
+fn is_the_removal<R: Abort>(rt: &R, told: Receipt) -> Result<(), Fail> {
+    assert_eq!(rt; (told.place, told.caller), (2, 1));
+    assert_eq!(rt;
+        told.reply?.settled.as_slice(),
+        [(PromiseId(0), Outcome::Success)].as_slice()
+    );
+    Ok(())
 }
