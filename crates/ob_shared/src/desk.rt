@@ -20,7 +20,11 @@ use ob_types::{Command, Refusal, Reply};
 use std::marker::Model;
 use std::sync::MutexGuard;
 
-/// A shared buffer in the hands of one caller.
+/// A shared buffer in the hands of one caller, who has the lock until the desk is left: the guard of a mutex, with the
+/// caller's share in it. Contracts see the history under the lock, and the caller.
+///
+/// Hold it for the calls that belong together, and do nothing meanwhile that waits: all other callers wait for it. A
+/// desk that is dropped lets the lock go too, but its share is lost, and the buffer can no longer be finished.
 pub struct Desk<'b, L: Named> {
     shared: &'b SharedBuffer<L>,
     locked: MutexGuard<'b, Locked<L>>,
@@ -58,7 +62,7 @@ impl<'b, L: Named> Desk<'b, L> {
         }
     }
 
-    /// What is pending now, and how many calls are recorded.
+    /// What is pending now, and how many calls are recorded. It takes no memory.
     pub fn look(&self) -> Seen
         ensures seen { result ≡ seen_now self.now.history }
         ensures bounded { IsBounded self.now.history }
@@ -66,7 +70,8 @@ impl<'b, L: Named> Desk<'b, L> {
         self.locked.look()
     }
 
-    /// Lets the lock go, and gives the share back.
+    /// Lets the lock go, and gives the share back. If a call at this desk settled something, it wakes all who wait for a
+    /// promise. It takes no memory.
     pub fn leave(self) -> Share<L>
         ensures { result ≡ self.entry.maker }
     {
@@ -96,7 +101,8 @@ impl<'b, L: Named> Booked for Desk<'b, L> {
     ghost caller = { λ desk. desk.maker.caller };
 
     fn call(&mut self, command: Command) -> Result<Receipt, Refusal>
-        ensures answer { ¬ IsErrOf result Refusal.NoMemory → result ≡ call_answer self.old.history self.old.maker.caller command }
+        ensures answer { ¬ IsErrOf result Refusal.NoMemory
+            → result ≡ call_answer self.old.history self.old.maker.caller command }
         ensures after { ¬ IsErrOf result Refusal.NoMemory
             → self.new.history ≡ history_after self.old.history self.old.maker.caller command }
         ensures made { OnOk result (self.new.maker ≡ one_more self.old.maker) }

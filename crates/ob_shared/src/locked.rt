@@ -75,8 +75,10 @@ impl<L: Named> Locked<L> {
 
     /// One call in the name of the caller of a share.
     pub fn call(&mut self, share: &mut Share<L>, command: Command) -> Result<Receipt, Refusal>
-        ensures answer { ¬ IsErrOf result Refusal.NoMemory → result ≡ call_answer self.old share.old.caller command }
-        ensures after { ¬ IsErrOf result Refusal.NoMemory → self.new ≡ history_after self.old share.old.caller command }
+        ensures answer { ¬ IsErrOf result Refusal.NoMemory
+            → result ≡ call_answer self.old share.old.caller command }
+        ensures after { ¬ IsErrOf result Refusal.NoMemory
+            → self.new ≡ history_after self.old share.old.caller command }
         ensures made { OnOk result (share.new ≡ one_more share.old) }
 
         ensures no_memory_last { IsErrOf result Refusal.NoMemory → is_full self.old ≡ false }

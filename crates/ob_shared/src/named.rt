@@ -1,9 +1,12 @@
 use std::marker::Brand;
 use std::sync::ledger::Ledger;
 
-/// Names one shared buffer. A type parameter with this bound stands for what was opened, so that all that belongs to one
-/// buffer carries its name, and a share fits its own buffer alone. Call a function that is generic over it with
-/// `std::marker::Brand`, and pick what the name stands for there: the opening that is begun.
+/// Names one shared buffer. A type parameter with this bound stands for what was opened. All that belongs to one buffer
+/// carries its name, so a share fits its own buffer alone.
+///
+/// Begin a buffer in a function that is generic over its name, with the opening as an argument. Call that function with
+/// `std::marker::Brand` for the name, and pick what it stands for in the caller's `Invariants.antt`: `Named` is the
+/// opening, and `Ledger` its `ledger` and its `callers`, as the tests of this crate do.
 pub trait Named: Ledger {
     ghost use Rattle.ob_shared.specs.Opened.{Opened};
 

@@ -45,8 +45,9 @@ impl Model for Opening {
 }
 
 impl Opening {
-    /// What a buffer of so many callers is to be opened with. `NoMemory` comes where the allocator refused. The overhead and the size of unknown messages are at most
-    /// 65535 bytes, the limit is 1 to 1048576 records, and there are 1 to 65 callers.
+    /// What a buffer of so many callers is to be opened with. The overhead and the size of unknown messages are at most
+    /// 65535 bytes, the limit is 1 to 1048576 records, and there are 1 to 65 callers. `NoMemory` comes where the allocator
+    /// refused.
     pub fn new(
         alloc: Global,
         marks: WaterMark,
@@ -60,7 +61,8 @@ impl Opening {
         requires few_records { limit ≤ 1048576 }
         requires some_caller { 0 < callers }
         requires few_callers { callers ≤ 65 }
-        ensures settings { IfOk result (λ opening. opening.settings ≡ record { marks = marks; estimate = estimate }) }
+        ensures settings { IfOk result (λ opening.
+            opening.settings ≡ record { marks = marks; estimate = estimate }) }
         ensures limit { IfOk result (λ opening. opening.limit ≡ limit) }
         ensures callers { IfOk result (λ opening. opening.callers ≡ callers) }
         ensures no_memory { IsOkUnless result Refusal.NoMemory }
@@ -97,7 +99,7 @@ impl Opening {
     }
 }
 
-/// A share for each caller, cut from all parts of a ledger in which nothing is counted. It fails for want of memory alone.
+/// A share for each caller, cut from a whole ledger in which nothing is counted. It fails for want of memory alone.
 fn shares<L: Named>(
     alloc: Global,
     whole: &mut ledger::Share<L>,

@@ -40,14 +40,14 @@ impl<L: Named> Share<L> {
         }
     }
 
-    /// The number of the caller, from 0.
+    /// The number of the caller, from 0. It takes no memory.
     pub fn caller(&self) -> u32
         ensures { result ≡ self.now.caller }
     {
         self.caller
     }
 
-    /// How many records were made with this share.
+    /// How many records were made with this share. It takes no memory.
     pub fn made(&self) -> u32
         ensures { result ≡ self.now.made }
     {
@@ -60,9 +60,14 @@ impl<L: Named> Share<L> {
         ensures made { self.new ≡ one_more self.old }
         ensures book { book.new.total ≡ book.old.total + 1 }
     {
-        book.audit(&mut self.part);
-        book.add(&mut self.part, 1);
-        self.made += 1;
+        let Share {
+            caller: _,
+            made,
+            part,
+        } = self;
+        book.audit(part);
+        book.add(part, 1);
+        *made += 1;
     }
 
     /// The share's part of the ledger, which has the number of its records.

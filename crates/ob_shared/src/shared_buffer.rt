@@ -19,6 +19,9 @@ use ob_types::{PromiseId, Refusal};
 use std::sync::{Condvar, Mutex, Wait};
 
 /// A buffer with its whole history under a lock. Callers give it commands from a desk, each with its share.
+///
+/// Whenever a caller has the lock, the records are a legal history, their number is what all shares made together, and
+/// the settings and the limit are those of the opening.
 #[derive(Drop)]
 pub struct SharedBuffer<L: Named> {
     locked: Mutex<Locked<L>>,
@@ -37,7 +40,8 @@ impl<L: Named> SharedBuffer<L> {
         }
     }
 
-    /// A desk for the caller of a share.
+    /// A desk for the caller of a share. It waits while another caller has one, and takes no memory. The lock is never
+    /// poisoned, and no desk is refused; that it is given in any order, or ever, is not promised.
     pub fn desk<R: Wait>(&self, rt: &R, share: Share<L>) -> Desk<'_, L>
         ensures maker { result.maker ≡ share }
         ensures opened { IsAsOpened L.opened result.history }
@@ -45,10 +49,15 @@ impl<L: Named> SharedBuffer<L> {
         Desk::new(self, self.locked.lock(rt), share)
     }
 
-    /// Waits until a promise is settled, and gives a desk for the caller of the share, with the receipt of the record that
-    /// settled it.
+    /// Waits until a promise is settled, and gives a desk for the caller of the share, with the receipt of the record
+    /// that settled it. While it waits the lock is free. It asks again whenever a desk was left at which a call settled
+    /// something, and walks over the records once, when there is something to find.
     ///
-    /// `UnknownPromise` comes at once, and just where no write was accepted under the id. `NoMemory` comes where the promise is settled and the allocator refused, and not where it was settled with at most three others.
+    /// `UnknownPromise` comes at once, and just where no write was accepted under the id. `NoMemory` comes where the
+    /// promise is settled and the allocator refused the receipt, and not where at most three others were settled with
+    /// it. The desk is given in any case.
+    ///
+    /// Whoever has a desk of this buffer already, or waits for what it alone could settle, waits for ever.
     pub fn wait_settled<R: Wait>(
         &self,
         rt: &R,
@@ -77,7 +86,8 @@ impl<L: Named> SharedBuffer<L> {
     /// Ends the buffer, where each caller has handed in its share, and gives the whole history. The records are then a
     /// legal history, as many as were made with all shares together, and no promise is settled twice.
     ///
-    /// `SharesMissing` comes just where a caller's share is not handed in. Then all that was handed in is given back, and the buffer stays as it was.
+    /// `SharesMissing` comes just where a caller's share is not handed in. Then all that was handed in is given back,
+    /// and the buffer stays as it was.
     pub fn finish(self, dones: Vec<Done<L>>) -> Result<Final, Unfinished<L>>
         ensures missing { IsErr result ↔ LacksShare L.opened.callers dones.items }
         ensures fault { IfErr result (λ unfinished. unfinished.fault ≡ FinishFault.SharesMissing) }
