@@ -1,3 +1,5 @@
+pub mod FinishFault
+pub mod Finished
 pub mod Handed
 pub mod Held
 pub mod Maker

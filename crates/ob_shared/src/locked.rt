@@ -1,5 +1,5 @@
-ghost use Rattle.std.specs.Prelude.{◌≡◌, ◌+◌, ◌<◌, ◌≤◌, ◌↔◌, false, length, Some, IfSome, IsNone, IfOk, IsErrOf, IsOk, IsOkUnless, OnOk, OnErr};
-ghost use Rattle.std.specs.List.{Contains};
+ghost use Rattle.std.specs.Prelude.{◌≡◌, ℕ, None, ◌+◌, ◌<◌, ◌≤◌, ◌↔◌, false, length, Some, IfSome, IsNone, IfOk, IsErrOf, IsOk, IsOkUnless, OnOk, OnErr};
+ghost use Rattle.std.specs.List.{All, Contains};
 ghost use Rattle.ob_types.specs.declared.promise.Outcome.{Outcome};
 ghost use Rattle.ob_types.specs.declared.promise.PromiseState.TheVariants.{Settled};
 ghost use Rattle.ob_seq.specs.Looks.{promise_after};
@@ -11,13 +11,17 @@ ghost use Rattle.ob_history.specs.Legal.{IsLegal};
 ghost use Rattle.ob_history.specs.Receipt.{receipt_of};
 ghost use Rattle.ob_history.specs.Seen.{seen_now};
 ghost use Rattle.ob_history.specs.Settlements.{settlements_in};
+ghost use Rattle.ob_shared.specs.Finished.{HandsInAll, IsForeign, StandsIn, first_short};
 ghost use Rattle.ob_shared.specs.Handed.{LacksShare, made_by};
+ghost use Rattle.ob_shared.specs.declared.finish_fault.FinishFault.TheVariants.{ForeignReceipt, ReceiptsMissing};
 ghost use Rattle.ob_shared.specs.Maker.{one_more};
 ghost use Rattle.ob_shared.specs.Opened.{IsAsOpened};
 ghost use Rattle.ob_shared.specs.Told.{IsCopiedFreely, IsToldFreely, IsUnknown, IsUnsettled, TellsOf};
 
 use crate::callers::Callers;
 use crate::done::Done;
+use crate::finish::{first_foreign, first_short, lacks_share};
+use crate::finish_fault::FinishFault;
 use crate::named::Named;
 use crate::share::Share;
 use ob_history::{Receipt, Record, Recorded, Seen, a_history_tells_each_settled_promise};
@@ -155,11 +159,37 @@ impl<L: Named> Locked<L> {
         self.recorded.buffer().promise(id)
     }
 
-    /// The recorded buffer, for the callers who handed in, each with its share.
+    /// Why the buffer is not finished with what was handed in, if there is a reason.
+    pub fn fault(&self, callers: &Callers<L>, dones: &[Done<L>]) -> Option<FinishFault>
+        ensures missing { result ≡ Some FinishFault.SharesMissing ↔ LacksShare callers.now.count dones.now }
+        ensures short { ¬ LacksShare callers.now.count dones.now → (caller : ℕ) →
+            result ≡ Some (ReceiptsMissing caller) ↔ first_short dones.now ≡ Some caller }
+        ensures foreign { (caller place : ℕ) → result ≡ Some (ForeignReceipt caller place)
+            → IsForeign self.now.settings self.now.records dones.now caller place }
+        ensures as_many { IsNone result → first_short dones.now ≡ None }
+        ensures stands { IsNone result → All (StandsIn self.now.settings self.now.records) dones.now }
+    {
+        if lacks_share(callers.count, dones) {
+            return Some(FinishFault::SharesMissing);
+        }
+        if let Some(caller) = first_short(dones) {
+            return Some(FinishFault::ReceiptsMissing { caller });
+        }
+        match first_foreign(&self.recorded, dones) {
+            Ok(None) => None,
+            Ok(Some((caller, place))) => Some(FinishFault::ForeignReceipt { caller, place }),
+            Err(_) => Some(FinishFault::NoMemory),
+        }
+    }
+
+    /// The recorded buffer, for the callers who handed in, each with its share and the receipts of all its calls.
     pub fn into_recorded(self, callers: &Callers<L>, dones: Vec<Done<L>>) -> Recorded
         requires all { ¬ LacksShare callers.now.count dones.items }
+        requires as_many { first_short dones.items ≡ None }
+        requires stands { All (StandsIn self.settings self.records) dones.items }
         ensures recorded { result ≡ self }
         ensures counted { length result.records ≡ made_by dones.items }
+        ensures own { All (HandsInAll result.records) dones.items }
     {
         let Locked {
             recorded,

@@ -1,15 +1,17 @@
-ghost use Rattle.std.specs.Prelude.{◌≡◌, ◌≤◌, ◌↔◌, length, IsErr, IsErrOf, IsOk, IsOkUnless, IfOk, IfErr};
+ghost use Rattle.std.specs.Prelude.{◌≡◌, ℕ, ◌≤◌, ◌↔◌, length, Some, IsErrAnd, IsErrOf, IsOk, IsOkUnless, IfOk, IfErr};
+ghost use Rattle.std.specs.List.{All, Any};
 ghost use Rattle.ob_types.specs.declared.promise.PromiseId.{PromiseId};
 ghost use Rattle.ob_seq.specs.Settles.{times_settled};
 ghost use Rattle.ob_history.specs.Settlements.{settlements_in};
+ghost use Rattle.ob_shared.specs.Finished.{HandsInAll, NamesPlace, StandsIn, first_short};
 ghost use Rattle.ob_shared.specs.Handed.{LacksShare, made_by};
+ghost use Rattle.ob_shared.specs.declared.finish_fault.FinishFault.TheVariants.{ForeignReceipt, ReceiptsMissing};
 ghost use Rattle.ob_shared.specs.Opened.{IsAsOpened};
 ghost use Rattle.ob_shared.specs.Told.{IsToldFreely, IsUnknown, IsUnsettled, TellsOf};
 
 use crate::callers::Callers;
 use crate::desk::Desk;
 use crate::done::{Done, Final, Unfinished};
-use crate::finish::lacks_share;
 use crate::finish_fault::FinishFault;
 use crate::locked::Locked;
 use crate::named::Named;
@@ -83,18 +85,35 @@ impl<L: Named> SharedBuffer<L> {
         unreachable!()
     }
 
-    /// Ends the buffer, where each caller has handed in its share, and gives the whole history. The records are then a
-    /// legal history, as many as were made with all shares together, and no promise is settled twice.
+    /// Ends the buffer, where each caller has handed in, and gives the whole history. Its records are a legal history, as
+    /// many as were made with all shares together. The records of each caller are the receipts that it handed in, in the
+    /// order of its calls; each receipt that a caller was told of is the record at its place, and each look is of the
+    /// history. No promise is settled twice.
     ///
-    /// `SharesMissing` comes just where a caller's share is not handed in. Then all that was handed in is given back,
-    /// and the buffer stays as it was.
+    /// So whatever the schedule was, the history kept under the lock is one of one thread: each reply and each change of
+    /// writability is what a buffer of one thread answers there.
+    ///
+    /// `SharesMissing` comes just where a caller's share is not handed in, and else `ReceiptsMissing` just where a caller
+    /// hands in another number of receipts than were made with its share; it names the first. Then all is compared, Done
+    /// by Done, in each first its receipts, then those that it was told of, then its looks: `ForeignReceipt` names the
+    /// first that is not of the history, and `NoMemory` comes where a look was to be compared and the allocator refused.
+    /// With each fault all that was handed in is given back, and the buffer stays as it was.
     pub fn finish(self, dones: Vec<Done<L>>) -> Result<Final, Unfinished<L>>
-        ensures missing { IsErr result ↔ LacksShare L.opened.callers dones.items }
-        ensures fault { IfErr result (λ unfinished. unfinished.fault ≡ FinishFault.SharesMissing) }
+        ensures missing { IsErrAnd result (λ unfinished. unfinished.fault ≡ FinishFault.SharesMissing)
+            ↔ LacksShare L.opened.callers dones.items }
+        ensures short { ¬ LacksShare L.opened.callers dones.items → (caller : ℕ) →
+            IsErrAnd result (λ unfinished. unfinished.fault ≡ ReceiptsMissing caller)
+            ↔ first_short dones.items ≡ Some caller }
+        ensures foreign { (caller place : ℕ) →
+            IsErrAnd result (λ unfinished. unfinished.fault ≡ ForeignReceipt caller place)
+            → Any (λ one. (one.maker.caller ≡ caller) × NamesPlace one place) dones.items }
         ensures back { IfErr result (λ unfinished. unfinished.dones ≡ dones) }
 
         ensures opened { IfOk result (λ finished. IsAsOpened L.opened finished.recorded) }
         ensures counted { IfOk result (λ finished. length finished.recorded.records ≡ made_by dones.items) }
+        ensures own { IfOk result (λ finished. All (HandsInAll finished.recorded.records) dones.items) }
+        ensures stands { IfOk result (λ finished.
+            All (StandsIn finished.recorded.settings finished.recorded.records) dones.items) }
         ensures once { IfOk result (λ finished. (id : PromiseId) →
             times_settled id (settlements_in finished.recorded.records) ≤ 1) }
     {
@@ -104,18 +123,20 @@ impl<L: Named> SharedBuffer<L> {
             callers,
         } = self;
         let locked = locked.into_inner();
-        if lacks_share(callers.count, &dones) {
-            return Err(Unfinished {
+        match locked.fault(&callers, &dones) {
+            Some(fault) => Err(Unfinished {
                 buffer: SharedBuffer::new(locked, callers),
                 dones,
-                fault: FinishFault::SharesMissing,
-            });
+                fault,
+            }),
+            None => {
+                locked.is_as_opened();
+                a_history_settles_each_promise_once();
+                Ok(Final {
+                    recorded: locked.into_recorded(&callers, dones),
+                })
+            }
         }
-        locked.is_as_opened();
-        a_history_settles_each_promise_once();
-        Ok(Final {
-            recorded: locked.into_recorded(&callers, dones),
-        })
     }
 
     /// Wakes all who wait for a promise.

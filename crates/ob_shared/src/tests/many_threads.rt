@@ -3,7 +3,7 @@
 ghost use Rattle.ob_shared.specs.Opened.{IsNameOf};
 
 use crate::tests::commands::Dice;
-use crate::tests::openings::{block, finished, one_call, opening};
+use crate::tests::openings::{begun, block, finished, one_call, opening};
 use crate::{Done, Named, Opening, Share, SharedBuffer};
 use ob_history::Recorded;
 use ob_types::{Command, Estimate, Refusal, WaterMark};
@@ -64,28 +64,18 @@ fn calls<L: Named, R: Wait>(
     asks: Asks,
 ) -> Done<L> {
     let mut dice = Dice::new(share.caller());
-    let mut share = share;
-    let mut receipts = Vec::new(alloc);
+    let mut caller = begun(alloc, share);
     for number in 0..250u32 {
         let Ok(command) = command(alloc, &mut dice, asks, number) else {
             break;
         };
-        if receipts.reserve(1).is_err() {
+        let (same, answer) = one_call(rt, buffer, caller, command);
+        caller = same;
+        if answer.is_err() {
             break;
         }
-        let (same, answer) = one_call(rt, buffer, share, command);
-        share = same;
-        let Ok(receipt) = answer else {
-            break;
-        };
-        receipts.push_reserved(receipt);
     }
-    Done {
-        share,
-        receipts,
-        told: Vec::new(alloc),
-        seen: Vec::new(alloc),
-    }
+    caller
 }
 
 fn command(alloc: Global, dice: &mut Dice, asks: Asks, number: u32) -> Result<Command, AllocError> {

@@ -3,8 +3,7 @@
 ghost use Rattle.ob_shared.specs.Opened.{IsNameOf};
 
 use crate::tests::openings::{block, both, finished, one_call, opening, pair};
-use crate::{Named, Opening, Share, SharedBuffer};
-use ob_history::Receipt;
+use crate::{Done, Named, Opening, SharedBuffer};
 use ob_types::{Command, PromiseId, Refusal};
 use std::alloc::{AllocError, Global};
 use std::marker::Brand;
@@ -27,18 +26,16 @@ fn five_are_settled<L: Named, R: Wait + Abort>(
     requires { IsNameOf opening L.opened L.name L.parts }
 {
     let (buffer, shares) = opening.begin::<L>()?;
-    let (first, mut second) = pair(shares)?;
+    let (first, mut second) = pair(alloc, shares)?;
     for _ in 0..5 {
-        let (share, written) = one_call(rt, &buffer, second, block(alloc, 1)?);
-        second = share;
+        let (caller, written) = one_call(rt, &buffer, second, block(alloc, 1)?);
+        second = caller;
         written?;
     }
     let (second, flushed) = one_call(rt, &buffer, second, Command::Flush);
-    flushed?;
     let (second, removed) = one_call(rt, &buffer, second, Command::RemoveBytes(5));
-    let (desk, told) = buffer.wait_settled(rt, first, PromiseId(4));
-    let first = desk.leave();
-    assert_eq!(rt; (removed?.place, told?.place), (6, 6));
+    let (first, told) = told(rt, &buffer, first, PromiseId(4));
+    assert_eq!(rt; (flushed, removed, told), (Ok(5), Ok(6), Ok(6)));
     let recorded = finished(buffer, both(alloc, first, second)?)?;
     assert_eq!(rt; recorded.records().len(), 7);
     Ok(())
@@ -63,16 +60,16 @@ fn asks_again<L: Named + Send + Sync, R: Threads + Wait + Abort + Sync>(
     let Ok((buffer, shares)) = opening.begin::<L>() else {
         return Ok(());
     };
-    let (first, second) = pair(shares)?;
+    let (first, second) = pair(alloc, shares)?;
     let first = made(rt, alloc, &buffer, first, Asks::Write);
     let shared = &buffer;
     let (second, (first, told)) = join(
         rt,
         move || sent(rt, alloc, shared, second),
-        move || told(rt, shared, first),
+        move || told(rt, shared, first, PromiseId(0)),
     );
-    assert_eq!(rt; (first.made(), second.made()), (1, 2));
-    assert_eq!(rt; told?.place, 2);
+    assert_eq!(rt; (first.share.made(), second.share.made()), (1, 2));
+    assert_eq!(rt; told, Ok(2));
     let Ok(dones) = both(alloc, first, second) else {
         return Ok(());
     };
@@ -93,10 +90,10 @@ fn sent<L: Named, R: Wait>(
     rt: &R,
     alloc: Global,
     buffer: &SharedBuffer<L>,
-    share: Share<L>,
-) -> Share<L> {
-    let share = made(rt, alloc, buffer, share, Asks::Flush);
-    made(rt, alloc, buffer, share, Asks::Remove)
+    caller: Done<L>,
+) -> Done<L> {
+    let caller = made(rt, alloc, buffer, caller, Asks::Flush);
+    made(rt, alloc, buffer, caller, Asks::Remove)
 }
 
 /// Asks up to nine times, until the call is made.
@@ -104,21 +101,21 @@ fn made<L: Named, R: Wait>(
     rt: &R,
     alloc: Global,
     buffer: &SharedBuffer<L>,
-    share: Share<L>,
+    caller: Done<L>,
     asks: Asks,
-) -> Share<L> {
-    let mut share = share;
+) -> Done<L> {
+    let mut caller = caller;
     for _ in 0..9 {
         let Ok(command) = command(alloc, asks) else {
             continue;
         };
-        let (same, answer) = one_call(rt, buffer, share, command);
-        share = same;
+        let (same, answer) = one_call(rt, buffer, caller, command);
+        caller = same;
         if answer.is_ok() {
-            return share;
+            return caller;
         }
     }
-    share
+    caller
 }
 
 fn command(alloc: Global, asks: Asks) -> Result<Command, AllocError> {
@@ -129,19 +126,33 @@ fn command(alloc: Global, asks: Asks) -> Result<Command, AllocError> {
     }
 }
 
-/// Waits up to nine times for the first promise, until memory for the receipt is there.
+/// Waits up to nine times for a promise, until memory for the receipt is there: the place of the record that settled it.
 fn told<L: Named, R: Wait>(
     rt: &R,
     buffer: &SharedBuffer<L>,
-    share: Share<L>,
-) -> (Share<L>, Result<Receipt, Refusal>) {
-    let mut share = share;
+    caller: Done<L>,
+    id: PromiseId,
+) -> (Done<L>, Result<u32, Refusal>) {
+    let Done {
+        mut share,
+        receipts,
+        told,
+        seen,
+    } = caller;
+    let mut place = Err(Refusal::NoMemory);
     for _ in 0..9 {
-        let (desk, told) = buffer.wait_settled(rt, share, PromiseId(0));
+        let (desk, answer) = buffer.wait_settled(rt, share, id);
         share = desk.leave();
-        if told.is_ok() {
-            return (share, told);
+        place = answer.map(|receipt| receipt.place);
+        if place.is_ok() {
+            break;
         }
     }
-    (share, Err(Refusal::NoMemory))
+    let caller = Done {
+        share,
+        receipts,
+        told,
+        seen,
+    };
+    (caller, place)
 }

@@ -1,6 +1,6 @@
 //! What tests begin with, and what their callers do.
 
-ghost use Rattle.std.specs.Prelude.{◌<◌, ◌≤◌};
+ghost use Rattle.std.specs.Prelude.{◌<◌, ◌≤◌, vec_capacity, vec_len};
 
 use crate::{Done, Named, Opening, Share, SharedBuffer};
 use bytes::Bytes;
@@ -30,12 +30,22 @@ pub fn opening(alloc: Global, limit: u32, callers: u32) -> Result<Opening, Refus
     )
 }
 
-/// The shares of two callers, in the order of their numbers.
-pub fn pair<L: Named>(shares: Vec<Share<L>>) -> Result<(Share<L>, Share<L>), Fail> {
+/// Two callers, in the order of their numbers, who have nothing yet to hand in but their shares.
+pub fn pair<L: Named>(alloc: Global, shares: Vec<Share<L>>) -> Result<(Done<L>, Done<L>), Fail> {
     let mut shares = shares;
     let second = shares.pop().ok_or("a second share")?;
     let first = shares.pop().ok_or("a first share")?;
-    Ok((first, second))
+    Ok((begun(alloc, first), begun(alloc, second)))
+}
+
+/// What a caller hands in that has only its share.
+pub fn begun<L: Named>(alloc: Global, share: Share<L>) -> Done<L> {
+    Done {
+        share,
+        receipts: Vec::new(alloc),
+        told: Vec::new(alloc),
+        seen: Vec::new(alloc),
+    }
 }
 
 /// A write of so many bytes.
@@ -44,39 +54,56 @@ pub fn block(alloc: Global, length: usize) -> Result<Command, AllocError> {
     Ok(Command::Write(Message::Block(bytes)))
 }
 
-/// One call, from a desk of its own.
+/// One call, from a desk of its own, whose receipt the caller keeps: the place of its record.
 pub fn one_call<L: Named, R: Wait>(
     rt: &R,
     buffer: &SharedBuffer<L>,
-    share: Share<L>,
+    caller: Done<L>,
     command: Command,
-) -> (Share<L>, Result<Receipt, Refusal>) {
+) -> (Done<L>, Result<u32, Refusal>) {
+    let Done {
+        share,
+        mut receipts,
+        told,
+        seen,
+    } = caller;
+    let room = receipts.reserve(1);
     let mut desk = buffer.desk(rt, share);
-    let answer = desk.call(command);
-    (desk.leave(), answer)
+    let answer = match room {
+        Ok(()) => kept(desk.call(command), &mut receipts),
+        Err(_) => Err(Refusal::NoMemory),
+    };
+    let share = desk.leave();
+    let caller = Done {
+        share,
+        receipts,
+        told,
+        seen,
+    };
+    (caller, answer)
 }
 
-/// What two callers hand in who kept no receipts.
+/// Keeps a receipt, for which there is room.
+fn kept(answer: Result<Receipt, Refusal>, receipts: &mut Vec<Receipt>) -> Result<u32, Refusal>
+    requires { vec_len receipts.old < vec_capacity receipts.old }
+{
+    let receipt = answer?;
+    let place = receipt.place;
+    receipts.push_reserved(receipt);
+    Ok(place)
+}
+
+/// What two callers hand in.
 pub fn both<L: Named>(
     alloc: Global,
-    first: Share<L>,
-    second: Share<L>,
+    first: Done<L>,
+    second: Done<L>,
 ) -> Result<Vec<Done<L>>, AllocError> {
     let mut dones = Vec::new(alloc);
     dones.reserve(2)?;
-    dones.push_reserved(done(alloc, first));
-    dones.push_reserved(done(alloc, second));
+    dones.push_reserved(first);
+    dones.push_reserved(second);
     Ok(dones)
-}
-
-/// A share that is handed in alone.
-pub fn done<L: Named>(alloc: Global, share: Share<L>) -> Done<L> {
-    Done {
-        share,
-        receipts: Vec::new(alloc),
-        told: Vec::new(alloc),
-        seen: Vec::new(alloc),
-    }
 }
 
 /// The history of a buffer that can be finished.

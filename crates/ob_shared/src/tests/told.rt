@@ -3,7 +3,7 @@
 ghost use Rattle.ob_shared.specs.Opened.{IsNameOf};
 
 use crate::tests::openings::{block, both, finished, one_call, opening, pair};
-use crate::{Named, Opening, Share, SharedBuffer};
+use crate::{Done, Named, Opening, SharedBuffer};
 use ob_history::Receipt;
 use ob_types::{Command, Outcome, PromiseId, Refusal};
 use std::alloc::Global;
@@ -26,9 +26,9 @@ fn waits_for_another<L: Named + Send + Sync, R: Threads + Wait + Abort + Sync>(
     requires { IsNameOf opening L.opened L.name L.parts }
 {
     let (buffer, shares) = opening.begin::<L>()?;
-    let (first, second) = pair(shares)?;
+    let (first, second) = pair(alloc, shares)?;
     let (first, written) = one_call(rt, &buffer, first, block(alloc, 4)?);
-    assert_eq!(rt; written?.place, 0);
+    assert_eq!(rt; written, Ok(0));
     let (first, nobody) = told(rt, &buffer, first, PromiseId(9));
     assert_eq!(rt; nobody.err(), Some(Refusal::UnknownPromise));
 
@@ -38,41 +38,58 @@ fn waits_for_another<L: Named + Send + Sync, R: Threads + Wait + Abort + Sync>(
         move || send(rt, shared, second),
         move || told(rt, shared, first, PromiseId(0)),
     );
-    let (second, flushed, removed) = sent;
-    let (first, told) = waited;
-    assert_eq!(rt; (flushed?.place, removed?.place), (1, 2));
-    is_the_removal(rt, told?)?;
+    let (second, removed) = sent;
+    let (mut first, told) = waited;
+    let told = told?;
+    assert_eq!(rt; removed, Ok(2));
+    is_the_removal(rt, &told)?;
+    first.told.push(told)?;
     let recorded = finished(buffer, both(alloc, first, second)?)?;
     assert_eq!(rt; recorded.records().len(), 3);
     Ok(())
 }
 
-/// Flushes and removes, each from a desk of its own.
+/// Flushes and removes, each from a desk of its own: the place of the removal.
 fn send<L: Named, R: Wait>(
     rt: &R,
     buffer: &SharedBuffer<L>,
-    share: Share<L>,
-) -> (Share<L>, Result<Receipt, Refusal>, Result<Receipt, Refusal>) {
-    let (share, flushed) = one_call(rt, buffer, share, Command::Flush);
-    let (share, removed) = one_call(rt, buffer, share, Command::Remove);
-    (share, flushed, removed)
+    caller: Done<L>,
+) -> (Done<L>, Result<u32, Refusal>) {
+    let (caller, flushed) = one_call(rt, buffer, caller, Command::Flush);
+    match flushed {
+        Ok(_) => one_call(rt, buffer, caller, Command::Remove),
+        Err(_) => (caller, flushed),
+    }
 }
 
 /// Waits for a promise, and leaves the desk.
 fn told<L: Named, R: Wait>(
     rt: &R,
     buffer: &SharedBuffer<L>,
-    share: Share<L>,
+    caller: Done<L>,
     id: PromiseId,
-) -> (Share<L>, Result<Receipt, Refusal>) {
-    let (desk, told) = buffer.wait_settled(rt, share, id);
-    (desk.leave(), told)
+) -> (Done<L>, Result<Receipt, Refusal>) {
+    let Done {
+        share,
+        receipts,
+        told,
+        seen,
+    } = caller;
+    let (desk, answer) = buffer.wait_settled(rt, share, id);
+    let caller = Done {
+        share: desk.leave(),
+        receipts,
+        told,
+        seen,
+    };
+    (caller, answer)
 }
 
-fn is_the_removal<R: Abort>(rt: &R, told: Receipt) -> Result<(), Fail> {
+fn is_the_removal<R: Abort>(rt: &R, told: &Receipt) -> Result<(), Fail> {
     assert_eq!(rt; (told.place, told.caller), (2, 1));
+    let reply = told.copy()?.reply?;
     assert_eq!(rt;
-        told.reply?.settled.as_slice(),
+        reply.settled.as_slice(),
         [(PromiseId(0), Outcome::Success)].as_slice()
     );
     Ok(())
