@@ -1,7 +1,7 @@
 -- What stands in a history and what is foreign to it, of all that callers hand in.
-use Rattle.std.proofs.Common.{◌≡◌, ◌≢◌, ℕ, zero, suc, ◌+◌, ◌<◌, ◌≤◌, ◌==◌, Bool, true, false, List, [], ◌∷◌, length, map, take, get_or, refl, sym, ap, ◌∙◌, subst, arith, length-take}
+use Rattle.std.proofs.Common.{◌≡◌, ◌≢◌, ℕ, ◌+◌, ◌≤◌, ◌==◌, Bool, true, false, List, [], ◌∷◌, length, map, take, refl, sym, ap, ◌∙◌, subst, arith, length-take}
 use Rattle.std.specs.Prelude.{Option, Some, None, not, option_map, sum_by}
-use Rattle.std.specs.List.{All, AllPairs, find}
+use Rattle.std.specs.List.{All, AllPairs}
 use Rattle.std.proofs.lemmas.Bool.{eqb-true}
 use Rattle.std.proofs.lemmas.List.{get_or-take, get_or-map, length-map}
 use Rattle.std.proofs.lemmas.List.Elements.{All-take, All-map, All-head, All-tail}
@@ -9,7 +9,7 @@ use Rattle.std.proofs.lemmas.List.Sums.{sum_by-cons}
 use Rattle.ob_seq.specs.Settings.{Settings}
 use Rattle.ob_history.specs.First.{IsFirstBreak}
 use Rattle.ob_history.specs.Own.{AreOwn, Holding}
-use Rattle.ob_history.specs.Receipt.{IsReceiptIn, record_of}
+use Rattle.ob_history.specs.Receipt.{IsReceiptIn}
 use Rattle.ob_history.specs.Seen.{IsSeenIn}
 use Rattle.ob_history.specs.declared.record.Record.{Record}
 use Rattle.ob_history.specs.declared.receipt.Receipt.{Receipt}

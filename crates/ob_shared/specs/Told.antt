@@ -21,7 +21,8 @@ IsUnknown records id = writes_in (accepted_commands records) ≤ id.0
 abbrev pub IsUnsettled : List Record → PromiseId → Type 0
 IsUnsettled records id = (outcome : Outcome) → ¬ Contains (settlements_in records) (id, outcome)
 
--- a receipt tells of the settlement of a promise where it is the record at its place, and that record settles the promise
+-- a receipt tells of the settlement of a promise where it is the record at its place, and that record settles the
+-- promise
 pub record TellsOf (records : List Record) (id : PromiseId) (receipt : Receipt) : Type 0 where
   pub kept : IsReceiptIn records receipt
   pub settled : settles id (record_of receipt) ≡ true

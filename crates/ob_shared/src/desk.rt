@@ -70,8 +70,8 @@ impl<'b, L: Named> Desk<'b, L> {
         self.locked.look()
     }
 
-    /// Lets the lock go, and gives the share back. If a call at this desk settled something, it wakes all who wait for a
-    /// promise. It takes no memory.
+    /// Lets the lock go, and gives the share back. If a call at this desk settled something, it wakes all who wait for
+    /// a promise. It takes no memory.
     pub fn leave(self) -> Share<L>
         ensures { result ≡ self.entry.maker }
     {

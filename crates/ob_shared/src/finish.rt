@@ -43,8 +43,8 @@ fn is_short<L: Named>(done: &Done<L>) -> bool
     done.receipts.len() != done.share.made() as usize
 }
 
-/// The caller and the place of the first item that is not of the history: Done by Done, in each first the receipts, then
-/// what was told, then what was seen. It fails for want of memory alone.
+/// The caller and the place of the first item that is not of the history: Done by Done, in each first the receipts,
+/// then what was told, then what was seen. It fails for want of memory alone.
 pub fn first_foreign<L: Named>(
     recorded: &Recorded,
     dones: &[Done<L>],

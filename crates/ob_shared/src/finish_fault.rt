@@ -2,8 +2,8 @@ ghost use Rattle.std.specs.Prelude.{◌≡◌};
 
 use thiserror::Error;
 
-/// Why a shared buffer was not finished. A missing share is asked for first, then missing receipts, and then all that was
-/// handed in, until something is foreign or memory is refused.
+/// Why a shared buffer was not finished. A missing share is asked for first, then missing receipts, and then all that
+/// was handed in, until something is foreign or memory is refused.
 #[derive(Clone, Copy, Debug, PartialEq, Eq, Error)]
 pub enum FinishFault {
     /// The share of a caller was not handed in.

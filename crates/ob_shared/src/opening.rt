@@ -46,8 +46,8 @@ impl Model for Opening {
 
 impl Opening {
     /// What a buffer of so many callers is to be opened with. The overhead and the size of unknown messages are at most
-    /// 65535 bytes, the limit is 1 to 1048576 records, and there are 1 to 65 callers. `NoMemory` comes where the allocator
-    /// refused.
+    /// 65535 bytes, the limit is 1 to 1048576 records, and there are 1 to 65 callers. `NoMemory` comes where the
+    /// allocator refused.
     pub fn new(
         alloc: Global,
         marks: WaterMark,

@@ -85,19 +85,20 @@ impl<L: Named> SharedBuffer<L> {
         unreachable!()
     }
 
-    /// Ends the buffer, where each caller has handed in, and gives the whole history. Its records are a legal history, as
-    /// many as were made with all shares together. The records of each caller are the receipts that it handed in, in the
-    /// order of its calls; each receipt that a caller was told of is the record at its place, and each look is of the
-    /// history. No promise is settled twice.
+    /// Ends the buffer, where each caller has handed in, and gives the whole history. Its records are a legal history,
+    /// as many as were made with all shares together. The records of each caller are the receipts that it handed in, in
+    /// the order of its calls; each receipt that a caller was told of is the record at its place, and each look is of
+    /// the history. No promise is settled twice.
     ///
-    /// So whatever the schedule was, the history kept under the lock is one of one thread: each reply and each change of
-    /// writability is what a buffer of one thread answers there.
+    /// So whatever the schedule was, the history kept under the lock is one of one thread: each reply and each change
+    /// of writability is what a buffer of one thread answers there.
     ///
-    /// `SharesMissing` comes just where a caller's share is not handed in, and else `ReceiptsMissing` just where a caller
-    /// hands in another number of receipts than were made with its share; it names the first. Then all is compared, Done
-    /// by Done, in each first its receipts, then those that it was told of, then its looks: `ForeignReceipt` names the
-    /// first that is not of the history, and `NoMemory` comes where a look was to be compared and the allocator refused.
-    /// With each fault all that was handed in is given back, and the buffer stays as it was.
+    /// `SharesMissing` comes just where a caller's share is not handed in, and else `ReceiptsMissing` just where a
+    /// caller hands in another number of receipts than were made with its share; it names the first. Then all is
+    /// compared, Done by Done, in each first its receipts, then those that it was told of, then its looks:
+    /// `ForeignReceipt` names the first that is not of the history, and `NoMemory` comes where a look was to be
+    /// compared and the allocator refused. With each fault all that was handed in is given back, and the buffer stays
+    /// as it was.
     pub fn finish(self, dones: Vec<Done<L>>) -> Result<Final, Unfinished<L>>
         ensures missing { IsErrAnd result (λ unfinished. unfinished.fault ≡ FinishFault.SharesMissing)
             ↔ LacksShare L.opened.callers dones.items }

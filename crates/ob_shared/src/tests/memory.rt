@@ -126,7 +126,8 @@ fn command(alloc: Global, asks: Asks) -> Result<Command, AllocError> {
     }
 }
 
-/// Waits up to nine times for a promise, until memory for the receipt is there: the place of the record that settled it.
+/// Waits up to nine times for a promise, until memory for the receipt is there: the place of the record that settled
+/// it.
 fn told<L: Named, R: Wait>(
     rt: &R,
     buffer: &SharedBuffer<L>,

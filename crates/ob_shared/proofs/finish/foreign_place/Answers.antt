@@ -1,4 +1,3 @@
-use Rattle.std.proofs.Common.{refl}
 use Rattle.ob_shared.proofs.Finishing.{foreign_receipt, foreign_seen, foreign_told}
 use Rattle.ob_shared.proofs.finish.foreign_place.Goals as goal
 
