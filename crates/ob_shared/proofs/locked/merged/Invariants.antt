@@ -1,0 +1,11 @@
+use Rattle.std.proofs.Common.{◌≡◌, ◌+◌, ◌≤◌, length}
+use Rattle.ob_shared.specs.Handed.{made_by}
+use Rattle.ob_shared.proofs.locked.merged.Given as goal
+
+abbrev pub invariant-loop-done : goal.invariant-loop-done
+invariant-loop-done g l =
+    record {
+      parts : l.all.parts + length l.done-iterator.rest.items ≡ l.fn.rest.parts + length l.fn.dones.items;
+      amount : l.all.amount + made_by l.done-iterator.rest.items ≡ l.fn.rest.amount + made_by l.fn.dones.items;
+      within : l.all.parts ≤ g.L.Ledger.parts;
+    }

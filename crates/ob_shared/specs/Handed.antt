@@ -1,0 +1,26 @@
+-- What callers hand in at the end.
+use Rattle.std.specs.Prelude.{◌≡◌, ℕ, ◌<◌, ◌==◌, Bool, false, List, sum_by}
+use Rattle.std.specs.List.{list_any}
+use Rattle.ob_history.specs.declared.receipt.Receipt.{Receipt}
+use Rattle.ob_history.specs.declared.seen.Seen.{Seen}
+use Rattle.ob_shared.specs.Maker.{Maker}
+
+-- what a caller hands in: who it is and how many records it made, the receipts of its calls, those that it was told of,
+-- and what it saw
+pub record Handed : Type 0 where
+  pub maker : Maker
+  pub receipts : List Receipt
+  pub told : List Receipt
+  pub seen : List Seen
+
+-- whether a caller handed in
+abbrev pub has_handed_in : ℕ → List Handed → Bool
+has_handed_in caller handed = list_any (λ one. one.maker.caller == caller) handed
+
+-- the share of a caller is missing where one of so many callers did not hand in
+abbrev pub LacksShare : ℕ → List Handed → Type 0
+LacksShare callers handed = (caller : ℕ) × (caller < callers) × (has_handed_in caller handed ≡ false)
+
+-- how many records all who handed in have made together
+abbrev pub made_by : List Handed → ℕ
+made_by handed = sum_by (λ one. one.maker.made) handed

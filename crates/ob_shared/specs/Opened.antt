@@ -1,0 +1,35 @@
+-- What a shared buffer is opened with.
+use Rattle.std.specs.Prelude.{◌≡◌, ℕ}
+use Rattle.ob_seq.specs.Settings.{Settings}
+use Rattle.ob_history.specs.History.{History}
+use Rattle.ob_history.specs.Legal.{IsLegal}
+
+-- what was opened: the number of the ledger that counts the calls, how many callers there are, the settings of the
+-- buffer, and the most records that its history may hold
+pub record Opened : Type 0 where
+  pub ledger : ℕ
+  pub callers : ℕ
+  pub settings : Settings
+  pub limit : ℕ
+
+-- what the marker stands for that nobody picked a name for
+abbrev pub nothing_opened : Opened
+nothing_opened = record {
+  ledger = 0;
+  callers = 0;
+  settings = record { marks = record { low = 0; high = 0 }; estimate = record { overhead = 0; unknown = 0 } };
+  limit = 0;
+}
+
+-- a name is that of an opening where it stands for what was opened, and its ledger is the one that was opened, with a
+-- part for each caller
+pub record IsNameOf (opening named : Opened) (number parts : ℕ) : Type 0 where
+  pub opened : named ≡ opening
+  pub ledger : number ≡ opening.ledger
+  pub callers : parts ≡ opening.callers
+
+-- a history is kept as it was opened where it has the settings and the limit of the opening, and its records are legal
+pub record IsAsOpened (opened : Opened) (history : History) : Type 0 where
+  pub settings : history.settings ≡ opened.settings
+  pub limit : history.limit ≡ opened.limit
+  pub legal : IsLegal history.settings history.records

@@ -1,0 +1,166 @@
+ghost use Rattle.std.specs.Prelude.{◌≡◌, ◌≤◌, ◌↔◌, false, [], IsTrue, IsErrOf, IsOk, IsOkUnless, OnOk, OnErr};
+ghost use Rattle.std.specs.Sync.Mutex.{mutex_guard_value};
+ghost use Rattle.ob_seq.specs.Pending.{StandsFor};
+ghost use Rattle.ob_seq.specs.Settles.{settled_by};
+ghost use Rattle.ob_history.specs.Accepted.{accepted_commands};
+ghost use Rattle.ob_history.specs.Call.{IsCovered, call_answer, history_after, is_full};
+ghost use Rattle.ob_history.specs.History.{IsBounded, LacksPlaces, with_reserved};
+ghost use Rattle.ob_history.specs.Legal.{IsLegal};
+ghost use Rattle.ob_history.specs.Seen.{seen_now};
+ghost use Rattle.ob_shared.specs.Maker.{one_more};
+ghost use Rattle.ob_shared.specs.Opened.{IsAsOpened};
+
+use crate::locked::Locked;
+use crate::named::Named;
+use crate::share::Share;
+use crate::shared_buffer::SharedBuffer;
+use ob_history::{Booked, Receipt, Seen};
+use ob_seq::Buffer;
+use ob_types::{Command, Refusal, Reply};
+use std::marker::Model;
+use std::sync::MutexGuard;
+
+/// A shared buffer in the hands of one caller, who has the lock until the desk is left: the guard of a mutex, with the
+/// caller's share in it. Contracts see the history under the lock, and the caller.
+///
+/// Hold it for the calls that belong together, and do nothing meanwhile that waits: all other callers wait for it. A
+/// desk that is dropped lets the lock go too, but its share is lost, and the buffer can no longer be finished.
+pub struct Desk<'b, L: Named> {
+    shared: &'b SharedBuffer<L>,
+    locked: MutexGuard<'b, Locked<L>>,
+    share: Share<L>,
+    /// Whether a call at this desk settled something, so that those who wait have to look.
+    settled: bool,
+}
+
+impl<'b, L: Named> Model for Desk<'b, L> {
+    ghost use Rattle.std.specs.Sync.Mutex.{mutex_guard_value};
+    ghost use Rattle.ob_shared.specs.Held.{Held};
+
+    ghost Value = { Held };
+
+    ghost view = { λ desk. record { history = mutex_guard_value desk.locked; maker = desk.share } };
+}
+
+impl<'b, L: Named> Desk<'b, L> {
+    /// A desk with the lock that was just taken.
+    pub(crate) fn new(
+        shared: &'b SharedBuffer<L>,
+        locked: MutexGuard<'b, Locked<L>>,
+        share: Share<L>,
+    ) -> Desk<'b, L>
+        ensures history { result.history ≡ mutex_guard_value locked.entry }
+        ensures maker { result.maker ≡ share }
+        ensures opened { IsAsOpened L.opened result.history }
+    {
+        locked.is_as_opened();
+        Desk {
+            shared,
+            locked,
+            share,
+            settled: false,
+        }
+    }
+
+    /// What is pending now, and how many calls are recorded. It takes no memory.
+    pub fn look(&self) -> Seen
+        ensures seen { result ≡ seen_now self.now.history }
+        ensures bounded { IsBounded self.now.history }
+    {
+        self.locked.look()
+    }
+
+    /// Lets the lock go, and gives the share back. If a call at this desk settled something, it wakes all who wait for
+    /// a promise. It takes no memory.
+    pub fn leave(self) -> Share<L>
+        ensures { result ≡ self.entry.maker }
+    {
+        let Desk {
+            shared,
+            locked,
+            share,
+            settled,
+        } = self;
+        drop(locked);
+        if settled {
+            shared.wake();
+        }
+        share
+    }
+}
+
+impl<'b, L: Named> Drop for Desk<'b, L> {
+    fn drop(self) {
+        let _share = self.leave();
+    }
+}
+
+impl<'b, L: Named> Booked for Desk<'b, L> {
+    ghost history = { λ desk. desk.history };
+
+    ghost caller = { λ desk. desk.maker.caller };
+
+    fn call(&mut self, command: Command) -> Result<Receipt, Refusal>
+        ensures answer { ¬ IsErrOf result Refusal.NoMemory
+            → result ≡ call_answer self.old.history self.old.maker.caller command }
+        ensures after { ¬ IsErrOf result Refusal.NoMemory
+            → self.new.history ≡ history_after self.old.history self.old.maker.caller command }
+        ensures made { OnOk result (self.new.maker ≡ one_more self.old.maker) }
+        ensures caller { self.new.maker.caller ≡ self.old.maker.caller }
+
+        ensures no_memory_last { IsErrOf result Refusal.NoMemory → is_full self.old.history ≡ false }
+        ensures frugal { IsCovered self.old.history command → IsOk result }
+        ensures refused { OnErr result (self.new.history ≡ self.old.history) }
+        ensures none_made { OnErr result (self.new.maker ≡ self.old.maker) }
+    {
+        let Desk {
+            shared: _,
+            locked,
+            share,
+            settled,
+        } = self;
+        let locked = &mut **locked;
+        let receipt = locked.call(share, command)?;
+        *settled |= settles(&receipt.reply);
+        Ok(receipt)
+    }
+
+    fn reserve(&mut self, count: u32) -> Result<(), Refusal>
+        ensures reserved { OnOk result (self.new.history ≡ with_reserved self.old.history count) }
+        ensures caller { self.new.maker.caller ≡ self.old.maker.caller }
+        ensures made { self.new.maker.made ≡ self.old.maker.made }
+
+        ensures full { IsErrOf result Refusal.HistoryFull ↔ LacksPlaces self.old.history count }
+        ensures no_memory { ¬ LacksPlaces self.old.history count → IsOkUnless result Refusal.NoMemory }
+        ensures frugal { count ≤ self.old.history.reserved → IsOk result }
+        ensures refused { OnErr result (self.new.history ≡ self.old.history) }
+    {
+        let Desk {
+            shared: _,
+            locked,
+            share: _,
+            settled: _,
+        } = self;
+        let locked = &mut **locked;
+        locked.reserve(count)
+    }
+
+    fn buffer(&self) -> &Buffer
+        ensures stands { StandsFor result.now (accepted_commands self.now.history.records) }
+        ensures settings { result.now.settings ≡ self.now.history.settings }
+        ensures legal { IsLegal self.now.history.settings self.now.history.records }
+        ensures bounded { IsBounded self.now.history }
+    {
+        self.locked.buffer()
+    }
+}
+
+/// Whether an answer settles a promise.
+fn settles(answer: &Result<Reply, Refusal>) -> bool
+    ensures { IsTrue result ↔ ¬ (settled_by answer.now ≡ []) }
+{
+    match answer {
+        Ok(reply) => !reply.settled.as_slice().is_empty(),
+        Err(_) => false,
+    }
+}

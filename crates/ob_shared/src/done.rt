@@ -1,0 +1,50 @@
+use crate::finish_fault::FinishFault;
+use crate::named::Named;
+use crate::share::Share;
+use crate::shared_buffer::SharedBuffer;
+use ob_history::{Receipt, Recorded, Seen};
+use std::marker::Model;
+
+/// What a caller of a shared buffer hands in at the end. Contracts see the vectors as lists.
+#[derive(Drop)]
+pub struct Done<L: Named> {
+    /// The caller's share.
+    pub share: Share<L>,
+    /// The receipts of the caller's own calls, in the order of the calls.
+    pub receipts: Vec<Receipt>,
+    /// The receipts that `wait_settled` gave the caller, in any order.
+    pub told: Vec<Receipt>,
+    /// What the caller saw, in any order.
+    pub seen: Vec<Seen>,
+}
+
+impl<L: Named> Model for Done<L> {
+    ghost use Rattle.ob_shared.specs.Handed.{Handed};
+
+    ghost Value = { Handed };
+
+    ghost view = { λ done. record {
+      maker = done.share;
+      receipts = done.receipts.items;
+      told = done.told.items;
+      seen = done.seen.items;
+    } };
+}
+
+/// What is left of a shared buffer that is finished.
+#[derive(Drop)]
+pub struct Final {
+    /// The whole history, with its buffer.
+    pub recorded: Recorded,
+}
+
+/// A shared buffer that could not be finished, with all that was handed in.
+#[derive(Drop)]
+pub struct Unfinished<L: Named> {
+    /// The buffer, as it was.
+    pub buffer: SharedBuffer<L>,
+    /// What was handed in.
+    pub dones: Vec<Done<L>>,
+    /// Why it could not be finished.
+    pub fault: FinishFault,
+}

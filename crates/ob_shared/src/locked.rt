@@ -1,0 +1,226 @@
+ghost use Rattle.std.specs.Prelude.{◌≡◌, ℕ, None, ◌+◌, ◌<◌, ◌≤◌, ◌↔◌, false, length, Some, IfSome, IsNone, IfOk, IsErrOf, IsOk, IsOkUnless, OnOk, OnErr};
+ghost use Rattle.std.specs.List.{All, Contains};
+ghost use Rattle.ob_types.specs.declared.promise.Outcome.{Outcome};
+ghost use Rattle.ob_types.specs.declared.promise.PromiseState.TheVariants.{Settled};
+ghost use Rattle.ob_seq.specs.Looks.{promise_after};
+ghost use Rattle.ob_seq.specs.Pending.{StandsFor};
+ghost use Rattle.ob_history.specs.Accepted.{accepted_commands};
+ghost use Rattle.ob_history.specs.Call.{IsCovered, call_answer, history_after, is_full};
+ghost use Rattle.ob_history.specs.History.{IsBounded, LacksPlaces, new_history, with_reserved};
+ghost use Rattle.ob_history.specs.Legal.{IsLegal};
+ghost use Rattle.ob_history.specs.Receipt.{receipt_of};
+ghost use Rattle.ob_history.specs.Seen.{seen_now};
+ghost use Rattle.ob_history.specs.Settlements.{settlements_in};
+ghost use Rattle.ob_shared.specs.Finished.{HandsInAll, IsForeign, StandsIn, first_short};
+ghost use Rattle.ob_shared.specs.Handed.{LacksShare, made_by};
+ghost use Rattle.ob_shared.specs.declared.finish_fault.FinishFault.TheVariants.{ForeignReceipt, ReceiptsMissing};
+ghost use Rattle.ob_shared.specs.Maker.{one_more};
+ghost use Rattle.ob_shared.specs.Opened.{IsAsOpened};
+ghost use Rattle.ob_shared.specs.Told.{IsCopiedFreely, IsToldFreely, IsUnknown, IsUnsettled, TellsOf};
+
+use crate::callers::Callers;
+use crate::done::Done;
+use crate::finish::{first_foreign, first_short, lacks_share};
+use crate::finish_fault::FinishFault;
+use crate::named::Named;
+use crate::share::Share;
+use ob_history::{Receipt, Record, Recorded, Seen, a_history_tells_each_settled_promise};
+use ob_seq::Buffer;
+use ob_types::{Command, PromiseId, PromiseState, Refusal};
+use std::marker::Model;
+use std::sync::ledger;
+use std::sync::ledger::Book;
+
+/// What lies under the lock. Contracts see the history.
+#[derive(Drop)]
+pub struct Locked<L: Named> {
+    recorded: Recorded,
+    /// How many records all shares made.
+    book: Book<L>,
+    /// What is left of the ledger when each caller has its share.
+    rest: ledger::Share<L>,
+}
+
+impl<L: Named> Model for Locked<L> {
+    ghost use Rattle.std.specs.Prelude.{◌≡◌, length};
+    ghost use Rattle.ob_history.specs.History.{History};
+
+    ghost Value = { History };
+
+    ghost view = { λ locked. locked.recorded };
+
+    ghost invariant = { λ locked. (length locked.recorded.records ≡ locked.book.total)
+        × (locked.recorded.settings ≡ L.opened.settings)
+        × (locked.recorded.limit ≡ L.opened.limit)
+        × (locked.rest.parts ≡ 0) × (locked.rest.amount ≡ 0) };
+}
+
+impl<L: Named> Locked<L> {
+    /// A history without a record.
+    pub fn new(recorded: Recorded, book: Book<L>, rest: ledger::Share<L>) -> Locked<L>
+        requires opened { recorded ≡ new_history L.opened.settings L.opened.limit }
+        requires book { book.total ≡ 0 }
+        requires rest { (rest.parts ≡ 0) × (rest.amount ≡ 0) }
+        ensures { result ≡ new_history L.opened.settings L.opened.limit }
+    {
+        Locked {
+            recorded,
+            book,
+            rest,
+        }
+    }
+
+    /// The history is one of what was opened. It does nothing else than to say so.
+    pub fn is_as_opened(&self)
+        ensures { IsAsOpened L.opened self.now }
+    {
+        let _records = self.recorded.records();
+    }
+
+    /// One call in the name of the caller of a share.
+    pub fn call(&mut self, share: &mut Share<L>, command: Command) -> Result<Receipt, Refusal>
+        ensures answer { ¬ IsErrOf result Refusal.NoMemory
+            → result ≡ call_answer self.old share.old.caller command }
+        ensures after { ¬ IsErrOf result Refusal.NoMemory
+            → self.new ≡ history_after self.old share.old.caller command }
+        ensures made { OnOk result (share.new ≡ one_more share.old) }
+
+        ensures no_memory_last { IsErrOf result Refusal.NoMemory → is_full self.old ≡ false }
+        ensures frugal { IsCovered self.old command → IsOk result }
+        ensures refused { OnErr result (self.new ≡ self.old) }
+        ensures none_made { OnErr result (share.new ≡ share.old) }
+    {
+        let _records = self.recorded.records();
+        let receipt = self.recorded.call(share.caller(), command)?;
+        share.count(&mut self.book);
+        Ok(receipt)
+    }
+
+    /// Reserves so many calls.
+    pub fn reserve(&mut self, count: u32) -> Result<(), Refusal>
+        ensures reserved { OnOk result (self.new ≡ with_reserved self.old count) }
+
+        ensures full { IsErrOf result Refusal.HistoryFull ↔ LacksPlaces self.old count }
+        ensures no_memory { ¬ LacksPlaces self.old count → IsOkUnless result Refusal.NoMemory }
+        ensures frugal { count ≤ self.old.reserved → IsOk result }
+        ensures refused { OnErr result (self.new ≡ self.old) }
+    {
+        self.recorded.reserve(count)
+    }
+
+    /// The buffer after the accepted commands of the records.
+    pub fn buffer(&self) -> &Buffer
+        ensures stands { StandsFor result.now (accepted_commands self.now.records) }
+        ensures settings { result.now.settings ≡ self.now.settings }
+        ensures legal { IsLegal self.now.settings self.now.records }
+        ensures bounded { IsBounded self.now }
+    {
+        self.recorded.buffer()
+    }
+
+    /// What is pending now, and how many calls are recorded.
+    pub fn look(&self) -> Seen
+        ensures seen { result ≡ seen_now self.now }
+        ensures bounded { IsBounded self.now }
+    {
+        self.recorded.look()
+    }
+    /// The receipt of the record that settled a promise, or nothing while it is not settled. It asks what has become of
+    /// the promise, and only then looks for the record.
+    pub fn told(&self, id: PromiseId) -> Option<Result<Receipt, Refusal>>
+        ensures waits { IsNone result ↔ (¬ IsUnknown self.now.records id × IsUnsettled self.now.records id) }
+        ensures told { IfSome result (λ answer. IfOk answer (TellsOf self.now.records id)) }
+        ensures unknown { IfSome result (λ answer.
+            IsErrOf answer Refusal.UnknownPromise ↔ IsUnknown self.now.records id) }
+        ensures no_memory { ¬ IsUnknown self.now.records id
+            → IfSome result (λ answer. IsOkUnless answer Refusal.NoMemory) }
+        ensures frugal { IsToldFreely self.now.records id
+            → IfSome result (λ answer. ¬ IsErrOf answer Refusal.NoMemory) }
+    {
+        match self.promise(id) {
+            None => Some(Err(Refusal::UnknownPromise)),
+            Some(PromiseState::Waiting) => None,
+            Some(PromiseState::Fixed) => None,
+            Some(PromiseState::Settled(_)) => {
+                let settling = self.recorded.settling(id)?;
+                Some(receipt(settling))
+            }
+        }
+    }
+
+    /// What has become of a promise.
+    fn promise(&self, id: PromiseId) -> Option<PromiseState>
+        ensures state { result ≡ promise_after self.now.settings (accepted_commands self.now.records) id }
+        ensures unknown { IsNone result ↔ IsUnknown self.now.records id }
+        ensures settled { (outcome : Outcome) →
+            result ≡ Some (Settled outcome) ↔ Contains (settlements_in self.now.records) (id, outcome) }
+    {
+        a_history_tells_each_settled_promise();
+        self.recorded.buffer().promise(id)
+    }
+
+    /// Why the buffer is not finished with what was handed in, if there is a reason.
+    pub fn fault(&self, callers: &Callers<L>, dones: &[Done<L>]) -> Option<FinishFault>
+        ensures missing { result ≡ Some FinishFault.SharesMissing ↔ LacksShare callers.now.count dones.now }
+        ensures short { ¬ LacksShare callers.now.count dones.now → (caller : ℕ) →
+            result ≡ Some (ReceiptsMissing caller) ↔ first_short dones.now ≡ Some caller }
+        ensures foreign { (caller place : ℕ) → result ≡ Some (ForeignReceipt caller place)
+            → IsForeign self.now.settings self.now.records dones.now caller place }
+        ensures as_many { IsNone result → first_short dones.now ≡ None }
+        ensures stands { IsNone result → All (StandsIn self.now.settings self.now.records) dones.now }
+    {
+        if lacks_share(callers.count, dones) {
+            return Some(FinishFault::SharesMissing);
+        }
+        if let Some(caller) = first_short(dones) {
+            return Some(FinishFault::ReceiptsMissing { caller });
+        }
+        match first_foreign(&self.recorded, dones) {
+            Ok(None) => None,
+            Ok(Some((caller, place))) => Some(FinishFault::ForeignReceipt { caller, place }),
+            Err(_) => Some(FinishFault::NoMemory),
+        }
+    }
+
+    /// The recorded buffer, for the callers who handed in, each with its share and the receipts of all its calls.
+    pub fn into_recorded(self, callers: &Callers<L>, dones: Vec<Done<L>>) -> Recorded
+        requires all { ¬ LacksShare callers.now.count dones.items }
+        requires as_many { first_short dones.items ≡ None }
+        requires stands { All (StandsIn self.settings self.records) dones.items }
+        ensures recorded { result ≡ self }
+        ensures counted { length result.records ≡ made_by dones.items }
+        ensures own { All (HandsInAll result.records) dones.items }
+    {
+        let Locked {
+            recorded,
+            mut book,
+            rest,
+        } = self;
+        let mut all = merged(rest, dones);
+        book.audit(&mut all);
+        recorded
+    }
+}
+
+/// All parts of the ledger that callers handed in, with those that a share has.
+fn merged<L: Named>(rest: ledger::Share<L>, dones: Vec<Done<L>>) -> ledger::Share<L>
+    requires { rest.parts ≤ L.parts }
+    ensures parts { result.parts ≡ rest.parts + length dones.items }
+    ensures amount { result.amount ≡ rest.amount + made_by dones.items }
+    ensures within { result.parts ≤ L.parts }
+{
+    let mut all = rest;
+    for done in dones {
+        all.merge(done.share.into_part());
+    }
+    all
+}
+
+/// The receipt of a record. It fails for want of memory alone.
+fn receipt(one: &Record) -> Result<Receipt, Refusal>
+    ensures same { IfOk result (λ receipt. receipt ≡ receipt_of one.now) }
+    ensures no_memory { IsOkUnless result Refusal.NoMemory }
+    ensures succeeds { IsCopiedFreely one.now → IsOk result }
+{
+    Ok(one.receipt()?)
+}

@@ -1,0 +1,147 @@
+ghost use Rattle.std.specs.Prelude.{◌≡◌, ℕ, ◌≤◌, ◌↔◌, length, Some, IsErrAnd, IsErrOf, IsOk, IsOkUnless, IfOk, IfErr};
+ghost use Rattle.std.specs.List.{All, Any};
+ghost use Rattle.ob_types.specs.declared.promise.PromiseId.{PromiseId};
+ghost use Rattle.ob_seq.specs.Settles.{times_settled};
+ghost use Rattle.ob_history.specs.Settlements.{settlements_in};
+ghost use Rattle.ob_shared.specs.Finished.{HandsInAll, NamesPlace, StandsIn, first_short};
+ghost use Rattle.ob_shared.specs.Handed.{LacksShare, made_by};
+ghost use Rattle.ob_shared.specs.declared.finish_fault.FinishFault.TheVariants.{ForeignReceipt, ReceiptsMissing};
+ghost use Rattle.ob_shared.specs.Opened.{IsAsOpened};
+ghost use Rattle.ob_shared.specs.Told.{IsToldFreely, IsUnknown, IsUnsettled, TellsOf};
+
+use crate::callers::Callers;
+use crate::desk::Desk;
+use crate::done::{Done, Final, Unfinished};
+use crate::finish_fault::FinishFault;
+use crate::locked::Locked;
+use crate::named::Named;
+use crate::share::Share;
+use ob_history::{Receipt, a_history_settles_each_promise_once};
+use ob_types::{PromiseId, Refusal};
+use std::sync::{Condvar, Mutex, Wait};
+
+/// A buffer with its whole history under a lock. Callers give it commands from a desk, each with its share.
+///
+/// Whenever a caller has the lock, the records are a legal history, their number is what all shares made together, and
+/// the settings and the limit are those of the opening.
+#[derive(Drop)]
+pub struct SharedBuffer<L: Named> {
+    locked: Mutex<Locked<L>>,
+    /// Where those wait whose promise is not settled.
+    settled: Condvar,
+    callers: Callers<L>,
+}
+
+impl<L: Named> SharedBuffer<L> {
+    /// A buffer with this history, under a lock that nobody holds.
+    pub(crate) fn new(locked: Locked<L>, callers: Callers<L>) -> SharedBuffer<L> {
+        SharedBuffer {
+            locked: Mutex::new(locked),
+            settled: Condvar::new(),
+            callers,
+        }
+    }
+
+    /// A desk for the caller of a share. It waits while another caller has one, and takes no memory. The lock is never
+    /// poisoned, and no desk is refused; that it is given in any order, or ever, is not promised.
+    pub fn desk<R: Wait>(&self, rt: &R, share: Share<L>) -> Desk<'_, L>
+        ensures maker { result.maker ≡ share }
+        ensures opened { IsAsOpened L.opened result.history }
+    {
+        Desk::new(self, self.locked.lock(rt), share)
+    }
+
+    /// Waits until a promise is settled, and gives a desk for the caller of the share, with the receipt of the record
+    /// that settled it. While it waits the lock is free. It asks again whenever a desk was left at which a call settled
+    /// something, and walks over the records once, when there is something to find.
+    ///
+    /// `UnknownPromise` comes at once, and just where no write was accepted under the id. `NoMemory` comes where the
+    /// promise is settled and the allocator refused the receipt, and not where at most three others were settled with
+    /// it. The desk is given in any case.
+    ///
+    /// Whoever has a desk of this buffer already, or waits for what it alone could settle, waits for ever.
+    pub fn wait_settled<R: Wait>(
+        &self,
+        rt: &R,
+        share: Share<L>,
+        id: PromiseId,
+    ) -> (Desk<'_, L>, Result<Receipt, Refusal>)
+        ensures maker { result.0.maker ≡ share }
+        ensures opened { IsAsOpened L.opened result.0.history }
+        ensures told { IfOk result.1 (TellsOf result.0.history.records id) }
+
+        ensures unknown { IsErrOf result.1 Refusal.UnknownPromise ↔ IsUnknown result.0.history.records id }
+        ensures no_memory { ¬ IsUnknown result.0.history.records id → IsOkUnless result.1 Refusal.NoMemory }
+        ensures settled { ¬ IsUnknown result.0.history.records id → ¬ IsUnsettled result.0.history.records id }
+        ensures frugal { IsToldFreely result.0.history.records id → ¬ IsErrOf result.1 Refusal.NoMemory }
+    {
+        let mut locked = self.locked.lock(rt);
+        for _ in rt.forever() {
+            match locked.told(id) {
+                Some(answer) => return (Desk::new(self, locked, share), answer),
+                None => locked = self.settled.wait(rt, locked),
+            }
+        }
+        unreachable!()
+    }
+
+    /// Ends the buffer, where each caller has handed in, and gives the whole history. Its records are a legal history,
+    /// as many as were made with all shares together. The records of each caller are the receipts that it handed in, in
+    /// the order of its calls; each receipt that a caller was told of is the record at its place, and each look is of
+    /// the history. No promise is settled twice.
+    ///
+    /// So whatever the schedule was, the history kept under the lock is one of one thread: each reply and each change
+    /// of writability is what a buffer of one thread answers there.
+    ///
+    /// `SharesMissing` comes just where a caller's share is not handed in, and else `ReceiptsMissing` just where a
+    /// caller hands in another number of receipts than were made with its share; it names the first. Then all is
+    /// compared, Done by Done, in each first its receipts, then those that it was told of, then its looks:
+    /// `ForeignReceipt` names the first that is not of the history, and `NoMemory` comes where a look was to be
+    /// compared and the allocator refused. With each fault all that was handed in is given back, and the buffer stays
+    /// as it was.
+    pub fn finish(self, dones: Vec<Done<L>>) -> Result<Final, Unfinished<L>>
+        ensures missing { IsErrAnd result (λ unfinished. unfinished.fault ≡ FinishFault.SharesMissing)
+            ↔ LacksShare L.opened.callers dones.items }
+        ensures short { ¬ LacksShare L.opened.callers dones.items → (caller : ℕ) →
+            IsErrAnd result (λ unfinished. unfinished.fault ≡ ReceiptsMissing caller)
+            ↔ first_short dones.items ≡ Some caller }
+        ensures foreign { (caller place : ℕ) →
+            IsErrAnd result (λ unfinished. unfinished.fault ≡ ForeignReceipt caller place)
+            → Any (λ one. (one.maker.caller ≡ caller) × NamesPlace one place) dones.items }
+        ensures back { IfErr result (λ unfinished. unfinished.dones ≡ dones) }
+
+        ensures opened { IfOk result (λ finished. IsAsOpened L.opened finished.recorded) }
+        ensures counted { IfOk result (λ finished. length finished.recorded.records ≡ made_by dones.items) }
+        ensures own { IfOk result (λ finished. All (HandsInAll finished.recorded.records) dones.items) }
+        ensures stands { IfOk result (λ finished.
+            All (StandsIn finished.recorded.settings finished.recorded.records) dones.items) }
+        ensures once { IfOk result (λ finished. (id : PromiseId) →
+            times_settled id (settlements_in finished.recorded.records) ≤ 1) }
+    {
+        let SharedBuffer {
+            locked,
+            settled: _,
+            callers,
+        } = self;
+        let locked = locked.into_inner();
+        match locked.fault(&callers, &dones) {
+            Some(fault) => Err(Unfinished {
+                buffer: SharedBuffer::new(locked, callers),
+                dones,
+                fault,
+            }),
+            None => {
+                locked.is_as_opened();
+                a_history_settles_each_promise_once();
+                Ok(Final {
+                    recorded: locked.into_recorded(&callers, dones),
+                })
+            }
+        }
+    }
+
+    /// Wakes all who wait for a promise.
+    pub(crate) fn wake(&self) {
+        self.settled.notify_all();
+    }
+}

@@ -1,0 +1,106 @@
+//! Many threads, and the one history that they make.
+
+ghost use Rattle.ob_shared.specs.Opened.{IsNameOf};
+
+use crate::tests::commands::Dice;
+use crate::tests::openings::{begun, block, finished, one_call, opening};
+use crate::{Done, Named, Opening, Share, SharedBuffer};
+use ob_history::Recorded;
+use ob_types::{Command, Estimate, Refusal, WaterMark};
+use std::alloc::{AllocError, Global};
+use std::marker::Brand;
+use std::sync::Wait;
+use std::test::Fail;
+use std::thread::{Threads, map_vec};
+
+/// What each of many callers asks for.
+#[derive(Clone, Copy)]
+enum Asks {
+    /// Writes, flushes and removals in turn.
+    InTurn,
+    /// Commands of all ten kinds, by chance.
+    ByChance,
+}
+
+#[test]
+fn four_threads_of_250_calls(rt: HostRuntime) -> Result<(), Fail> {
+    let opening = opening(rt.alloc(), 1000, 4)?;
+    let recorded = all_made::<Brand, _>(&rt, rt.alloc(), opening, Asks::InTurn)?;
+    assert_eq!(rt; recorded.records().len(), 1000);
+    assert!(rt; is_of_one_thread(rt.alloc(), &recorded)?);
+    Ok(())
+}
+
+#[test]
+fn eight_threads_of_250_calls_by_chance(rt: HostRuntime) -> Result<(), Fail> {
+    let opening = opening(rt.alloc(), 2000, 8)?;
+    let recorded = all_made::<Brand, _>(&rt, rt.alloc(), opening, Asks::ByChance)?;
+    assert_eq!(rt; recorded.records().len(), 2000);
+    assert!(rt; is_of_one_thread(rt.alloc(), &recorded)?);
+    Ok(())
+}
+
+/// The history after each caller has made 250 calls in a thread of its own.
+fn all_made<L: Named + Send + Sync, R: Threads + Wait + Sync>(
+    rt: &R,
+    alloc: Global,
+    opening: Opening,
+    asks: Asks,
+) -> Result<Recorded, Fail>
+    requires { IsNameOf opening L.opened L.name L.parts }
+{
+    let (buffer, shares) = opening.begin::<L>()?;
+    let shared = &buffer;
+    let dones = map_vec(rt, shares, &|share| calls(rt, alloc, shared, share, asks))?;
+    finished(buffer, dones)
+}
+
+/// Makes 250 calls, each from a desk of its own, and stops where one is refused.
+fn calls<L: Named, R: Wait>(
+    rt: &R,
+    alloc: Global,
+    buffer: &SharedBuffer<L>,
+    share: Share<L>,
+    asks: Asks,
+) -> Done<L> {
+    let mut dice = Dice::new(share.caller());
+    let mut caller = begun(alloc, share);
+    for number in 0..250u32 {
+        let Ok(command) = command(alloc, &mut dice, asks, number) else {
+            break;
+        };
+        let (same, answer) = one_call(rt, buffer, caller, command);
+        caller = same;
+        if answer.is_err() {
+            break;
+        }
+    }
+    caller
+}
+
+fn command(alloc: Global, dice: &mut Dice, asks: Asks, number: u32) -> Result<Command, AllocError> {
+    match asks {
+        Asks::ByChance => dice.command(alloc),
+        Asks::InTurn => match number % 3 {
+            0 => block(alloc, 4),
+            1 => Ok(Command::Flush),
+            _ => Ok(Command::Remove),
+        },
+    }
+}
+
+/// Whether a new buffer that is given the commands of the records, in their order, makes the same records.
+fn is_of_one_thread(alloc: Global, recorded: &Recorded) -> Result<bool, Refusal> {
+    let estimate = Estimate {
+        overhead: 96,
+        unknown: 8,
+    };
+    let mut alone = Recorded::new(alloc, WaterMark::new(32768, 65536)?, estimate, 2000);
+    for kept in recorded.records() {
+        let receipt = alone.call(kept.caller, kept.command.copy()?)?;
+        if !recorded.check(&receipt) {
+            return Ok(false);
+        }
+    }
+    Ok(alone.look() == recorded.look())
+}
