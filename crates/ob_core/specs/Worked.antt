@@ -6,11 +6,11 @@ use Rattle.ob_core.specs.Bits.{with_bit, without_bit}
 use Rattle.ob_core.specs.CoreState.{CoreState}
 use Rattle.ob_core.specs.Found.{value_found, change_found}
 use Rattle.ob_core.specs.Opening.{Opening}
-use Rattle.ob_core.specs.Shares.{AreShares}
+use Rattle.ob_core.specs.Shares.{AreShares, IsDivision, IsMerger, spent_lane}
 use Rattle.ob_core.specs.declared.lane.Lane.{Lane}
 use Rattle.ob_core.specs.declared.lane.Phase.{Phase}
-use Rattle.ob_core.specs.declared.lane.Phase.TheVariants.{Idle, ToRaise}
-use Rattle.ob_core.specs.declared.lane_step.LaneStep.TheVariants.{Add, Subtract, Raise, Lower, SetBit, ClearBit, LoadTotal}
+use Rattle.ob_core.specs.declared.lane.Phase.TheVariants.{Idle, ToRaise, ToLower}
+use Rattle.ob_core.specs.declared.lane_step.LaneStep.TheVariants.{Add, Subtract, Raise, Lower, SetBit, ClearBit, LoadWord, LoadTotal}
 
 -- ---- accounts
 
@@ -60,6 +60,15 @@ ForgottenMark = AccountsHold opening (state 0 1 ((record second_lane { room = 12
 abbrev pub RaisingNothing : Type 0
 RaisingNothing = AccountsHold opening (state 0 0 ((record second_lane { room = 120; phase = ToRaise }) ∷ [])) → ⊥
 
+-- a lane is about to lower the mark, and has no room; a lane owes more than its room
+abbrev pub BusyWithoutRoom : Type 0
+BusyWithoutRoom =
+    AccountsHold opening (state 0 1 ((record second_lane { room = 0; phase = ToLower }) ∷ (record second_lane { room = 120; held = 0 }) ∷ [])) → ⊥
+
+abbrev pub OwingMoreThanRoom : Type 0
+OwingMoreThanRoom =
+    AccountsHold opening (state 61 2 ((record (first_lane 2 Idle) { debt = Some 61 }) ∷ second_lane ∷ [])) → ⊥
+
 -- ---- shares
 
 -- a lane with room 10 that holds bits 1 and 2 and raised bit 1 gives bit 2 and no room
@@ -79,15 +88,32 @@ BitGivenAndKept =
     (record { room = 0; debt = None; held = 4; raised = 0; phase = Idle })
     → ⊥
 
+-- a free lane with half of the room gives 20 of it and no bit to a new lane behind all lanes
+abbrev pub Divided : Type 0
+Divided =
+    IsDivision (state 60 2 (first_lane 2 Idle ∷ second_lane ∷ [])) 1
+    (record second_lane { room = 40 }) (record second_lane { room = 20; held = 0 })
+    (state 60 2 (first_lane 2 Idle ∷ (record second_lane { room = 40 }) ∷ (record second_lane { room = 20; held = 0 }) ∷ []))
+
+-- and takes it back, with a spent lane left where the other was
+abbrev pub Merged : Type 0
+Merged =
+    IsMerger (state 60 2 (first_lane 2 Idle ∷ (record second_lane { room = 40 }) ∷ (record second_lane { room = 20; held = 0 }) ∷ []))
+    1 2 second_lane (state 60 2 (first_lane 2 Idle ∷ second_lane ∷ spent_lane ∷ []))
+
 -- ---- steps
 
 -- of a total of 60 and a word of 5, a step on the one finds the one
 abbrev pub Finds : Type 0
 Finds =
-    (value_found (Subtract 60) (state 60 5 []) ≡ 60)
-    × (value_found LoadTotal (state 60 5 []) ≡ 60)
+    (value_found (Add 1) (state 60 5 []) ≡ 60)
+    × (value_found (Subtract 60) (state 60 5 []) ≡ 60)
+    × (value_found Raise (state 60 5 []) ≡ 5)
     × (value_found Lower (state 60 5 []) ≡ 5)
     × (value_found (SetBit 1) (state 60 5 []) ≡ 5)
+    × (value_found (ClearBit 1) (state 60 5 []) ≡ 5)
+    × (value_found LoadWord (state 60 5 []) ≡ 5)
+    × (value_found LoadTotal (state 60 5 []) ≡ 60)
 
 -- the writers stop where a bit was set in 0, and go on where the one bit that was set was cleared
 abbrev pub Changes : Type 0

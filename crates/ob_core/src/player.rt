@@ -1,4 +1,4 @@
-ghost use Rattle.std.specs.Prelude.{◌≡◌, IfOk, OnOk, OnErr, IsOkUnless};
+ghost use Rattle.std.specs.Prelude.{◌≡◌, [], IfOk, OnOk, OnErr, IsOk, IsOkUnless};
 ghost use Rattle.ob_core.specs.Run.{answers_of, core_after_all, last_change_after};
 
 use crate::ask::Turn;
@@ -10,7 +10,7 @@ use std::alloc::Global;
 /// Plays a schedule, one turn after the other, and answers each turn's event and change.
 ///
 /// The room for all answers is made before the first turn: `NoMemory` is the only refusal, and comes only then, with
-/// the world as it was.
+/// the world as it was. A schedule without a turn wants none.
 pub fn play(
     alloc: Global,
     world: &mut World,
@@ -20,6 +20,7 @@ pub fn play(
     ensures core { OnOk result (world.new.core ≡ core_after_all world.old.core turns.now) }
     ensures change { OnOk result (world.new.last_change ≡ last_change_after world.old turns.now) }
     ensures no_memory { IsOkUnless result Refusal.NoMemory }
+    ensures frugal { turns.now ≡ [] → IsOk result }
     ensures err { OnErr result (world.new ≡ world.old) }
 {
     let mut answers = Vec::with_capacity(alloc, turns.len())?;

@@ -1,7 +1,7 @@
 -- The definitions on a small history, worked out by hand beforehand.
 use Rattle.std.specs.Prelude.{◌≡◌, ℕ, true, false, List, [], ◌∷◌, replicate, take, None, Result, Ok, Err}
 use Rattle.ob_types.specs.declared.command.Command.TheVariants.{Write, Flush, Remove, Cancel}
-use Rattle.ob_types.specs.declared.message.Message.TheVariants.{Block}
+use Rattle.ob_types.specs.declared.message.Message.TheVariants.{Block, Region}
 use Rattle.ob_types.specs.declared.promise.PromiseId.{PromiseId}
 use Rattle.ob_types.specs.declared.promise.Outcome.{Outcome}
 use Rattle.ob_types.specs.declared.promise.Outcome.TheVariants.{Success}
@@ -12,12 +12,12 @@ use Rattle.ob_types.specs.declared.reply.Answer.{Answer}
 use Rattle.ob_types.specs.declared.reply.Answer.TheVariants.{Id, Count, Yes}
 use Rattle.ob_seq.specs.Settings.{Settings}
 use Rattle.ob_history.specs.Accepted.{accepted_commands}
-use Rattle.ob_history.specs.Call.{call_answer, history_after}
+use Rattle.ob_history.specs.Call.{IsCovered, call_answer, history_after}
 use Rattle.ob_history.specs.First.{IsFirstBreak}
 use Rattle.ob_history.specs.Glance.{glance_after}
 use Rattle.ob_history.specs.History.{History}
 use Rattle.ob_history.specs.Legal.{IsLegal}
-use Rattle.ob_history.specs.Own.{AreOwn, records_of}
+use Rattle.ob_history.specs.Own.{AreOwn, Holding, HoldAll, records_of}
 use Rattle.ob_history.specs.Receipt.{receipt_of}
 use Rattle.ob_history.specs.Seen.{seen_now}
 use Rattle.ob_history.specs.Settlements.{settlements_in, settles}
@@ -135,3 +135,25 @@ ForeignReceipts =
     (¬ AreOwn 7 worked_records (receipt_of refused_cancel ∷ []))
     × IsFirstBreak (AreOwn 7 worked_records)
     (receipt_of (write_at 0) ∷ receipt_of (flush_of 2) ∷ receipt_of removal ∷ []) 1
+
+-- caller 7 holds its three receipts, and caller 2 its one
+abbrev pub holdings : List Holding
+holdings =
+    record { caller = 7; receipts = receipt_of (write_at 0) ∷ receipt_of (flush_of 1) ∷ receipt_of removal ∷ [] }
+    ∷ record { caller = 2; receipts = receipt_of refused_cancel ∷ [] } ∷ []
+
+-- together they hold all records
+abbrev pub AllHeld : Type 0
+AllHeld = HoldAll worked_records holdings
+
+-- but not where one receipt is held back
+abbrev pub OneHeldBack : Type 0
+OneHeldBack =
+    ¬ HoldAll worked_records (record { caller = 7; receipts = receipt_of (write_at 0) ∷ receipt_of removal ∷ [] }
+    ∷ record { caller = 2; receipts = receipt_of refused_cancel ∷ [] } ∷ [])
+
+-- with one call reserved a removal is covered; a write never is, nor is any call with none reserved
+abbrev pub CoveredCalls : Type 0
+CoveredCalls =
+    IsCovered (stored 3) Remove × (¬ IsCovered (stored 3) (Write (Region 1)))
+    × (¬ IsCovered (record (stored 3) { reserved = 0 }) Remove)

@@ -13,10 +13,10 @@ use ob_types::{Command, Refusal};
 /// A buffer whose calls are recorded, in the hands of one caller.
 ///
 /// One may hold another and do more with each call. One that keeps the receipts wants memory for them too, and has a
-/// reserve of its own: how many receipts it can keep without asking for more. As `reserved` of its history it shows the
-/// lesser of that and of what the inner one shows. Its `reserve` asks the inner one first, and then for room for as many
-/// receipts. Its `call`, where there is no room for a receipt, asks the inner one to reserve one call, so that
-/// HistoryFull still comes first, and then for the room; so the number that it shows is 0 before and after a refusal.
+/// reserve of its own. It keeps a number, which is neither the room of its list nor ever above what the inner one shows,
+/// and shows that number as `reserved` of its history. `reserve` raises it once the inner one and the list have both
+/// answered Ok; a call that adds a record lowers it; a refused call and a refused reserve leave it. One that lives across
+/// locks begins again at 0, since other callers use the inner reserve up.
 pub trait Booked {
     /// The history of the buffer, and how many more calls are reserved here.
     ghost history: { Self → History };

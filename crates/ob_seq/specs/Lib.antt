@@ -29,4 +29,5 @@ pub mod WorkedEndings
 pub mod WorkedHistories
 pub mod WorkedLimits
 pub mod WorkedLooks
+pub mod WorkedState
 pub mod Writes

@@ -3,8 +3,8 @@ use Rattle.std.specs.Prelude.{◌≡◌, true, List, [], ◌∷◌, ◌++◌, ma
 use Rattle.ob_types.specs.declared.command.Command.{Command}
 use Rattle.ob_types.specs.declared.command.Command.TheVariants.{Flush, Remove, Progress, Cancel, FailFlushed}
 use Rattle.ob_types.specs.declared.message.Message.TheVariants.{Block}
-use Rattle.ob_types.specs.declared.promise.Outcome.TheVariants.{Failed, Cancelled}
-use Rattle.ob_types.specs.declared.promise.PromiseState.TheVariants.{Waiting}
+use Rattle.ob_types.specs.declared.promise.Outcome.TheVariants.{Success, Failed, Cancelled}
+use Rattle.ob_types.specs.declared.promise.PromiseState.TheVariants.{Waiting, Settled}
 use Rattle.ob_seq.specs.Accepted.{accepted_among}
 use Rattle.ob_seq.specs.Effect.{rows_after}
 use Rattle.ob_seq.specs.Fitting.{FitsItsPlace}
@@ -60,3 +60,13 @@ abbrev pub WaitsUnflushedAlone : Type 0
 WaitsUnflushedAlone =
     FitsItsPlace (row_at Unflushed) × (¬ FitsItsPlace (row_at Flushed)) × (¬ FitsItsPlace (row_at Voided))
     × (¬ FitsItsPlace (row_at Gone))
+
+-- a row at a place whose promise succeeded
+abbrev pub sent_at : Place → Row
+sent_at place = record (row_at place) { promise = Settled Success }
+
+-- a promise that succeeded fits a message that is gone, and none that is unflushed, flushed or voided
+abbrev pub SentOnlyWhenGone : Type 0
+SentOnlyWhenGone =
+    FitsItsPlace (sent_at Gone) × (¬ FitsItsPlace (sent_at Unflushed)) × (¬ FitsItsPlace (sent_at Flushed))
+    × (¬ FitsItsPlace (sent_at Voided))

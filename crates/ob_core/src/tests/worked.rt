@@ -1,6 +1,6 @@
 //! The definitions, computed on small core states and steps.
 
-ghost use Rattle.ob_core.specs.Worked.{GoodAccounts, WrongTotal, ShownAndNotRaised, RaisedAndNotShown, HeldTwice, RaisedAndNotHeld, LostRoom, ForgottenMark, RaisingNothing, BitGiven, BitGivenAndKept, Finds, Changes, WideBits};
+ghost use Rattle.ob_core.specs.Worked.{GoodAccounts, WrongTotal, ShownAndNotRaised, RaisedAndNotShown, HeldTwice, RaisedAndNotHeld, LostRoom, ForgottenMark, RaisingNothing, BusyWithoutRoom, OwingMoreThanRoom, BitGiven, BitGivenAndKept, Divided, Merged, Finds, Changes, WideBits};
 
 fn worked_accounts()
     ensures good { GoodAccounts }
@@ -12,11 +12,15 @@ fn worked_accounts()
     ensures lost_room { LostRoom }
     ensures forgotten_mark { ForgottenMark }
     ensures raising_nothing { RaisingNothing }
+    ensures busy_without_room { BusyWithoutRoom }
+    ensures owing_more_than_room { OwingMoreThanRoom }
 {}
 
 fn worked_shares()
     ensures bit_given { BitGiven }
     ensures bit_given_and_kept { BitGivenAndKept }
+    ensures divided { Divided }
+    ensures merged { Merged }
 {}
 
 fn worked_steps()

@@ -1,5 +1,5 @@
 ghost use Rattle.std.specs.List.{All};
-ghost use Rattle.std.specs.Prelude.{◌≡◌, ◌-◌, ◌<◌, ◌↔◌, length, IfOk, IfSome, IsNone, IsOk, IsOkUnless, IsTrue};
+ghost use Rattle.std.specs.Prelude.{◌≡◌, ◌-◌, ◌<◌, ◌↔◌, length, take, IfOk, IfSome, IsNone, IsOk, IsOkUnless, IsTrue};
 ghost use Rattle.std.specs.Prelude.{slice_index_or};
 ghost use Rattle.ob_history.specs.First.{IsFirstBreak};
 ghost use Rattle.ob_history.specs.Own.{AreOwn};
@@ -44,14 +44,15 @@ impl Recorded {
 
     /// The index of the first look that is not of the history, as `check_seen` asks it; nothing where each is. It gives
     /// a new buffer the commands for each look, and changes nothing here. `NoMemory` comes where the allocator refused,
-    /// or a block has more owners than can be counted, and not where each look names more records than there are.
+    /// or a block has more owners than can be counted, and not where the first look names more records than
+    /// there are, or there is none.
     pub fn first_foreign_seen(&self, seen: &[Seen]) -> Result<Option<usize>, Refusal>
         ensures seen { IfOk result (λ found.
             IsNone found ↔ All (IsSeenIn self.now.settings self.now.records) seen.now) }
         ensures foreign { IfOk result (λ found.
             IfSome found (IsFirstBreak (All (IsSeenIn self.now.settings self.now.records)) seen.now)) }
         ensures no_memory { IsOkUnless result Refusal.NoMemory }
-        ensures frugal { All (λ one. length self.now.records < one.place) seen.now → IsOk result }
+        ensures frugal { All (λ one. length self.now.records < one.place) (take 1 seen.now) → IsOk result }
     {
         for (index, one) in seen.iter().enumerate() {
             if !self.check_seen(one)? {

@@ -3,7 +3,7 @@
 ghost use Rattle.ob_history.specs.Worked.{IsLegalWithARefusal, AcceptedWithoutTheRefused, SettledByTheRemoval};
 ghost use Rattle.ob_history.specs.Worked.{IllegalAtAnotherPlace, IllegalWithAnotherReply, LastPlace, FullHistory};
 ghost use Rattle.ob_history.specs.Worked.{SeenBeforeTheRemoval, Glances, SettledByOneRecord, RecordsOfTwoCallers};
-ghost use Rattle.ob_history.specs.Worked.{OwnReceipts, ExchangedReceipts, ForeignReceipts};
+ghost use Rattle.ob_history.specs.Worked.{OwnReceipts, ExchangedReceipts, ForeignReceipts, AllHeld, OneHeldBack, CoveredCalls};
 
 #[tactic(auto, unfolding(ob_seq::specs::Word::user_bits))]
 fn worked_history()
@@ -21,6 +21,7 @@ fn worked_calls()
     ensures seen { SeenBeforeTheRemoval }
     ensures glances { Glances }
     ensures settled { SettledByOneRecord }
+    ensures covered { CoveredCalls }
 {}
 
 fn worked_receipts()
@@ -28,6 +29,8 @@ fn worked_receipts()
     ensures own { OwnReceipts }
     ensures exchanged { ExchangedReceipts }
     ensures foreign { ForeignReceipts }
+    ensures held { AllHeld }
+    ensures held_back { OneHeldBack }
 {}
 
 #[test]

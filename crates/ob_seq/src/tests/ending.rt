@@ -156,3 +156,25 @@ fn user_bits_keep_a_buffer_unwritable(rt: HostRuntime) -> Result<(), Fail> {
     assert_eq!(rt; buffer.user_bit(1, true)?.change, Some(Change::Writable));
     Ok(())
 }
+
+/// The five queries of a yes, a no or a number, as a buffer goes from new to closed.
+#[test]
+fn a_buffer_tells_its_state(rt: HostRuntime) -> Result<(), Fail> {
+    let mut buffer = buffer(rt.alloc(), 200, 400)?;
+    assert!(rt; buffer.is_writable() && buffer.is_empty() && !buffer.is_closed());
+    assert_eq!(rt; buffer.writes_left(), 1048576);
+    let _ = buffer.write(block(rt.alloc(), 400)?)?;
+    assert!(rt; !buffer.is_writable() && buffer.is_empty());
+    assert_eq!(rt; buffer.writes_left(), 1048575);
+    let _ = buffer.flush()?;
+    assert!(rt; !buffer.is_empty());
+    let _ = buffer.remove()?;
+    assert!(rt; buffer.is_writable() && buffer.is_empty());
+    let _ = buffer.user_bit(5, false)?;
+    assert!(rt; !buffer.is_writable() && !buffer.user_defined_writability(5));
+    assert!(rt; buffer.user_defined_writability(6) && buffer.user_defined_writability(32));
+    let _ = buffer.close(Cause(3))?;
+    assert!(rt; buffer.is_closed() && !buffer.is_writable());
+    assert_eq!(rt; buffer.writes_left(), 0);
+    Ok(())
+}

@@ -9,10 +9,12 @@ ghost use Rattle.ob_seq.specs.WorkedBytes.{WritableByBytes, WritableByManyBytes,
 ghost use Rattle.ob_seq.specs.WorkedEndings.{ClosedPastAVoided, EachEnd, NothingLeftAfterAClose};
 ghost use Rattle.ob_seq.specs.WorkedEndings.{PromisesAfterAClose, PromisesBeforeAnEnd};
 ghost use Rattle.ob_seq.specs.WorkedHistories.{AcceptedOfThem, FourWrites, SettledInTurn, OneOfEachPlace};
-ghost use Rattle.ob_seq.specs.WorkedHistories.{OutOfOrder, WaitsUnflushedAlone};
+ghost use Rattle.ob_seq.specs.WorkedHistories.{OutOfOrder, WaitsUnflushedAlone, SentOnlyWhenGone};
 ghost use Rattle.ob_seq.specs.WorkedLimits.{TotalAtItsLimit, LookAtTheLimit, SizesAtTheirLimits, ProgressAtItsTop};
 ghost use Rattle.ob_seq.specs.WorkedLooks.{WritableAtTheMarks, UnwritableAtTheMarks, UnwritableBelowLow};
 ghost use Rattle.ob_seq.specs.WorkedLooks.{UnderAUserBit, UnderALowMarkOfZero};
+ghost use Rattle.ob_seq.specs.WorkedState.{UnwritableByEither, EmptyWithoutALine, ClosedByAClose};
+ghost use Rattle.ob_seq.specs.WorkedState.{UserBitsTold, WritesLeft, WantsOfMemory};
 
 #[tactic(auto, unfolding(crate::specs::Word::user_bits))]
 fn worked_rows()
@@ -76,6 +78,16 @@ fn worked_looks()
 {}
 
 #[tactic(auto, unfolding(crate::specs::Word::user_bits))]
+fn worked_state()
+    ensures unwritable_by_either { UnwritableByEither }
+    ensures empty_without_a_line { EmptyWithoutALine }
+    ensures closed_by_a_close { ClosedByAClose }
+    ensures user_bits_told { UserBitsTold }
+    ensures writes_left { WritesLeft }
+    ensures wants_of_memory { WantsOfMemory }
+{}
+
+#[tactic(auto, unfolding(crate::specs::Word::user_bits))]
 fn worked_histories()
     ensures accepted_of_them { AcceptedOfThem }
     ensures four_writes { FourWrites }
@@ -83,6 +95,7 @@ fn worked_histories()
     ensures one_of_each_place { OneOfEachPlace }
     ensures out_of_order { OutOfOrder }
     ensures waits_unflushed_alone { WaitsUnflushedAlone }
+    ensures sent_only_when_gone { SentOnlyWhenGone }
 {}
 
 #[test]
@@ -92,5 +105,6 @@ fn definitions_give_the_worked_rows() {
     worked_limits();
     worked_endings();
     worked_looks();
+    worked_state();
     worked_histories();
 }

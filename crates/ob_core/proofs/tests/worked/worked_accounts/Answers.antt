@@ -57,3 +57,13 @@ pub returns-clause-raising_nothing : goal.returns-clause-raising_nothing
 returns-clause-raising_nothing c = λ accounts.
     let within = accounts.bytes.within 0 second_lane (omega arith) in
     let wrong : 0 < 0 = within.raising refl in absurd (omega (arith, wrong))
+
+pub returns-clause-busy_without_room : goal.returns-clause-busy_without_room
+returns-clause-busy_without_room c = λ accounts.
+    let within = accounts.bytes.within 0 second_lane (omega arith) in
+    let wrong : 0 < 0 = within.busy (λ same. absurd (cc)) in absurd (omega (arith, wrong))
+
+pub returns-clause-owing_more_than_room : goal.returns-clause-owing_more_than_room
+returns-clause-owing_more_than_room c = λ accounts.
+    let within = accounts.bytes.within 0 second_lane (omega arith) in
+    let wrong : 61 ≤ 60 = within.owes in absurd (omega (arith, wrong))
