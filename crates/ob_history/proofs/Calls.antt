@@ -32,7 +32,8 @@ module _ (history : History) (caller : ℕ) (command : Command) where
   abbrev after_by : Bool → History
   after_by full = if full then history else with_record history (next_record history caller command)
 
-  pub legal_after : IsLegal history.settings history.records → IsLegal history.settings (history_after history caller command).records
+  pub legal_after : IsLegal history.settings history.records →
+      IsLegal history.settings (history_after history caller command).records
   legal_after legal = by_full (is_full history)
     where
       by_full : (full : Bool) → IsLegal history.settings (after_by full).records

@@ -1,9 +1,10 @@
 -- The first item that breaks what holds of each item, or what makes receipts a caller's own.
-use Rattle.std.proofs.Common.{◌≡◌, ℕ, ◌+◌, ◌-◌, ◌<◌, ◌≤◌, List, [], ◌∷◌, ◌++◌, inl, inr, length, take, get_or, sym, ap, ◌∙◌, subst, arith}
+use Rattle.std.proofs.Common.{◌≡◌, ℕ, ◌+◌, ◌-◌, ◌<◌, ◌≤◌, List, [], ◌∷◌, ◌++◌, inl, inr, length, take, get_or, sym, ap}
+use Rattle.std.proofs.Common.{◌∙◌, subst, arith}
 use Rattle.std.specs.List.{All}
 use Rattle.std.proofs.lemmas.Bool.{cases_eq}
 use Rattle.std.proofs.lemmas.List.{get_or-take, get_or_read, length-take-le, take_all, take_more}
-use Rattle.std.proofs.lemmas.List.Elements.{All-push}
+use Rattle.std.proofs.lemmas.List.Elements.{All-push, All-take}
 use Rattle.std.proofs.lemmas.List.Quantifiers.{all_pairs_push}
 use Rattle.ob_history.specs.First.{IsFirstBreak}
 use Rattle.ob_history.specs.Own.{AreOwn}
@@ -12,17 +13,24 @@ use Rattle.ob_history.specs.declared.receipt.Receipt.{Receipt}
 use Rattle.ob_history.specs.declared.record.Record.{Record}
 
 -- what holds of all items up to the end holds of the list
-pub up_to_end : {X : Type 0} (property : List X → Type 0) (xs : List X) (i : ℕ) → length xs ≤ i → property (take i xs) → property xs
+pub up_to_end : {X : Type 0} (property : List X → Type 0) (xs : List X) (i : ℕ) → length xs ≤ i →
+    property (take i xs) → property xs
 up_to_end property xs i past holds = subst property (take_all i xs past) holds
 
 -- what holds of each item up to one holds of that one
-pub last_of : {X : Type 0} (P : X → Type 0) (xs : List X) (i : ℕ) (d : X) → i < length xs → All P (take (i + 1) xs) → P (get_or xs i d)
+pub last_of : {X : Type 0} (P : X → Type 0) (xs : List X) (i : ℕ) (d : X) → i < length xs →
+    All P (take (i + 1) xs) → P (get_or xs i d)
 last_of P xs i d within all =
     subst P (get_or-take (i + 1) xs i d (omega arith)) (all i d (omega (arith, within, length-take-le (i + 1) xs (omega (arith, within)))))
 
 -- the first item of which something does not hold
-pub first_against : {X : Type 0} (P : X → Type 0) (xs : List X) (i : ℕ) (d : X) → i < length xs → All P (take i xs) → ¬ P (get_or xs i d) → IsFirstBreak (All P) xs i
+pub first_against : {X : Type 0} (P : X → Type 0) (xs : List X) (i : ℕ) (d : X) → i < length xs →
+    All P (take i xs) → ¬ P (get_or xs i d) → IsFirstBreak (All P) xs i
 first_against P xs i d within before against = record { within = within; before = before; broken = λ all. against (last_of P xs i d within all) }
+
+-- where something holds of each item, no item is the first against it
+pub never_against : {X : Type 0} (P : X → Type 0) (xs : List X) (i : ℕ) → IsFirstBreak (All P) xs i → All P xs → ⊥
+never_against P xs i first all = first.broken (All-take P (i + 1) xs all)
 
 -- that a receipt's place is above that of the one before it
 abbrev pub RisesAt : List Receipt → ℕ → Type 0
@@ -30,8 +38,10 @@ RisesAt receipts index = (other : Receipt) → 0 < index → (get_or receipts (i
 
 module _ (caller : ℕ) (records : List Record) (receipts : List Receipt) (index : ℕ) (receipt : Receipt) where
   -- one more receipt that is the caller's own
-  pub own_more : index < length receipts → receipt ≡ get_or receipts index receipt → AreOwn caller records (take index receipts) →
-      receipt.caller ≡ caller → IsReceiptIn records receipt → RisesAt receipts index → AreOwn caller records (take (index + 1) receipts)
+  pub own_more : index < length receipts → receipt ≡ get_or receipts index receipt →
+      AreOwn caller records (take index receipts) →
+      receipt.caller ≡ caller → IsReceiptIn records receipt → RisesAt receipts index →
+      AreOwn caller records (take (index + 1) receipts)
   own_more within is own named kept rises =
       let before = take index receipts in
       let long : length before ≡ index = length-take-le index receipts (omega (arith, within)) in
@@ -56,8 +66,10 @@ module _ (caller : ℕ) (records : List Record) (receipts : List Receipt) (index
       })
 
   -- one that is not
-  pub own_no_more : index < length receipts → receipt ≡ get_or receipts index receipt → AreOwn caller records (take index receipts) →
-      (receipt.caller ≡ caller → IsReceiptIn records receipt → RisesAt receipts index → ⊥) → IsFirstBreak (AreOwn caller records) receipts index
+  pub own_no_more : index < length receipts → receipt ≡ get_or receipts index receipt →
+      AreOwn caller records (take index receipts) →
+      (receipt.caller ≡ caller → IsReceiptIn records receipt → RisesAt receipts index → ⊥) →
+      IsFirstBreak (AreOwn caller records) receipts index
   own_no_more within is own against = record {
     within = within;
     before = own;
@@ -71,3 +83,24 @@ module _ (caller : ℕ) (records : List Record) (receipts : List Receipt) (index
         let later : (get_or (take (index + 1) receipts) index other).place ≡ (get_or receipts index other).place = ap (λ (other : Receipt). other.place) (get_or-take (index + 1) receipts index other (omega arith)) in
         omega (arith, up, earlier, later));
   }
+
+-- a beginning of a caller's own receipts is its own
+pub own_beginning : (caller : ℕ) (records : List Record) (receipts : List Receipt) (count : ℕ) →
+    count ≤ length receipts → AreOwn caller records receipts → AreOwn caller records (take count receipts)
+own_beginning caller records receipts count within own =
+    let long : length (take count receipts) ≡ count = length-take-le count receipts within in
+    record {
+      kept = All-take (IsReceiptIn records) count receipts own.kept;
+      named = All-take (λ (receipt : Receipt). receipt.caller ≡ caller) count receipts own.named;
+      rising = λ i j d below early.
+          let up = own.rising i j d below (omega (arith, early, long, within)) in
+          let earlier : (get_or (take count receipts) i d).place ≡ (get_or receipts i d).place = ap (λ (receipt : Receipt). receipt.place) (get_or-take count receipts i d (omega (arith, below, early, long))) in
+          let later : (get_or (take count receipts) j d).place ≡ (get_or receipts j d).place = ap (λ (receipt : Receipt). receipt.place) (get_or-take count receipts j d (omega (arith, early, long))) in
+          omega (arith, up, earlier, later);
+    }
+
+-- so where receipts are a caller's own, none of them is the first that is not
+pub never_foreign : (caller : ℕ) (records : List Record) (receipts : List Receipt) (index : ℕ) →
+    IsFirstBreak (AreOwn caller records) receipts index → AreOwn caller records receipts → ⊥
+never_foreign caller records receipts index first own =
+    first.broken (own_beginning caller records receipts (index + 1) (omega (arith, first.within)) own)

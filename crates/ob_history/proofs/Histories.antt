@@ -1,5 +1,6 @@
 -- One more record at the end of a history.
-use Rattle.std.proofs.Common.{◌≡◌, ℕ, zero, suc, ◌<◌, Bool, true, false, List, [], ◌∷◌, ◌++◌, ◌⊎◌, inl, inr, length, take, refl, sym, ap, ◌∙◌, cond, append-nil, arith}
+use Rattle.std.proofs.Common.{◌≡◌, ℕ, zero, suc, ◌<◌, Bool, true, false, List, [], ◌∷◌, ◌++◌, ◌⊎◌, inl, inr, length}
+use Rattle.std.proofs.Common.{take, refl, sym, ap, ◌∙◌, cond, append-nil, arith}
 use Rattle.std.specs.Prelude.{Some, Result, is_ok, slice_get, slice_index_or, filter, map}
 use Rattle.std.proofs.lemmas.List.{map-append}
 use Rattle.std.proofs.lemmas.List.Elements.{filter-append}
@@ -23,7 +24,8 @@ pub record IsNew (records : List Record) (one : Record) (index : ℕ) (found : R
   pub same : one ≡ found
   pub before : take index (records ++ one ∷ []) ≡ records
 
-old_or_new : (records : List Record) (one : Record) (index : ℕ) (found : Record) → slice_get (records ++ one ∷ []) index ≡ Some found →
+old_or_new : (records : List Record) (one : Record) (index : ℕ) (found : Record) →
+    slice_get (records ++ one ∷ []) index ≡ Some found →
     IsOld records one index found ⊎ IsNew records one index found
 old_or_new [] one zero found is = inr (record { last = refl; same = cc; before = refl })
 old_or_new [] one (suc index) found is = absurd (cc)
@@ -36,7 +38,8 @@ old_or_new (first ∷ records) one (suc index) found is =
 
 -- a legal history stays legal with a record that stands rightly at its end
 pub legal_with_next : (settings : Settings) (records : List Record) (one : Record) →
-    IsLegal settings records → one.place ≡ length records → one.reply ≡ answer_to settings (accepted_commands records) one.command → IsLegal settings (records ++ one ∷ [])
+    IsLegal settings records → one.place ≡ length records →
+    one.reply ≡ answer_to settings (accepted_commands records) one.command → IsLegal settings (records ++ one ∷ [])
 legal_with_next settings records one legal place reply index found is =
     elim (old_or_new records one index found is) [
       | inl old ↦ record {
@@ -61,13 +64,15 @@ accepted_with_one : (records : List Record) (one : Record) →
 accepted_with_one records one =
     ap (map command_of) (filter-append is_accepted records (one ∷ [])) ∙ map-append command_of (filter is_accepted records) (filter is_accepted (one ∷ [])) ∙ by_reply (is_ok one.reply)
   where
-    by_reply : (accepted : Bool) → accepted_commands records ++ map command_of (cond accepted (one ∷ []) []) ≡ cond accepted (accepted_commands records ++ one.command ∷ []) (accepted_commands records)
+    by_reply : (accepted : Bool) →
+        accepted_commands records ++ map command_of (cond accepted (one ∷ []) []) ≡ cond accepted (accepted_commands records ++ one.command ∷ []) (accepted_commands records)
     by_reply true = refl
     by_reply false = append-nil (accepted_commands records)
 
 -- with the next record the accepted commands are those after its command
 pub accepted_with_next : (settings : Settings) (records : List Record) (one : Record) →
-    one.reply ≡ answer_to settings (accepted_commands records) one.command → accepted_commands (records ++ one ∷ []) ≡ commands_after settings (accepted_commands records) one.command
+    one.reply ≡ answer_to settings (accepted_commands records) one.command →
+    accepted_commands (records ++ one ∷ []) ≡ commands_after settings (accepted_commands records) one.command
 accepted_with_next settings records one reply =
     accepted_with_one records one
     ∙ ap (λ (answer : Result Reply Refusal). cond (is_ok answer) (accepted_commands records ++ one.command ∷ []) (accepted_commands records)) reply
@@ -84,7 +89,8 @@ same_record {place} {place'} caller {command} {command'} {reply} {reply'} places
     ∙ ap (λ third. let one : Record = record { place = place'; caller = caller; command = command'; reply = third } in one) replies
 
 -- a history with the same records and the same number of reserved calls is the same
-pub same_history : (settings : Settings) (limit : ℕ) {records records' : List Record} {reserved reserved' : ℕ} → records ≡ records' → reserved ≡ reserved' →
+pub same_history : (settings : Settings) (limit : ℕ) {records records' : List Record} {reserved reserved' : ℕ} →
+    records ≡ records' → reserved ≡ reserved' →
     (let one : History = record { settings = settings; limit = limit; records = records; reserved = reserved } in
     let other : History = record { settings = settings; limit = limit; records = records'; reserved = reserved' } in
     one ≡ other)
@@ -93,7 +99,8 @@ same_history settings limit {records} {records'} {reserved} {reserved'} all ahea
     ∙ ap (λ second. let one : History = record { settings = settings; limit = limit; records = records'; reserved = second } in one) ahead
 
 -- the record at an index of a list: it is found there, and comes last among those up to it
-pub found_at : (records : List Record) (index : ℕ) (one : Record) → index < length records → one ≡ slice_index_or records index one →
+pub found_at : (records : List Record) (index : ℕ) (one : Record) → index < length records →
+    one ≡ slice_index_or records index one →
     (slice_get records index ≡ Some one) × (take (suc index) records ≡ take index records ++ one ∷ [])
 found_at [] index one within is = absurd (omega arith)
 found_at (first ∷ records) zero one within is = (ap Some (sym is), ap (λ other. other ∷ []) (sym is))
@@ -102,12 +109,14 @@ found_at (first ∷ records) (suc index) one within is =
     (rest.0, ap (λ more. first ∷ more) rest.1)
 
 -- what stands behind a beginning
-pub found_behind : (before : List Record) (one : Record) (more : List Record) → slice_get (before ++ one ∷ more) (length before) ≡ Some one
+pub found_behind : (before : List Record) (one : Record) (more : List Record) →
+    slice_get (before ++ one ∷ more) (length before) ≡ Some one
 found_behind [] one more = refl
 found_behind (first ∷ before) one more = found_behind before one more
 
 -- what stands at an index of a beginning stands there in the whole, behind the same records
-in_beginning : (records : List Record) (count index : ℕ) (one : Record) → slice_get (take count records) index ≡ Some one →
+in_beginning : (records : List Record) (count index : ℕ) (one : Record) →
+    slice_get (take count records) index ≡ Some one →
     (slice_get records index ≡ Some one) × (take index (take count records) ≡ take index records)
 in_beginning [] zero index one is = absurd (cc)
 in_beginning [] (suc count) index one is = absurd (cc)
@@ -118,7 +127,8 @@ in_beginning (first ∷ records) (suc count) (suc index) one is =
     (rest.0, ap (λ more. first ∷ more) rest.1)
 
 -- a beginning of a legal history is legal
-pub legal_beginning : (settings : Settings) (records : List Record) (count : ℕ) → IsLegal settings records → IsLegal settings (take count records)
+pub legal_beginning : (settings : Settings) (records : List Record) (count : ℕ) → IsLegal settings records →
+    IsLegal settings (take count records)
 legal_beginning settings records count legal index one is =
     let there = in_beginning records count index one is in
     let at = legal index one there.0 in

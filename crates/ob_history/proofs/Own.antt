@@ -1,5 +1,6 @@
 -- A caller's own receipts are at most its records, and where they are as many, they are these.
-use Rattle.std.proofs.Common.{◌≡◌, ℕ, zero, suc, ◌+◌, ◌<◌, ◌≤◌, Bool, true, false, not, eqb, List, [], ◌∷◌, ◌++◌, ◌⊎◌, inl, inr, length, map, cond, refl, sym, ap, ◌∙◌, subst, append_assoc, append-nil, arith}
+use Rattle.std.proofs.Common.{◌≡◌, ℕ, zero, suc, ◌+◌, ◌<◌, ◌≤◌, Bool, true, false, not, eqb, List, [], ◌∷◌, ◌++◌, ◌⊎◌}
+use Rattle.std.proofs.Common.{inl, inr, length, map, cond, refl, sym, ap, ◌∙◌, subst, append_assoc, append-nil, arith}
 use Rattle.std.specs.Prelude.{◌≢◌, Some, slice_get, filter, sum_by}
 use Rattle.std.specs.List.{All, AllPairs}
 use Rattle.std.proofs.lemmas.Bool.{eq-eqb, ne_eqb}
@@ -15,7 +16,8 @@ use Rattle.ob_history.specs.declared.record.Record.{Record}
 use Rattle.ob_history.proofs.Histories.{found_behind}
 
 -- nothing stands past a list's end
-none_past : (records : List Record) (place : ℕ) (one : Record) → length records ≤ place → slice_get records place ≡ Some one → ⊥
+none_past : (records : List Record) (place : ℕ) (one : Record) → length records ≤ place →
+    slice_get records place ≡ Some one → ⊥
 none_past [] place one past is = absurd (cc)
 none_past (first ∷ records) zero one past is = absurd (omega (arith, past))
 none_past (first ∷ records) (suc place) one past is = none_past records place one (omega (arith, past)) is
@@ -31,7 +33,8 @@ module _ (caller : ℕ) where
   OwnFrom records from [] = Unit {0}
   OwnFrom records from (receipt ∷ receipts) = IsNext records from receipt × OwnFrom records (suc receipt.place) receipts
 
-  own_from : (records : List Record) (from : ℕ) (receipts : List Receipt) → AreOwn caller records receipts → All (λ receipt. from ≤ receipt.place) receipts → OwnFrom records from receipts
+  own_from : (records : List Record) (from : ℕ) (receipts : List Receipt) → AreOwn caller records receipts →
+      All (λ receipt. from ≤ receipt.place) receipts → OwnFrom records from receipts
   own_from records from [] own above = tt
   own_from records from (receipt ∷ receipts) own above =
       let here : 0 < length (receipt ∷ receipts) = omega arith in
@@ -54,7 +57,8 @@ module _ (caller : ℕ) where
   none_within (one ∷ records) = record { fits = omega arith; all = λ same. absurd (omega (arith, same)) }
 
   -- one more record, of whichever caller, that is not among the receipts
-  passed : (named : Bool) (one : Record) (records : List Record) (receipts : List Receipt) → AreWithin records receipts → AreWithin (cond named (one ∷ records) records) receipts
+  passed : (named : Bool) (one : Record) (records : List Record) (receipts : List Receipt) →
+      AreWithin records receipts → AreWithin (cond named (one ∷ records) records) receipts
   passed true one records receipts within = record {
     fits = omega (arith, within.fits);
     all = λ same. absurd (omega (arith, same, within.fits));
@@ -62,7 +66,8 @@ module _ (caller : ℕ) where
   passed false one records receipts within = within
 
   -- one more record of the caller, of which the first receipt is
-  taken : (named : Bool) (one : Record) (records : List Record) (receipt : Receipt) (receipts : List Receipt) → named ≡ true → record_of receipt ≡ one →
+  taken : (named : Bool) (one : Record) (records : List Record) (receipt : Receipt) (receipts : List Receipt) →
+      named ≡ true → record_of receipt ≡ one →
       AreWithin records receipts → AreWithin (cond named (one ∷ records) records) (receipt ∷ receipts)
   taken true one records receipt receipts named same within = record {
     fits = omega (arith, within.fits);
@@ -76,7 +81,8 @@ module _ (caller : ℕ) where
   at_or_above (suc low) zero above = absurd (omega (arith, above))
   at_or_above (suc low) (suc place) above = elim (at_or_above low place (omega (arith, above))) [ inl same ↦ inl (ap suc same) | inr more ↦ inr (omega (arith, more)) ]
 
-  own_within : (before more : List Record) (receipts : List Receipt) → OwnFrom (before ++ more) (length before) receipts → AreWithin (records_of caller more) receipts
+  own_within : (before more : List Record) (receipts : List Receipt) →
+      OwnFrom (before ++ more) (length before) receipts → AreWithin (records_of caller more) receipts
   own_within before more [] own = none_within (records_of caller more)
   own_within before [] (receipt ∷ receipts) own =
       absurd (none_past (before ++ []) receipt.place (record_of receipt) (omega (arith, own.0.above, ap length (append-nil before))) own.0.kept)
@@ -102,7 +108,8 @@ module _ (caller : ℕ) where
       ]
 
   -- a caller's own receipts
-  own_are_within : (records : List Record) (receipts : List Receipt) → AreOwn caller records receipts → AreWithin (records_of caller records) receipts
+  own_are_within : (records : List Record) (receipts : List Receipt) → AreOwn caller records receipts →
+      AreWithin (records_of caller records) receipts
   own_are_within records receipts own = own_within [] records receipts (own_from records 0 receipts own (λ k d within. omega arith))
 
 -- whether a record is not of a caller
@@ -110,7 +117,8 @@ abbrev is_of_another : ℕ → Record → Bool
 is_of_another caller one = not (eqb one.caller caller)
 
 -- the records of a caller stay where those of another are left out
-left_for_another : (caller other : ℕ) → caller ≢ other → (records : List Record) → records_of other records ≡ records_of other (filter (is_of_another caller) records)
+left_for_another : (caller other : ℕ) → caller ≢ other → (records : List Record) →
+    records_of other records ≡ records_of other (filter (is_of_another caller) records)
 left_for_another caller other apart [] = refl
 left_for_another caller other apart (one ∷ records) =
     let rest = left_for_another caller other apart records in
@@ -133,7 +141,8 @@ records_held records holdings = sum_by (its_records records) holdings
 abbrev its_receipts : Holding → ℕ
 its_receipts one = length one.receipts
 
-left_for_others : (caller : ℕ) (records : List Record) (holdings : List Holding) → All (λ one. caller ≢ one.caller) holdings →
+left_for_others : (caller : ℕ) (records : List Record) (holdings : List Holding) →
+    All (λ one. caller ≢ one.caller) holdings →
     records_held records holdings ≡ records_held (filter (is_of_another caller) records) holdings
 left_for_others caller records [] apart = refl
 left_for_others caller records (one ∷ holdings) apart =
@@ -146,7 +155,8 @@ left_for_others caller records (one ∷ holdings) apart =
     ∙ sym (sum_by-cons (its_records left) one holdings)
 
 -- distinct callers have together at most all records
-held_at_most : (records : List Record) (holdings : List Holding) → AllPairs (λ one other. one.caller ≢ other.caller) holdings → records_held records holdings ≤ length records
+held_at_most : (records : List Record) (holdings : List Holding) →
+    AllPairs (λ one other. one.caller ≢ other.caller) holdings → records_held records holdings ≤ length records
 held_at_most records [] distinct = omega arith
 held_at_most records (one ∷ holdings) distinct =
     let left = filter (is_of_another one.caller) records in
@@ -164,7 +174,8 @@ record AreAmong (records : List Record) (holdings : List Holding) : Type 0 where
   fits : sum_by its_receipts holdings ≤ records_held records holdings
   all : sum_by its_receipts holdings ≡ records_held records holdings → All (HoldsIts records) holdings
 
-own_are_among : (records : List Record) (holdings : List Holding) → All (λ one. AreOwn one.caller records one.receipts) holdings → AreAmong records holdings
+own_are_among : (records : List Record) (holdings : List Holding) →
+    All (λ one. AreOwn one.caller records one.receipts) holdings → AreAmong records holdings
 own_are_among records [] own = record { fits = omega arith; all = λ same. All-nil (HoldsIts records) }
 own_are_among records (one ∷ holdings) own =
     let first = own_are_within one.caller records one.receipts (All-head (λ (one : Holding). AreOwn one.caller records one.receipts) one holdings own) in
@@ -179,7 +190,8 @@ own_are_among records (one ∷ holdings) own =
     }
 
 -- distinct callers that hold together as many receipts of their own as there are records hold all of theirs
-pub all_are_held : (records : List Record) (holdings : List Holding) → HoldAll records holdings → All (HoldsIts records) holdings
+pub all_are_held : (records : List Record) (holdings : List Holding) → HoldAll records holdings →
+    All (HoldsIts records) holdings
 all_are_held records holdings held =
     let among = own_are_among records holdings held.own in
     among.all (omega (arith, held.as_many, among.fits, held_at_most records holdings held.distinct))

@@ -23,5 +23,6 @@ settled_behind settings before (one ∷ more) legal =
     (rest ∙ ap (λ commands. settled_along settings commands (map command_of more)) (accepted_with_next settings before one reply))
 
 -- the settlements of a legal history are those along all its commands
-pub settlements_of_legal : (settings : Settings) (records : List Record) → IsLegal settings records → settlements_in records ≡ settled_along settings [] (map command_of records)
+pub settlements_of_legal : (settings : Settings) (records : List Record) → IsLegal settings records →
+    settlements_in records ≡ settled_along settings [] (map command_of records)
 settlements_of_legal settings records legal = settled_behind settings [] records legal

@@ -1,5 +1,6 @@
 -- One more call of a stored history.
-use Rattle.std.specs.Prelude.{ℕ, ◌-◌, ◌<◌, ◌≤◌, ◌≡◌, ◌==◌, Bool, false, [], ◌∷◌, ◌++◌, length, if◌then◌else◌, Result, Ok, Err}
+use Rattle.std.specs.Prelude.{ℕ, ◌-◌, ◌<◌, ◌≤◌, ◌≡◌, ◌==◌, Bool, false, [], ◌∷◌, ◌++◌, length, if◌then◌else◌, Result}
+use Rattle.std.specs.Prelude.{Ok, Err}
 use Rattle.ob_types.specs.Write.{is_write}
 use Rattle.ob_types.specs.declared.command.Command.{Command}
 use Rattle.ob_types.specs.declared.refusal.Refusal.{Refusal}
@@ -31,11 +32,13 @@ with_record history one = record history { records = history.records ++ one ∷ 
 
 -- the answer to one more call: the refusal of a full history, and else the receipt of its record
 abbrev pub call_answer : History → ℕ → Command → Result Receipt Refusal
-call_answer history caller command = if is_full history then Err HistoryFull else Ok (receipt_of (next_record history caller command))
+call_answer history caller command =
+    if is_full history then Err HistoryFull else Ok (receipt_of (next_record history caller command))
 
 -- the history after one more call: a full one stays, and any other has its record
 abbrev pub history_after : History → ℕ → Command → History
-history_after history caller command = if is_full history then history else with_record history (next_record history caller command)
+history_after history caller command =
+    if is_full history then history else with_record history (next_record history caller command)
 
 -- a call is covered where one is reserved, and its command is no write and settles at most four promises
 pub record IsCovered (history : History) (command : Command) : Type 0 where

@@ -14,7 +14,7 @@ use Rattle.ob_seq.specs.Settings.{Settings}
 use Rattle.ob_history.specs.Accepted.{accepted_commands}
 use Rattle.ob_history.specs.Call.{call_answer, history_after}
 use Rattle.ob_history.specs.First.{IsFirstBreak}
-use Rattle.ob_history.specs.Glance.{Glance, glance_after}
+use Rattle.ob_history.specs.Glance.{glance_after}
 use Rattle.ob_history.specs.History.{History}
 use Rattle.ob_history.specs.Legal.{IsLegal}
 use Rattle.ob_history.specs.Own.{AreOwn, records_of}
@@ -79,7 +79,8 @@ stored count = record { settings = settings; limit = 4; records = take count wor
 abbrev pub LastPlace : Type 0
 LastPlace =
     (call_answer (stored 3) 7 Remove ≡ Ok (receipt_of removal))
-    × (history_after (stored 3) 7 Remove ≡ record { settings = settings; limit = 4; records = worked_records; reserved = 0 })
+    × (history_after (stored 3) 7 Remove
+    ≡ record { settings = settings; limit = 4; records = worked_records; reserved = 0 })
 
 -- a fifth is refused, whatever it asks, and changes nothing
 abbrev pub FullHistory : Type 0
@@ -90,7 +91,14 @@ abbrev pub SeenBeforeTheRemoval : Type 0
 SeenBeforeTheRemoval =
     seen_now (stored 3) ≡ record {
       place = 3;
-      look = record { total = 100; word = 0; size = 1; before_unwritable = 65437; before_writable = 0; current_progress = 0 };
+      look = record {
+        total = 100;
+        word = 0;
+        size = 1;
+        before_unwritable = 65437;
+        before_writable = 0;
+        current_progress = 0;
+      };
     }
 
 -- a glance shows the same total before it, and nothing after
@@ -125,4 +133,5 @@ ExchangedReceipts =
 abbrev pub ForeignReceipts : Type 0
 ForeignReceipts =
     (¬ AreOwn 7 worked_records (receipt_of refused_cancel ∷ []))
-    × IsFirstBreak (AreOwn 7 worked_records) (receipt_of (write_at 0) ∷ receipt_of (flush_of 2) ∷ receipt_of removal ∷ []) 1
+    × IsFirstBreak (AreOwn 7 worked_records)
+    (receipt_of (write_at 0) ∷ receipt_of (flush_of 2) ∷ receipt_of removal ∷ []) 1

@@ -17,7 +17,7 @@ impl Recorded {
     /// its place, or names another caller, or whose place is not above the one before it. Nothing where all are the
     /// caller's own. It changes nothing and takes no memory.
     pub fn first_foreign_receipt(&self, caller: u32, receipts: &[Receipt]) -> Option<usize>
-        ensures own { IsNone result → AreOwn caller self.now.records receipts.now }
+        ensures own { IsNone result ↔ AreOwn caller self.now.records receipts.now }
         ensures foreign { IfSome result (IsFirstBreak (AreOwn caller self.now.records) receipts.now) }
     {
         for (index, receipt) in receipts.iter().enumerate() {
@@ -31,7 +31,7 @@ impl Recorded {
     /// The index of the first receipt that is not the record at its place, whoever made the call; nothing where each
     /// is. It changes nothing and takes no memory.
     pub fn first_foreign_told(&self, told: &[Receipt]) -> Option<usize>
-        ensures kept { IsNone result → All (IsReceiptIn self.now.records) told.now }
+        ensures kept { IsNone result ↔ All (IsReceiptIn self.now.records) told.now }
         ensures foreign { IfSome result (IsFirstBreak (All (IsReceiptIn self.now.records)) told.now) }
     {
         for (index, receipt) in told.iter().enumerate() {
@@ -47,7 +47,7 @@ impl Recorded {
     /// or a block has more owners than can be counted, and not where each look names more records than there are.
     pub fn first_foreign_seen(&self, seen: &[Seen]) -> Result<Option<usize>, Refusal>
         ensures seen { IfOk result (λ found.
-            IsNone found → All (IsSeenIn self.now.settings self.now.records) seen.now) }
+            IsNone found ↔ All (IsSeenIn self.now.settings self.now.records) seen.now) }
         ensures foreign { IfOk result (λ found.
             IfSome found (IsFirstBreak (All (IsSeenIn self.now.settings self.now.records)) seen.now)) }
         ensures no_memory { IsOkUnless result Refusal.NoMemory }

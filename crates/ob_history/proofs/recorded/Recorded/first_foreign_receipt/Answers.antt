@@ -1,6 +1,6 @@
 use Rattle.std.proofs.Common.{refl, arith}
 use Rattle.ob_history.specs.Own.{AreOwn}
-use Rattle.ob_history.proofs.First.{own_more, own_no_more, up_to_end}
+use Rattle.ob_history.proofs.First.{never_foreign, own_more, own_no_more, up_to_end}
 use Rattle.ob_history.proofs.recorded.Recorded.first_foreign_receipt.Goals as goal
 use Rattle.ob_history.proofs.recorded.Recorded.first_foreign_receipt.Goals.{then-receipt-caller-via-then-receipt-caller, then-receipt-caller-via-else-receipt-caller+then-not-check, then-receipt-caller-via-else-receipt-caller+else-not-check+then-not-rises}
 
@@ -11,8 +11,7 @@ loop-index-preserved c =
     c.if-receipt-caller.false (c.if-not-check.ensures.0 refl) (c.if-not-rises.ensures.0 refl)
 
 pub returns-clause-own : goal.returns-clause-own
-returns-clause-own c none =
-    up_to_end (AreOwn c.args.caller c.args.self.now.records) c.args.receipts.now c.loop-index.index (omega arith) c.loop-index.invariant
+returns-clause-own c = (λ none. up_to_end (AreOwn c.args.caller c.args.self.now.records) c.args.receipts.now c.loop-index.index (omega arith) c.loop-index.invariant, λ own. refl)
 
 pub returns-then-receipt-caller-clause-foreign : goal.returns-then-receipt-caller-clause-foreign
 returns-then-receipt-caller-clause-foreign c =
@@ -23,3 +22,9 @@ returns-then-receipt-caller-clause-foreign c =
       | then-receipt-caller-via-else-receipt-caller+then-not-check w ↦ absurd (cc (w.check.ensures.1 kept))
       | then-receipt-caller-via-else-receipt-caller+else-not-check+then-not-rises w ↦ absurd (cc (w.rises.ensures.1 rises))
     ])
+
+pub returns-then-receipt-caller-clause-own : goal.returns-then-receipt-caller-clause-own
+returns-then-receipt-caller-clause-own c = (
+  λ none. absurd (cc),
+  λ own. absurd (never_foreign c.args.caller c.args.self.now.records c.args.receipts.now c.loop-index.index (returns-then-receipt-caller-clause-foreign c) own),
+)

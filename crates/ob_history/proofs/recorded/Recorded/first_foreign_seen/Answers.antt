@@ -1,9 +1,9 @@
 use Rattle.std.specs.List.{All}
 use Rattle.std.specs.Prelude.{IsTrue}
-use Rattle.std.proofs.Common.{arith}
+use Rattle.std.proofs.Common.{refl, arith}
 use Rattle.std.proofs.lemmas.List.Elements.{All-more}
 use Rattle.ob_history.specs.Seen.{IsSeenIn}
-use Rattle.ob_history.proofs.First.{first_against, up_to_end}
+use Rattle.ob_history.proofs.First.{first_against, never_against, up_to_end}
 use Rattle.ob_history.proofs.recorded.Recorded.first_foreign_seen.Goals as goal
 
 pub loop-index-preserved : goal.loop-index-preserved
@@ -12,8 +12,7 @@ loop-index-preserved c =
     c.loop-index-test.true c.loop-index.invariant (c.in_ok-check_seen.ensures.answer.0 c.if-not-branch.false)
 
 pub returns-clause-seen : goal.returns-clause-seen
-returns-clause-seen c none =
-    up_to_end (All (IsSeenIn c.args.self.now.settings c.args.self.now.records)) c.args.seen.now c.loop-index.index (omega arith) c.loop-index.invariant
+returns-clause-seen c = (λ none. up_to_end (All (IsSeenIn c.args.self.now.settings c.args.self.now.records)) c.args.seen.now c.loop-index.index (omega arith) c.loop-index.invariant, λ all. refl)
 
 pub returns-then-not-branch-clause-foreign : goal.returns-then-not-branch-clause-foreign
 returns-then-not-branch-clause-foreign c =
@@ -21,3 +20,9 @@ returns-then-not-branch-clause-foreign c =
     let told = c.in_ok-check_seen.ensures.answer.1 in
     first_against IsSeen c.args.seen.now c.loop-index.index _ c.loop-index-test.true c.loop-index.invariant
     (λ seen. let is : IsTrue c.in_ok-check_seen.field-0 = told seen in absurd (cc))
+
+pub returns-then-not-branch-clause-seen : goal.returns-then-not-branch-clause-seen
+returns-then-not-branch-clause-seen c = (
+  λ none. absurd (cc),
+  λ all. absurd (never_against (IsSeenIn c.args.self.now.settings c.args.self.now.records) c.args.seen.now c.loop-index.index (returns-then-not-branch-clause-foreign c) all),
+)
