@@ -1,5 +1,6 @@
 -- What stands in a history and what is foreign to it, of all that callers hand in.
-use Rattle.std.proofs.Common.{◌≡◌, ◌≢◌, ℕ, ◌+◌, ◌≤◌, ◌==◌, Bool, true, false, List, [], ◌∷◌, length, map, take, refl, sym, ap, ◌∙◌, subst, arith, length-take}
+use Rattle.std.proofs.Common.{◌≡◌, ◌≢◌, ℕ, ◌+◌, ◌≤◌, ◌==◌, Bool, true, false, List, [], ◌∷◌, length, map, take, refl}
+use Rattle.std.proofs.Common.{sym, ap, ◌∙◌, subst, arith, length-take}
 use Rattle.std.specs.Prelude.{Option, Some, None, not, option_map, sum_by}
 use Rattle.std.specs.List.{All, AllPairs}
 use Rattle.std.proofs.lemmas.Bool.{eqb-true}
@@ -21,7 +22,8 @@ use Rattle.ob_shared.proofs.HandedIn.{each_handed_in_once}
 
 module _ (settings : Settings) (records : List Record) where
   -- a beginning of a caller's own receipts is its own
-  own_beginning : (caller count : ℕ) (receipts : List Receipt) → AreOwn caller records receipts → AreOwn caller records (take count receipts)
+  own_beginning : (caller count : ℕ) (receipts : List Receipt) → AreOwn caller records receipts →
+      AreOwn caller records (take count receipts)
   own_beginning caller count receipts own = record {
     kept = All-take (IsReceiptIn records) count receipts own.kept;
     named = All-take (λ (receipt : Receipt). receipt.caller ≡ caller) count receipts own.named;
@@ -29,29 +31,43 @@ module _ (settings : Settings) (records : List Record) where
         let short = length-take count receipts in
         let one = get_or-take count receipts i d (omega (arith, below, within, short)) in
         let other = get_or-take count receipts j d (omega (arith, within, short)) in
-        omega (arith, ap (λ (receipt : Receipt). receipt.place) one, ap (λ (receipt : Receipt). receipt.place) other, own.rising i j d below (omega (arith, within, short)));
+        omega (
+          arith,
+          ap (λ (receipt : Receipt). receipt.place) one,
+          ap (λ (receipt : Receipt). receipt.place) other,
+          own.rising i j d below (omega (arith, within, short)),
+        );
   }
 
   -- where a list has an item that breaks it, what was handed in does not stand
-  pub foreign_receipt : (one : Handed) (index : ℕ) → IsFirstBreak (AreOwn one.maker.caller records) one.receipts index → ¬ StandsIn settings records one
-  foreign_receipt one index break = λ stands. break.broken (own_beginning one.maker.caller (index + 1) one.receipts stands.own)
+  pub foreign_receipt : (one : Handed) (index : ℕ) →
+      IsFirstBreak (AreOwn one.maker.caller records) one.receipts index → ¬ StandsIn settings records one
+  foreign_receipt one index break = λ stands. break.broken
+      (own_beginning one.maker.caller (index + 1) one.receipts stands.own)
 
-  pub foreign_told : (one : Handed) (index : ℕ) → IsFirstBreak (All (IsReceiptIn records)) one.told index → ¬ StandsIn settings records one
-  foreign_told one index break = λ stands. break.broken (All-take (IsReceiptIn records) (index + 1) one.told stands.told)
+  pub foreign_told : (one : Handed) (index : ℕ) → IsFirstBreak (All (IsReceiptIn records)) one.told index →
+      ¬ StandsIn settings records one
+  foreign_told one index break = λ stands. break.broken
+      (All-take (IsReceiptIn records) (index + 1) one.told stands.told)
 
-  pub foreign_seen : (one : Handed) (index : ℕ) → IsFirstBreak (All (IsSeenIn settings records)) one.seen index → ¬ StandsIn settings records one
-  foreign_seen one index break = λ stands. break.broken (All-take (IsSeenIn settings records) (index + 1) one.seen stands.seen)
+  pub foreign_seen : (one : Handed) (index : ℕ) → IsFirstBreak (All (IsSeenIn settings records)) one.seen index →
+      ¬ StandsIn settings records one
+  foreign_seen one index break = λ stands. break.broken
+      (All-take (IsSeenIn settings records) (index + 1) one.seen stands.seen)
 
   abbrev holding_of : Handed → Holding
   holding_of one = record { caller = one.maker.caller; receipts = one.receipts }
 
-  distinct_holdings : (handed : List Handed) → AllPairs (λ one other. one.maker.caller ≢ other.maker.caller) handed → AllPairs (λ (one other : Holding). one.caller ≢ other.caller) (map holding_of handed)
+  distinct_holdings : (handed : List Handed) → AllPairs (λ one other. one.maker.caller ≢ other.maker.caller) handed →
+      AllPairs (λ (one other : Holding). one.caller ≢ other.caller) (map holding_of handed)
   distinct_holdings [] apart = λ i j d below within. absurd (omega (arith, within))
   distinct_holdings (first ∷ handed) apart = λ i j d below within same.
       let long = length-map (first ∷ handed) holding_of in
       let one = get_or-map holding_of (first ∷ handed) i first d (omega (arith, below, within, long)) in
       let other = get_or-map holding_of (first ∷ handed) j first d (omega (arith, within, long)) in
-      apart i j first below (omega (arith, within, long)) (sym (ap (λ (holding : Holding). holding.caller) one) ∙ same ∙ ap (λ (holding : Holding). holding.caller) other)
+      apart i j first below (omega (arith, within, long))
+      (sym (ap (λ (holding : Holding). holding.caller) one) ∙ same
+      ∙ ap (λ (holding : Holding). holding.caller) other)
 
   nothing_mapped : {X Y : Type 0} (f : X → Y) (found : Option X) → option_map f found ≡ None → found ≡ None
   nothing_mapped f None is = refl
@@ -70,16 +86,26 @@ module _ (settings : Settings) (records : List Record) where
   as_many_receipts (one ∷ handed) full =
       let first = not_short _ _ (All-head (λ (one : Handed). is_short one ≡ false) one handed full) in
       let rest = as_many_receipts handed (All-tail (λ (one : Handed). is_short one ≡ false) one handed full) in
-      omega (arith, first, rest, sum_by-cons (λ (holding : Holding). length holding.receipts) (holding_of one) (map holding_of handed), sum_by-cons (λ (one : Handed). one.maker.made) one handed)
+      omega (
+        arith,
+        first,
+        rest,
+        sum_by-cons (λ (holding : Holding). length holding.receipts) (holding_of one)
+            (map holding_of handed),
+        sum_by-cons (λ (one : Handed). one.maker.made) one handed,
+      )
 
-  -- where each caller hands in once, as many receipts as it made records, and all of it stands, these are all its records
-  pub all_is_handed_in : (callers : ℕ) (handed : List Handed) → ¬ LacksShare callers handed → length handed ≤ callers → first_short handed ≡ None →
+  -- where each caller hands in once, as many receipts as it made records, and all stands, these are all its records
+  pub all_is_handed_in : (callers : ℕ) (handed : List Handed) → ¬ LacksShare callers handed →
+      length handed ≤ callers → first_short handed ≡ None →
       made_by handed ≡ length records → All (StandsIn settings records) handed → All (HandsInAll records) handed
   all_is_handed_in callers handed complete few full counted stands =
       let none_short = none_found is_short handed (nothing_mapped (λ (one : Handed). one.maker.caller) _ full) in
       let held = all_are_held records (map holding_of handed) (record {
         distinct = distinct_holdings handed (each_handed_in_once callers handed complete few);
-        own = All-map (λ (holding : Holding). AreOwn holding.caller records holding.receipts) holding_of handed (λ k d within. (stands k d within).own);
+        own = All-map (λ (holding : Holding). AreOwn holding.caller records holding.receipts) holding_of handed
+            (λ k d within. (stands k d within).own);
         as_many = as_many_receipts handed none_short ∙ counted;
       }) in
-      λ k d within. subst (HoldsIts records) (get_or-map holding_of handed k d (holding_of d) within) (held k (holding_of d) (omega (arith, within, length-map handed holding_of)))
+      λ k d within. subst (HoldsIts records) (get_or-map holding_of handed k d (holding_of d) within)
+      (held k (holding_of d) (omega (arith, within, length-map handed holding_of)))

@@ -11,5 +11,6 @@ use Rattle.ob_shared.specs.Told.{IsCopiedFreely, IsToldFreely}
 pub copied_freely : (records : List Record) (id : PromiseId) (place : ℕ) (one : Record) →
     slice_get records place ≡ Some one → settles id one ≡ true → IsToldFreely records id → IsCopiedFreely one
 copied_freely records id place one there settled freely =
-    subst (λ (other : Record). settles id other ≡ true → IsCopiedFreely other) (get_or_from_slice_get records place one one there)
+    subst (λ (other : Record). settles id other ≡ true → IsCopiedFreely other)
+    (get_or_from_slice_get records place one one there)
     (freely place one (slice_get_within records place one there)) settled

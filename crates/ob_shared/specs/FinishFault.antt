@@ -1,7 +1,8 @@
 -- The faults of the end of a shared buffer by their numbers.
 use Rattle.std.specs.Prelude.{ℕ}
 use Rattle.ob_shared.specs.declared.finish_fault.FinishFault.{FinishFault}
-use Rattle.ob_shared.specs.declared.finish_fault.FinishFault.TheVariants.{SharesMissing, ForeignReceipt, NoMemory, ReceiptsMissing}
+use Rattle.ob_shared.specs.declared.finish_fault.FinishFault.TheVariants.{SharesMissing, ForeignReceipt, NoMemory}
+use Rattle.ob_shared.specs.declared.finish_fault.FinishFault.TheVariants.{ReceiptsMissing}
 
 -- the number of a fault
 abbrev pub number_of : FinishFault → ℕ

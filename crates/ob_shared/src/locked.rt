@@ -1,4 +1,5 @@
-ghost use Rattle.std.specs.Prelude.{◌≡◌, ℕ, None, ◌+◌, ◌<◌, ◌≤◌, ◌↔◌, false, length, Some, IfSome, IsNone, IfOk, IsErrOf, IsOk, IsOkUnless, OnOk, OnErr};
+ghost use Rattle.std.specs.Prelude.{◌≡◌, ℕ, None, ◌+◌, ◌<◌, ◌≤◌, ◌↔◌, false, length, Some, IfSome, IsNone, IfOk};
+ghost use Rattle.std.specs.Prelude.{IsErrOf, IsOk, IsOkUnless, OnOk, OnErr};
 ghost use Rattle.std.specs.List.{All, Contains};
 ghost use Rattle.ob_types.specs.declared.promise.Outcome.{Outcome};
 ghost use Rattle.ob_types.specs.declared.promise.PromiseState.TheVariants.{Settled};

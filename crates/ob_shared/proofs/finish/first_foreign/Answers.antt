@@ -9,10 +9,12 @@ pub loop-done-preserved : goal.loop-done-preserved
 loop-done-preserved g c =
     let stored = c.args.recorded.now in
     let stands = (rw c.in_default.is at c.in_ok-place.ensures.stands) refl in
-    All-more (StandsIn stored.settings stored.records) c.args.dones.now c.loop-done.done-index c.done-item.result (omega arith) c.loop-done.invariant
+    All-more (StandsIn stored.settings stored.records) c.args.dones.now c.loop-done.done-index c.done-item.result
+    (omega arith) c.loop-done.invariant
     (subst (StandsIn stored.settings stored.records) c.done-item.is stands)
 
 pub returns-clause-stands : goal.returns-clause-stands
 returns-clause-stands g c = λ none.
     let stored = c.args.recorded.now in
-    up_to_end (All (StandsIn stored.settings stored.records)) c.args.dones.now c.loop-done.done-index (omega arith) c.loop-done.invariant
+    up_to_end (All (StandsIn stored.settings stored.records)) c.args.dones.now c.loop-done.done-index
+    (omega arith) c.loop-done.invariant

@@ -1,9 +1,4 @@
-use Rattle.std.proofs.Common.{◌≡◌, refl, ap, arith}
-use Rattle.std.specs.Prelude.{ℕ, Result, Ok, Err}
-use Rattle.ob_types.specs.declared.refusal.Refusal.{Refusal}
-use Rattle.ob_types.specs.declared.reply.Reply.{Reply}
-use Rattle.ob_types.specs.declared.reply.Answer.{Answer}
-use Rattle.ob_types.specs.declared.reply.Answer.TheVariants.{Id, Count, Yes, Done}
+use Rattle.std.proofs.Common.{refl, arith}
 use Rattle.ob_seq.specs.Word.{user_bits}
 use Rattle.ob_history.specs.Worked.{write_at, flush_of}
 use Rattle.ob_history.proofs.Counts.{counts_differ}

@@ -23,6 +23,7 @@ returns-clause-own g c =
     let few : length dones ≤ callers.count =
     omega (arith, callers.parts, c.merged-all.ensures.parts, c.merged-all.ensures.within, c.self.invariant) in
     let stands : All (StandsIn stored.settings stored.records) dones =
-    subst (λ (history : History). All (StandsIn history.settings history.records) dones) (sym c.self.view_is) c.requires.stands in
+    subst (λ (history : History). All (StandsIn history.settings history.records) dones)
+    (sym c.self.view_is) c.requires.stands in
     all_is_handed_in stored.settings stored.records callers.count dones c.requires.all few c.requires.as_many
     (sym (returns-clause-counted g c)) stands

@@ -9,5 +9,6 @@ returns-clause-settled g c = λ outcome.
     let state : c.promise.result ≡ promise_after stored.settings (accepted_commands stored.records) c.args.id =
     c.promise.ensures (accepted_commands stored.records) c.buffer.ensures.stands
     ∙ ap (λ settings. promise_after settings (accepted_commands stored.records) c.args.id) c.buffer.ensures.settings in
-    let told = c.a_history_tells_each_settled_promise.ensures.told stored.settings stored.records c.args.id outcome c.buffer.ensures.legal in
+    let law = c.a_history_tells_each_settled_promise.ensures.told in
+    let told = law stored.settings stored.records c.args.id outcome c.buffer.ensures.legal in
     rw (← c.self.view_is) (λ is. told.0 (sym state ∙ is), λ there. state ∙ told.1 there)

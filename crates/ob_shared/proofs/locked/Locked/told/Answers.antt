@@ -7,18 +7,31 @@ use Rattle.ob_shared.proofs.locked.Locked.told.Goals as goal
 
 pub returns-in-Some-Waiting-clause-waits : goal.returns-in-Some-Waiting-clause-waits
 returns-in-Some-Waiting-clause-waits g c =
-    let state = c.in-Some-Waiting in
-    (λ _. (λ unknown. absurd (cc (state.ensures.unknown.1 unknown)), λ outcome there. absurd (cc ((state.ensures.settled outcome).1 there))), λ _. refl)
+    let state = c.in-Some-Waiting in (
+      λ _. (
+        λ unknown. absurd (cc (state.ensures.unknown.1 unknown)),
+        λ outcome there. absurd (cc ((state.ensures.settled outcome).1 there)),
+      ),
+      λ _. refl,
+    )
 
 pub returns-in-Some-Fixed-clause-waits : goal.returns-in-Some-Fixed-clause-waits
 returns-in-Some-Fixed-clause-waits g c =
-    let state = c.in-Some-Fixed in
-    (λ _. (λ unknown. absurd (cc (state.ensures.unknown.1 unknown)), λ outcome there. absurd (cc ((state.ensures.settled outcome).1 there))), λ _. refl)
+    let state = c.in-Some-Fixed in (
+      λ _. (
+        λ unknown. absurd (cc (state.ensures.unknown.1 unknown)),
+        λ outcome there. absurd (cc ((state.ensures.settled outcome).1 there)),
+      ),
+      λ _. refl,
+    )
 
 pub returns-in_ok-settling-in-Some-Settled-clause-waits : goal.returns-in_ok-settling-in-Some-Settled-clause-waits
 returns-in_ok-settling-in-Some-Settled-clause-waits g c =
-    let state = c.in-Some-Settled in
-    (λ none. absurd (cc none), λ waits. absurd (waits.1 state.field-0-0 ((state.ensures.settled state.field-0-0).0 (ap Some state.field-0-is))))
+    let state = c.in-Some-Settled in (
+      λ none. absurd (cc none),
+      λ waits. absurd
+          (waits.1 state.field-0-0 ((state.ensures.settled state.field-0-0).0 (ap Some state.field-0-is))),
+    )
 
 pub returns-in_ok-settling-in-Some-Settled-clause-frugal : goal.returns-in_ok-settling-in-Some-Settled-clause-frugal
 returns-in_ok-settling-in-Some-Settled-clause-frugal g c = λ freely refused.

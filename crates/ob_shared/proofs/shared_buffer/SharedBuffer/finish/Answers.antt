@@ -13,7 +13,8 @@ returns-in-Some-clause-short g c = rw (← c.args.self.callers.opened, ← c.der
     (λ is. short.0 (ap Some is), λ first. cc (short.1 first)))
 
 pub into_recorded-requires-clause-as_many : goal.into_recorded-requires-clause-as_many
-into_recorded-requires-clause-as_many g c = subst (λ (handed : List Handed). first_short handed ≡ None) c.deref.ensures.value (c.in-None.ensures.as_many refl)
+into_recorded-requires-clause-as_many g c = subst
+    (λ (handed : List Handed). first_short handed ≡ None) c.deref.ensures.value (c.in-None.ensures.as_many refl)
 
 pub into_recorded-requires-clause-stands : goal.into_recorded-requires-clause-stands
 into_recorded-requires-clause-stands g c =
@@ -22,17 +23,20 @@ into_recorded-requires-clause-stands g c =
 
 pub returns-clause-short : goal.returns-clause-short
 returns-clause-short g c = λ complete caller.
-    let none_short = subst (λ (handed : List Handed). first_short handed ≡ None) c.deref.ensures.value (c.in-None.ensures.as_many refl) in
+    let none_short = subst (λ (handed : List Handed). first_short handed ≡ None) c.deref.ensures.value
+    (c.in-None.ensures.as_many refl) in
     (λ never. absurd never, λ first. absurd (cc (none_short, first)))
 
 pub returns-clause-stands : goal.returns-clause-stands
 returns-clause-stands g c =
     let stored = c.into_inner-locked.result in
-    subst (λ (history : History). All (StandsIn history.settings history.records) c.args.dones.items) (sym c.into_recorded.ensures.recorded)
+    subst (λ (history : History). All (StandsIn history.settings history.records) c.args.dones.items)
+    (sym c.into_recorded.ensures.recorded)
     (subst (All (StandsIn stored.settings stored.records)) c.deref.ensures.value (c.in-None.ensures.stands refl))
 
 pub returns-clause-once : goal.returns-clause-once
 returns-clause-once g c = λ id.
     let stored = c.into_inner-locked.result in
-    subst (λ (history : History). times_settled id (settlements_in history.records) ≤ 1) (sym c.into_recorded.ensures.recorded)
+    subst (λ (history : History). times_settled id (settlements_in history.records) ≤ 1)
+    (sym c.into_recorded.ensures.recorded)
     (c.a_history_settles_each_promise_once.ensures.once stored.settings stored.records id c.is_as_opened.ensures.legal)
