@@ -1,7 +1,7 @@
 -- What a history tells of a promise.
 use Rattle.std.specs.Prelude.{◌≡◌, ◌≤◌, true, false, List, length}
 use Rattle.std.specs.List.{All, Contains}
-use Rattle.ob_types.specs.Copy.{carries_shared}
+use Rattle.ob_types.specs.Block.{writes_block}
 use Rattle.ob_types.specs.declared.promise.Outcome.{Outcome}
 use Rattle.ob_types.specs.declared.promise.PromiseId.{PromiseId}
 use Rattle.ob_seq.specs.Settles.{settled_by}
@@ -29,7 +29,7 @@ pub record TellsOf (records : List Record) (id : PromiseId) (receipt : Receipt) 
 
 -- a record is copied without memory where its command shares none, and it settles at most four promises
 pub record IsCopiedFreely (one : Record) : Type 0 where
-  pub command : carries_shared one.command ≡ false
+  pub command : writes_block one.command ≡ false
   pub few : length (settled_by one.reply) ≤ 4
 
 -- what settles a promise in a history is copied without memory
