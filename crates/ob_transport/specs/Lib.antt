@@ -1,0 +1,4 @@
+pub mod Step
+pub mod SentBytes
+pub mod SentUnits
+pub mod Worked
