@@ -3,13 +3,12 @@ use Rattle.std.specs.Prelude.{ℕ, List, [], take, Option, Some, None}
 use Rattle.std.specs.List.{concat, flat_map}
 use Rattle.ob_types.specs.declared.command.Command.{Command}
 use Rattle.ob_types.specs.declared.command.Command.TheVariants.{Write, Flush, Remove, RemoveWith, RemoveBytes, Progress, Cancel, FailFlushed, Close, UserBit}
-use Rattle.ob_types.specs.declared.message.Message.{Message}
 use Rattle.ob_seq.specs.Row.{Row, unread_part}
 use Rattle.ob_seq.specs.Line.{front}
 use Rattle.ob_seq.specs.ByteRun.{block_bytes, byte_run}
 use Rattle.ob_seq.specs.Settings.{Settings}
 use Rattle.ob_history.specs.declared.record.Record.{Record}
-use Rattle.ob_transport.specs.Step.{Step, steps_in}
+use Rattle.ob_transport.specs.Step.{steps_in}
 
 -- the unread bytes with which the line begins, up to the first message that is no block
 abbrev pub unread_bytes : List Row → List ℕ

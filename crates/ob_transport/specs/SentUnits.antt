@@ -8,7 +8,7 @@ use Rattle.ob_seq.specs.Row.{Row, unread_part}
 use Rattle.ob_seq.specs.Line.{front}
 use Rattle.ob_seq.specs.Settings.{Settings}
 use Rattle.ob_history.specs.declared.record.Record.{Record}
-use Rattle.ob_transport.specs.Step.{Step, steps_in}
+use Rattle.ob_transport.specs.Step.{steps_in}
 
 -- of so many units of progress those that are sent: all where the front is a region, and else none
 abbrev pub units_at : ℕ → Option Message → ℕ

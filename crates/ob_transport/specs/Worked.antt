@@ -2,7 +2,6 @@
 use Rattle.std.specs.Prelude.{◌≡◌, List, [], ◌∷◌, ◌++◌, None, Result, Ok, Err}
 use Rattle.ob_types.specs.declared.command.Command.{Command}
 use Rattle.ob_types.specs.declared.command.Command.TheVariants.{Write, Flush, Remove, RemoveWith, RemoveBytes, Progress, Cancel}
-use Rattle.ob_types.specs.declared.message.Message.{Message}
 use Rattle.ob_types.specs.declared.message.Message.TheVariants.{Block, Region, Other}
 use Rattle.ob_types.specs.declared.refusal.Refusal.{Refusal}
 use Rattle.ob_types.specs.declared.refusal.Refusal.TheVariants.{TooManyBytes}
@@ -56,13 +55,15 @@ given_up = accepted (RemoveBytes 2) ∷ accepted (Progress 1) ∷ accepted (Remo
 
 -- of it those two are sent alone, and its progress sends no units
 abbrev pub GivenUpIsNotSent : Type 0
-GivenUpIsNotSent = (sent_bytes settings (written ++ given_up) ≡ 1 ∷ 2 ∷ []) × (sent_units settings (written ++ given_up) ≡ 0)
+GivenUpIsNotSent = (sent_bytes settings (written ++ given_up) ≡ 1 ∷ 2 ∷ [])
+    × (sent_units settings (written ++ given_up) ≡ 0)
 
 -- a block and a region that are taken back before the flush
 abbrev pub taken_back : List Record
 taken_back =
     accepted (Write (Block (1 ∷ []))) ∷ accepted (Write (Region 5)) ∷ accepted (Cancel (record { 0 = 0 }))
-    ∷ accepted (Cancel (record { 0 = 1 })) ∷ accepted Flush ∷ accepted Remove ∷ accepted (Progress 5) ∷ accepted Remove ∷ []
+    ∷ accepted (Cancel (record { 0 = 1 })) ∷ accepted Flush ∷ accepted Remove ∷ accepted
+    (Progress 5) ∷ accepted Remove ∷ []
 
 -- nothing of what was taken back is sent
 abbrev pub TakenBackIsNotSent : Type 0

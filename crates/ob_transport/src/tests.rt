@@ -1,1 +1,2 @@
+mod passes;
 mod worked;
