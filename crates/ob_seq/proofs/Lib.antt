@@ -1,6 +1,6 @@
 mod Acceptance
 pub mod Accepting
-mod Along
+pub mod Along
 mod Blocks
 mod BytesRemoved
 mod Cancelled
@@ -32,7 +32,7 @@ mod Rows
 mod Sending
 mod Sent
 mod Settled
-mod Shrinking
+pub mod Shrinking
 mod Sizes
 mod Skipped
 mod Taken

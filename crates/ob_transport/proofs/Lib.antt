@@ -1,0 +1,9 @@
+pub mod Beginnings
+pub mod Booked
+pub mod Covered
+pub mod Turns
+pub mod Offers
+pub mod Open
+pub mod Sent
+pub mod Standings
+pub mod Passes

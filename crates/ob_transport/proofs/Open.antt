@@ -1,0 +1,204 @@
+-- With something in line a buffer is open, and a region has a length that was accepted.
+use Rattle.std.proofs.Common.{◌≡◌, ℕ, ◌≤◌, Bool, true, false, List, [], ◌∷◌, ◌++◌, map, refl, sym, ap, ◌∙◌, subst, cond, ltb, ◌||◌, arith, append-nil, append_assoc}
+use Rattle.std.specs.Prelude.{Option, Some, None}
+use Rattle.std.specs.List.{AllByRecursion}
+use Rattle.std.proofs.lemmas.Bool.Decides.{nat_tests}
+use Rattle.ob_types.specs.PendingSize.{counted_bytes, is_oversize}
+use Rattle.ob_types.specs.declared.command.Command.{Command}
+use Rattle.ob_types.specs.declared.command.Command.TheVariants.{Write, Flush, Remove, RemoveWith, RemoveBytes, Progress, Cancel, FailFlushed, Close, UserBit}
+use Rattle.ob_types.specs.declared.estimate.Estimate.{Estimate}
+use Rattle.ob_types.specs.declared.message.Message.{Message}
+use Rattle.ob_types.specs.declared.message.Message.TheVariants.{Block, Region, Other}
+use Rattle.ob_types.specs.declared.promise.Cause.{Cause}
+use Rattle.ob_types.specs.declared.refusal.Refusal.{Refusal}
+use Rattle.ob_types.specs.declared.refusal.Refusal.TheVariants.{Closed, Oversize, TooMuch}
+use Rattle.ob_seq.specs.Answer.{are_accepted, first_refusal, is_too_much, refusal_of}
+use Rattle.ob_seq.specs.Closed.{is_close, is_closed}
+use Rattle.ob_seq.specs.Effect.{closed_row, effect, rows_after}
+use Rattle.ob_seq.specs.Line.{front, is_in_line}
+use Rattle.ob_seq.specs.Row.{Row, is_voided, new_row, unread_part, without_skipped}
+use Rattle.ob_seq.proofs.Accepting.{first_and_rest}
+use Rattle.ob_seq.proofs.Shrinking.{Shrink, effect_shrinks}
+use Rattle.std.proofs.lemmas.List.Folds.{list_any-append}
+use Rattle.std.proofs.lemmas.List.Sums.{fold-append}
+
+module _ (estimate : Estimate) where
+  -- what each accepted command keeps holds after accepted commands
+  kept_along : (Holds : List Command → Type 0) →
+      ((earlier : List Command) (command : Command) → first_refusal estimate earlier command ≡ None → Holds earlier →
+      Holds (earlier ++ command ∷ [])) →
+      (earlier commands : List Command) → are_accepted estimate earlier commands ≡ true → Holds earlier →
+      Holds (earlier ++ commands)
+  kept_along Holds keeps earlier [] all holds = subst Holds (sym (append-nil earlier)) holds
+  kept_along Holds keeps earlier (command ∷ commands) all holds =
+      let both = first_and_rest estimate earlier command commands all in
+      subst Holds (append_assoc earlier (command ∷ []) commands)
+      (kept_along Holds keeps (earlier ++ command ∷ []) commands both.1 (keeps earlier command both.0 holds))
+
+  -- the rows after one more command
+  pub rows_more : (commands : List Command) (command : Command) →
+      rows_after estimate (commands ++ command ∷ []) ≡ effect estimate (rows_after estimate commands) command
+  rows_more commands command = fold-append (effect estimate) [] commands (command ∷ [])
+
+  -- an accepted command found the buffer open, and was not refused there
+  open_and_fit : (commands : List Command) (command : Command) → first_refusal estimate commands command ≡ None →
+      (is_closed commands ≡ false) × (refusal_of estimate (rows_after estimate commands) command ≡ None)
+  open_and_fit commands command accepted = by_test (is_closed commands) accepted refl
+    where
+      rest : Option Refusal
+      rest = refusal_of estimate (rows_after estimate commands) command
+
+      by_test : (closed : Bool) → cond closed (Some Closed) rest ≡ None → is_closed commands ≡ closed →
+          (is_closed commands ≡ false) × (rest ≡ None)
+      by_test true accepted is = absurd (cc)
+      by_test false accepted is = (is, accepted)
+
+  -- a close leaves nothing in line
+  none_in_line : (cause : Cause) (rows : List Row) → front (map (closed_row cause) rows) ≡ None
+  none_in_line cause [] = refl
+  none_in_line cause (row ∷ rows) = none_in_line cause rows
+
+  after_close : (rows : List Row) (command : Command) → is_close command ≡ true →
+      front (effect estimate rows command) ≡ None
+  after_close rows (Write message) is = absurd (cc)
+  after_close rows Flush is = absurd (cc)
+  after_close rows Remove is = absurd (cc)
+  after_close rows (RemoveWith cause) is = absurd (cc)
+  after_close rows (RemoveBytes n) is = absurd (cc)
+  after_close rows (Progress n) is = absurd (cc)
+  after_close rows (Cancel id) is = absurd (cc)
+  after_close rows (FailFlushed cause notify) is = absurd (cc)
+  after_close rows (Close cause) is = none_in_line cause rows
+  after_close rows (UserBit index writable) is = absurd (cc)
+
+  ClosedIsEmpty : List Command → Type 0
+  ClosedIsEmpty commands = is_closed commands ≡ true → front (rows_after estimate commands) ≡ None
+
+  one_more_empty : (earlier : List Command) (command : Command) → first_refusal estimate earlier command ≡ None →
+      ClosedIsEmpty earlier → ClosedIsEmpty (earlier ++ command ∷ [])
+  unfolding ClosedIsEmpty
+  one_more_empty earlier command accepted empty closed =
+      let unclosed = (open_and_fit earlier command accepted).0 in
+      let is = sym (or_false (is_close command)) ∙ sym (ap (λ first. first || (is_close command || false)) unclosed)
+      ∙ sym (list_any-append is_close earlier (command ∷ [])) ∙ closed in
+      ap front (rows_more earlier command) ∙ after_close (rows_after estimate earlier) command is
+    where
+      or_false : (b : Bool) → (b || false) ≡ b
+      or_false true = refl
+      or_false false = refl
+
+  module _ (commands : List Command) (all : are_accepted estimate [] commands ≡ true) where
+    -- with a front the buffer is open
+    pub open_with_front : (row : Row) → front (rows_after estimate commands) ≡ Some row → is_closed commands ≡ false
+    unfolding ClosedIsEmpty
+    open_with_front row is = by_test (is_closed commands) refl
+      where
+        by_test : (closed : Bool) → is_closed commands ≡ closed → closed ≡ false
+        by_test true closed = absurd (let none = kept_along ClosedIsEmpty one_more_empty [] commands all
+            (λ no. absurd (cc)) closed in cc)
+        by_test false closed = refl
+
+  -- a message that is no region is short, and a region where its length is at most the greatest
+  pub IsShort : Message → Type 0
+  IsShort (Block bytes) = Unit {0}
+  IsShort (Region length) = length ≤ 9223372036854775807
+  IsShort (Other value) = Unit {0}
+
+  ShortRow : Row → Type 0
+  ShortRow row = IsShort row.message
+
+  ShortAfter : List Command → Type 0
+  ShortAfter commands = AllByRecursion ShortRow (rows_after estimate commands)
+
+  stay_short : (before after : List Row) → Shrink before after → AllByRecursion ShortRow before →
+      AllByRecursion ShortRow after
+  unfolding ShortRow
+  stay_short [] [] shrink short = tt
+  stay_short [] (row ∷ after) shrink short = absurd shrink
+  stay_short (was ∷ before) [] shrink short = absurd shrink
+  stay_short (was ∷ before) (row ∷ after) shrink short =
+      (subst IsShort (sym shrink.0.message) short.0, stay_short before after shrink.1 short.1)
+
+  not_oversize : (oversize much : Bool) →
+      (let refusal : Option Refusal = cond oversize (Some Oversize) (cond much (Some TooMuch) None) in refusal ≡ None)
+      → oversize ≡ false
+  not_oversize true much fits = absurd (cc)
+  not_oversize false much fits = refl
+
+  second_false : (a b : Bool) → (a || b) ≡ false → b ≡ false
+  second_false true b none = absurd (cc)
+  second_false false b none = none
+
+  short_message : (rows : List Row) (message : Message) → refusal_of estimate rows (Write message) ≡ None →
+      IsShort message
+  unfolding IsShort
+  short_message rows (Block bytes) fits = tt
+  short_message rows (Region length) fits =
+      let message = Region length in
+      let size = counted_bytes estimate message in
+      within length (second_false (ltb 2147483647 size) (ltb 9223372036854775807 length)
+      (not_oversize (is_oversize estimate message) (is_too_much estimate rows size) fits))
+    where
+      within : (n : ℕ) → ltb 9223372036854775807 n ≡ false → n ≤ 9223372036854775807
+      within n is = grind (arith, nat_tests)
+  short_message rows (Other value) fits = tt
+
+  short_more : (rows : List Row) (row : Row) → AllByRecursion ShortRow rows → ShortRow row →
+      AllByRecursion ShortRow (rows ++ row ∷ [])
+  short_more [] row short one = (one, tt)
+  short_more (first ∷ rows) row short one = (short.0, short_more rows row short.1 one)
+
+  short_effect : (rows : List Row) (command : Command) → refusal_of estimate rows command ≡ None →
+      AllByRecursion ShortRow rows → AllByRecursion ShortRow (effect estimate rows command)
+  unfolding ShortRow
+  short_effect rows (Write message) fits short = short_more rows (new_row estimate message) short
+      (short_message rows message fits)
+  short_effect rows command fits short = stay_short rows (effect estimate rows command)
+      (effect_shrinks estimate rows command refl) short
+
+  one_more_short : (earlier : List Command) (command : Command) → first_refusal estimate earlier command ≡ None →
+      ShortAfter earlier → ShortAfter (earlier ++ command ∷ [])
+  unfolding ShortAfter
+  one_more_short earlier command accepted short =
+      subst (AllByRecursion ShortRow) (sym (rows_more earlier command))
+      (short_effect (rows_after estimate earlier) command (open_and_fit earlier command accepted).1 short)
+
+  -- what is found has what each of them has
+  found_short : (rows : List Row) (row : Row) → AllByRecursion ShortRow rows → front rows ≡ Some row → ShortRow row
+  found_short [] row short is = absurd (cc)
+  found_short (first ∷ rows) row short is = by_line (is_in_line first) is (found_short rows row short.1)
+    where
+      by_line : (here : Bool) → cond here (Some first) (front rows) ≡ Some row →
+          (front rows ≡ Some row → ShortRow row) → ShortRow row
+      by_line true is rest = subst (λ (found : Option Row). ShortFound found) is short.0
+        where
+          ShortFound : Option Row → Type 0
+          ShortFound None = Unit {0}
+          ShortFound (Some found) = ShortRow found
+      by_line false is rest = rest is
+
+  -- a region in front has a length that was accepted
+  length_within : (row : Row) (length : ℕ) → ShortRow row → unread_part row ≡ Region length →
+      length ≤ 9223372036854775807
+  unfolding ShortRow IsShort
+  length_within row length short is = by_place (is_voided row.place) row.message is short
+    where
+      length_of : Message → ℕ
+      length_of (Block bytes) = 0
+      length_of (Region units) = units
+      length_of (Other value) = 0
+
+      by_place : (voided : Bool) (message : Message) →
+          cond voided (Block []) (without_skipped row.skipped message) ≡ Region length →
+          IsShort message → length ≤ 9223372036854775807
+      by_place true message is short = let same = ap length_of is in omega (arith, same)
+      by_place false (Block bytes) is short = let same = ap length_of is in omega (arith, same)
+      by_place false (Region units) is short = let same = ap length_of is in omega (arith, same, short)
+      by_place false (Other value) is short = let same = ap length_of is in omega (arith, same)
+
+  pub region_within : (commands : List Command) → are_accepted estimate [] commands ≡ true → (row : Row) (length : ℕ) →
+      front (rows_after estimate commands) ≡ Some row → unread_part row ≡ Region length → length ≤ 9223372036854775807
+  unfolding ShortAfter
+  region_within commands all row length is part =
+      length_within row length
+      (found_short (rows_after estimate commands) row (kept_along ShortAfter one_more_short [] commands all tt) is) part

@@ -1,0 +1,210 @@
+-- What one more call sends.
+use Rattle.std.proofs.Common.{◌≡◌, ℕ, suc, ◌+◌, ◌≤◌, min, max, Bool, true, false, List, [], ◌∷◌, ◌++◌, length, take, drop, refl, sym, ap, ◌∙◌, cond, ltb, arith, append-nil, length-append}
+use Rattle.std.specs.Prelude.{Option, None, fold, is_ok, sum_by}
+use Rattle.std.specs.List.{concat, flat_map}
+use Rattle.std.proofs.lemmas.Bool.Decides.{nat_tests}
+use Rattle.std.proofs.lemmas.Grind.{flat_map-append}
+use Rattle.std.proofs.lemmas.List.{take-append-drop, take-append-le}
+use Rattle.std.proofs.lemmas.List.Folds.{concat-append}
+use Rattle.std.proofs.lemmas.List.Sums.{sum_by-append, sum_by-cons}
+use Rattle.ob_types.specs.declared.command.Command.{Command}
+use Rattle.ob_types.specs.declared.estimate.Estimate.{Estimate}
+use Rattle.ob_types.specs.declared.refusal.Refusal.{Refusal}
+use Rattle.ob_seq.specs.Answer.{answer_to, commands_after, first_refusal, reply_of, unless_refused}
+use Rattle.ob_seq.specs.Effect.{effect, rows_after}
+use Rattle.ob_seq.specs.Gathering.{first_blocks, with_bytes}
+use Rattle.ob_seq.specs.Pieces.{bytes_in, pieces_within}
+use Rattle.ob_seq.specs.Row.{Row}
+use Rattle.ob_seq.specs.Settings.{Settings}
+use Rattle.ob_history.specs.Accepted.{accepted_commands}
+use Rattle.ob_history.specs.Call.{history_after, is_full, next_record, with_record}
+use Rattle.ob_history.specs.History.{History}
+use Rattle.ob_history.proofs.Histories.{accepted_with_next}
+use Rattle.ob_transport.specs.SentBytes.{bytes_sent_by, sent_bytes}
+use Rattle.ob_transport.specs.SentUnits.{sent_units, units_sent_by}
+use Rattle.ob_transport.specs.Step.{Step, steps_from}
+
+abbrev bytes_in_step : Step → List ℕ
+bytes_in_step step = bytes_sent_by step.rows step.command
+
+abbrev units_in_step : Step → ℕ
+units_in_step step = units_sent_by step.rows step.command
+
+-- the step of one more command comes behind the others
+steps_more : (estimate : Estimate) (rows : List Row) (commands : List Command) (command : Command) →
+    steps_from estimate rows (commands ++ command ∷ [])
+    ≡ steps_from estimate rows commands
+    ++ record { rows = fold (effect estimate) rows commands; command = command } ∷ []
+steps_more estimate rows [] command = refl
+steps_more estimate rows (first ∷ commands) command =
+    ap (λ more. record { rows = rows; command = first } ∷ more)
+    (steps_more estimate (effect estimate rows first) commands command)
+
+module _ (settings : Settings) where
+  -- what accepted commands send
+  abbrev pub bytes_of : List Command → List ℕ
+  bytes_of commands = flat_map bytes_in_step (steps_from settings.estimate [] commands)
+
+  abbrev pub units_of : List Command → ℕ
+  units_of commands = sum_by units_in_step (steps_from settings.estimate [] commands)
+
+  bytes_more : (commands : List Command) (command : Command) →
+      bytes_of (commands ++ command ∷ []) ≡ bytes_of commands
+      ++ bytes_sent_by (rows_after settings.estimate commands) command
+  bytes_more commands command =
+      let one : Step = record { rows = rows_after settings.estimate commands; command = command } in
+      ap (flat_map bytes_in_step) (steps_more settings.estimate [] commands command)
+      ∙ flat_map-append bytes_in_step (steps_from settings.estimate [] commands) (one ∷ [])
+      ∙ ap (λ more. bytes_of commands ++ more) (append-nil (bytes_in_step one))
+
+  units_more : (commands : List Command) (command : Command) →
+      units_of (commands ++ command ∷ [])
+      ≡ units_of commands + units_sent_by (rows_after settings.estimate commands) command
+  units_more commands command =
+      let one : Step = record { rows = rows_after settings.estimate commands; command = command } in
+      ap (sum_by units_in_step) (steps_more settings.estimate [] commands command)
+      ∙ sum_by-append units_in_step (steps_from settings.estimate [] commands) (one ∷ [])
+      ∙ ap (λ more. units_of commands + more) (sum_by-cons units_in_step one [] ∙ omega arith)
+
+  -- an accepted command comes behind the others
+  pub accepted_behind : (commands : List Command) (command : Command) →
+      first_refusal settings.estimate commands command ≡ None →
+      commands_after settings commands command ≡ commands ++ command ∷ []
+  accepted_behind commands command accepted =
+      ap (λ (refusal : Option Refusal). cond (is_ok (unless_refused refusal (reply_of settings commands command)))
+      (commands ++ command ∷ []) commands) accepted
+
+  -- a command that sends nothing sends nothing, accepted or refused
+  nothing_more : (commands : List Command) (command : Command) →
+      bytes_sent_by (rows_after settings.estimate commands) command ≡ [] →
+      bytes_of (commands_after settings commands command) ≡ bytes_of commands
+  nothing_more commands command none = by_test (is_ok (answer_to settings commands command))
+    where
+      by_test : (accepted : Bool) → bytes_of (cond accepted (commands ++ command ∷ []) commands) ≡ bytes_of commands
+      by_test true = bytes_more commands command ∙ ap (λ more. bytes_of commands ++ more) none
+          ∙ append-nil (bytes_of commands)
+      by_test false = refl
+
+  no_more_units : (commands : List Command) (command : Command) →
+      units_sent_by (rows_after settings.estimate commands) command ≡ 0 →
+      units_of (commands_after settings commands command) ≡ units_of commands
+  no_more_units commands command none = by_test (is_ok (answer_to settings commands command))
+    where
+      by_test : (accepted : Bool) → units_of (cond accepted (commands ++ command ∷ []) commands) ≡ units_of commands
+      by_test true = units_more commands command ∙ ap (λ more. units_of commands + more) none ∙ omega arith
+      by_test false = refl
+
+module _ (history : History) (caller : ℕ) (command : Command) where
+  -- the accepted commands of a history
+  commands : List Command
+  commands = accepted_commands history.records
+
+  -- the accepted commands once one more is recorded
+  recorded : accepted_commands (with_record history (next_record history caller command)).records
+      ≡ commands_after history.settings (accepted_commands history.records) command
+  recorded = accepted_with_next history.settings history.records (next_record history caller command) refl
+
+  -- where the command sends no bytes, the history sends no more of them
+  pub no_bytes_sent : bytes_sent_by (rows_after history.settings.estimate (accepted_commands history.records)) command
+      ≡ [] →
+      sent_bytes (history_after history caller command).settings (history_after history caller command).records
+      ≡ sent_bytes history.settings history.records
+  no_bytes_sent none = by_test (is_full history)
+    where
+      by_test : (full : Bool) →
+          (let after = cond full history (with_record history (next_record history caller command)) in
+          sent_bytes after.settings after.records ≡ sent_bytes history.settings history.records)
+      by_test true = refl
+      by_test false =
+          ap (bytes_of history.settings) recorded
+          ∙ nothing_more history.settings (accepted_commands history.records) command none
+
+  pub no_units_sent : units_sent_by (rows_after history.settings.estimate (accepted_commands history.records)) command
+      ≡ 0 →
+      sent_units (history_after history caller command).settings (history_after history caller command).records
+      ≡ sent_units history.settings history.records
+  no_units_sent none = by_test (is_full history)
+    where
+      by_test : (full : Bool) →
+          (let after = cond full history (with_record history (next_record history caller command)) in
+          sent_units after.settings after.records ≡ sent_units history.settings history.records)
+      by_test true = refl
+      by_test false =
+          ap (units_of history.settings) recorded
+          ∙ no_more_units history.settings (accepted_commands history.records) command none
+
+  module _ (place : is_full history ≡ false)
+      (accepted : first_refusal history.settings.estimate (accepted_commands history.records) command ≡ None) where
+    -- a recorded and accepted command comes behind the others
+    pub accepted_commands_after : accepted_commands (history_after history caller command).records
+        ≡ accepted_commands history.records ++ command ∷ []
+    accepted_commands_after =
+        ap (λ full. accepted_commands (cond full history
+        (with_record history (next_record history caller command))).records) place
+        ∙ recorded ∙ accepted_behind history.settings (accepted_commands history.records) command accepted
+
+    pub settings_after : (history_after history caller command).settings ≡ history.settings
+    settings_after = ap (λ full. (cond full history
+        (with_record history (next_record history caller command))).settings) place
+
+    -- and sends what it sends
+    pub bytes_sent : sent_bytes (history_after history caller command).settings
+        (history_after history caller command).records
+        ≡ sent_bytes history.settings history.records
+        ++ bytes_sent_by (rows_after history.settings.estimate (accepted_commands history.records)) command
+    bytes_sent =
+        ap (λ settings. sent_bytes settings (history_after history caller command).records) settings_after
+        ∙ ap (bytes_of history.settings) accepted_commands_after
+        ∙ bytes_more history.settings (accepted_commands history.records) command
+
+    pub units_sent : sent_units (history_after history caller command).settings
+        (history_after history caller command).records
+        ≡ sent_units history.settings history.records + units_sent_by
+        (rows_after history.settings.estimate (accepted_commands history.records)) command
+    units_sent =
+        ap (λ settings. sent_units settings (history_after history caller command).records) settings_after
+        ∙ ap (units_of history.settings) accepted_commands_after
+        ∙ units_more history.settings (accepted_commands history.records) command
+
+-- the blocks that hold a byte have all the bytes
+all_bytes : (blocks : List (List ℕ)) → concat (with_bytes blocks) ≡ concat blocks
+all_bytes [] = refl
+all_bytes (block ∷ blocks) = by_test (ltb 0 (length block)) refl (all_bytes blocks)
+  where
+    empty : (bytes : List ℕ) → ltb 0 (length bytes) ≡ false → bytes ≡ []
+    empty [] is = refl
+    empty (byte ∷ bytes) is = absurd (impossible (length bytes) is)
+      where
+        impossible : (n : ℕ) → ltb 0 (suc n) ≡ false → ⊥
+        impossible n is = grind (arith, nat_tests)
+
+    by_test : (some : Bool) → ltb 0 (length block) ≡ some → concat (with_bytes blocks) ≡ concat blocks →
+        concat (cond some (block ∷ with_bytes blocks) (with_bytes blocks)) ≡ block ++ concat blocks
+    by_test true is rest = ap (λ more. block ++ more) rest
+    by_test false is rest = rest ∙ ap (λ bytes. bytes ++ concat blocks) (sym (empty block is))
+
+-- the bytes of blocks are as many as their lengths add up to
+pub length_of_concat : (blocks : List (List ℕ)) → length (concat blocks) ≡ bytes_in blocks
+length_of_concat [] = refl
+length_of_concat (block ∷ blocks) =
+    let all = sum_by-cons (λ (piece : List ℕ). length piece) block blocks in
+    omega (arith, length-append block (concat blocks), length_of_concat blocks, all)
+
+-- gathered bytes are the first of all of them
+module _ (max_count max_bytes : ℕ) (blocks : List (List ℕ)) where
+  in_two : (first_bytes rest : List ℕ) → concat blocks ≡ first_bytes ++ rest → (n : ℕ) → n ≤ length first_bytes →
+      (take n first_bytes ≡ take n (concat blocks)) × (n ≤ length (concat blocks))
+  in_two first_bytes rest is n within = (
+    sym (take-append-le n first_bytes rest within) ∙ ap (take n) (sym is),
+    omega (arith, ap (λ bytes. length bytes) is, length-append first_bytes rest),
+  )
+
+  pub gathered_first : (n : ℕ) → n ≤ length (concat (first_blocks max_count max_bytes (with_bytes blocks))) →
+      (take n (concat (first_blocks max_count max_bytes (with_bytes blocks))) ≡ take n (concat blocks))
+      × (n ≤ length (concat blocks))
+  gathered_first n within =
+      let holding = with_bytes blocks in
+      let count = min max_count (max 1 (pieces_within max_bytes holding)) in
+      in_two (concat (take count holding)) (concat (drop count holding))
+      (sym (all_bytes blocks) ∙ sym (ap concat (take-append-drop count holding))
+      ∙ concat-append (take count holding) (drop count holding)) n within

@@ -1,0 +1,17 @@
+pub mod Content
+pub mod Drains
+pub mod Failures
+pub mod Given
+pub mod GrowAlike
+pub mod InFront
+pub mod IsPass
+pub mod Offer
+pub mod Outcome
+pub mod Refused
+pub mod InsideScript
+pub mod Script
+pub mod SentBytes
+pub mod SentUnits
+pub mod Standing
+pub mod Step
+pub mod Worked

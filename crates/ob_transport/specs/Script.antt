@@ -1,0 +1,33 @@
+-- What a contract sees of a sink of a script.
+use Rattle.std.specs.Prelude.{ℕ, List, [], ◌∷◌, drop}
+use Rattle.ob_transport.specs.Content.{Content}
+use Rattle.ob_transport.specs.declared.script.SinkStep.{SinkStep}
+use Rattle.ob_transport.specs.declared.script.SinkStep.TheVariants.{Take}
+
+-- the steps that are left, how much is taken at most once none is, and what was taken
+pub record Script : Type 0 where
+  pub steps : List SinkStep
+  pub most_after : ℕ
+  pub content : Content
+
+-- the script before its first call
+abbrev pub new_script : List SinkStep → ℕ → Script
+new_script steps after = record {
+  steps = steps;
+  most_after = after;
+  content = record
+      { bytes = []; units = 0; failures = 0 };
+}
+
+-- the first of some steps, or a taking of so much
+abbrev pub first_step : List SinkStep → ℕ → SinkStep
+first_step [] after = Take after
+first_step (step ∷ steps) after = step
+
+-- what the next call does
+abbrev pub next_step : Script → SinkStep
+next_step script = first_step script.steps script.most_after
+
+-- the script with its next step used
+abbrev pub with_step_used : Script → Script
+with_step_used script = record script { steps = drop 1 script.steps }

@@ -1,0 +1,83 @@
+ghost use Rattle.std.specs.Prelude.{◌≡◌, ◌+◌, ◌≤◌, ℕ, None, Err, IfOk, IsErrOf};
+ghost use Rattle.ob_history.specs.History.{LacksPlaces};
+ghost use Rattle.ob_transport.specs.Drains.{Drains};
+ghost use Rattle.ob_transport.specs.Failures.{failures_in};
+ghost use Rattle.ob_transport.specs.GrowAlike.{GrowAlike, GrowAlikeBut, IsBooked};
+ghost use Rattle.ob_transport.specs.InFront.{current_in};
+ghost use Rattle.ob_transport.specs.Standing.{standing};
+ghost use Rattle.ob_transport.specs.declared.fault.PassFault.TheVariants.{Unbooked};
+
+use crate::fault::{Pass, PassFault};
+use crate::limits::Limits;
+use crate::sending::pass;
+use crate::sink::Sink;
+use ob_history::Booked;
+
+/// Why passes came to an end.
+#[derive(Clone, Copy, Debug, PartialEq, Eq)]
+pub enum Stop {
+    /// Nothing is flushed.
+    Idle,
+    /// The sink took nothing.
+    Stalled,
+    /// As many passes were made as were asked for, and there may be more to do.
+    TurnsUsed,
+}
+
+/// What several passes came to.
+#[derive(Clone, Copy, Debug, PartialEq, Eq)]
+pub struct Drained {
+    /// How many passes were made, the last one too.
+    pub turns_used: u64,
+    /// Why they ended.
+    pub stop: Stop,
+}
+
+/// Makes up to `turns` passes, one after another, until one of them is idle or stalled, which counts as a turn too.
+/// With 0 turns it makes none.
+///
+/// A fault is that of the last pass. What earlier passes did stands.
+pub fn drain<B: Booked, S: Sink>(
+    booked: &mut B,
+    sink: &mut S,
+    limits: Limits,
+    turns: u64,
+) -> Result<Drained, PassFault>
+    requires some_block { 1 ≤ limits.max_count }
+    requires some_byte { 1 ≤ limits.max_bytes }
+    ensures passes { Drains limits (B.caller booked.old) turns
+        (standing (B.history booked.old) (S.content sink.old)) result
+        (standing (B.history booked.new) (S.content sink.new)) }
+    ensures caller { B.caller booked.new ≡ B.caller booked.old }
+    ensures idle { IfOk result (λ drained. drained.stop ≡ Stop.Idle → current_in (B.history booked.new) ≡ None) }
+    ensures full { IsErrOf result PassFault.HistoryFull → LacksPlaces (B.history booked.new) 2 }
+
+    // What is taken is booked, but for bytes that are told of, and stand at the front.
+    ensures alike { IsBooked result → GrowAlike
+        (standing (B.history booked.old) (S.content sink.old)) (standing (B.history booked.new) (S.content sink.new)) }
+    ensures unbooked { (taken : ℕ) → result ≡ Err (Unbooked taken) → GrowAlikeBut taken
+        (standing (B.history booked.old) (S.content sink.old)) (standing (B.history booked.new) (S.content sink.new)) }
+    ensures failures { (S.content sink.new).failures ≡ (S.content sink.old).failures + failures_in result }
+{
+    for turn in 0..turns {
+        match pass(booked, sink, limits)? {
+            Pass::Idle => {
+                return Ok(Drained {
+                    turns_used: turn + 1,
+                    stop: Stop::Idle,
+                });
+            }
+            Pass::Stalled => {
+                return Ok(Drained {
+                    turns_used: turn + 1,
+                    stop: Stop::Stalled,
+                });
+            }
+            Pass::Cleared | Pass::Took(_) => {}
+        }
+    }
+    Ok(Drained {
+        turns_used: turns,
+        stop: Stop::TurnsUsed,
+    })
+}

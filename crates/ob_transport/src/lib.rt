@@ -1,0 +1,23 @@
+//! The transport: it hands flushed messages to a sink, and books in a history what the sink took.
+#![tactic(auto)]
+
+mod booking;
+mod draining;
+mod fault;
+mod laws;
+mod limits;
+mod next;
+mod script;
+mod sending;
+mod sink;
+#[cfg(test)]
+mod tests;
+
+pub use booking::book;
+pub use draining::{Drained, Stop, drain};
+pub use fault::{Pass, PassFault};
+pub use laws::what_a_pass_takes_is_sent;
+pub use limits::Limits;
+pub use script::{ScriptSink, SinkStep};
+pub use sending::pass;
+pub use sink::{Sink, SinkFault};

@@ -1,0 +1,32 @@
+ghost use Rattle.std.specs.List.{concat};
+ghost use Rattle.std.specs.Prelude.{◌≡◌, ◌≤◌, length, take, IfOk, OnErr};
+ghost use Rattle.ob_transport.specs.Content.{Content, with_more_bytes, with_failure, with_more_units};
+
+use bytes::Bytes;
+use thiserror::Error;
+
+/// A sink has failed, for a reason that its number tells.
+#[derive(Clone, Copy, Debug, PartialEq, Eq, Error)]
+#[error("the sink has failed: {0}")]
+pub struct SinkFault(pub u32);
+
+/// Where a transport puts what it takes off a buffer, as a socket.
+///
+/// A call takes a beginning of what is offered, which may be all of it or nothing. A call that fails takes nothing.
+pub trait Sink {
+    /// What was taken so far, and how many calls failed.
+    ghost content: { Self → Content };
+
+    /// Offers blocks, one after another, and answers how many of their bytes were taken, from the front.
+    fn take(&mut self, blocks: &[Bytes]) -> Result<usize, SinkFault>
+        ensures within { IfOk result (λ count. count ≤ length (concat blocks.now)) }
+        ensures taken { IfOk result (λ count. content self.new
+            ≡ with_more_bytes (take count (concat blocks.now)) (content self.old)) }
+        ensures failed { OnErr result (content self.new ≡ with_failure (content self.old)) };
+
+    /// Offers so many units of a region, and answers how many of them were taken.
+    fn take_region(&mut self, units: u64) -> Result<u64, SinkFault>
+        ensures within { IfOk result (λ count. count ≤ units) }
+        ensures taken { IfOk result (λ count. content self.new ≡ with_more_units count (content self.old)) }
+        ensures failed { OnErr result (content self.new ≡ with_failure (content self.old)) };
+}
