@@ -28,7 +28,7 @@ found_place history caller command receipt is = by_test (is_full history) refl i
 
 -- the removal that is booked sends the bytes with which the line begins
 pub book_sends : (history new : History) (caller taken : ℕ) (result : Result Receipt Refusal) (bytes rest : List ℕ) →
-    are_accepted history.settings.estimate [] (accepted_commands history.records) ≡ true →
+    are_accepted history.settings [] (accepted_commands history.records) ≡ true →
     length bytes ≡ taken → unread_in history ≡ bytes ++ rest →
     (¬ IsErrOf result NoMemory → result ≡ call_answer history caller (RemoveBytes taken)) →
     (¬ IsErrOf result NoMemory → new ≡ history_after history caller (RemoveBytes taken)) →

@@ -50,10 +50,10 @@ bytes_there limits before buffer stands settings has =
 -- the commands that such a buffer stands for are accepted
 pub accepted_there : (before : Standing) (buffer : Pending) →
     StandsFor buffer (accepted_commands before.history.records) → buffer.settings ≡ before.history.settings →
-    are_accepted before.history.settings.estimate [] (accepted_commands before.history.records) ≡ true
+    are_accepted before.history.settings [] (accepted_commands before.history.records) ≡ true
 accepted_there before buffer stands settings =
     let commands = accepted_commands before.history.records in
-    sym (ap (λ (settings : Settings). are_accepted settings.estimate [] commands) settings) ∙ stands.accepted
+    sym (ap (λ (settings : Settings). are_accepted settings [] commands) settings) ∙ stands.accepted
 
 module _ (limits : Limits) (caller : ℕ) (before : Standing) (result : Result Pass PassFault) (after : Standing)
     (ends : Ends caller (offer_at limits before) before result after) where

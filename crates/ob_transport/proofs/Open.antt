@@ -1,5 +1,5 @@
 -- With something in line a buffer is open, and a region has a length that was accepted.
-use Rattle.std.proofs.Common.{◌≡◌, ℕ, ◌≤◌, Bool, true, false, List, [], ◌∷◌, ◌++◌, map, refl, sym, ap, ◌∙◌, subst, cond, ltb, ◌||◌, arith, append-nil, append_assoc}
+use Rattle.std.proofs.Common.{◌≡◌, ℕ, ◌≤◌, Bool, true, false, List, [], ◌∷◌, ◌++◌, map, refl, sym, ap, ◌∙◌, subst, cond, ltb, ◌||◌, arith}
 use Rattle.std.specs.Prelude.{Option, Some, None}
 use Rattle.std.specs.List.{AllByRecursion}
 use Rattle.std.proofs.lemmas.Bool.Decides.{nat_tests}
@@ -11,47 +11,29 @@ use Rattle.ob_types.specs.declared.message.Message.{Message}
 use Rattle.ob_types.specs.declared.message.Message.TheVariants.{Block, Region, Other}
 use Rattle.ob_types.specs.declared.promise.Cause.{Cause}
 use Rattle.ob_types.specs.declared.refusal.Refusal.{Refusal}
-use Rattle.ob_types.specs.declared.refusal.Refusal.TheVariants.{Closed, Oversize, TooMuch}
+use Rattle.ob_types.specs.declared.refusal.Refusal.TheVariants.{Oversize, TooMuch}
+use Rattle.ob_types.specs.Limits.{greatest_pending_size, greatest_region}
+use Rattle.ob_seq.specs.Settings.{Settings}
 use Rattle.ob_seq.specs.Answer.{are_accepted, first_refusal, is_too_much, refusal_of}
 use Rattle.ob_seq.specs.Closed.{is_close, is_closed}
 use Rattle.ob_seq.specs.Effect.{closed_row, effect, rows_after}
 use Rattle.ob_seq.specs.Line.{front, is_in_line}
 use Rattle.ob_seq.specs.Row.{Row, is_voided, new_row, unread_part, without_skipped}
-use Rattle.ob_seq.proofs.Accepting.{first_and_rest}
+use Rattle.ob_seq.proofs.Accepting.{kept_along_accepted, open_and_fit}
 use Rattle.ob_seq.proofs.Shrinking.{Shrink, effect_shrinks}
 use Rattle.std.proofs.lemmas.List.Folds.{list_any-append}
 use Rattle.std.proofs.lemmas.List.Sums.{fold-append}
 
 module _ (estimate : Estimate) where
-  -- what each accepted command keeps holds after accepted commands
-  kept_along : (Holds : List Command → Type 0) →
-      ((earlier : List Command) (command : Command) → first_refusal estimate earlier command ≡ None → Holds earlier →
-      Holds (earlier ++ command ∷ [])) →
-      (earlier commands : List Command) → are_accepted estimate earlier commands ≡ true → Holds earlier →
-      Holds (earlier ++ commands)
-  kept_along Holds keeps earlier [] all holds = subst Holds (sym (append-nil earlier)) holds
-  kept_along Holds keeps earlier (command ∷ commands) all holds =
-      let both = first_and_rest estimate earlier command commands all in
-      subst Holds (append_assoc earlier (command ∷ []) commands)
-      (kept_along Holds keeps (earlier ++ command ∷ []) commands both.1 (keeps earlier command both.0 holds))
-
   -- the rows after one more command
   pub rows_more : (commands : List Command) (command : Command) →
       rows_after estimate (commands ++ command ∷ []) ≡ effect estimate (rows_after estimate commands) command
   rows_more commands command = fold-append (effect estimate) [] commands (command ∷ [])
 
-  -- an accepted command found the buffer open, and was not refused there
-  open_and_fit : (commands : List Command) (command : Command) → first_refusal estimate commands command ≡ None →
-      (is_closed commands ≡ false) × (refusal_of estimate (rows_after estimate commands) command ≡ None)
-  open_and_fit commands command accepted = by_test (is_closed commands) accepted refl
-    where
-      rest : Option Refusal
-      rest = refusal_of estimate (rows_after estimate commands) command
-
-      by_test : (closed : Bool) → cond closed (Some Closed) rest ≡ None → is_closed commands ≡ closed →
-          (is_closed commands ≡ false) × (rest ≡ None)
-      by_test true accepted is = absurd (cc)
-      by_test false accepted is = (is, accepted)
+module _ (settings : Settings) where
+  -- how messages are counted
+  abbrev estimate : Estimate
+  estimate = settings.estimate
 
   -- a close leaves nothing in line
   none_in_line : (cause : Cause) (rows : List Row) → front (map (closed_row cause) rows) ≡ None
@@ -78,30 +60,30 @@ module _ (estimate : Estimate) where
       ClosedIsEmpty earlier → ClosedIsEmpty (earlier ++ command ∷ [])
   unfolding ClosedIsEmpty
   one_more_empty earlier command accepted empty closed =
-      let unclosed = (open_and_fit earlier command accepted).0 in
+      let unclosed = (open_and_fit estimate earlier command accepted).0 in
       let is = sym (or_false (is_close command)) ∙ sym (ap (λ first. first || (is_close command || false)) unclosed)
       ∙ sym (list_any-append is_close earlier (command ∷ [])) ∙ closed in
-      ap front (rows_more earlier command) ∙ after_close (rows_after estimate earlier) command is
+      ap front (rows_more estimate earlier command) ∙ after_close (rows_after estimate earlier) command is
     where
       or_false : (b : Bool) → (b || false) ≡ b
       or_false true = refl
       or_false false = refl
 
-  module _ (commands : List Command) (all : are_accepted estimate [] commands ≡ true) where
+  module _ (commands : List Command) (all : are_accepted settings [] commands ≡ true) where
     -- with a front the buffer is open
     pub open_with_front : (row : Row) → front (rows_after estimate commands) ≡ Some row → is_closed commands ≡ false
     unfolding ClosedIsEmpty
     open_with_front row is = by_test (is_closed commands) refl
       where
         by_test : (closed : Bool) → is_closed commands ≡ closed → closed ≡ false
-        by_test true closed = absurd (let none = kept_along ClosedIsEmpty one_more_empty [] commands all
+        by_test true closed = absurd (let none = kept_along_accepted settings ClosedIsEmpty one_more_empty [] commands all
             (λ no. absurd (cc)) closed in cc)
         by_test false closed = refl
 
   -- a message that is no region is short, and a region where its length is at most the greatest
   pub IsShort : Message → Type 0
   IsShort (Block bytes) = Unit {0}
-  IsShort (Region length) = length ≤ 9223372036854775807
+  IsShort (Region length) = length ≤ greatest_region
   IsShort (Other value) = Unit {0}
 
   ShortRow : Row → Type 0
@@ -136,10 +118,10 @@ module _ (estimate : Estimate) where
   short_message rows (Region length) fits =
       let message = Region length in
       let size = counted_bytes estimate message in
-      within length (second_false (ltb 2147483647 size) (ltb 9223372036854775807 length)
+      within length (second_false (ltb greatest_pending_size size) (ltb greatest_region length)
       (not_oversize (is_oversize estimate message) (is_too_much estimate rows size) fits))
     where
-      within : (n : ℕ) → ltb 9223372036854775807 n ≡ false → n ≤ 9223372036854775807
+      within : (n : ℕ) → ltb greatest_region n ≡ false → n ≤ greatest_region
       within n is = grind (arith, nat_tests)
   short_message rows (Other value) fits = tt
 
@@ -160,8 +142,8 @@ module _ (estimate : Estimate) where
       ShortAfter earlier → ShortAfter (earlier ++ command ∷ [])
   unfolding ShortAfter
   one_more_short earlier command accepted short =
-      subst (AllByRecursion ShortRow) (sym (rows_more earlier command))
-      (short_effect (rows_after estimate earlier) command (open_and_fit earlier command accepted).1 short)
+      subst (AllByRecursion ShortRow) (sym (rows_more estimate earlier command))
+      (short_effect (rows_after estimate earlier) command (open_and_fit estimate earlier command accepted).1 short)
 
   -- what is found has what each of them has
   found_short : (rows : List Row) (row : Row) → AllByRecursion ShortRow rows → front rows ≡ Some row → ShortRow row
@@ -179,7 +161,7 @@ module _ (estimate : Estimate) where
 
   -- a region in front has a length that was accepted
   length_within : (row : Row) (length : ℕ) → ShortRow row → unread_part row ≡ Region length →
-      length ≤ 9223372036854775807
+      length ≤ greatest_region
   unfolding ShortRow IsShort
   length_within row length short is = by_place (is_voided row.place) row.message is short
     where
@@ -190,15 +172,15 @@ module _ (estimate : Estimate) where
 
       by_place : (voided : Bool) (message : Message) →
           cond voided (Block []) (without_skipped row.skipped message) ≡ Region length →
-          IsShort message → length ≤ 9223372036854775807
+          IsShort message → length ≤ greatest_region
       by_place true message is short = let same = ap length_of is in omega (arith, same)
       by_place false (Block bytes) is short = let same = ap length_of is in omega (arith, same)
       by_place false (Region units) is short = let same = ap length_of is in omega (arith, same, short)
       by_place false (Other value) is short = let same = ap length_of is in omega (arith, same)
 
-  pub region_within : (commands : List Command) → are_accepted estimate [] commands ≡ true → (row : Row) (length : ℕ) →
-      front (rows_after estimate commands) ≡ Some row → unread_part row ≡ Region length → length ≤ 9223372036854775807
+  pub region_within : (commands : List Command) → are_accepted settings [] commands ≡ true → (row : Row) (length : ℕ) →
+      front (rows_after estimate commands) ≡ Some row → unread_part row ≡ Region length → length ≤ greatest_region
   unfolding ShortAfter
   region_within commands all row length is part =
       length_within row length
-      (found_short (rows_after estimate commands) row (kept_along ShortAfter one_more_short [] commands all tt) is) part
+      (found_short (rows_after estimate commands) row (kept_along_accepted settings ShortAfter one_more_short [] commands all tt) is) part

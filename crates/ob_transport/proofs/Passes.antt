@@ -103,7 +103,7 @@ module _ (before : Standing) where
     clears_alike command bytes units (Err NoMemory) after clears = stays after clears.2
     clears_alike command bytes units (Err (Unbooked taken)) after clears = absurd clears
 
-    module _ (all : are_accepted before.history.settings.estimate [] (accepted_commands before.history.records) ≡ true)
+    module _ (all : are_accepted before.history.settings [] (accepted_commands before.history.records) ≡ true)
       where
         -- with something in front a command is refused for itself alone
         accepted_there : (row : Row) → front (rows_in before.history) ≡ Some row → (command : Command) →
@@ -113,7 +113,7 @@ module _ (before : Standing) where
             let commands = accepted_commands before.history.records in
             ap (λ closed. cond closed (Some Closed) (refusal_of before.history.settings.estimate
             (rows_in before.history) command))
-            (open_with_front before.history.settings.estimate commands all row is) ∙ fits
+            (open_with_front before.history.settings commands all row is) ∙ fits
 
         removal_fits : (n : ℕ) → n ≤ length (unread_in before.history) →
             refusal_of before.history.settings.estimate (rows_in before.history) (RemoveBytes n) ≡ None
@@ -184,7 +184,7 @@ module _ (before : Standing) where
               ap (λ found. refusal_of_progress found n) there.is
               ∙ ap (λ (far : Bool). cond far (Some TooFar) None)
               (near row.progress (progress_in before.history) n length (ap progress_of there.is) within less
-              (region_within before.history.settings.estimate
+              (region_within before.history.settings
               (accepted_commands before.history.records) all row length there.is there.part))
             where
               near : (own progress n length : ℕ) → progress ≡ own → n ≤ length - progress → progress < length →
@@ -287,7 +287,7 @@ module _ (before : Standing) where
             bytes_sent_by (rows_in before.history) Remove ≡ []
         region_cleared length there = ap front_bytes there.is ∙ ap block_bytes there.part
 
-  module _ (limits : Limits) (caller : ℕ) (all : are_accepted before.history.settings.estimate []
+  module _ (limits : Limits) (caller : ℕ) (all : are_accepted before.history.settings []
       (accepted_commands before.history.records) ≡ true) where
     -- what a pass takes is sent, by what stands in front
     pub pass_alike : (result : Result Pass PassFault) (after : Standing) → IsPass limits caller before result after →
@@ -376,7 +376,7 @@ none_unread : (rows : List Row) → front rows ≡ None → length (unread_bytes
 none_unread rows none = ap (λ rows. length (concat (blocks_in_front (map unread_part rows)))) (none_in_line rows none)
 
 module _ (history : History) (caller : ℕ)
-    (all : are_accepted history.settings.estimate [] (accepted_commands history.records) ≡ true)
+    (all : are_accepted history.settings [] (accepted_commands history.records) ≡ true)
     (place : is_full history ≡ false) where
   -- a removal of bytes with which the line begins sends them
   pub removal_sends : (bytes rest : List ℕ) → unread_in history ≡ bytes ++ rest →

@@ -15,9 +15,9 @@ ghost use Rattle.ob_transport.specs.declared.limits.Limits.{Limits};
 /// those by which the sent ones do, but for bytes that it leaves unbooked, which stand at the front.
 pub fn what_a_pass_takes_is_sent()
     ensures alike { (limits : Limits) (caller : ℕ) (before after : Standing) (result : Result Pass PassFault) →
-        are_accepted before.history.settings.estimate [] (accepted_commands before.history.records) ≡ true
+        are_accepted before.history.settings [] (accepted_commands before.history.records) ≡ true
         → IsPass limits caller before result after → IsBooked result → GrowAlike before after }
     ensures unbooked { (limits : Limits) (caller : ℕ) (before after : Standing) (taken : ℕ) →
-        are_accepted before.history.settings.estimate [] (accepted_commands before.history.records) ≡ true
+        are_accepted before.history.settings [] (accepted_commands before.history.records) ≡ true
         → IsPass limits caller before (Err (Unbooked taken)) after → GrowAlikeBut taken before after }
 {}
