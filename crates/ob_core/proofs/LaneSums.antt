@@ -29,6 +29,32 @@ at-le-sum_by f lanes index lane is_lane =
     let here : f (get_or lanes index lane) ≡ f lane = ap f (get_or_from_slice_get lanes index lane lane is_lane) in
     omega (arith, get_or-le-sum_by f lanes index lane within, here)
 
+-- two lanes have together no more than all
+pub two-le-sum_by : (f : Lane → ℕ) (lanes : List Lane) (index other : ℕ) (lane second : Lane) → index ≢ other
+    → slice_get lanes index ≡ Some lane → slice_get lanes other ≡ Some second → f lane + f second ≤ sum_by f lanes
+two-le-sum_by f [] index other lane second apart is_lane is_second = absurd (cc)
+two-le-sum_by f (first ∷ lanes) zero zero lane second apart is_lane is_second = absurd (apart refl)
+two-le-sum_by f (first ∷ lanes) zero (suc other) lane second apart is_lane is_second =
+    omega (
+      arith,
+      sum_by-cons f first lanes,
+      ap f (same_Some first lane is_lane),
+      at-le-sum_by f lanes other second is_second,
+    )
+two-le-sum_by f (first ∷ lanes) (suc index) zero lane second apart is_lane is_second =
+    omega (
+      arith,
+      sum_by-cons f first lanes,
+      ap f (same_Some first second is_second),
+      at-le-sum_by f lanes index lane is_lane,
+    )
+two-le-sum_by f (first ∷ lanes) (suc index) (suc other) lane second apart is_lane is_second =
+    omega (
+      arith,
+      sum_by-cons f first lanes,
+      two-le-sum_by f lanes index other lane second (λ same. apart (ap suc same)) is_lane is_second,
+    )
+
 -- where each lane has of the one no more than of the other, so have all
 pub sum_by-le-each : (f g : Lane → ℕ) (lanes : List Lane) → All (λ l. f l ≤ g l) lanes → sum_by f lanes ≤ sum_by g lanes
 sum_by-le-each f g [] each = omega arith

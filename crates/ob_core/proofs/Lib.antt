@@ -1,5 +1,6 @@
 pub mod AccountsLemmas
 pub mod BitLemmas
+pub mod EndLemmas
 pub mod FoundLemmas
 pub mod Kept
 pub mod LaneSums

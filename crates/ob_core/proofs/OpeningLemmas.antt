@@ -10,6 +10,7 @@ use Rattle.ob_types.specs.WaterMark.{Marks}
 use Rattle.ob_core.specs.Accounts.{AccountsHold, BitsAgree, BytesAgree, IsWithinRoom, holders, raisers, sum_of_rooms}
 use Rattle.ob_core.specs.Bits.{is_set, AreAmong}
 use Rattle.ob_core.specs.FirstFault.{first_fault}
+use Rattle.ob_core.specs.Limits.{most_lanes, greatest_room}
 use Rattle.ob_core.specs.Opening.{Opening, any_overlap, bits_of, holders_of, is_bad_count, new_lane, new_core, one_lane, opening_fault, opening_of, room_of, share_a_bit}
 use Rattle.ob_core.specs.Owed.{owed_by, sum_owed}
 use Rattle.ob_core.specs.declared.lane.Lane.{Lane}
@@ -27,23 +28,23 @@ no_fault false true twice none = absurd (cc)
 no_fault false false true none = absurd (cc)
 no_fault false false false none = (refl, refl, refl)
 
-count_fits : (n : ℕ) → ((n == 0) || nat_lt 64 n) ≡ false → (0 < n) × (n ≤ 64)
+count_fits : (n : ℕ) → ((n == 0) || nat_lt most_lanes n) ≡ false → (0 < n) × (n ≤ most_lanes)
 count_fits n fine = (grind (arith, nat_tests), grind (arith, nat_tests))
 
-room_fits : (n : ℕ) → nat_lt 4294967295 n ≡ false → n ≤ 4294967295
+room_fits : (n : ℕ) → nat_lt greatest_room n ≡ false → n ≤ greatest_room
 room_fits n fine = grind (arith, nat_tests)
 
 -- lanes that make a world
 pub record AreFine (starts : List LaneStart) : Type 0 where
   pub some_lane : 0 < length starts
-  pub few_lanes : length starts ≤ 64
-  pub rooms_fit : room_of starts ≤ 4294967295
+  pub few_lanes : length starts ≤ most_lanes
+  pub rooms_fit : room_of starts ≤ greatest_room
   pub bits_apart : any_overlap (holders_of (map (λ start. start.bits) starts)) ≡ false
 
 pub AreFine-no_fault : (starts : List LaneStart) → opening_fault starts ≡ None → AreFine starts
 AreFine-no_fault starts none =
     let fine = no_fault (is_bad_count starts) _ _ none in
-    let count : (0 < length starts) × (length starts ≤ 64) = count_fits (length starts) fine.0 in
+    let count : (0 < length starts) × (length starts ≤ most_lanes) = count_fits (length starts) fine.0 in
     record {
       some_lane = count.0;
       few_lanes = count.1;

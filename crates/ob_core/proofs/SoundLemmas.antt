@@ -7,6 +7,7 @@ use Rattle.ob_core.specs.AskFault.{refusal_of}
 use Rattle.ob_core.specs.CoreState.{CoreState}
 use Rattle.ob_core.specs.CoreStep.{core_after_step}
 use Rattle.ob_core.specs.LaneStep.{total_after, lane_after, CanMake, FitsTotal, FitsWord}
+use Rattle.ob_core.specs.Limits.{greatest_room}
 use Rattle.ob_core.specs.Opening.{opening_fault, opening_of, new_lane, new_core}
 use Rattle.ob_core.specs.Owed.{owed_by, sum_owed}
 use Rattle.ob_core.specs.Sound.{IsSound}
@@ -62,7 +63,7 @@ IsSound-nothing core index lane ask is_lane accepted no_step sound =
     }
 
 -- what the lanes owe fits a u32
-pub sum_owed-fits : (core : CoreState) → IsSound core → sum_owed core.lanes ≤ 4294967295
+pub sum_owed-fits : (core : CoreState) → IsSound core → sum_owed core.lanes ≤ greatest_room
 sum_owed-fits core sound = omega
     (arith, total-le-room sound.opening core sound.accounts.bytes, sound.accounts.bytes.total, sound.rooms_fit)
 

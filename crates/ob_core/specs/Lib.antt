@@ -6,6 +6,7 @@ pub mod CoreStep
 pub mod FirstFault
 pub mod Found
 pub mod LaneStep
+pub mod Limits
 pub mod OneStep
 pub mod Opening
 pub mod Owed

@@ -4,15 +4,16 @@ use Rattle.std.specs.List.{list_any}
 use Rattle.ob_types.specs.WaterMark.{Marks}
 use Rattle.ob_core.specs.CoreState.{CoreState, WorldState}
 use Rattle.ob_core.specs.FirstFault.{first_fault}
+use Rattle.ob_core.specs.Limits.{most_lanes, greatest_room}
 use Rattle.ob_core.specs.declared.lane.Lane.{Lane}
 use Rattle.ob_core.specs.declared.lane.Phase.TheVariants.{Idle}
 use Rattle.ob_core.specs.declared.lane_start.LaneStart.{LaneStart}
 use Rattle.ob_core.specs.declared.world_fault.WorldFault.{WorldFault}
 use Rattle.ob_core.specs.declared.world_fault.WorldFault.TheVariants.{BadCount, TooMuchRoom, BitsTwice}
 
--- a world has 1 to 64 lanes
+-- a world has some lanes, and not too many
 abbrev pub is_bad_count : List LaneStart → Bool
-is_bad_count starts = (length starts == 0) || nat_lt 64 (length starts)
+is_bad_count starts = (length starts == 0) || nat_lt most_lanes (length starts)
 
 -- the rooms of the lanes together
 abbrev pub room_of : List LaneStart → ℕ
@@ -41,7 +42,7 @@ abbrev pub opening_fault : List LaneStart → Option WorldFault
 opening_fault starts =
     first_fault (
     (is_bad_count starts, BadCount)
-    ∷ (nat_lt 4294967295 (room_of starts), TooMuchRoom)
+    ∷ (nat_lt greatest_room (room_of starts), TooMuchRoom)
     ∷ (any_overlap (holders_of (map (λ start. start.bits) starts)), BitsTwice)
     ∷ [])
 

@@ -2,12 +2,14 @@
 use Rattle.std.specs.Prelude.{◌<◌, ◌≤◌, length}
 use Rattle.ob_core.specs.Accounts.{AccountsHold}
 use Rattle.ob_core.specs.CoreState.{CoreState}
+use Rattle.ob_core.specs.Limits.{most_lanes, greatest_room}
 use Rattle.ob_core.specs.Opening.{Opening}
 
--- there are 1 to 64 lanes, whose accounts hold with what they were opened with, a room that fits a u32
+-- there are some lanes, and not too many, whose accounts hold with what they were opened with, and their room keeps to its
+-- limit
 pub record IsSound (core : CoreState) : Type 0 where
   pub opening : Opening
   pub accounts : AccountsHold opening core
-  pub rooms_fit : opening.room ≤ 4294967295
+  pub rooms_fit : opening.room ≤ greatest_room
   pub some_lane : 0 < length core.lanes
-  pub few_lanes : length core.lanes ≤ 64
+  pub few_lanes : length core.lanes ≤ most_lanes

@@ -2,9 +2,9 @@
 use Rattle.std.specs.Prelude.{◌≡◌, ℕ, ◌+◌, ◌*◌, ◌^◌, List, [], ◌∷◌, Some, None}
 use Rattle.ob_types.specs.declared.reply.Change.TheVariants.{Unwritable, Writable}
 use Rattle.ob_core.specs.Accounts.{AccountsHold}
-use Rattle.ob_core.specs.Bits.{with_bit, without_bit}
+use Rattle.ob_core.specs.Bits.{with_bit, without_bit, SetsBit, ClearsBit}
 use Rattle.ob_core.specs.CoreState.{CoreState}
-use Rattle.ob_core.specs.Found.{value_found, change_found}
+use Rattle.ob_core.specs.Found.{value_found, change_found, LeavesOther}
 use Rattle.ob_core.specs.Opening.{Opening}
 use Rattle.ob_core.specs.Shares.{AreShares, IsDivision, IsMerger, spent_lane}
 use Rattle.ob_core.specs.declared.lane.Lane.{Lane}
@@ -139,3 +139,27 @@ WideBits =
     × (without_bit (5 * 2 ^ 32 + 1) 32 ≡ 4 * 2 ^ 32 + 1)
     × (without_bit (5 * 2 ^ 32 + 1) 33 ≡ 5 * 2 ^ 32 + 1)
     × (without_bit (5 * 2 ^ 32 + 1) 0 ≡ 5 * 2 ^ 32)
+
+-- 6 is 4 with bit 1 set; 7 has another bit more, 2 one less, and 4 has not that bit
+abbrev pub BitSet : Type 0
+BitSet =
+    SetsBit 4 1 6
+    × (SetsBit 4 1 7 → ⊥)
+    × (SetsBit 4 1 2 → ⊥)
+    × (SetsBit 4 1 4 → ⊥)
+
+-- 4 is 6 with bit 1 cleared; 5 has another bit more, 0 one less, and 6 has that bit still
+abbrev pub BitCleared : Type 0
+BitCleared =
+    ClearsBit 6 1 4
+    × (ClearsBit 6 1 5 → ⊥)
+    × (ClearsBit 6 1 0 → ⊥)
+    × (ClearsBit 6 1 6 → ⊥)
+
+-- an addition that changes the word too, and a raise that changes the total too, do not leave the other word
+abbrev pub OtherLeft : Type 0
+OtherLeft =
+    LeavesOther (Add 1) (state 60 5 []) (state 61 5 [])
+    × (LeavesOther (Add 1) (state 60 5 []) (state 61 4 []) → ⊥)
+    × LeavesOther Raise (state 60 4 []) (state 60 5 [])
+    × (LeavesOther Raise (state 60 4 []) (state 61 5 []) → ⊥)

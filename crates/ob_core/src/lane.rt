@@ -1,5 +1,6 @@
 ghost use Rattle.std.specs.Prelude.{◌≡◌, ◌≤◌, length, ◌↔◌, map, All, IsTrue, IfOk, slice_get};
 ghost use Rattle.ob_core.specs.declared.lane.Phase.TheVariants.{Idle};
+ghost use Rattle.ob_core.specs.Limits.{most_lanes};
 ghost use Rattle.ob_core.specs.Opening.{new_lane};
 ghost use Rattle.ob_core.specs.Owed.{sum_owed};
 
@@ -149,7 +150,7 @@ pub fn make_lanes(alloc: Global, starts: &[LaneStart]) -> Result<Vec<Lane>, Allo
 
 /// What the lanes owe together.
 pub fn add_debts(lanes: &[Lane]) -> u64
-    requires { length lanes.now ≤ 64 }
+    requires { length lanes.now ≤ most_lanes }
     ensures { result ≡ sum_owed lanes.now }
 {
     lanes.iter().map(|lane| u64::from(lane.owed())).sum()

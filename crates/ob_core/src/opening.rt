@@ -1,4 +1,5 @@
 ghost use Rattle.std.specs.Prelude.{◌≡◌, ◌<◌, ◌≤◌, length, map};
+ghost use Rattle.ob_core.specs.Limits.{most_lanes};
 ghost use Rattle.ob_core.specs.Opening.{opening_fault, room_of, any_overlap, holders_of};
 
 use crate::bits::MARK_BIT;
@@ -29,7 +30,7 @@ pub fn find_fault(starts: &[LaneStart]) -> Option<WorldFault>
 
 /// The rooms of the lanes together.
 fn total_room(starts: &[LaneStart]) -> u64
-    requires { length starts.now ≤ 64 }
+    requires { length starts.now ≤ most_lanes }
     ensures { result ≡ room_of starts.now }
 {
     starts.iter().map(|start| u64::from(start.room)).sum()

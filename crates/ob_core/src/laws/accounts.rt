@@ -1,7 +1,7 @@
 //! The accounts of the lanes: where they hold at the beginning, each step, each turn, each division and each merger
 //! keeps them, and what follows from them.
 
-ghost use Rattle.std.specs.Prelude.{◌≡◌, ℕ, ◌+◌, ◌≤◌, List, false, Some, None, slice_get};
+ghost use Rattle.std.specs.Prelude.{◌≡◌, ℕ, ◌+◌, ◌<◌, ◌≤◌, List, false, Some, None, slice_get};
 ghost use Rattle.std.specs.Int.{bit_at};
 ghost use Rattle.ob_types.specs.WaterMark.{Marks};
 ghost use Rattle.ob_core.specs.Accounts.{AccountsHold};
@@ -10,7 +10,7 @@ ghost use Rattle.ob_core.specs.CoreState.{CoreState};
 ghost use Rattle.ob_core.specs.CoreStep.{IsCoreStep};
 ghost use Rattle.ob_core.specs.Opening.{Opening, opening_fault, opening_of, new_core, one_lane};
 ghost use Rattle.ob_core.specs.Owed.{owed_by};
-ghost use Rattle.ob_core.specs.Shares.{IsDivision, IsMerger};
+ghost use Rattle.ob_core.specs.Shares.{IsDivision, IsFree, IsMerger};
 ghost use Rattle.ob_core.specs.Turn.{core_after};
 ghost use Rattle.ob_core.specs.declared.ask.Turn.{Turn};
 ghost use Rattle.ob_core.specs.declared.lane.Lane.{Lane};
@@ -67,4 +67,15 @@ pub fn accounts_show_held_bits()
     ensures shown { (opening : Opening) (core : CoreState) (index : ℕ) (lane : Lane) (bit : ℕ) →
         AccountsHold opening core → slice_get core.lanes index ≡ Some lane →
         bit_at lane.held bit ≡ 1 → bit_at core.word bit ≡ bit_at lane.raised bit }
+{}
+
+/// Where a lane between two calls owes nothing and has the whole room, the total is 0, and at a positive low mark bit 0
+/// is clear: no lane has room left to be in the middle of a call.
+pub fn a_free_lane_with_the_whole_room_ends_at_nothing()
+    ensures total { (opening : Opening) (core : CoreState) (index : ℕ) (lane : Lane) →
+        AccountsHold opening core → slice_get core.lanes index ≡ Some lane → IsFree lane → opening.room ≤ lane.room →
+        core.total ≡ 0 }
+    ensures mark { (opening : Opening) (core : CoreState) (index : ℕ) (lane : Lane) →
+        AccountsHold opening core → slice_get core.lanes index ≡ Some lane → IsFree lane → opening.room ≤ lane.room →
+        0 < opening.marks.low → is_set core.word 0 ≡ false }
 {}

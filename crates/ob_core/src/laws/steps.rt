@@ -8,11 +8,20 @@ ghost use Rattle.ob_core.specs.CoreState.{CoreState};
 ghost use Rattle.ob_core.specs.CoreStep.{IsCoreStep};
 ghost use Rattle.ob_core.specs.Found.{value_found, LeavesOther, change_found};
 ghost use Rattle.ob_core.specs.declared.lane_step.LaneStep.{LaneStep};
+ghost use Rattle.ob_core.specs.declared.lane_step.LaneStep.TheVariants.{LoadWord, LoadTotal};
 
 /// A step on the total leaves the word, and a step on the word leaves the total.
 pub fn a_step_changes_one_word()
     ensures one_word { (old new : CoreState) (index : ℕ) (step : LaneStep) →
         IsCoreStep old index step new → LeavesOther step old new }
+{}
+
+/// A load of the word and a load of the total leave both.
+pub fn a_load_changes_no_word()
+    ensures load_word { (old new : CoreState) (index : ℕ) →
+        IsCoreStep old index LoadWord new → (new.total ≡ old.total) × (new.word ≡ old.word) }
+    ensures load_total { (old new : CoreState) (index : ℕ) →
+        IsCoreStep old index LoadTotal new → (new.total ≡ old.total) × (new.word ≡ old.word) }
 {}
 
 /// The change that a step reads off the value that it found is the change between the word before and after it.

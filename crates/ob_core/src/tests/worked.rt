@@ -1,6 +1,6 @@
 //! The definitions, computed on small core states and steps.
 
-ghost use Rattle.ob_core.specs.Worked.{GoodAccounts, WrongTotal, ShownAndNotRaised, RaisedAndNotShown, HeldTwice, RaisedAndNotHeld, LostRoom, ForgottenMark, RaisingNothing, BusyWithoutRoom, OwingMoreThanRoom, BitGiven, BitGivenAndKept, Divided, Merged, Finds, Changes, WideBits};
+ghost use Rattle.ob_core.specs.Worked.{GoodAccounts, WrongTotal, ShownAndNotRaised, RaisedAndNotShown, HeldTwice, RaisedAndNotHeld, LostRoom, ForgottenMark, RaisingNothing, BusyWithoutRoom, OwingMoreThanRoom, BitGiven, BitGivenAndKept, Divided, Merged, Finds, Changes, WideBits, BitSet, BitCleared, OtherLeft};
 
 fn worked_accounts()
     ensures good { GoodAccounts }
@@ -27,6 +27,9 @@ fn worked_steps()
     ensures finds { Finds }
     ensures changes { Changes }
     ensures wide_bits { WideBits }
+    ensures bit_set { BitSet }
+    ensures bit_cleared { BitCleared }
+    ensures other_left { OtherLeft }
 {}
 
 #[test]
