@@ -20,10 +20,10 @@ use Rattle.ob_core.specs.Opening.{Opening}
 use Rattle.ob_core.specs.Shares.{IsFree, AreShares, IsDivision, IsMerger, spent_lane}
 use Rattle.ob_lanes.specs.declared.facts.Facts.{Facts}
 use Rattle.ob_lanes.proofs.Halves.{are_shares, are_merged}
-use Rattle.ob_core.proofs.LaneSums.{all_at}
+use Rattle.ob_core.proofs.LaneSums.{all_at, two-le-sum_by}
 use Rattle.ob_lanes.proofs.KeptAccounts.{accounts_after_division, accounts_after_merger}
 use Rattle.ob_lanes.proofs.Moves.{St, core, opening_known}
-use Rattle.ob_lanes.proofs.Views.{slice_get_map, made_at-kept, made_at-new, two_of_sum}
+use Rattle.ob_lanes.proofs.Views.{slice_get_map, made_at-kept, made_at-new}
 
 abbrev lane_of : Facts → Lane
 lane_of facts = facts.lane
@@ -96,10 +96,10 @@ module _ (opening : Opening) (s : St) (id other : ℕ) (facts theirs : Facts) (r
 
   -- the two lanes share what there is
   rooms_fit : facts.lane.room + theirs.lane.room ≤ opening.room
-  rooms_fit = omega (arith, two_of_sum (λ (l : Lane). l.room) lanes id other facts.lane theirs.lane (λ same. apart (sym same)) at_lane their_at_lane, ruled.accounts.bytes.rooms)
+  rooms_fit = omega (arith, two-le-sum_by (λ (l : Lane). l.room) lanes id other facts.lane theirs.lane (λ same. apart (sym same)) at_lane their_at_lane, ruled.accounts.bytes.rooms)
 
   bits_apart : (i : ℕ) → bit_at facts.lane.held i + bit_at theirs.lane.held i ≤ 1
-  bits_apart i = omega (arith, two_of_sum (λ (l : Lane). bit_at l.held i) lanes id other facts.lane theirs.lane (λ same. apart (sym same)) at_lane their_at_lane, ruled.accounts.bits.held i, bit_at-lt opening.bits i)
+  bits_apart i = omega (arith, two-le-sum_by (λ (l : Lane). bit_at l.held i) lanes id other facts.lane theirs.lane (λ same. apart (sym same)) at_lane their_at_lane, ruled.accounts.bits.held i, bit_at-lt opening.bits i)
 
   abbrev joined : Facts
   joined = both_facts facts theirs

@@ -1,12 +1,10 @@
 -- Views, read by the table's way to index a list and by std's; and what each seat has made.
-use Rattle.std.proofs.Common.{◌≡◌, ◌≢◌, ℕ, zero, suc, ◌+◌, ◌≤◌, List, [], ◌∷◌, ◌++◌, map, set, cond, eqb, sym, refl, ap, ◌∙◌, arith, Some}
+use Rattle.std.proofs.Common.{◌≡◌, ℕ, zero, suc, List, [], ◌∷◌, ◌++◌, map, set, cond, eqb, sym, refl, ap, ◌∙◌, Some}
 use Rattle.std.proofs.Math.Dec.{eqb-suc-zero, eqb-zero-suc, eqb-suc-suc}
 use Rattle.std.proofs.lemmas.List.{append-nil}
-use Rattle.std.proofs.lemmas.List.Sums.{sum_by-cons, get_or-le-sum_by}
-use Rattle.std.proofs.lemmas.Option.{slice_get_within, get_or_from_slice_get, same_Some}
 use mathlib.Core.Option.{some, some-injective, some-ne-none}
 use lib.ListN.{get_elem?}
-use Rattle.std.specs.List.{slice_get, sum_by}
+use Rattle.std.specs.List.{slice_get}
 use Rattle.ob_lanes.specs.Facts.{made_at}
 use Rattle.ob_lanes.specs.declared.facts.Facts.{Facts}
 use Rattle.ob_lanes.specs.declared.facts.Made.{Made}
@@ -52,16 +50,3 @@ made_at-new [] new none zero = none
 made_at-new [] new none (suc seat) = refl
 made_at-new (v ∷ views) new none zero = refl
 made_at-new (v ∷ views) new none (suc seat) = made_at-new views new none seat
-
--- an element of a list has at most the sum of the list
-one_of_sum : {X : Type 0} (f : X → ℕ) (xs : List X) (i : ℕ) (x : X) → slice_get xs i ≡ Some x → f x ≤ sum_by f xs
-one_of_sum f xs i x at = omega (arith, get_or-le-sum_by f xs i x (slice_get_within xs i x at), ap f (get_or_from_slice_get xs i x x at))
-
--- two elements of a list have at most the sum of the list
-pub two_of_sum : {X : Type 0} (f : X → ℕ) (xs : List X) (i j : ℕ) (x y : X) → i ≢ j → slice_get xs i ≡ Some x → slice_get xs j ≡ Some y → f x + f y ≤ sum_by f xs
-two_of_sum f [] i j x y apart at_i at_j = absurd (cc)
-two_of_sum f (z ∷ zs) zero zero x y apart at_i at_j = absurd (apart refl)
-two_of_sum f (z ∷ zs) zero (suc j) x y apart at_i at_j = omega (arith, sum_by-cons f z zs, ap f (same_Some z x at_i), one_of_sum f zs j y at_j)
-two_of_sum f (z ∷ zs) (suc i) zero x y apart at_i at_j = omega (arith, sum_by-cons f z zs, ap f (same_Some z y at_j), one_of_sum f zs i x at_i)
-two_of_sum f (z ∷ zs) (suc i) (suc j) x y apart at_i at_j =
-    omega (arith, sum_by-cons f z zs, two_of_sum f zs i j x y (λ same. apart (ap suc same)) at_i at_j)

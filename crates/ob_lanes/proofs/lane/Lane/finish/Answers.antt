@@ -1,6 +1,6 @@
 use Rattle.std.proofs.Common.{◌≡◌, ◌≤◌, sym, ap, arith}
 use Rattle.ob_core.specs.Shares.{IsFree}
-use Rattle.ob_lanes.proofs.Ends.{nothing_left, mark_clear, held_shown, foreign_clear, word_below, runs}
+use Rattle.ob_lanes.proofs.Ends.{none_left, mark_is_clear, held_shown, foreign_clear, word_below, runs}
 use Rattle.ob_lanes.proofs.lane.Lane.finish.Goals as goal
 
 free : (c : goal.After-end-total) → IsFree c.self.inside.seat.me.0.lane
@@ -20,10 +20,10 @@ overflow_cast-result c =
     omega (arith, below)
 
 pub returns-clause-total : goal.returns-clause-total
-returns-clause-total c = nothing_left c.args.words.opening c.self.inside.seat _ _ c.end-total.ensures.end (free c) (whole c)
+returns-clause-total c = none_left c.args.words.opening c.self.inside.seat _ _ c.end-total.ensures.end (free c) (whole c)
 
 pub returns-clause-mark : goal.returns-clause-mark
-returns-clause-mark c = mark_clear c.args.words.opening c.self.inside.seat _ _ c.end-total.ensures.end (free c) (whole c)
+returns-clause-mark c = mark_is_clear c.args.words.opening c.self.inside.seat _ _ c.end-total.ensures.end (free c) (whole c)
 
 pub returns-clause-held : goal.returns-clause-held
 returns-clause-held c = rw (← c.self.view_is) (held_shown c.args.words.opening c.self.inside.seat _ _ c.end-total.ensures.end)
