@@ -19,9 +19,12 @@ ghost use Rattle.ob_history.specs.Glance.{glance_after};
 ghost use Rattle.ob_history.specs.History.{History, IsBounded};
 ghost use Rattle.ob_history.specs.Legal.{IsLegal};
 ghost use Rattle.ob_history.specs.Own.{HoldAll, Holding, records_of};
-ghost use Rattle.ob_history.specs.Receipt.{record_of};
+ghost use Rattle.ob_history.specs.Receipt.{IsReceiptIn, record_of};
+ghost use Rattle.ob_history.specs.Seen.{IsSeenIn, seen_now};
 ghost use Rattle.ob_history.specs.Settlements.{settlements_in};
+ghost use Rattle.ob_history.specs.declared.receipt.Receipt.{Receipt};
 ghost use Rattle.ob_history.specs.declared.record.Record.{Record};
+ghost use Rattle.ob_history.specs.declared.seen.Seen.{Seen};
 
 use ob_seq::{
     a_promise_is_unknown_past_the_writes, accepted_commands_keep_to_the_limits,
@@ -68,6 +71,15 @@ pub fn a_call_keeps_a_history_legal()
     ensures accepted { (history : History) (caller : ℕ) (command : Command) →
         accepted_commands (history.records ++ next_record history caller command ∷ [])
         ≡ commands_after history.settings (accepted_commands history.records) command }
+{}
+
+/// What is seen now of a history is of it. A receipt and a look that are of a history stay so while records are added.
+pub fn what_is_of_a_history_stays_so()
+    ensures seen { (history : History) → IsSeenIn history.settings history.records (seen_now history) }
+    ensures look { (settings : Settings) (records more : List Record) (look : Seen) →
+        IsSeenIn settings records look → IsSeenIn settings (records ++ more) look }
+    ensures receipt { (records more : List Record) (receipt : Receipt) →
+        IsReceiptIn records receipt → IsReceiptIn (records ++ more) receipt }
 {}
 
 /// A legal history keeps to the limits: an accepted removal of n bytes has n at most 4294967295, at most 4294967295
