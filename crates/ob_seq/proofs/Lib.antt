@@ -6,10 +6,12 @@ mod BytesRemoved
 mod Cancelled
 mod Closing
 mod Digits
+pub mod EachRow
 mod Entries
 mod EntrySettlements
 mod Failing
 mod Failures
+mod Fits
 mod Fitting
 mod Flushing
 mod Fronts
