@@ -10,6 +10,7 @@ mod Entries
 mod EntrySettlements
 mod Failing
 mod Failures
+mod Fields
 mod Fitting
 mod Flushing
 mod Fronts
