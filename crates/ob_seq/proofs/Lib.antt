@@ -11,6 +11,7 @@ mod Entries
 mod EntrySettlements
 mod Failing
 mod Failures
+mod Fields
 mod Fits
 mod Fitting
 mod Flushing
