@@ -1,7 +1,7 @@
 -- What one more command does to each row, as one relation between the row before it and after.
 use Rattle.std.proofs.Common.{◌≡◌, ℕ, zero, suc, ◌+◌, Bool, true, false, ◌&&◌, List, [], ◌∷◌, ◌++◌, length, map, refl}
-use Rattle.std.proofs.Common.{cond, ltb}
-use Rattle.std.specs.Prelude.{Option, Some, None, is_some}
+use Rattle.std.proofs.Common.{arith, cond, ltb}
+use Rattle.std.specs.Prelude.{None, is_some}
 use Rattle.ob_types.specs.Write.{is_write}
 use Rattle.ob_types.specs.declared.command.Command.{Command}
 use Rattle.ob_types.specs.declared.command.Command.TheVariants.{Write, Flush, Remove, RemoveWith, RemoveBytes}
@@ -10,8 +10,6 @@ use Rattle.ob_types.specs.declared.estimate.Estimate.{Estimate}
 use Rattle.ob_types.specs.declared.promise.Cause.{Cause}
 use Rattle.ob_types.specs.declared.promise.Outcome.{Outcome}
 use Rattle.ob_types.specs.declared.promise.Outcome.TheVariants.{Success, Failed}
-use Rattle.ob_types.specs.declared.refusal.Refusal.{Refusal}
-use Rattle.ob_types.specs.declared.refusal.Refusal.TheVariants.{FlushedLeft}
 use Rattle.ob_seq.specs.Answer.{refusal_of}
 use Rattle.ob_seq.specs.ByteRun.{bytes_left_over, whole_rows}
 use Rattle.ob_seq.specs.Effect.{cancelled, closed_row, effect, failed_row, flushed_row, progressed_row, reached_row}
@@ -41,11 +39,60 @@ pub record IsKept (Accepted : Type 0) (R : Row → Row → Type 0) : Type 0 wher
   pub back : (row : Row) → R row (taken_back row)
   pub closed : (cause : Cause) (row : Row) → (Accepted → is_in_line row ≡ false) → R row (closed_row cause row)
 
-module _ (Accepted : Type 0) (R : Row → Row → Type 0) (kept : IsKept Accepted R) where
-  same_rows : (rows : List Row) → EachRow R rows rows
-  same_rows [] = tt
-  same_rows (row ∷ rows) = (kept.same row, same_rows rows)
+module _ (R : Row → Row → Type 0) where
+  pub map_rows : (change : Row → Row) → ((row : Row) → R row (change row)) → (rows : List Row) →
+      EachRow R rows (map change rows)
+  map_rows change turn [] = tt
+  map_rows change turn (row ∷ rows) = (turn row, map_rows change turn rows)
 
+  -- where some rows stay
+  module _ (same : (row : Row) → R row row) where
+    same_rows : (rows : List Row) → EachRow R rows rows
+    same_rows [] = tt
+    same_rows (row ∷ rows) = (same row, same_rows rows)
+
+    -- where a change is made, by a test
+    by_test : (change : Row → Row) (row : Row) (test : Bool) → (test ≡ true → R row (change row)) →
+        R row (cond test (change row) row)
+    by_test change row true turn = turn refl
+    by_test change row false turn = same row
+
+    -- a change of the front
+    pub front_row : (change : Row → Row) → ((row : Row) → is_in_line row ≡ true → R row (change row)) →
+        (rows : List Row) → EachRow R rows (with_front change rows)
+    front_row change turn [] = tt
+    front_row change turn (row ∷ rows) = by_line (is_in_line row) refl (front_row change turn rows)
+      where
+        by_line : (here : Bool) → is_in_line row ≡ here → EachRow R rows (with_front change rows) →
+            EachRow R (row ∷ rows) (cond here (change row ∷ rows) (row ∷ with_front change rows))
+        by_line true is rest = (turn row is, same_rows rows)
+        by_line false is rest = (same row, rest)
+
+    -- and of the first in line
+    first_rows : (change : Row → Row) → ((row : Row) → is_in_line row ≡ true → R row (change row)) →
+        (count : ℕ) (before rows : List Row) → EachRow R rows (with_first_behind count change before rows)
+    first_rows change turn count before [] = tt
+    first_rows change turn count before (row ∷ rows) = (
+      early (ltb (length (line before)) count) (turn row) (same row),
+      first_rows change turn count (before ++ row ∷ []) rows,
+    )
+      where
+        early : (few : Bool) → (is_in_line row ≡ true → R row (change row)) → R row row →
+            R row (cond (is_in_line row && few) (change row) row)
+        early few turn same = grind arith
+
+    pub cancelled_row : ((row : Row) → R row (taken_back row)) → (id : ℕ) (rows : List Row) →
+        EachRow R rows (with_cancelled id rows)
+    cancelled_row back id [] = tt
+    cancelled_row back zero (row ∷ rows) = (back row, same_rows rows)
+    cancelled_row back (suc id) (row ∷ rows) = (same row, cancelled_row back id rows)
+
+    pub skipped_rows : (n : ℕ) → ((row : Row) → R row (skipped_row n row)) → (rows : List Row) → (some : Bool) →
+        EachRow R rows (cond some (with_front (skipped_row n) rows) rows)
+    skipped_rows n turn rows true = front_row (skipped_row n) (λ row is. turn row) rows
+    skipped_rows n turn rows false = same_rows rows
+
+module _ (Accepted : Type 0) (R : Row → Row → Type 0) (kept : IsKept Accepted R) where
   both_rows : (before between after : List Row) → EachRow R before between → EachRow R between after →
       EachRow R before after
   both_rows [] [] after first second = second
@@ -55,63 +102,18 @@ module _ (Accepted : Type 0) (R : Row → Row → Type 0) (kept : IsKept Accepte
   both_rows (was ∷ before) (row ∷ between) (now ∷ after) first second =
       (kept.both was row now first.0 second.0, both_rows before between after first.1 second.1)
 
-  -- where a change is made, by a test
-  by_test : (change : Row → Row) (row : Row) (test : Bool) → (test ≡ true → R row (change row)) →
-      R row (cond test (change row) row)
-  by_test change row true turn = turn refl
-  by_test change row false turn = kept.same row
-
-  map_rows : (change : Row → Row) → ((row : Row) → R row (change row)) → (rows : List Row) →
-      EachRow R rows (map change rows)
-  map_rows change turn [] = tt
-  map_rows change turn (row ∷ rows) = (turn row, map_rows change turn rows)
-
-  -- a change of rows in line: of the front, and of the first ones
-  module _ (change : Row → Row) (turn : (row : Row) → is_in_line row ≡ true → R row (change row)) where
-    front_row : (rows : List Row) → EachRow R rows (with_front change rows)
-    front_row [] = tt
-    front_row (row ∷ rows) = by_line (is_in_line row) refl (front_row rows)
-      where
-        by_line : (here : Bool) → is_in_line row ≡ here → EachRow R rows (with_front change rows) →
-            EachRow R (row ∷ rows) (cond here (change row ∷ rows) (row ∷ with_front change rows))
-        by_line true is rest = (turn row is, same_rows rows)
-        by_line false is rest = (kept.same row, rest)
-
-    first_rows : (count : ℕ) (before rows : List Row) → EachRow R rows (with_first_behind count change before rows)
-    first_rows count before [] = tt
-    first_rows count before (row ∷ rows) =
-        (by_place (is_in_line row) refl (ltb (length (line before)) count), first_rows count (before ++ row ∷ []) rows)
-      where
-        by_place : (here : Bool) → is_in_line row ≡ here → (early : Bool) → R row (cond (here && early) (change row) row)
-        by_place true is true = turn row is
-        by_place true is false = kept.same row
-        by_place false is early = kept.same row
-
-  cancelled_row : (id : ℕ) (rows : List Row) → EachRow R rows (with_cancelled id rows)
-  cancelled_row id [] = tt
-  cancelled_row zero (row ∷ rows) = (kept.back row, same_rows rows)
-  cancelled_row (suc id) (row ∷ rows) = (kept.same row, cancelled_row id rows)
-
-  skipped_rows : (n : ℕ) (rows : List Row) → EachRow R rows (with_skipped n rows)
-  skipped_rows n rows = by_some (ltb 0 n)
-    where
-      by_some : (some : Bool) → EachRow R rows (cond some (with_front (skipped_row n) rows) rows)
-      by_some true = front_row (skipped_row n) (λ row is. kept.told row _ _) rows
-      by_some false = same_rows rows
-
   -- with no front nothing stands in line
   closed_rows : (cause : Cause) (rows : List Row) → (Accepted → is_some (front rows) ≡ false) →
       EachRow R rows (map (closed_row cause) rows)
   closed_rows cause [] none = tt
   closed_rows cause (row ∷ rows) none = (
-    kept.closed cause row (λ accepted. (by_line (is_in_line row) (none accepted)).0),
-    closed_rows cause rows (λ accepted. (by_line (is_in_line row) (none accepted)).1),
+    kept.closed cause row (λ accepted. (nothing row rows (none accepted)).0),
+    closed_rows cause rows (λ accepted. (nothing row rows (none accepted)).1),
   )
     where
-      by_line : (here : Bool) → is_some (cond here (Some row) (front rows)) ≡ false →
-          (here ≡ false) × (is_some (front rows) ≡ false)
-      by_line true some = absurd (cc)
-      by_line false none = (refl, none)
+      nothing : (row : Row) (rows : List Row) → is_some (front (row ∷ rows)) ≡ false →
+          (is_in_line row ≡ false) × (is_some (front rows) ≡ false)
+      nothing row rows none = grind arith
 
   -- a command that is no write does so to each row
   pub effect_keeps : (estimate : Estimate) (rows : List Row) (command : Command) →
@@ -119,25 +121,25 @@ module _ (Accepted : Type 0) (R : Row → Row → Type 0) (kept : IsKept Accepte
       EachRow R rows (effect estimate rows command)
   effect_keeps estimate rows (Write message) fits other = absurd (cc)
   effect_keeps estimate rows Flush fits other =
-      map_rows flushed_row (λ row. by_test reached_row row (is_unflushed row.place) (kept.reached row)) rows
-  effect_keeps estimate rows Remove fits other = front_row (taken_row Success) (kept.taken Success) rows
+      map_rows R flushed_row (λ row. by_test R kept.same reached_row row (is_unflushed row.place) (kept.reached row)) rows
+  effect_keeps estimate rows Remove fits other = front_row R kept.same (taken_row Success) (kept.taken Success) rows
   effect_keeps estimate rows (RemoveWith cause) fits other =
-      front_row (taken_row (Failed cause)) (kept.taken (Failed cause)) rows
+      front_row R kept.same (taken_row (Failed cause)) (kept.taken (Failed cause)) rows
   effect_keeps estimate rows (RemoveBytes n) fits other =
-      both_rows rows (with_first (whole_rows n rows) (taken_row Success) rows) _
-      (first_rows (taken_row Success) (kept.taken Success) (whole_rows n rows) [] rows)
-      (skipped_rows (bytes_left_over n rows) (with_first (whole_rows n rows) (taken_row Success) rows))
+      let sent = with_first (whole_rows n rows) (taken_row Success) rows in
+      both_rows rows sent (with_skipped (bytes_left_over n rows) sent)
+      (first_rows R kept.same (taken_row Success) (kept.taken Success) (whole_rows n rows) [] rows)
+      (skipped_rows R kept.same (bytes_left_over n rows) (λ row. kept.told row _ _) sent (ltb 0 (bytes_left_over n rows)))
   effect_keeps estimate rows (Progress n) fits other =
-      front_row (progressed_row n) (λ row is. kept.told row row.skipped (row.progress + n)) rows
-  effect_keeps estimate rows (Cancel id) fits other = cancelled_row id.0 rows
+      front_row R kept.same (progressed_row n) (λ row is. kept.told row row.skipped (row.progress + n)) rows
+  effect_keeps estimate rows (Cancel id) fits other = cancelled_row R kept.same kept.back id.0 rows
   effect_keeps estimate rows (FailFlushed cause notify) fits other =
       let taken : Row → Row = taken_row (Failed cause) in
-      map_rows (failed_row cause) (λ row. by_test taken row (is_in_line row) (kept.taken (Failed cause) row)) rows
+      map_rows R (failed_row cause)
+      (λ row. by_test R kept.same taken row (is_in_line row) (kept.taken (Failed cause) row)) rows
   effect_keeps estimate rows (Close cause) fits other =
-      closed_rows cause rows (λ accepted. nothing_left (is_some (front rows)) (fits accepted))
+      closed_rows cause rows (λ accepted. nothing_left (fits accepted))
     where
-      nothing_left : (left : Bool) →
-          (let refusal : Option Refusal = cond left (Some FlushedLeft) None in refusal ≡ None) → left ≡ false
-      nothing_left true accepted = absurd (cc)
-      nothing_left false accepted = refl
-  effect_keeps estimate rows (UserBit index writable) fits other = same_rows rows
+      nothing_left : refusal_of estimate rows (Close cause) ≡ None → is_some (front rows) ≡ false
+      nothing_left accepted = grind arith
+  effect_keeps estimate rows (UserBit index writable) fits other = same_rows R kept.same rows

@@ -1,20 +1,21 @@
 -- The promise of each row fits its place, whatever command comes; and a promise that is settled stays so.
-use Rattle.std.proofs.Common.{◌≡◌, ℕ, zero, suc, true, false, ◌||◌, List, [], ◌∷◌, ◌++◌, ◌⊎◌, inl, inr, refl}
-use Rattle.std.proofs.Common.{cond}
-use Rattle.std.specs.Prelude.{Option, Some, None}
+use Rattle.std.proofs.Common.{◌≡◌, ℕ, zero, suc, true, false, List, [], ◌∷◌, ◌++◌, ◌⊎◌, inl, inr, refl}
+use Rattle.std.specs.Prelude.{Option, Some, None, fold}
 use Rattle.std.specs.List.{AllByRecursion}
 use Rattle.ob_types.specs.declared.command.Command.{Command}
 use Rattle.ob_types.specs.declared.command.Command.TheVariants.{Write}
 use Rattle.ob_types.specs.declared.estimate.Estimate.{Estimate}
 use Rattle.ob_types.specs.declared.promise.Cause.{Cause}
 use Rattle.ob_types.specs.declared.promise.Outcome.{Outcome}
-use Rattle.ob_types.specs.declared.promise.Outcome.TheVariants.{Failed, Cancelled}
+use Rattle.ob_types.specs.declared.promise.Outcome.TheVariants.{Cancelled}
 use Rattle.ob_types.specs.declared.promise.PromiseState.{PromiseState}
 use Rattle.ob_types.specs.declared.promise.PromiseState.TheVariants.{Waiting, Fixed, Settled}
 use Rattle.ob_seq.specs.Answer.{outcome_of, promise_at, refusal_of}
-use Rattle.ob_seq.specs.Effect.{cancelled, effect, failed, reached_row}
-use Rattle.ob_seq.specs.Row.{Row, Place, Unflushed, Flushed, Voided, Gone, is_flushed, is_unflushed, is_voided, new_row}
-use Rattle.ob_seq.proofs.EachRow.{EachRow, IsKept, effect_keeps}
+use Rattle.ob_seq.specs.Effect.{cancelled, closed_row, effect, reached_row, taken_row}
+use Rattle.ob_seq.specs.Row.{Row, Place, Unflushed, Flushed, Voided, Gone, is_unflushed, new_row}
+use Rattle.ob_seq.proofs.EachRow.{EachRow, IsKept, effect_keeps, taken_back}
+use Rattle.ob_seq.specs.Line.{is_in_line}
+use Rattle.std.proofs.Common.{arith}
 
 -- the outcome with which a promise is settled, if there is such a promise and it is
 abbrev pub outcome_in : Option PromiseState → Option Outcome
@@ -68,49 +69,16 @@ module _ (Accepted : Type 0) (Ended : PromiseState → Type 0) (ending : IsEndin
   StaysFit was row = Moves was.place was.promise row.place row.promise
 
   reached : (row : Row) → is_unflushed row.place ≡ true → StaysFit row (reached_row row)
-  reached row fresh = by_place row.place row.promise fresh
-    where
-      at : Place → PromiseState → Row
-      at place promise = record row { place = place; promise = promise }
+  reached row fresh fits = grind arith
 
-      by_place : (place : Place) (promise : PromiseState) → is_unflushed place ≡ true →
-          StaysFit (at place promise) (reached_row (at place promise))
-      by_place Unflushed promise fresh (inl waits) = rw waits (refl, tt)
-      by_place Unflushed promise fresh (inr back) = rw back (refl, refl)
-      by_place Flushed promise fresh fits = absurd (cc)
-      by_place Voided promise fresh fits = absurd (cc)
-      by_place Gone promise fresh fits = absurd (cc)
+  taken : (outcome : Outcome) (row : Row) → is_in_line row ≡ true → StaysFit row (taken_row outcome row)
+  taken outcome row here fits = grind (arith, ending.settled)
 
-  taken : (outcome : Outcome) (place : Place) (promise : PromiseState) → (is_flushed place || is_voided place) ≡ true →
-      Moves place promise Gone (cond (is_flushed place) (Settled outcome) promise)
-  taken outcome Unflushed promise here fits = absurd (cc)
-  taken outcome Flushed promise here fits = rw fits (ending.settled outcome, tt)
-  taken outcome Voided promise here fits = rw fits (ending.settled Cancelled, refl)
-  taken outcome Gone promise here fits = absurd (cc)
+  back : (row : Row) → StaysFit row (taken_back row)
+  back row fits = grind (arith, ending.back)
 
-  back_stays : (state : PromiseState) → StaysSettled (outcome_of state) (outcome_of (cancelled state))
-  back_stays Waiting = tt
-  back_stays Fixed = tt
-  back_stays (Settled outcome) = refl
-
-  back : (place : Place) (promise : PromiseState) → Moves place promise place (cancelled promise)
-  back Unflushed promise (inl waits) = rw waits (inr refl, tt)
-  back Unflushed promise (inr taken) = rw taken (inr refl, refl)
-  back Flushed promise fits = rw fits (refl, tt)
-  back Voided promise fits = rw fits (refl, refl)
-  back Gone promise fits = (ending.back promise fits, back_stays promise)
-
-  fixed : (Accepted → true ≡ false) → Ended Fixed
-  fixed away = elim ending.left [ inl accepted ↦ absurd (let both = away accepted in cc) | inr ended ↦ ended ]
-
-  closed : (cause : Cause) (place : Place) (promise : PromiseState) →
-      (Accepted → (is_flushed place || is_voided place) ≡ false) →
-      Moves place promise Gone (cond (is_unflushed place) (failed cause promise) promise)
-  closed cause Unflushed promise away (inl waits) = rw waits (ending.settled (Failed cause), tt)
-  closed cause Unflushed promise away (inr back) = rw back (ending.settled Cancelled, refl)
-  closed cause Flushed promise away fits = rw fits (fixed away, tt)
-  closed cause Voided promise away fits = rw fits (ending.settled Cancelled, refl)
-  closed cause Gone promise away fits = (fits, same_stays (outcome_of promise))
+  closed : (cause : Cause) (row : Row) → (Accepted → is_in_line row ≡ false) → StaysFit row (closed_row cause row)
+  closed cause row away fits = grind (arith, ending.settled, ending.left, away)
 
   staying : IsKept Accepted StaysFit
   staying = record {
@@ -120,10 +88,10 @@ module _ (Accepted : Type 0) (Ended : PromiseState → Type 0) (ending : IsEndin
         let two = second one.0 in
         (two.0, both_stay (outcome_of was.promise) (outcome_of between.promise) (outcome_of row.promise) one.1 two.1);
     reached = reached;
-    taken = λ outcome row. taken outcome row.place row.promise;
+    taken = taken;
     told = λ row skipped progress fits. (fits, same_stays (outcome_of row.promise));
-    back = λ row. back row.place row.promise;
-    closed = λ cause row. closed cause row.place row.promise;
+    back = back;
+    closed = closed;
   }
 
   -- rows that stay so, one by one
@@ -164,3 +132,21 @@ module _ (Accepted : Type 0) (Ended : PromiseState → Type 0) (ending : IsEndin
   effect_fits estimate rows command accepted fit =
       each_stays rows (effect estimate rows command)
       (effect_keeps Accepted StaysFit staying estimate rows command accepted refl) fit
+
+-- whatever commands came, each promise fits its place, but for those of messages that are gone
+pub loosely : IsEnding ⊥ (λ state. Unit {0})
+loosely = record { settled = λ outcome. tt; back = λ state ended. tt; left = inr tt }
+
+abbrev pub FitLoosely : List Row → Type 0
+FitLoosely rows = AllByRecursion (Fits ⊥ (λ state. Unit {0}) loosely) rows
+
+pub one_more : (estimate : Estimate) (rows : List Row) (command : Command) → FitLoosely rows →
+    FitLoosely (effect estimate rows command) × StaySettled rows (effect estimate rows command)
+one_more estimate rows command fit =
+    effect_fits ⊥ (λ state. Unit {0}) loosely estimate rows command (λ never. absurd never) fit
+
+pub fit_along : (estimate : Estimate) (rows : List Row) (commands : List Command) → FitLoosely rows →
+    FitLoosely (fold (effect estimate) rows commands)
+fit_along estimate rows [] fit = fit
+fit_along estimate rows (command ∷ commands) fit =
+    fit_along estimate (effect estimate rows command) commands (one_more estimate rows command fit).0

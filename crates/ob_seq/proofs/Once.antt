@@ -2,10 +2,8 @@
 use Rattle.std.proofs.Common.{◌≡◌, ℕ, zero, suc, ◌+◌, ◌<◌, ◌≤◌, true, false, List, [], ◌∷◌, ◌++◌, drop, refl, ap}
 use Rattle.std.proofs.Common.{cond, eqb, arith, inl, inr}
 use Rattle.std.specs.Prelude.{Option, Some, None, fold}
-use Rattle.std.specs.List.{AllByRecursion}
 use Rattle.std.proofs.lemmas.Bool.Decides.{nat_tests}
 use Rattle.std.proofs.lemmas.List.Sums.{sum_by-append}
-use Rattle.ob_types.specs.declared.estimate.Estimate.{Estimate}
 use Rattle.ob_types.specs.declared.command.Command.{Command}
 use Rattle.ob_types.specs.declared.promise.Outcome.{Outcome}
 use Rattle.ob_types.specs.declared.promise.PromiseId.{PromiseId}
@@ -18,8 +16,7 @@ use Rattle.ob_seq.specs.Answer.{answer_to, commands_after, first_refusal, outcom
 use Rattle.ob_seq.specs.Looks.{promise_after}
 use Rattle.ob_seq.specs.Settles.{settled_along, settled_by, times_settled}
 use Rattle.ob_seq.proofs.Accepting.{refused_or_not}
-use Rattle.ob_seq.proofs.Fits.{Fits, IsEnding, StaySettled, StaysSettled, effect_fits, outcome_at, outcome_in}
-use Rattle.ob_seq.proofs.Fits.{same_stays}
+use Rattle.ob_seq.proofs.Fits.{StaySettled, StaysSettled, fit_along, one_more, outcome_at, outcome_in, same_stays}
 use Rattle.ob_seq.proofs.History.{rows_after_more}
 
 -- a promise with an outcome is settled with it
@@ -105,24 +102,6 @@ counted at (suc more) id is before (row ∷ after) stay =
     (λ id. rw (outcome_behind before id) (stay (suc id))) in
     let both = times_first id at before row after in
     rw (← outcome_behind before more) (omega arith)
-
--- whatever commands came, each promise fits its place, but for those of messages that are gone
-loosely : IsEnding ⊥ (λ state. Unit {0})
-loosely = record { settled = λ outcome. tt; back = λ state ended. tt; left = inr tt }
-
-abbrev FitLoosely : List Row → Type 0
-FitLoosely rows = AllByRecursion (Fits ⊥ (λ state. Unit {0}) loosely) rows
-
-one_more : (estimate : Estimate) (rows : List Row) (command : Command) → FitLoosely rows →
-    FitLoosely (effect estimate rows command) × StaySettled rows (effect estimate rows command)
-one_more estimate rows command fit =
-    effect_fits ⊥ (λ state. Unit {0}) loosely estimate rows command (λ never. absurd never) fit
-
-fit_along : (estimate : Estimate) (rows : List Row) (commands : List Command) → FitLoosely rows →
-    FitLoosely (fold (effect estimate) rows commands)
-fit_along estimate rows [] fit = fit
-fit_along estimate rows (command ∷ commands) fit =
-    fit_along estimate (effect estimate rows command) commands (one_more estimate rows command fit).0
 
 module _ (settings : Settings) where
   -- the outcome of a promise after a history
