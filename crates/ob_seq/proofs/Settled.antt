@@ -1,5 +1,5 @@
 -- How many promises each command settles.
-use Rattle.std.proofs.Common.{◌≡◌, ℕ, suc, ◌-◌, ◌<◌, ◌≤◌, Bool, true, false, List, [], ◌∷◌, length, map, take}
+use Rattle.std.proofs.Common.{◌≡◌, ℕ, suc, ◌<◌, ◌≤◌, Bool, true, false, List, [], ◌∷◌, length, map, take}
 use Rattle.std.proofs.Common.{drop}
 use Rattle.std.proofs.Common.{refl, sym, ap, ◌∙◌, cond, ltb, arith}
 use Rattle.std.specs.Prelude.{count_by, not, Option, Some, None, take_while}
@@ -34,10 +34,9 @@ use Rattle.ob_seq.specs.Row.{Row}
 use Rattle.ob_seq.specs.Settles.{settled_after, settled_by}
 use Rattle.ob_seq.specs.Steps.{bytes_settled, closing_settled, cut_of, front_id, is_first_voided, removal_reply}
 use Rattle.ob_seq.specs.Steps.{settled_by_bytes, unflushed_id}
-use Rattle.ob_seq.specs.declared.contents.cut.Cut.{Cut}
 use Rattle.ob_seq.proofs.Acceptance.{settled_of_accepted, settled_of_refused}
 use Rattle.ob_seq.proofs.Along.{settlement_same, settlements_of_same}
-use Rattle.ob_seq.proofs.BytesRemoved.{bytes_refused, bytes_accepted, bytes_removed_stand}
+use Rattle.ob_seq.proofs.BytesRemoved.{bytes_refused, bytes_accepted, bytes_removed_stand, whole_cut}
 use Rattle.ob_seq.proofs.Cancelled.{promise_found, settlements_of_back, state_at}
 use Rattle.ob_seq.proofs.Closing.{close_accepted, closed_stands, left_refused}
 use Rattle.ob_seq.proofs.EachRow.{EachRow, front_row}
@@ -74,11 +73,7 @@ removals_settle_alike : (some voided : Bool) (one other : PromiseId × Outcome) 
     length (cond some (cond voided [] (one ∷ [])) []) ≡ length (cond some (cond voided [] (other ∷ [])) [])
 removals_settle_alike some voided one other = grind arith
 
--- where a removal of n bytes ends, if there are so many
-abbrev whole_cut : ℕ → List (List ℕ) → Cut
-whole_cut n pieces =
-    record { whole = pieces_within n pieces; rest = n - bytes_in (take (pieces_within n pieces) pieces) }
-
+-- where a removal of bytes ends, or that there are fewer
 nothing_found : (n : ℕ) (pieces : List (List ℕ)) → ltb (bytes_in pieces) n ≡ true → cut_of n pieces ≡ None
 nothing_found n pieces is = rw is
 
@@ -115,9 +110,9 @@ module _ (buffer : Pending) (commands : List Command) (stands : StandsFor buffer
       counted command none (length reply.settled) (ap (λ (reply : Reply). length reply.settled) is)
 
   refused : (command : Command) (refusal : Refusal) → refusal_of buffer.settings.estimate rows command ≡ Some refusal →
-      0 ≡ settled_after buffer.settings commands command
-  refused command refusal is =
-      sym (settled_of_refused buffer.settings commands command buffer stands unclosed refusal is)
+      (count : ℕ) → count ≡ 0 → count ≡ settled_after buffer.settings commands command
+  refused command refusal is count none =
+      none ∙ sym (settled_of_refused buffer.settings commands command buffer stands unclosed refusal is)
 
   nothing : (command : Command) → (reply_of buffer.settings commands command).settled ≡ [] →
       0 ≡ settled_after buffer.settings commands command
@@ -155,7 +150,7 @@ module _ (buffer : Pending) (commands : List Command) (stands : StandsFor buffer
           cond few 0 (settled_by_bytes n buffer.line) ≡ settled_after buffer.settings commands (RemoveBytes n)
       by_few true is =
           refused (RemoveBytes n) TooManyBytes
-          (bytes_refused buffer commands n stands (nothing_found n (blocks_left buffer.line) is))
+          (bytes_refused buffer commands n stands (nothing_found n (blocks_left buffer.line) is)) 0 refl
       by_few false is =
           let cut = whole_cut n (blocks_left buffer.line) in
           let found = something_found n (blocks_left buffer.line) is in
@@ -184,7 +179,7 @@ module _ (buffer : Pending) (commands : List Command) (stands : StandsFor buffer
       by_left true is =
           let some : 0 < length buffer.line = grind (arith, nat_tests) in
           let front = fronted buffer commands stands some in
-          refused (Close cause) FlushedLeft (left_refused buffer commands cause stands front)
+          refused (Close cause) FlushedLeft (left_refused buffer commands cause stands front) 0 refl
       by_left false is =
           let none : length buffer.line ≡ 0 = grind (arith, nat_tests) in
           sym (count_of_failures cause (unflushed_id buffer) (drop (unflushed_id buffer) buffer.promises))
@@ -210,4 +205,5 @@ module _ (buffer : Pending) (commands : List Command) (stands : StandsFor buffer
       by_known false is =
           let past : length rows ≤ id.0 = grind (arith, nat_tests) in
           let none : promise_at rows id.0 ≡ None = rw (slice_get_past rows id.0 past) in
-          ap (λ found. cond (still_waits found) 1 0) none ∙ refused (Cancel id) UnknownPromise (rw is)
+          refused (Cancel id) UnknownPromise (rw is) (cond (still_waits (promise_at rows id.0)) 1 0)
+          (ap (λ found. cond (still_waits found) 1 0) none)
