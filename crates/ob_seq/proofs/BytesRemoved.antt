@@ -1,6 +1,7 @@
 -- A buffer after a removal of bytes stands for the history with the removal.
-use Rattle.std.proofs.Common.{◌≡◌, ℕ, ◌+◌, ◌-◌, ◌≤◌, Bool, true, false, List, [], ◌∷◌, ◌++◌, length, map, take, drop}
-use Rattle.std.proofs.Common.{refl, sym, ap, ◌∙◌, cond, append_assoc, subst, ltb, zero-add}
+use Rattle.std.proofs.Common.{arith, ◌≡◌, ℕ, ◌+◌, ◌-◌, ◌≤◌, Bool, true, false, List, [], ◌∷◌, ◌++◌, length, map, take}
+use Rattle.std.proofs.Common.{drop}
+use Rattle.std.proofs.Common.{refl, sym, ap, ◌∙◌, cond, append_assoc, ltb, zero-add}
 use Rattle.std.specs.Prelude.{Option, Some, None}
 use Rattle.std.specs.List.{AllByRecursion}
 use Rattle.std.proofs.lemmas.List.{length-take-le, take-append-drop, map-append, length-map}
@@ -24,7 +25,7 @@ use Rattle.ob_seq.specs.Word.{word_after}
 use Rattle.ob_seq.specs.Answer.{refusal_of, settlements_from, reply_of}
 use Rattle.ob_seq.specs.Entry.{blocks_left, entry_of}
 use Rattle.ob_seq.specs.Pending.{Pending, StandsFor}
-use Rattle.ob_seq.specs.Steps.{bytes_removed, bytes_reply, cut_of, front_id, front_skipped, front_taken}
+use Rattle.ob_seq.specs.Steps.{bytes_removed, bytes_reply, cut_of, front_id, front_taken}
 use Rattle.ob_seq.specs.Steps.{entry_settlements, times}
 use Rattle.ob_seq.proofs.Acceptance.{open_history, same_reply}
 use Rattle.ob_seq.proofs.Along.{moments_along_same, settlements_from_same}
@@ -38,23 +39,31 @@ use Rattle.ob_seq.proofs.Skipped.{rows_skipped, with_skipped_is, moments_of_skip
 use Rattle.ob_seq.proofs.Skipped.{skipped_held, skipped_word, skipped_opening, skipped_closed}
 
 -- the byte run is what the entries in line have left
-pub run_is : (buffer : Pending) (commands : List Command) → StandsFor buffer commands → byte_run (rows_after buffer.settings.estimate commands) ≡ blocks_left buffer.line
+pub run_is : (buffer : Pending) (commands : List Command) → StandsFor buffer commands →
+    byte_run (rows_after buffer.settings.estimate commands) ≡ blocks_left buffer.line
 run_is buffer commands stands =
-    ap blocks_in_front (sym (map-map (λ entry. entry.message) entry_of (line (rows_after buffer.settings.estimate commands))))
-    ∙ ap blocks_left (sym stands.line)
+    let rows = rows_after buffer.settings.estimate commands in
+    ap blocks_in_front (sym (map-map (λ entry. entry.message) entry_of (line rows))) ∙ ap blocks_left (sym stands.line)
 
-refused_by : (few : Bool) (cut : Cut) → (let found : Option Cut = cond few None (Some cut) in found ≡ None) → (let refusal : Option Refusal = cond few (Some TooManyBytes) None in refusal ≡ Some TooManyBytes)
-refused_by true cut none = refl
-refused_by false cut none = absurd (cc)
+refused_by : (few : Bool) (cut : Cut) → (let found : Option Cut = cond few None (Some cut) in found ≡ None) →
+    (let refusal : Option Refusal = cond few (Some TooManyBytes) None in refusal ≡ Some TooManyBytes)
+refused_by few cut none = grind arith
 
-accepted_by : (few : Bool) (cut found : Cut) → (let one : Option Cut = cond few None (Some cut) in one ≡ Some found) → (let refusal : Option Refusal = cond few (Some TooManyBytes) None in refusal ≡ None) × (cut ≡ found)
+accepted_by : (few : Bool) (cut found : Cut) → (let one : Option Cut = cond few None (Some cut) in one ≡ Some found) →
+    (let refusal : Option Refusal = cond few (Some TooManyBytes) None in refusal ≡ None) × (cut ≡ found)
 accepted_by true cut found some = absurd (cc)
 accepted_by false cut found some = (refl, cc)
 
+-- where a removal of n bytes ends, if there are so many
+abbrev pub whole_cut : ℕ → List (List ℕ) → Cut
+whole_cut n pieces =
+    record { whole = pieces_within n pieces; rest = n - bytes_in (take (pieces_within n pieces) pieces) }
+
 -- how many entries are taken away whole
-pub whole_of_cut : (n : ℕ) (pieces : List (List ℕ)) (cut : Cut) → cut_of n pieces ≡ Some cut → pieces_within n pieces ≡ cut.whole
+pub whole_of_cut : (n : ℕ) (pieces : List (List ℕ)) (cut : Cut) → cut_of n pieces ≡ Some cut →
+    pieces_within n pieces ≡ cut.whole
 whole_of_cut n pieces cut is =
-    ap (λ (c : Cut). c.whole) (accepted_by (ltb (bytes_in pieces) n) (record { whole = pieces_within n pieces; rest = n - bytes_in (take (pieces_within n pieces) pieces) }) cut is).1
+    ap (λ (c : Cut). c.whole) (accepted_by (ltb (bytes_in pieces) n) (whole_cut n pieces) cut is).1
 
 module _ (buffer : Pending) (commands : List Command) (n : ℕ) (stands : StandsFor buffer commands) where
   abbrev rows : List Row
@@ -63,35 +72,40 @@ module _ (buffer : Pending) (commands : List Command) (n : ℕ) (stands : Stands
   abbrev pieces : List (List ℕ)
   pieces = blocks_left buffer.line
 
-  abbrev found : Cut
-  found = record { whole = pieces_within n pieces; rest = n - bytes_in (take (pieces_within n pieces) pieces) }
-
   -- where nothing is found the removal is refused
-  pub bytes_refused : cut_of n (blocks_left buffer.line) ≡ None → refusal_of buffer.settings.estimate (rows_after buffer.settings.estimate commands) (RemoveBytes n) ≡ Some TooManyBytes
+  pub bytes_refused : cut_of n (blocks_left buffer.line) ≡ None →
+      refusal_of buffer.settings.estimate (rows_after buffer.settings.estimate commands) (RemoveBytes n)
+      ≡ Some TooManyBytes
   bytes_refused none =
-      ap (λ run. let refusal : Option Refusal = cond (ltb (bytes_in run) n) (Some TooManyBytes) None in refusal) (run_is buffer commands stands)
-      ∙ refused_by (ltb (bytes_in pieces) n) found none
+      rw (run_is buffer commands stands) (refused_by (ltb (bytes_in pieces) n) (whole_cut n pieces) none)
 
   module _ (cut : Cut) (is : cut_of n (blocks_left buffer.line) ≡ Some cut) where
-    -- and else accepted
-    pub bytes_accepted : refusal_of buffer.settings.estimate (rows_after buffer.settings.estimate commands) (RemoveBytes n) ≡ None
-    bytes_accepted =
-        ap (λ run. let refusal : Option Refusal = cond (ltb (bytes_in run) n) (Some TooManyBytes) None in refusal) (run_is buffer commands stands)
-        ∙ (accepted_by (ltb (bytes_in pieces) n) found cut is).0
+    found : (let refusal : Option Refusal = cond (ltb (bytes_in pieces) n) (Some TooManyBytes) None in refusal ≡ None)
+        × (whole_cut n pieces ≡ cut)
+    found = accepted_by (ltb (bytes_in pieces) n) (whole_cut n pieces) cut is
 
-    found_is : found ≡ cut
-    found_is = (accepted_by (ltb (bytes_in pieces) n) found cut is).1
+    -- and else accepted
+    pub bytes_accepted :
+        refusal_of buffer.settings.estimate (rows_after buffer.settings.estimate commands) (RemoveBytes n) ≡ None
+    bytes_accepted = rw (run_is buffer commands stands) found.0
 
     whole_is : whole_rows n rows ≡ cut.whole
-    whole_is = ap (pieces_within n) (run_is buffer commands stands) ∙ ap (λ (c : Cut). c.whole) found_is
+    whole_is = ap (pieces_within n) (run_is buffer commands stands) ∙ ap (λ (c : Cut). c.whole) found.1
 
     rest_is : bytes_left_over n rows ≡ cut.rest
-    rest_is = ap (λ run. n - bytes_in (take (pieces_within n run) run)) (run_is buffer commands stands) ∙ ap (λ (c : Cut). c.rest) found_is
+    rest_is =
+        ap (λ run. n - bytes_in (take (pieces_within n run) run)) (run_is buffer commands stands)
+        ∙ ap (λ (c : Cut). c.rest) found.1
 
-    module _ (gone first rest fresh : List Row) (rows_are : rows ≡ gone ++ ((first ++ rest) ++ fresh)) (held : Held buffer gone (first ++ rest) fresh) (count : length first ≡ cut.whole)
+    module _ (gone first rest fresh : List Row) (rows_are : rows ≡ gone ++ ((first ++ rest) ++ fresh))
+        (held : Held buffer gone (first ++ rest) fresh) (count : length first ≡ cut.whole)
         (standing_first : AllByRecursion IsStanding first) (standing_rest : AllByRecursion IsStanding rest) where
+      -- the rows that are taken away
+      abbrev sent : List Row
+      sent = map (taken_row Success) first
+
       abbrev passed : List Row
-      passed = gone ++ map (taken_row Success) first
+      passed = gone ++ sent
 
       abbrev behind : List Row
       behind = rest ++ fresh
@@ -103,81 +117,100 @@ module _ (buffer : Pending) (commands : List Command) (n : ℕ) (stands : Stands
       rows_split = rows_are ∙ ap (λ more. gone ++ more) (append_assoc first rest fresh)
 
       passed_gone : AllByRecursion IsGone passed
-      passed_gone = each_append IsGone gone (map (taken_row Success) first) held.all_gone (all_taken_gone Success first)
+      passed_gone = each_append IsGone gone sent held.all_gone (all_taken_gone Success first)
 
       effect_is : effect buffer.settings.estimate rows (RemoveBytes n) ≡ passed ++ after
       effect_is =
-          ap (λ k. with_skipped (bytes_left_over n rows) (with_first k (taken_row Success) rows)) (whole_is ∙ sym count)
-          ∙ ap (λ r. with_skipped r (with_first (length first) (taken_row Success) rows)) rest_is
+          ap (λ r. with_skipped r (with_first (whole_rows n rows) (taken_row Success) rows)) rest_is
+          ∙ ap (λ k. with_skipped cut.rest (with_first k (taken_row Success) rows)) (whole_is ∙ sym count)
           ∙ ap (λ all. with_skipped cut.rest (with_first (length first) (taken_row Success) all)) rows_split
-          ∙ ap (with_skipped cut.rest) (with_first_sent first gone behind held.all_gone standing_first ∙ sym (append_assoc gone (map (taken_row Success) first) behind))
+          ∙ ap (with_skipped cut.rest)
+          (with_first_sent first gone behind held.all_gone standing_first ∙ sym (append_assoc gone sent behind))
           ∙ with_skipped_is cut.rest passed fresh passed_gone held.all_fresh rest standing_rest
 
-      moments_are : moments_of buffer.settings.estimate rows (RemoveBytes n) ≡ moments_along true gone (first ++ behind) (map (taken_row Success) first ++ behind)
+      split_effect : effect buffer.settings.estimate rows (RemoveBytes n) ≡ gone ++ (sent ++ after)
+      split_effect = effect_is ∙ append_assoc gone sent after
+
+      moments_are : moments_of buffer.settings.estimate rows (RemoveBytes n)
+          ≡ moments_along true gone (first ++ behind) (sent ++ behind)
       moments_are =
-          ap (moments_along true [] rows) (effect_is ∙ append_assoc gone (map (taken_row Success) first) after)
-          ∙ ap (λ before. moments_along true [] before (gone ++ (map (taken_row Success) first ++ after))) rows_split
-          ∙ moments_along_same true [] gone (first ++ behind) (map (taken_row Success) first ++ after)
-          ∙ moments_of_sent first gone behind after (moments_of_skipped cut.rest passed rest fresh)
+          ap (moments_along true [] rows) split_effect
+          ∙ rw (rows_split, moments_along_same true [] gone (first ++ behind) (sent ++ after))
+          (moments_of_sent first gone behind after (moments_of_skipped cut.rest passed rest fresh))
 
-      settlements_are : settlements_from 0 rows (effect buffer.settings.estimate rows (RemoveBytes n)) ≡ entry_settlements Success (front_id buffer) (take cut.whole buffer.line)
+      settlements_are : settlements_from 0 rows (effect buffer.settings.estimate rows (RemoveBytes n))
+          ≡ entry_settlements Success (front_id buffer) (take cut.whole buffer.line)
       settlements_are =
-          ap (settlements_from 0 rows) (effect_is ∙ append_assoc gone (map (taken_row Success) first) after)
-          ∙ ap (λ before. settlements_from 0 before (gone ++ (map (taken_row Success) first ++ after))) rows_split
-          ∙ settlements_from_same 0 gone (first ++ behind) (map (taken_row Success) first ++ after)
-          ∙ ap (λ id. settlements_from id (first ++ behind) (map (taken_row Success) first ++ after)) (zero-add (length gone))
-          ∙ settlements_of_taken Success (length gone) first behind after standing_first (settlements_of_skipped cut.rest (length gone + length first) rest fresh)
-          ∙ ap (λ id. entry_settlements Success id (map entry_of first)) (sym (front_id_is buffer gone (first ++ rest) fresh held))
-          ∙ ap (entry_settlements Success (front_id buffer)) (sym (ap (take cut.whole) (held.line ∙ map-append entry_of first rest) ∙ first_of_line))
+          let nothing = settlements_of_skipped cut.rest (length gone + length first) rest fresh in
+          ap (settlements_from 0 rows) split_effect
+          ∙ rw (
+            rows_split,
+            settlements_from_same 0 gone (first ++ behind) (sent ++ after),
+            zero-add,
+            settlements_of_taken Success (length gone) first behind after standing_first nothing,
+            first_of_line,
+            front_id_is buffer gone (first ++ rest) fresh held,
+          )
         where
-          first_of_line : take cut.whole (map entry_of first ++ map entry_of rest) ≡ map entry_of first
-          first_of_line = ap (λ k. take k (map entry_of first ++ map entry_of rest)) (sym count ∙ sym (length-map first entry_of)) ∙ take-append_seam (map entry_of first) (map entry_of rest)
+          first_of_line : take cut.whole buffer.line ≡ map entry_of first
+          first_of_line =
+              ap (take cut.whole) (held.line ∙ map-append entry_of first rest)
+              ∙ ap (λ k. take k (map entry_of first ++ map entry_of rest)) (sym count ∙ sym (length-map first entry_of))
+              ∙ take-append_seam (map entry_of first) (map entry_of rest)
 
-      taken : (let now = times (length first) (front_taken true Success) buffer in
-          Held now passed rest fresh
-          × (now.word ≡ word_after buffer.settings (commands ++ RemoveBytes n ∷ []))
-          × (opening now ≡ opening buffer) × (now.closed ≡ buffer.closed))
+      -- the buffer without them, and then with bytes skipped in its front
+      abbrev shorter : Pending
+      shorter = times cut.whole (front_taken true Success) buffer
+
+      taken : Held shorter passed rest fresh
+          × (shorter.word ≡ word_after buffer.settings (commands ++ RemoveBytes n ∷ []))
+          × (opening shorter ≡ opening buffer) × (shorter.closed ≡ buffer.closed)
       taken =
-          let all = all_taken true Success first buffer gone rest fresh (half_after commands) (moments_after buffer.settings.estimate commands) held (word_by_moments buffer commands stands) in
-          (all.0, all.1 ∙ word_at_end buffer commands stands (RemoveBytes n) (moments_along true gone (first ++ behind) (map (taken_row Success) first ++ behind)) (λ index. refl) moments_are, all.2, all.3)
+          let all = all_taken true Success first buffer gone rest fresh (half_after commands)
+          (moments_after buffer.settings.estimate commands) held (word_by_moments buffer commands stands) in
+          rw (← count) (
+            all.0,
+            all.1 ∙ word_at_end buffer commands stands (RemoveBytes n)
+                (moments_along true gone (first ++ behind) (sent ++ behind)) (λ index. refl) moments_are,
+            all.2,
+            all.3,
+          )
 
       word_is : (bytes_removed cut buffer).word ≡ word_after buffer.settings (commands ++ RemoveBytes n ∷ [])
-      word_is =
-          skipped_word cut.rest (times cut.whole (front_taken true Success) buffer)
-          ∙ ap (λ k. (times k (front_taken true Success) buffer).word) (sym count) ∙ taken.1
+      word_is = skipped_word cut.rest shorter ∙ taken.1
 
-      removed_held : Held (bytes_removed cut buffer) passed (rows_skipped cut.rest rest) fresh
-      removed_held = subst (λ (k : ℕ). Held (front_skipped cut.rest (times k (front_taken true Success) buffer)) passed (rows_skipped cut.rest rest) fresh) count
-          (skipped_held cut.rest (times (length first) (front_taken true Success) buffer) passed rest fresh taken.0)
-
-      opening_stays : opening (bytes_removed cut buffer) ≡ opening buffer
-      opening_stays = skipped_opening cut.rest (times cut.whole (front_taken true Success) buffer) ∙ ap (λ k. opening (times k (front_taken true Success) buffer)) (sym count) ∙ taken.2
-
-      closed_stays : (bytes_removed cut buffer).closed ≡ buffer.closed
-      closed_stays = skipped_closed cut.rest (times cut.whole (front_taken true Success) buffer) ∙ ap (λ k. (times k (front_taken true Success) buffer).closed) (sym count) ∙ taken.3
-
-      removed_by : buffer.closed ≡ false → StandsFor (bytes_removed cut buffer) (commands ++ RemoveBytes n ∷ []) × (bytes_reply cut buffer ≡ reply_of buffer.settings commands (RemoveBytes n))
-      removed_by unclosed = (
-        stands_by (bytes_removed cut buffer) buffer.settings commands (RemoveBytes n) passed (rows_skipped cut.rest rest) fresh (opening_stays ∙ opening_of buffer commands stands)
-            (open_history buffer.settings commands (RemoveBytes n) buffer stands unclosed) (closed_stays ∙ unclosed)
-            (accepted_more buffer.settings commands (RemoveBytes n) (open_history buffer.settings commands (RemoveBytes n) buffer stands unclosed) stands.accepted bytes_accepted) removed_held
-            (rows_after_more buffer.settings.estimate commands (RemoveBytes n) ∙ effect_is) word_is,
-        same_reply (ap Count (sym whole_is)) (sym settlements_are)
-            (ap (change_between buffer.word) word_is ∙ ap (λ before. change_between before (word_after buffer.settings (commands ++ RemoveBytes n ∷ []))) stands.word),
-      )
+      removed_by : buffer.closed ≡ false → StandsFor (bytes_removed cut buffer) (commands ++ RemoveBytes n ∷ [])
+          × (bytes_reply cut buffer ≡ reply_of buffer.settings commands (RemoveBytes n))
+      removed_by unclosed =
+          let command : Command = RemoveBytes n in
+          let there = open_history buffer.settings commands command buffer stands unclosed in (
+            stands_by (bytes_removed cut buffer) buffer.settings commands command passed (rows_skipped cut.rest rest)
+                fresh (skipped_opening cut.rest shorter ∙ taken.2 ∙ opening_of buffer commands stands) there
+                (skipped_closed cut.rest shorter ∙ taken.3 ∙ unclosed)
+                (accepted_more buffer.settings commands command there stands.accepted bytes_accepted)
+                (skipped_held cut.rest shorter passed rest fresh taken.0)
+                (rows_after_more buffer.settings.estimate commands command ∙ effect_is) word_is,
+            same_reply (ap Count (sym whole_is)) (sym settlements_are)
+                (ap (change_between buffer.word) word_is
+                ∙ ap (λ was. change_between was (word_after buffer.settings (commands ++ command ∷ []))) stands.word),
+          )
 
     -- the buffer stands for the history with the removal, and replies as it does
     pub bytes_removed_stand : buffer.closed ≡ false → cut.whole ≤ length buffer.line →
-        StandsFor (bytes_removed cut buffer) (commands ++ RemoveBytes n ∷ []) × (bytes_reply cut buffer ≡ reply_of buffer.settings commands (RemoveBytes n))
+        StandsFor (bytes_removed cut buffer) (commands ++ RemoveBytes n ∷ [])
+        × (bytes_reply cut buffer ≡ reply_of buffer.settings commands (RemoveBytes n))
     bytes_removed_stand unclosed within =
         let layout = layout_of buffer.settings.estimate commands in
         let held = held_of buffer commands stands in
-        let parts = take-append-drop cut.whole layout.standing in
-        let whole = subst (λ (standing : List Row). (rows ≡ layout.gone ++ (standing ++ layout.fresh)) × Held buffer layout.gone standing layout.fresh × AllByRecursion IsStanding standing) (sym parts) (layout.is, held, layout.all_standing) in
-        let each = split_each (take cut.whole layout.standing) (drop cut.whole layout.standing) whole.2 in
-        let size : cut.whole ≤ length layout.standing = subst (λ (size : ℕ). cut.whole ≤ size) (line_count buffer layout.gone layout.standing layout.fresh held) within in
-        removed_by layout.gone (take cut.whole layout.standing) (drop cut.whole layout.standing) layout.fresh whole.0 whole.1 (length-take-le cut.whole layout.standing size) each.0 each.1 unclosed
+        let size = line_count buffer layout.gone layout.standing layout.fresh held in
+        let first = take cut.whole layout.standing in
+        let rest = drop cut.whole layout.standing in
+        let parts : first ++ rest ≡ layout.standing = take-append-drop cut.whole layout.standing in
+        let each = split_each first rest (rw parts layout.all_standing) in
+        removed_by layout.gone first rest layout.fresh (rw parts layout.is) (rw parts held)
+        (length-take-le cut.whole layout.standing (omega (arith, within, size))) each.0 each.1 unclosed
       where
-        split_each : (xs ys : List Row) → AllByRecursion IsStanding (xs ++ ys) → AllByRecursion IsStanding xs × AllByRecursion IsStanding ys
+        split_each : (xs ys : List Row) → AllByRecursion IsStanding (xs ++ ys) →
+            AllByRecursion IsStanding xs × AllByRecursion IsStanding ys
         split_each [] ys all = (tt, all)
         split_each (x ∷ xs) ys all = let rest = split_each xs ys all.1 in ((all.0, rest.0), rest.1)

@@ -35,8 +35,13 @@ use Rattle.ob_seq.proofs.History.{rows_after_more, accepted_more, closed_more}
 use Rattle.ob_seq.proofs.Marks.{word_after_same}
 
 -- the state of the promise at an index
-abbrev state_at : List Row → ℕ → PromiseState
+abbrev pub state_at : List Row → ℕ → PromiseState
 state_at rows id = get_or (map promise_of rows) id Waiting
+
+pub promise_found : (rows : List Row) (id : ℕ) → id < length rows → promise_at rows id ≡ Some (state_at rows id)
+promise_found rows id known =
+    sym (slice_get-map promise_of rows id)
+    ∙ slice_get-get_or (map promise_of rows) id Waiting (omega (arith, length-map rows promise_of))
 
 -- the rows with a promise taken back: their promises, entries, moments and settlements
 promises_of_back : (id : ℕ) (rows : List Row) →
@@ -78,7 +83,7 @@ moments_of_back (suc id) passed (row ∷ rows) =
     let none = moment_of_same true (counted_size row) (total (passed ++ row ∷ rows)) in
     rw (none, moments_of_back id (passed ++ row ∷ []) rows)
 
-settlements_of_back : (id at place : ℕ) → place ≡ at + id → (rows : List Row) → id < length rows →
+pub settlements_of_back : (id at place : ℕ) → place ≡ at + id → (rows : List Row) → id < length rows →
     settlements_from at rows (with_cancelled id rows)
     ≡ settlement place (outcome_of (state_at rows id)) (outcome_of (cancelled (state_at rows id)))
 settlements_of_back id at place is [] known = absurd (omega arith)
@@ -148,10 +153,7 @@ module _ (buffer : Pending) (commands : List Command) (id : PromiseId) (stands :
       reply ≡ reply_of buffer.settings commands (Cancel id))
   reply_of_cancel state is =
       let row : state_at rows id.0 ≡ state = rw stands.promises at is in
-      let found : promise_at rows id.0 ≡ Some state =
-      sym (slice_get-map promise_of rows id.0)
-      ∙ slice_get-get_or (map promise_of rows) id.0 Waiting (omega (arith, length-map rows promise_of, within))
-      ∙ ap Some row in
+      let found = promise_found rows id.0 within ∙ ap Some row in
       same_reply (ap (λ found. Yes (still_waits found)) (sym found))
       (sym (rw row at (settlements_of_back id.0 0 id.0 (omega arith) rows within)))
       (ap (change_between buffer.word) word_stays

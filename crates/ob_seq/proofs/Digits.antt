@@ -21,21 +21,18 @@ number bit from zero = 0
 number bit from (suc count) = digit (bit from) + 2 * number bit (from + 1) count
 
 value_is : (set : Bool) (power more : ℕ) → cond set power 0 + power * 2 * more ≡ power * (digit set + 2 * more)
-value_is true power more =
-    let whole = mul-add power 1 (2 * more) in
+value_is set power more =
+    let whole = mul-add power (digit set) (2 * more) in
     let part = mul_assoc power 2 more in
-    omega (arith, whole, part)
-value_is false power more =
-    let whole = mul-add power 0 (2 * more) in
-    let part = mul_assoc power 2 more in
-    omega (arith, whole, part)
+    grind arith
 
 -- the bits of these indexes count as much as that number, moved up to the first index
-sum_is : (bit : ℕ → Bool) (from count : ℕ) → sum_by (λ index. bit_value index (bit index)) (range_with_len from count) ≡ 2 ^ from * number bit from count
+sum_is : (bit : ℕ → Bool) (from count : ℕ) →
+    sum_by (λ index. bit_value index (bit index)) (range_with_len from count) ≡ 2 ^ from * number bit from count
 sum_is bit from zero = sym (mul-zero (2 ^ from))
 sum_is bit from (suc count) =
     sum_by-cons (λ index. bit_value index (bit index)) from (range_with_len (from + 1) count)
-    ∙ ap (λ rest. bit_value from (bit from) + rest) (sum_is bit (from + 1) count ∙ ap (λ power. power * number bit (from + 1) count) (next_power from))
+    ∙ rw (sum_is bit (from + 1) count, next_power from) refl
     ∙ value_is (bit from) (2 ^ from) (number bit (from + 1) count)
   where
     next_power : (n : ℕ) → 2 ^ (n + 1) ≡ 2 ^ n * 2
@@ -54,18 +51,18 @@ user_bits_even bit = sum_is bit 1 31 ∙ twice (half_bits bit)
     twice n = omega arith
 
 lowest : (bit : Bool) (more : ℕ) → (digit bit + 2 * more) % 2 ≡ digit bit
-lowest true more = omega arith
-lowest false more = omega arith
+lowest bit more = grind arith
 
 others : (bit : Bool) (more : ℕ) → (digit bit + 2 * more) / 2 ≡ more
-others true more = omega arith
-others false more = omega arith
+others bit more = grind arith
 
 -- each digit of it
-pub digit_at : (bit : ℕ → Bool) (from count i : ℕ) → i < count → bit_at (number bit from count) i ≡ digit (bit (from + i))
+pub digit_at : (bit : ℕ → Bool) (from count i : ℕ) → i < count →
+    bit_at (number bit from count) i ≡ digit (bit (from + i))
 digit_at bit from zero i within = absurd (omega arith)
 digit_at bit from (suc count) zero within =
-    bit_at_lowest (number bit from (suc count)) ∙ lowest (bit from) (number bit (from + 1) count) ∙ ap (λ at. digit (bit at)) (sym (add-zero from))
+    bit_at_lowest (number bit from (suc count)) ∙ lowest (bit from) (number bit (from + 1) count)
+    ∙ ap (λ at. digit (bit at)) (sym (add-zero from))
 digit_at bit from (suc count) (suc i) within =
     bit_at-suc (number bit from (suc count)) i ∙ ap (λ n. bit_at n i) (others (bit from) (number bit (from + 1) count))
     ∙ digit_at bit (from + 1) count i (omega arith) ∙ ap (λ at. digit (bit at)) (omega arith)
@@ -74,7 +71,8 @@ pub no_digit_at : (bit : ℕ → Bool) (from count i : ℕ) → count ≤ i → 
 no_digit_at bit from zero i past = bit_at-zero i
 no_digit_at bit from (suc count) zero past = absurd (omega arith)
 no_digit_at bit from (suc count) (suc i) past =
-    bit_at-suc (number bit from (suc count)) i ∙ ap (λ n. bit_at n i) (others (bit from) (number bit (from + 1) count)) ∙ no_digit_at bit (from + 1) count i (omega arith)
+    bit_at-suc (number bit from (suc count)) i ∙ ap (λ n. bit_at n i) (others (bit from) (number bit (from + 1) count))
+    ∙ no_digit_at bit (from + 1) count i (omega arith)
 
 -- the number with these 32 digits
 pub word_of : (ℕ → Bool) → ℕ
@@ -89,8 +87,7 @@ digit_of bit i = by_place (ltb i 32) refl
     by_place false is = no_digit_at bit 0 32 i (grind (arith, nat_tests))
 
 digit_small : (bit : Bool) → digit bit < 2
-digit_small true = omega arith
-digit_small false = omega arith
+digit_small bit = grind arith
 
 -- numbers of so many digits are below that power
 number_small : (bit : ℕ → Bool) (from count : ℕ) → number bit from count < 2 ^ count
@@ -115,7 +112,7 @@ word_of_digits first bit = twice (digit first) (half_bits bit)
     twice low half = omega arith
 
 -- numbers of the same digits are the same
-pub same_number : (bit other : ℕ → Bool) → ((index : ℕ) → bit index ≡ other index) → (from count : ℕ) → number bit from count ≡ number other from count
+pub same_number : (bit other : ℕ → Bool) → ((index : ℕ) → bit index ≡ other index) → (from count : ℕ) →
+    number bit from count ≡ number other from count
 same_number bit other same from zero = refl
-same_number bit other same from (suc count) =
-    ap (λ first. digit first + 2 * number bit (from + 1) count) (same from) ∙ ap (λ more. digit (other from) + 2 * more) (same_number bit other same (from + 1) count)
+same_number bit other same from (suc count) = rw (same from, same_number bit other same (from + 1) count)

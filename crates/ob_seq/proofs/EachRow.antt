@@ -121,7 +121,8 @@ module _ (Accepted : Type 0) (R : Row → Row → Type 0) (kept : IsKept Accepte
       EachRow R rows (effect estimate rows command)
   effect_keeps estimate rows (Write message) fits other = absurd (cc)
   effect_keeps estimate rows Flush fits other =
-      map_rows R flushed_row (λ row. by_test R kept.same reached_row row (is_unflushed row.place) (kept.reached row)) rows
+      map_rows R flushed_row
+      (λ row. by_test R kept.same reached_row row (is_unflushed row.place) (kept.reached row)) rows
   effect_keeps estimate rows Remove fits other = front_row R kept.same (taken_row Success) (kept.taken Success) rows
   effect_keeps estimate rows (RemoveWith cause) fits other =
       front_row R kept.same (taken_row (Failed cause)) (kept.taken (Failed cause)) rows
@@ -129,7 +130,8 @@ module _ (Accepted : Type 0) (R : Row → Row → Type 0) (kept : IsKept Accepte
       let sent = with_first (whole_rows n rows) (taken_row Success) rows in
       both_rows rows sent (with_skipped (bytes_left_over n rows) sent)
       (first_rows R kept.same (taken_row Success) (kept.taken Success) (whole_rows n rows) [] rows)
-      (skipped_rows R kept.same (bytes_left_over n rows) (λ row. kept.told row _ _) sent (ltb 0 (bytes_left_over n rows)))
+      (skipped_rows R kept.same (bytes_left_over n rows) (λ row. kept.told row _ _) sent
+      (ltb 0 (bytes_left_over n rows)))
   effect_keeps estimate rows (Progress n) fits other =
       front_row R kept.same (progressed_row n) (λ row is. kept.told row row.skipped (row.progress + n)) rows
   effect_keeps estimate rows (Cancel id) fits other = cancelled_row R kept.same kept.back id.0 rows

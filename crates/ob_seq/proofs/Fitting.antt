@@ -60,7 +60,8 @@ module _ (settings : Settings) where
       let rows = rows_after estimate earlier in
       let open_and = open_and_fit estimate earlier command accepted in
       let more = sym (rows_after_more estimate earlier command) in record {
-        fit = subst AllFit more (effect_fits (Unit {0}) IsSettled settled estimate rows command (λ accepted. open_and.1) fitting.fit).0;
+        fit = subst AllFit more
+            (effect_fits (Unit {0}) IsSettled settled estimate rows command (λ accepted. open_and.1) fitting.fit).0;
         gone = λ closed. subst (AllByRecursion IsGone) more
             (close_leaves_none estimate rows command (sym (closed_more earlier command open_and.0) ∙ closed));
       }

@@ -1,11 +1,12 @@
 -- What accepted commands leave within the limits.
 use Rattle.std.proofs.Common.{◌≡◌, ◌≤◌, ◌<◌, ℕ, ◌+◌, Bool, true, false, ◌||◌, List, [], ◌∷◌, ◌++◌, length, map, refl}
-use Rattle.std.proofs.Common.{sym, ap, ◌∙◌, cond, ltb, leb, subst, arith, length-append}
-use Rattle.std.proofs.Common.{length-drop}
-use Rattle.std.specs.Prelude.{Option, Some, None, take_while}
+use Rattle.std.proofs.Common.{sym, ap, ◌∙◌, cond, ltb, leb, subst, arith, length-append, length-drop}
+use Rattle.std.specs.Prelude.{Option, Some, None}
 use Rattle.std.specs.List.{AllByRecursion}
 use Rattle.std.proofs.lemmas.Bool.Decides.{nat_tests}
 use Rattle.std.proofs.lemmas.List.Sums.{sum_by-cons, sum_by_push, take_while-cons}
+use Rattle.ob_types.specs.Block.{is_block}
+use Rattle.ob_types.specs.Limits.{greatest_total, most_writes}
 use Rattle.ob_types.specs.PendingSize.{counted_bytes, is_oversize}
 use Rattle.ob_types.specs.declared.command.Command.{Command}
 use Rattle.ob_types.specs.declared.command.Command.TheVariants.{Write, RemoveBytes}
@@ -14,21 +15,30 @@ use Rattle.ob_types.specs.declared.message.Message.{Message}
 use Rattle.ob_types.specs.declared.message.Message.TheVariants.{Block, Region, Other}
 use Rattle.ob_types.specs.declared.refusal.Refusal.{Refusal}
 use Rattle.ob_types.specs.declared.refusal.Refusal.TheVariants.{Oversize, TooManyBytes, TooMuch}
-use Rattle.ob_types.specs.Limits.{greatest_total, most_writes}
 use Rattle.ob_seq.specs.Settings.{Settings}
-use Rattle.ob_seq.specs.Answer.{is_accepted, are_accepted, first_refusal, is_too_much, refusal_of}
-use Rattle.ob_types.specs.Block.{is_block}
+use Rattle.ob_seq.specs.Answer.{is_accepted, are_accepted, first_refusal, refusal_of}
 use Rattle.ob_seq.specs.ByteRun.{block_bytes, blocks_in_front, byte_run}
 use Rattle.ob_seq.specs.Effect.{effect, rows_after}
 use Rattle.ob_seq.specs.Line.{is_in_line, line}
 use Rattle.ob_seq.specs.Pieces.{bytes_in}
-use Rattle.ob_seq.specs.Row.{Row, Place, Unflushed, Flushed, Voided, Gone, is_flushed, is_voided, new_row}
-use Rattle.ob_seq.specs.Row.{unread_part, without_skipped}
+use Rattle.ob_seq.specs.Row.{Row, new_row, unread_part, without_skipped}
 use Rattle.ob_seq.specs.Total.{counted_size, total}
 use Rattle.ob_seq.specs.Writes.{writes_in}
 use Rattle.ob_seq.proofs.Accepting.{kept_along_accepted, not_refused, open_and_fit}
 use Rattle.ob_seq.proofs.History.{rows_after_more}
+use Rattle.ob_seq.proofs.Order.{each_append}
 use Rattle.ob_seq.proofs.Shrinking.{Shrink, effect_shrinks, row_for_each_write, same_length, total_shrinks}
+
+-- a write and a removal of bytes that their tests do not refuse
+room_for : (oversize : Bool) (sum size count : ℕ) →
+    (let much = ltb greatest_total (sum + size) || leb most_writes count in
+    let refusal : Option Refusal = cond oversize (Some Oversize) (cond much (Some TooMuch) None) in
+    refusal ≡ None) → (sum + size ≤ greatest_total) × (count < most_writes)
+room_for oversize sum size count accepted = (grind (arith, nat_tests), grind (arith, nat_tests))
+
+not_too_many : (bytes n : ℕ) →
+    (let refusal : Option Refusal = cond (ltb bytes n) (Some TooManyBytes) None in refusal ≡ None) → n ≤ bytes
+not_too_many bytes n accepted = grind (arith, nat_tests)
 
 module _ (settings : Settings) where
   -- how messages are counted
@@ -64,33 +74,15 @@ module _ (settings : Settings) where
     sizes = sizes_stay before after shrink within.sizes;
   }
 
-  sizes_more : (rows : List Row) (row : Row) → AreCounted rows → IsCounted row → AreCounted (rows ++ row ∷ [])
-  sizes_more [] row sizes size = (size, tt)
-  sizes_more (first ∷ rows) row sizes size = (sizes.0, sizes_more rows row sizes.1 size)
-
-  -- the refusal of a write, by its two tests
-  abbrev refused_by : Bool → Bool → Option Refusal
-  refused_by oversize much = cond oversize (Some Oversize) (cond much (Some TooMuch) None)
-
-  not_too_much : (oversize much : Bool) → refused_by oversize much ≡ None → much ≡ false
-  not_too_much true much accepted = absurd (cc)
-  not_too_much false true accepted = absurd (cc)
-  not_too_much false false accepted = refl
-
-  room_for : (sum size count : ℕ) → (ltb greatest_total (sum + size) || leb most_writes count) ≡ false →
-      (sum + size ≤ greatest_total) × (count < most_writes)
-  room_for sum size count is = (grind (arith, nat_tests), grind (arith, nat_tests))
-
   -- an accepted write does so too
   written_within : (rows : List Row) (message : Message) → refusal_of estimate rows (Write message) ≡ None →
       AreWithin rows → AreWithin (effect estimate rows (Write message))
   written_within rows message accepted within =
       let size = counted_bytes estimate message in
-      let fits = not_too_much (is_oversize estimate message) (is_too_much estimate rows size) accepted in
-      let room = room_for (total rows) size (length rows) fits in record {
+      let room = room_for (is_oversize estimate message) (total rows) size (length rows) accepted in record {
         sum = omega (arith, sum_by_push counted_size rows (new_row estimate message), room.0);
         count = omega (arith, length-append rows (new_row estimate message ∷ []), room.1);
-        sizes = sizes_more rows (new_row estimate message) within.sizes refl;
+        sizes = each_append IsCounted rows (new_row estimate message ∷ []) within.sizes (refl, tt);
       }
 
   one_within : (rows : List Row) (command : Command) → refusal_of estimate rows command ≡ None →
@@ -126,34 +118,15 @@ module _ (settings : Settings) where
   -- no more bytes of a row in line are unread than it counts
   unread_le : (row : Row) → is_in_line row ≡ true → IsCounted row →
       length (block_bytes (unread_part row)) ≤ counted_size row
-  unread_le row here counted = by_place row.place here
-    where
-      at_place : Place → Row
-      at_place place = record row { place = place }
-
-      by_place : (place : Place) → (is_flushed place || is_voided place) ≡ true →
-          length (block_bytes (unread_part (at_place place))) ≤ counted_size (at_place place)
-      by_place Unflushed here = absurd (cc)
-      by_place Flushed here = omega (arith, left_le row.skipped row.message, counted)
-      by_place Voided here = omega arith
-      by_place Gone here = absurd (cc)
+  unread_le row here counted = grind (arith, left_le row.skipped row.message)
 
   -- the bytes of blocks in front, by the first message
   first_bytes : (message : Message) (messages : List Message) →
       bytes_in (blocks_in_front (message ∷ messages))
       ≤ length (block_bytes message) + bytes_in (blocks_in_front messages)
   first_bytes message messages =
-      subst IsFew (sym (take_while-cons is_block message messages)) (by_test (is_block message))
-    where
-      IsFew : List Message → Type 0
-      IsFew blocks =
-          bytes_in (map block_bytes blocks) ≤ length (block_bytes message) + bytes_in (blocks_in_front messages)
-
-      by_test : (block : Bool) → IsFew (cond block (message ∷ take_while is_block messages) [])
-      by_test true =
-          let first = sum_by-cons (λ (piece : List ℕ). length piece) (block_bytes message) (blocks_in_front messages) in
-          omega (arith, first)
-      by_test false = omega arith
+      let first = sum_by-cons (λ (piece : List ℕ). length piece) (block_bytes message) (blocks_in_front messages) in
+      rw (take_while-cons is_block message messages) (grind arith)
 
   -- no more bytes stand in the byte run than the rows count
   run_le : (rows : List Row) → AllByRecursion IsCounted rows → bytes_in (byte_run rows) ≤ total rows
@@ -166,17 +139,6 @@ module _ (settings : Settings) where
           let first = first_bytes (unread_part row) (map unread_part (line rows)) in
           omega (arith, first, unread_le row is sizes.0, rest, sum_by-cons counted_size row rows)
       by_line false is rest = omega (arith, rest, sum_by-cons counted_size row rows)
-
-  -- the refusal of a removal of bytes, by its test
-  abbrev refused_where : Bool → Option Refusal
-  refused_where few = cond few (Some TooManyBytes) None
-
-  not_too_many : (few : Bool) → refused_where few ≡ None → few ≡ false
-  not_too_many true accepted = absurd (cc)
-  not_too_many false accepted = refl
-
-  at_most : (bytes n : ℕ) → ltb bytes n ≡ false → n ≤ bytes
-  at_most bytes n is = grind (arith, nat_tests)
 
   module _ (commands : List Command) (all : are_accepted settings [] commands ≡ true) where
     -- after accepted commands no more than 4294967295 bytes are pending
@@ -191,7 +153,7 @@ module _ (settings : Settings) where
     pub removal_within : (n : ℕ) → is_accepted settings commands (RemoveBytes n) ≡ true → n ≤ greatest_total
     removal_within n accepted =
         let rows = rows_after estimate commands in
-        let bytes = bytes_in (byte_run rows) in
-        let open_and = open_and_fit estimate commands (RemoveBytes n) (not_refused settings commands (RemoveBytes n) accepted) in
-        let few = at_most bytes n (not_too_many (ltb bytes n) open_and.1) in
+        let fits = open_and_fit estimate commands (RemoveBytes n)
+        (not_refused settings commands (RemoveBytes n) accepted) in
+        let few = not_too_many (bytes_in (byte_run rows)) n fits.1 in
         omega (arith, few, run_le rows (rows_within commands all).sizes, total_within)

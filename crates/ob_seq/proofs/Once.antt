@@ -55,7 +55,8 @@ times_first : (id at : ℕ) (before : List Row) (row : Row) (after : List Row) �
     ≡ times id (settlement at (outcome_at before 0) (outcome_of row.promise))
     + times id (settlements_from (suc at) (drop 1 before) after)
 times_first id at before row after =
-    rw (settled_first at before row after) (times_append id (settlement at (outcome_at before 0) (outcome_of row.promise))
+    rw (settled_first at before row after)
+    (times_append id (settlement at (outcome_at before 0) (outcome_of row.promise))
     (settlements_from (suc at) (drop 1 before) after))
 
 pub outcome_behind : (before : List Row) (id : ℕ) → outcome_at (drop 1 before) id ≡ outcome_at before (suc id)

@@ -144,7 +144,8 @@ each_filter : (test : Row → Bool) (P : Row → Type 0) →
     ((row : Row) → MayBe (λ state. Unit {0}) row.place row.promise → test row ≡ true → P row) →
     (rows : List Row) → FitLoosely rows → AllByRecursion P (filter test rows)
 each_filter test P tells [] fit = tt
-each_filter test P tells (row ∷ rows) fit = step (filter test rows) (tells row fit.0) (each_filter test P tells rows fit.1)
+each_filter test P tells (row ∷ rows) fit =
+    step (filter test rows) (tells row fit.0) (each_filter test P tells rows fit.1)
   where
     step : (rest : List Row) → (test row ≡ true → P row) → AllByRecursion P rest →
         AllByRecursion P (cond (test row) (row ∷ rest) rest)

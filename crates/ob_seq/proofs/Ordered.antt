@@ -171,7 +171,8 @@ none_from : (test : Row → Bool) (least : ℕ) → ((row : Row) → least ≤ r
     (rows : List Row) → InOrder least rows → filter test rows ≡ []
 none_from test least fails [] order = refl
 none_from test least fails (row ∷ rows) order =
-    rw (fails row order.0, none_from test (rank row.place) (λ later le. fails later (omega (arith, le, order.0))) rows order.1)
+    let rest = none_from test (rank row.place) (λ later le. fails later (omega (arith, le, order.0))) rows order.1 in
+    rw (fails row order.0, rest)
 
 -- one more row in front of rows in order, before those of a higher rank
 row_in_order : (row : Row) (rows : List Row) → (1 ≤ rank row.place → gone rows ≡ []) →

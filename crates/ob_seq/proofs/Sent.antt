@@ -1,5 +1,6 @@
 -- The first rows in line taken away, one after another.
-use Rattle.std.proofs.Common.{◌≡◌, ℕ, suc, ◌+◌, Bool, true, List, [], ◌∷◌, ◌++◌, length, map, refl, sym, ap, ◌∙◌}
+use Rattle.std.proofs.Common.{add-zero, ◌≡◌, ℕ, suc, ◌+◌, Bool, true, List, [], ◌∷◌, ◌++◌, length, map, refl, sym, ap}
+use Rattle.std.proofs.Common.{◌∙◌}
 use Rattle.std.proofs.Common.{append_assoc, append-nil, subst, arith}
 use Rattle.std.specs.List.{AllByRecursion}
 use Rattle.ob_types.specs.declared.promise.Outcome.{Outcome}
@@ -42,56 +43,63 @@ all_taken_gone outcome [] = tt
 all_taken_gone outcome (row ∷ rows) = (record { place = refl }, all_taken_gone outcome rows)
 
 -- what the buffer holds without them, and its word after their moments
-pub all_taken : (notice : Bool) (outcome : Outcome) (first : List Row) (buffer : Pending) (gone rest fresh : List Row) (half : ℕ) (moments : List Moment) →
+pub all_taken : (notice : Bool) (outcome : Outcome) (first : List Row) (buffer : Pending) (gone rest fresh : List Row)
+    (half : ℕ) (moments : List Moment) →
     Held buffer gone (first ++ rest) fresh → buffer.word ≡ word_from buffer.marks half moments →
     (let after = times (length first) (front_taken notice outcome) buffer in
     let now = map (taken_row outcome) first in
     Held after (gone ++ now) rest fresh
-    × (after.word ≡ word_from buffer.marks half (moments ++ moments_along notice gone (first ++ (rest ++ fresh)) (now ++ (rest ++ fresh))))
+    × (after.word ≡ word_from buffer.marks half
+    (moments ++ moments_along notice gone (first ++ (rest ++ fresh)) (now ++ (rest ++ fresh))))
     × (opening after ≡ opening buffer) × (after.closed ≡ buffer.closed))
-all_taken notice outcome [] buffer gone rest fresh half moments held word = (
-  subst (λ (passed : List Row). Held buffer passed rest fresh) (sym (append-nil gone)) held,
-  word ∙ ap (word_from buffer.marks half) (sym (ap (λ more. moments ++ more) (moments_behind notice gone (rest ++ fresh)) ∙ append-nil moments)),
-  refl,
-  refl,
-)
+all_taken notice outcome [] buffer gone rest fresh half moments held word =
+    (rw append-nil held, rw (moments_behind notice gone (rest ++ fresh), append-nil) word, refl, refl)
 all_taken notice outcome (row ∷ first) buffer gone rest fresh half moments held word =
     let taken = taken_row outcome row in
     let now = map (taken_row outcome) first in
     let one = moment_of notice (counted_size row) 0 (total (gone ++ taken ∷ ((first ++ rest) ++ fresh))) in
     let next = front_taken notice outcome buffer in
-    let all = all_taken notice outcome first next (gone ++ taken ∷ []) rest fresh half (moments ++ one) (taken_held notice outcome buffer gone row (first ++ rest) fresh held)
-    (taken_word notice outcome buffer gone row (first ++ rest) fresh held half moments word) in
+    let next_held = taken_held notice outcome buffer gone row (first ++ rest) fresh held in
+    let next_word = taken_word notice outcome buffer gone row (first ++ rest) fresh held half moments word in
+    let all = all_taken notice outcome first next (gone ++ taken ∷ []) rest fresh half (moments ++ one) next_held
+    next_word in
     let same = times_first (front_taken notice outcome) (length first) buffer in
     let behind = first ++ (rest ++ fresh) in
     let more = moments_along notice (gone ++ taken ∷ []) behind (now ++ (rest ++ fresh)) in (
       subst (λ (after : Pending). Held after (gone ++ taken ∷ now) rest fresh) same
-          (subst (λ (passed : List Row). Held (times (length first) (front_taken notice outcome) next) passed rest fresh) (append_assoc gone (taken ∷ []) now) all.0),
+          (rw append_assoc at all.0),
       ap (λ (after : Pending). after.word) (sym same) ∙ all.1
-          ∙ ap (word_from buffer.marks half) (append_assoc moments one more
-          ∙ ap (λ rows. moments ++ (moment_of notice (counted_size row) 0 (total (gone ++ taken ∷ rows)) ++ more)) (append_assoc first rest fresh)),
+          ∙ rw (append_assoc moments one more, append_assoc first rest fresh) refl,
       ap opening (sym same) ∙ all.2,
       ap (λ (after : Pending). after.closed) (sym same) ∙ all.3,
     )
 
 -- moments behind them that are none
-pub moments_of_sent : (first passed before after : List Row) → moments_along true (passed ++ map sent first) before after ≡ [] →
-    moments_along true passed (first ++ before) (map sent first ++ after) ≡ moments_along true passed (first ++ before) (map sent first ++ before)
+pub moments_of_sent : (first passed before after : List Row) →
+    moments_along true (passed ++ map sent first) before after ≡ [] →
+    moments_along true passed (first ++ before) (map sent first ++ after)
+    ≡ moments_along true passed (first ++ before) (map sent first ++ before)
 moments_of_sent [] passed before after none =
-    ap (λ rows. moments_along true rows before after) (sym (append-nil passed)) ∙ none ∙ sym (moments_behind true passed before)
+    rw append-nil at none ∙ sym (moments_behind true passed before)
 moments_of_sent (row ∷ first) passed before after none =
-    ap (λ more. moment_of true (counted_size row) 0 (total (passed ++ sent row ∷ (first ++ before))) ++ more)
-    (moments_of_sent first (passed ++ sent row ∷ []) before after (ap (λ rows. moments_along true rows before after) (append_assoc passed (sent row ∷ []) (map sent first)) ∙ none))
+    let rest = rw (← append_assoc passed (sent row ∷ []) (map sent first)) at none in
+    rw (moments_of_sent first (passed ++ sent row ∷ []) before after rest)
 
 -- what one of them settles
-settled_by_one : (outcome : Outcome) (id : ℕ) (row : Row) → IsStanding row → settlement id (outcome_of row.promise) (outcome_of (taken_row outcome row).promise) ≡ entry_settlement outcome id (entry_of row)
+settled_by_one : (outcome : Outcome) (id : ℕ) (row : Row) → IsStanding row →
+    settlement id (outcome_of row.promise) (outcome_of (taken_row outcome row).promise)
+    ≡ entry_settlement outcome id (entry_of row)
 settled_by_one outcome id row standing = grind arith
 
 -- what they settle, where nothing behind them is settled
-pub settlements_of_taken : (outcome : Outcome) (id : ℕ) (first before after : List Row) → AllByRecursion IsStanding first → settlements_from (id + length first) before after ≡ [] →
-    settlements_from id (first ++ before) (map (taken_row outcome) first ++ after) ≡ entry_settlements outcome id (map entry_of first)
-settlements_of_taken outcome id [] before after all none = ap (λ at. settlements_from at before after) (omega arith) ∙ none
+pub settlements_of_taken : (outcome : Outcome) (id : ℕ) (first before after : List Row) →
+    AllByRecursion IsStanding first → settlements_from (id + length first) before after ≡ [] →
+    settlements_from id (first ++ before) (map (taken_row outcome) first ++ after)
+    ≡ entry_settlements outcome id (map entry_of first)
+settlements_of_taken outcome id [] before after all none = rw add-zero at none
 settlements_of_taken outcome id (row ∷ first) before after all none =
-    ap (λ one. one ++ settlements_from (suc id) (first ++ before) (map (taken_row outcome) first ++ after)) (settled_by_one outcome id row all.0)
-    ∙ ap (λ more. entry_settlement outcome id (entry_of row) ++ more)
-    (settlements_of_taken outcome (suc id) first before after all.1 (ap (λ at. settlements_from at before after) (omega arith) ∙ none))
+    let next : id + length (row ∷ first) ≡ suc id + length first = omega arith in
+    rw (
+      settled_by_one outcome id row all.0,
+      settlements_of_taken outcome (suc id) first before after all.1 (rw next at none),
+    )

@@ -43,10 +43,13 @@ module _ (outcome : Outcome) where
       outcome_at after more ≡ Some outcome → IsTold id (settlements_from at before after)
   newly_told at more id is before [] was now = absurd (cc)
   newly_told at zero id is before (row ∷ after) was now =
-      rw (settled_first at before row after, was, now) (0, omega arith, ap (λ n. settled_as n outcome) (sym (is ∙ add-zero at)))
+      rw (settled_first at before row after, was, now)
+      (0, omega arith, ap (λ n. settled_as n outcome) (sym (is ∙ add-zero at)))
   newly_told at (suc more) id is before (row ∷ after) was now =
+      let rest = drop 1 before in
       rw (settled_first at before row after)
-      (Contains-append_right _ _ _ (newly_told (suc at) more id (omega arith) (drop 1 before) after (outcome_behind before more ∙ was) now))
+      (Contains-append_right _ _ _
+      (newly_told (suc at) more id (omega arith) rest after (outcome_behind before more ∙ was) now))
 
   -- the settlement of one promise names it, and its outcome after
   of_one : (at id : ℕ) (was now : Option Outcome) → IsTold id (settlement at was now) → (id ≡ at) × (now ≡ Some outcome)
@@ -63,7 +66,8 @@ module _ (outcome : Outcome) where
       (more : ℕ) × (id ≡ at + more) × (outcome_at after more ≡ Some outcome)
   told_is_settled at id before [] there = absurd (not_in_none there)
   told_is_settled at id before (row ∷ after) there =
-      elim (Contains-append_cases (settlement at (outcome_at before 0) (outcome_of row.promise)) _ _ (rw (settled_first at before row after) at there)) [
+      let first = settlement at (outcome_at before 0) (outcome_of row.promise) in
+      elim (Contains-append_cases first _ _ (rw (settled_first at before row after) at there)) [
         | inl here ↦ let one = of_one at id (outcome_at before 0) (outcome_of row.promise) here in
             (0, one.0 ∙ sym (add-zero at), one.1)
         | inr later ↦ let rest = told_is_settled (suc at) id (drop 1 before) after later in
@@ -93,7 +97,8 @@ module _ (settings : Settings) (id : PromiseId) (outcome : Outcome) where
         IsSettled (commands_after settings earlier command)
     settled_by_one there = elim (refused_or_not (first_refusal settings.estimate earlier command)) [
       | inl none ↦
-          let from = told_is_settled outcome 0 id.0 (rows_after settings.estimate earlier) (effect settings.estimate (rows_after settings.estimate earlier) command) (rw none at there) in
+          let rows = rows_after settings.estimate earlier in
+          let from = told_is_settled outcome 0 id.0 rows (effect settings.estimate rows command) (rw none at there) in
           let place : id.0 ≡ from.0 = omega (arith, from.1) in
           rw (none, rows_after_more settings.estimate earlier command, place) from.2
       | inr some ↦ absurd (not_in_none (rw some.1 at there))

@@ -1,7 +1,7 @@
 -- A user bit set or cleared in the word is the user bit after one more command.
 use Rattle.std.proofs.Common.{◌≡◌, ℕ, zero, suc, ◌-◌, ◌^◌, ◌<◌, ◌≤◌, Bool, true, false, not, List, [], ◌∷◌, ◌++◌}
 use Rattle.std.proofs.Common.{reverse}
-use Rattle.std.proofs.Common.{refl, sym, ap, ◌∙◌, cond, eqb, ltb, bit_and, bit_or, append-nil, map, min, max, arith}
+use Rattle.std.proofs.Common.{refl, sym, ap, ◌∙◌, cond, eqb, ltb, bit_and, bit_or, append-nil, min, max, arith}
 use Rattle.std.specs.Prelude.{Option, Some, None, filter_map, slice_get, unwrap_or, if◌then◌else◌}
 use Rattle.std.specs.Int.{bit_at, bit_not, w32}
 use Rattle.std.specs.List.{cons_option}
@@ -20,11 +20,9 @@ use Rattle.ob_types.specs.declared.reply.Reply.{Reply}
 use Rattle.ob_types.specs.declared.reply.Answer.TheVariants.{Done}
 use Rattle.ob_seq.specs.Settings.{Settings}
 use Rattle.ob_seq.specs.Effect.{rows_after}
-use Rattle.ob_seq.specs.Line.{line, unflushed}
 use Rattle.ob_seq.specs.UserBit.{bit_request, is_user_index, user_bit}
 use Rattle.ob_seq.specs.Word.{word_after}
 use Rattle.ob_seq.specs.Answer.{refusal_of, reply_of}
-use Rattle.ob_seq.specs.Entry.{entry_of}
 use Rattle.ob_seq.specs.Pending.{Pending, StandsFor}
 use Rattle.ob_seq.specs.Steps.{bit_changed, with_user_bit}
 use Rattle.ob_seq.proofs.Acceptance.{open_history, same_reply}
@@ -35,31 +33,25 @@ use Rattle.ob_seq.proofs.Marks.{mark_of, word_is_from}
 
 -- the user bits after one more command
 bit_by : (requests : List Bool) (here now : Bool) →
-    unwrap_or (slice_get (reverse (requests ++ cons_option (let asked : Option Bool = cond here (Some now) None in asked) [])) 0) false
-    ≡ cond here now (unwrap_or (slice_get (reverse requests) 0) false)
-bit_by requests true now = ap (λ all. unwrap_or (slice_get all 0) false) (reverse-append requests (now ∷ []))
-bit_by requests false now = ap (λ all. unwrap_or (slice_get (reverse all) 0) false) (append-nil requests)
+    (let asked : Option Bool = cond here (Some now) None in
+    unwrap_or (slice_get (reverse (requests ++ cons_option asked [])) 0) false
+    ≡ cond here now (unwrap_or (slice_get (reverse requests) 0) false))
+bit_by requests true now = rw (reverse-append requests (now ∷ []))
+bit_by requests false now = rw (append-nil requests)
 
 user_bit_changes : (commands : List Command) (at : ℕ) (writable : Bool) (index : ℕ) →
     user_bit (commands ++ UserBit at writable ∷ []) index ≡ cond (eqb at index) (not writable) (user_bit commands index)
 user_bit_changes commands at writable index =
-    ap (λ requests. unwrap_or (slice_get (reverse requests) 0) false) (filter_map-append (bit_request index) commands (UserBit at writable ∷ []))
-    ∙ bit_by (filter_map (bit_request index) commands) (eqb at index) (not writable)
+    rw (filter_map-append (bit_request index) commands (UserBit at writable ∷ []))
+    (bit_by (filter_map (bit_request index) commands) (eqb at index) (not writable))
 
 -- one digit set, and one clear
 set_digit : (within here bit : Bool) → (here ≡ true → within ≡ true) →
     max (cond within (digit bit) 0) (cond here 1 0) ≡ cond within (digit (cond here true bit)) 0
-set_digit true true true inside = refl
-set_digit true true false inside = refl
-set_digit true false bit inside = omega arith
-set_digit false true bit inside = absurd (let no = inside refl in cc)
-set_digit false false bit inside = refl
+set_digit within here bit inside = grind arith
 
 clear_digit : (here bit : Bool) → min (digit bit) (1 - cond here 1 0) ≡ digit (cond here false bit)
-clear_digit true true = refl
-clear_digit true false = refl
-clear_digit false true = refl
-clear_digit false false = refl
+clear_digit here bit = grind arith
 
 pow_digit : (at i : ℕ) → bit_at (2 ^ at) i ≡ cond (eqb at i) 1 0
 pow_digit at i = by_place (eqb at i) refl
@@ -110,8 +102,8 @@ module _ (settings : Settings) (commands : List Command) (at : ℕ) (writable : 
   digits_change (suc i) = user_bit_changes commands at writable (suc i)
 
   -- the word with a user bit changed is the word after that command
-  bit_changed_word : at ≤ 31 →
-      with_user_bit at writable (word_after settings commands) ≡ word_after settings (commands ++ UserBit at writable ∷ [])
+  bit_changed_word : at ≤ 31 → with_user_bit at writable (word_after settings commands)
+      ≡ word_after settings (commands ++ UserBit at writable ∷ [])
   bit_changed_word few =
       ap (with_user_bit at writable) (word_is settings commands) ∙ by_kind writable digits_change
       ∙ sym (word_is settings (commands ++ UserBit at writable ∷ []))
@@ -136,33 +128,47 @@ user_bit_shows settings commands (suc i) some few =
     shown true = refl
     shown false = refl
 
-module _ (buffer : Pending) (commands : List Command) (at : ℕ) (writable : Bool) (stands : StandsFor buffer commands) (unclosed : buffer.closed ≡ false) (some : 1 ≤ at) (few : at ≤ 31) where
+module _ (buffer : Pending) (commands : List Command) (at : ℕ) (writable : Bool) (stands : StandsFor buffer commands)
+    (unclosed : buffer.closed ≡ false) (some : 1 ≤ at) (few : at ≤ 31) where
   -- a user bit with such an index is accepted
-  pub bit_accepted : refusal_of buffer.settings.estimate (rows_after buffer.settings.estimate commands) (UserBit at writable) ≡ None
+  pub bit_accepted : refusal_of buffer.settings.estimate (rows_after buffer.settings.estimate commands)
+      (UserBit at writable) ≡ None
   bit_accepted = by_range at some few
     where
-      by_range : (n : ℕ) → 1 ≤ n → n ≤ 31 → (let refusal : Option Refusal = if is_user_index n then None else Some BadIndex in refusal ≡ None)
+      by_range : (n : ℕ) → 1 ≤ n → n ≤ 31 →
+          (let refusal : Option Refusal = if is_user_index n then None else Some BadIndex in refusal ≡ None)
       by_range n some few = grind (arith, nat_tests)
 
-  changed_word : (bit_changed at writable buffer).word ≡ word_after buffer.settings (commands ++ UserBit at writable ∷ [])
-  changed_word = ap (with_user_bit at writable) stands.word ∙ bit_changed_word buffer.settings commands at writable some few
+  changed_word : (bit_changed at writable buffer).word
+      ≡ word_after buffer.settings (commands ++ UserBit at writable ∷ [])
+  changed_word =
+      ap (with_user_bit at writable) stands.word ∙ bit_changed_word buffer.settings commands at writable some few
 
-  rows_stay : rows_after buffer.settings.estimate (commands ++ UserBit at writable ∷ []) ≡ rows_after buffer.settings.estimate commands
+  rows_stay : rows_after buffer.settings.estimate (commands ++ UserBit at writable ∷ [])
+      ≡ rows_after buffer.settings.estimate commands
   rows_stay = rows_after_more buffer.settings.estimate commands (UserBit at writable)
 
   -- the buffer with the user bit changed stands for the history with it
   pub bit_changed_stands : StandsFor (bit_changed at writable buffer) (commands ++ UserBit at writable ∷ [])
-  bit_changed_stands = record {
-    accepted = accepted_more buffer.settings commands (UserBit at writable) (open_history buffer.settings commands (UserBit at writable) buffer stands unclosed) stands.accepted bit_accepted;
-    closed = unclosed ∙ sym (closed_more commands (UserBit at writable) (open_history buffer.settings commands (UserBit at writable) buffer stands unclosed));
-    marks = stands.marks;
-    line = stands.line ∙ sym (ap (λ all. map entry_of (line all)) rows_stay);
-    unflushed = stands.unflushed ∙ sym (ap (λ all. map entry_of (unflushed all)) rows_stay);
-    promises = stands.promises ∙ sym (ap (map (λ row. row.promise)) rows_stay);
-    word = changed_word;
-  }
+  bit_changed_stands =
+      let command : Command = UserBit at writable in
+      let there = open_history buffer.settings commands command buffer stands unclosed in record {
+        accepted = accepted_more buffer.settings commands command there stands.accepted bit_accepted;
+        closed = unclosed ∙ sym (closed_more commands command there);
+        marks = stands.marks;
+        line = rw rows_stay stands.line;
+        unflushed = rw rows_stay stands.unflushed;
+        promises = rw rows_stay stands.promises;
+        word = changed_word;
+      }
 
   -- its reply
-  pub reply_of_bit : (let reply : Reply = record { answer = Done; settled = []; change = change_between buffer.word (bit_changed at writable buffer).word } in reply ≡ reply_of buffer.settings commands (UserBit at writable))
+  pub reply_of_bit : (let reply : Reply = record {
+    answer = Done;
+    settled = [];
+    change = change_between buffer.word (bit_changed at writable buffer).word;
+  } in
+      reply ≡ reply_of buffer.settings commands (UserBit at writable))
   reply_of_bit = same_reply refl (sym (settlements_of_same (rows_after buffer.settings.estimate commands)))
-      (ap (λ before. change_between before (bit_changed at writable buffer).word) stands.word ∙ ap (change_between (word_after buffer.settings commands)) changed_word)
+      (ap (λ before. change_between before (bit_changed at writable buffer).word) stands.word
+      ∙ ap (change_between (word_after buffer.settings commands)) changed_word)
