@@ -1,14 +1,17 @@
 -- The blocks that entries have left, one entry after another.
-use Rattle.std.proofs.Common.{◌≡◌, ℕ, ◌+◌, ◌<◌, ◌≤◌, Bool, true, false, List, [], ◌∷◌, length, map, drop, get_or, refl, sym, ap, ◌∙◌, cond}
+use Rattle.std.proofs.Common.{◌≡◌, ℕ, ◌+◌, ◌<◌, ◌≤◌, Bool, true, false, List, [], ◌∷◌, length, map, drop, get_or, refl, sym, ap, ◌∙◌, cond, arith}
 use Rattle.std.specs.Prelude.{take_while}
-use Rattle.std.proofs.lemmas.List.{drop_more, drop_all}
-use Rattle.std.proofs.lemmas.List.Sums.{take_while-cons}
+use Rattle.std.proofs.lemmas.List.{drop_more, drop_all, length-map}
+use Rattle.std.proofs.lemmas.List.Sums.{prefix_len-le-length, take_while-cons}
+use Rattle.std.proofs.lemmas.List.Folds.{length-prefix_len}
 use Rattle.ob_types.specs.declared.message.Message.{Message}
 use Rattle.ob_types.specs.declared.message.Message.TheVariants.{Block, Region, Other}
 use Rattle.ob_types.specs.Block.{is_block}
 use Rattle.ob_seq.specs.ByteRun.{block_bytes}
 use Rattle.ob_seq.specs.Entry.{PendingEntry, blocks_left}
+use Rattle.ob_seq.specs.Pieces.{pieces_within}
 use Rattle.ob_seq.specs.Steps.{first_length}
+use Rattle.ob_seq.proofs.Pieces.{fitting_few, within_is_fitting}
 
 abbrev message_of : PendingEntry → Message
 message_of entry = entry.message
@@ -48,3 +51,19 @@ module _ (line : List PendingEntry) (i : ℕ) (entry : PendingEntry) (inside : i
 -- and at the end
 pub left_at_end : (line : List PendingEntry) (i : ℕ) → length line ≤ i → blocks_left (drop i line) ≡ []
 left_at_end line i past = ap blocks_left (drop_all i line past)
+
+-- no more entries go than stand in line
+few_blocks : (line : List PendingEntry) → length (blocks_left line) ≤ length line
+few_blocks line =
+    let run = prefix_len-le-length is_block (map (λ entry. entry.message) line) in
+    let blocks : length (blocks_left line) ≡ length (take_while is_block (map (λ entry. entry.message) line)) = length-map (take_while is_block (map (λ entry. entry.message) line)) block_bytes in
+    let prefix = length-prefix_len is_block (map (λ entry. entry.message) line) in
+    let all = length-map line (λ entry. entry.message) in
+    omega arith
+
+pub few_entries : (n : ℕ) (line : List PendingEntry) → pieces_within n (blocks_left line) ≤ length line
+few_entries n line =
+    let fit = within_is_fitting n (blocks_left line) in
+    let few = fitting_few n (blocks_left line) in
+    let all = few_blocks line in
+    omega arith

@@ -1,5 +1,5 @@
 -- A buffer after its close stands for the history with the close.
-use Rattle.std.proofs.Common.{◌≡◌, ℕ, suc, false, List, [], ◌∷◌, ◌++◌, length, map, take, drop, refl, sym, ap, ◌∙◌, cond, append_assoc, append-nil, zero-add, arith}
+use Rattle.std.proofs.Common.{◌≡◌, ℕ, zero, suc, Bool, true, false, ltb, List, [], ◌∷◌, ◌++◌, length, map, take, drop, refl, sym, ap, ◌∙◌, cond, append_assoc, append-nil, zero-add, arith}
 use Rattle.std.specs.Prelude.{Option, Some, None, is_some, if◌then◌else◌}
 use Rattle.std.specs.List.{AllByRecursion}
 use Rattle.std.proofs.lemmas.Bool.Decides.{nat_tests}
@@ -24,11 +24,12 @@ use Rattle.ob_seq.specs.Word.{word_after}
 use Rattle.ob_seq.specs.Answer.{outcome_of, refusal_of, settlement, settlements_from, settlements_of, reply_of}
 use Rattle.ob_seq.specs.Entry.{entry_of}
 use Rattle.ob_seq.specs.Pending.{Pending, StandsFor}
-use Rattle.ob_seq.specs.Steps.{closed_pending, closing_reply, failures, unflushed_id}
+use Rattle.ob_seq.specs.Steps.{closed_pending, closing_reply, closing_step, failures, unflushed_id}
 use Rattle.ob_seq.proofs.Acceptance.{open_history, same_reply}
 use Rattle.ob_seq.proofs.Along.{moments_along_same, settlements_from_same}
 use Rattle.ob_seq.proofs.Failures.{failure}
-use Rattle.ob_seq.proofs.Fronts.{Fronted, front_is, no_front}
+use Rattle.ob_seq.proofs.Fronts.{Fronted, fronted, front_is, no_front}
+use Rattle.ob_seq.proofs.Simulation.{Simulates}
 use Rattle.ob_seq.proofs.Held.{opening_of, word_at_end, Held, held_of, line_count, promise_of, stands_by, unflushed_id_is, word_by_moments}
 use Rattle.ob_seq.proofs.History.{moments_after, rows_after_more, accepted_more}
 use Rattle.ob_seq.proofs.Marks.{half_after, word_from, word_from_more, word_step}
@@ -166,3 +167,24 @@ module _ (buffer : Pending) (commands : List Command) (cause : Cause) (stands : 
       let layout = layout_of buffer.settings.estimate commands in
       let held = held_of buffer commands stands in
       closed_by_parts layout.gone layout.standing layout.fresh layout.is held unclosed none (sym (line_count buffer layout.gone layout.standing layout.fresh held) ∙ none)
+
+-- the close simulates the command
+pub closing_simulates : (cause : Cause) (old : Pending) → Simulates (Close cause) old (closing_step cause old)
+closing_simulates cause old = record {
+  refusal = λ commands stands. refusal_is commands stands (ltb 0 (length old.line)) refl;
+  reply = λ commands stands unclosed none. (closed_stands old commands cause stands unclosed (empty (length old.line) none)).1;
+  after = λ commands stands unclosed none. (closed_stands old commands cause stands unclosed (empty (length old.line) none)).0;
+  settings = refl;
+}
+  where
+    refusal_is : (commands : List Command) → StandsFor old commands → (some : Bool) → ltb 0 (length old.line) ≡ some →
+        (let refusal : Option Refusal = cond some (Some FlushedLeft) None in refusal) ≡ refusal_of old.settings.estimate (rows_after old.settings.estimate commands) (Close cause)
+    refusal_is commands stands true is = sym (left_refused old commands cause stands (fronted old commands stands (grind (arith, nat_tests))))
+    refusal_is commands stands false is = sym (close_accepted old commands cause stands (grind (arith, nat_tests)))
+
+    empty : (count : ℕ) → (let refusal : Option Refusal = cond (ltb 0 count) (Some FlushedLeft) None in refusal) ≡ None → count ≡ 0
+    empty zero none = refl
+    empty (suc count) none = absurd (some count none)
+      where
+        some : (n : ℕ) → (let refusal : Option Refusal = cond (ltb 0 (suc n)) (Some FlushedLeft) None in refusal) ≡ None → ⊥
+        some n is = grind (arith, nat_tests)

@@ -16,13 +16,15 @@ use Rattle.ob_seq.specs.Word.{word_after}
 use Rattle.ob_seq.specs.Answer.{settlements_from, settlements_of, reply_of}
 use Rattle.ob_seq.specs.Entry.{entry_of}
 use Rattle.ob_seq.specs.Pending.{Pending, StandsFor}
-use Rattle.ob_seq.specs.Steps.{entry_settlements, failing_reply, front_id, front_taken, line_failed, times}
+use Rattle.ob_seq.specs.Steps.{entry_settlements, failing_reply, failing_step, front_id, front_taken, line_failed, times}
 use Rattle.ob_seq.proofs.Acceptance.{open_history, same_reply}
 use Rattle.ob_seq.proofs.Along.{moments_along_same, settlements_from_same, settlements_behind}
 use Rattle.ob_seq.proofs.Held.{opening, opening_of, word_at_end, Held, held_of, front_id_is, line_count, stands_by, word_by_moments}
 use Rattle.ob_seq.proofs.History.{moments_after, rows_after_more, accepted_more}
 use Rattle.ob_seq.proofs.Marks.{half_after}
 use Rattle.ob_seq.proofs.Order.{Layout, layout_of, failed_parts}
+use Rattle.ob_seq.proofs.Simulation.{Simulates}
+use Rattle.ob_seq.proofs.Times.{settings_of_times}
 use Rattle.ob_seq.proofs.Sent.{all_taken, settlements_of_taken}
 
 module _ (buffer : Pending) (commands : List Command) (cause : Cause) (notice : Bool) (stands : StandsFor buffer commands) (unclosed : buffer.closed ≡ false) where
@@ -93,3 +95,12 @@ module _ (buffer : Pending) (commands : List Command) (cause : Cause) (notice : 
   reply_of_failing =
       same_reply (ap Count (ap length stands.line ∙ length-map (line rows) entry_of)) (sym settlements_of_failing)
       (ap (change_between buffer.word) taken.1 ∙ ap (λ before. change_between before (word_after buffer.settings (commands ++ failing ∷ []))) stands.word)
+
+-- the failing simulates the command
+pub failing_simulates : (cause : Cause) (notice : Bool) (old : Pending) → Simulates (FailFlushed cause notice) old (failing_step cause notice old)
+failing_simulates cause notice old = record {
+  refusal = λ commands stands. refl;
+  reply = λ commands stands unclosed none. reply_of_failing old commands cause notice stands unclosed;
+  after = λ commands stands unclosed none. failing_stands old commands cause notice stands unclosed;
+  settings = settings_of_times (front_taken notice (Failed cause)) (λ before. refl) (length old.line) old;
+}

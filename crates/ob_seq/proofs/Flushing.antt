@@ -14,13 +14,15 @@ use Rattle.ob_seq.specs.Word.{word_after}
 use Rattle.ob_seq.specs.Answer.{settlements_from, settlements_of, reply_of}
 use Rattle.ob_seq.specs.Entry.{entry_of}
 use Rattle.ob_seq.specs.Pending.{Pending, StandsFor}
-use Rattle.ob_seq.specs.Steps.{next_flushed, times}
+use Rattle.ob_seq.specs.Steps.{flush_step, next_flushed, times}
 use Rattle.ob_seq.proofs.Acceptance.{open_history, same_reply}
 use Rattle.ob_seq.proofs.Along.{moments_along_same, settlements_from_same}
 use Rattle.ob_seq.proofs.Held.{opening, opening_of, word_at_end, Held, held_of, fresh_count, stands_by, word_by_moments}
 use Rattle.ob_seq.proofs.History.{moments_after, rows_after_more, accepted_more}
 use Rattle.ob_seq.proofs.Marks.{half_after}
 use Rattle.ob_seq.proofs.Order.{Layout, layout_of, flush_parts}
+use Rattle.ob_seq.proofs.Simulation.{Simulates}
+use Rattle.ob_seq.proofs.Times.{settings_of_times}
 use Rattle.ob_seq.proofs.Reached.{all_reached, settlements_of_reached}
 
 module _ (buffer : Pending) (commands : List Command) (stands : StandsFor buffer commands) (unclosed : buffer.closed ≡ false) where
@@ -79,3 +81,12 @@ module _ (buffer : Pending) (commands : List Command) (stands : StandsFor buffer
   reply_of_flush =
       same_reply (ap Count (ap length stands.unflushed ∙ length-map (unflushed rows) entry_of)) (sym settlements_of_flush)
       (ap (change_between buffer.word) reached.1 ∙ ap (λ before. change_between before (word_after buffer.settings (commands ++ Flush ∷ []))) stands.word)
+
+-- the flush simulates the command
+pub flush_simulates : (old : Pending) → Simulates Flush old (flush_step old)
+flush_simulates old = record {
+  refusal = λ commands stands. refl;
+  reply = λ commands stands unclosed none. reply_of_flush old commands stands unclosed;
+  after = λ commands stands unclosed none. flushed_stands old commands stands unclosed;
+  settings = settings_of_times next_flushed (λ before. refl) (length old.unflushed) old;
+}

@@ -34,9 +34,9 @@ mod Removed
 mod Rows
 mod Sending
 mod Sent
-mod Settled
 pub mod Shrinking
-mod Sizes
+mod Simulated
+mod Simulation
 mod Skipped
 mod Taken
 mod Times

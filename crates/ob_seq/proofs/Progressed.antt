@@ -1,5 +1,5 @@
 -- A buffer of whose front more progress was told stands for the history with the progress.
-use Rattle.std.proofs.Common.{◌≡◌, ℕ, ◌+◌, ◌<◌, ◌≤◌, true, false, List, [], ◌∷◌, ◌++◌, length, refl, sym, ap, ◌∙◌, ltb, arith}
+use Rattle.std.proofs.Common.{◌≡◌, ℕ, ◌+◌, true, false, List, [], ◌∷◌, ◌++◌, length, refl, sym, ap, ◌∙◌, cond, leb, ltb, Bool, arith}
 use Rattle.std.specs.Prelude.{Option, Some, None, if◌then◌else◌}
 use Rattle.std.proofs.lemmas.Bool.Decides.{nat_tests}
 use Rattle.std.proofs.lemmas.List.{map-append}
@@ -17,13 +17,14 @@ use Rattle.ob_seq.specs.Moment.{moments_along, moments_of}
 use Rattle.ob_seq.specs.Word.{word_after}
 use Rattle.ob_seq.specs.Answer.{refusal_of, refusal_of_progress, outcome_of, settlements_from, reply_of}
 use Rattle.ob_seq.specs.Pending.{Pending, StandsFor}
-use Rattle.ob_seq.specs.Steps.{first_progress, first_changed, front_changed, progressed_entry}
+use Rattle.ob_seq.specs.Steps.{first_progress, first_changed, front_changed, progress_step, progressed_entry}
 use Rattle.ob_seq.proofs.Acceptance.{open_history, same_reply}
 use Rattle.ob_seq.proofs.Along.{moment_of_same, moments_of_one, settlement_same, settlements_of_one}
-use Rattle.ob_seq.proofs.Fronts.{Fronted, front_is, no_front}
+use Rattle.ob_seq.proofs.Fronts.{Fronted, fronted, front_is, no_front}
 use Rattle.ob_seq.proofs.Held.{opening_of, Held, promise_of, stands_by}
 use Rattle.ob_seq.proofs.History.{rows_after_more, accepted_more}
 use Rattle.ob_seq.proofs.Marks.{word_after_same}
+use Rattle.ob_seq.proofs.Simulation.{Simulates}
 use Rattle.ob_seq.proofs.Order.{with_front_gone, with_front_standing, progressed_stands}
 
 module _ (buffer : Pending) (commands : List Command) (n : ℕ) (stands : StandsFor buffer commands) where
@@ -35,22 +36,6 @@ module _ (buffer : Pending) (commands : List Command) (n : ℕ) (stands : Stands
       ≡ (if ltb 9223372036854775807 (first_progress buffer.line + n) then Some TooFar else None)
   refused_by_sum f = ap (λ found. refusal_of_progress found n) (front_is buffer commands f)
       ∙ ap (λ sum. let refusal : Option Refusal = if ltb 9223372036854775807 (sum + n) then Some TooFar else None in refusal) (sym (ap first_progress f.held.line))
-
-  -- progress past the limit is refused
-  pub far_refused : Fronted buffer commands → 9223372036854775807 < first_progress buffer.line + n →
-      refusal_of buffer.settings.estimate (rows_after buffer.settings.estimate commands) (Progress n) ≡ Some TooFar
-  far_refused f far = refused_by_sum f ∙ far_if (first_progress buffer.line + n) far
-    where
-      far_if : (sum : ℕ) → 9223372036854775807 < sum → (let refusal : Option Refusal = if ltb 9223372036854775807 sum then Some TooFar else None in refusal ≡ Some TooFar)
-      far_if sum h = grind (arith, nat_tests)
-
-  -- and else accepted
-  pub progress_accepted : Fronted buffer commands → first_progress buffer.line + n ≤ 9223372036854775807 →
-      refusal_of buffer.settings.estimate (rows_after buffer.settings.estimate commands) (Progress n) ≡ None
-  progress_accepted f near = refused_by_sum f ∙ near_if (first_progress buffer.line + n) near
-    where
-      near_if : (sum : ℕ) → sum ≤ 9223372036854775807 → (let refusal : Option Refusal = if ltb 9223372036854775807 sum then Some TooFar else None in refusal ≡ None)
-      near_if sum h = grind (arith, nat_tests)
 
   module _ (f : Fronted buffer commands) (unclosed : buffer.closed ≡ false) (accepted : refusal_of buffer.settings.estimate (rows_after buffer.settings.estimate commands) (Progress n) ≡ None) where
     abbrev changed : Row
@@ -95,3 +80,33 @@ module _ (buffer : Pending) (commands : List Command) (n : ℕ) (stands : Stands
         ∙ ap (λ before. settlements_from 0 before (f.gone ++ changed ∷ (f.standing ++ f.fresh))) f.rows_are
         ∙ settlements_of_one f.gone f.row changed (f.standing ++ f.fresh) ∙ settlement_same (length f.gone) (outcome_of f.row.promise)))
         (ap (change_between buffer.word) word_of_progress ∙ ap (λ before. change_between before (word_after buffer.settings (commands ++ Progress n ∷ []))) stands.word)
+
+-- progress simulates the command
+pub progress_simulates : (n : ℕ) (old : Pending) → Simulates (Progress n) old (progress_step n old)
+progress_simulates n old = record {
+  refusal = λ commands stands. refusal_is commands stands (ltb 0 (length old.line)) refl;
+  reply = λ commands stands unclosed none. let f = front_of commands stands none in reply_of_progress old commands n stands f unclosed (accepted commands stands none);
+  after = λ commands stands unclosed none. let f = front_of commands stands none in progressed_stands_for old commands n stands f unclosed (accepted commands stands none);
+  settings = refl;
+}
+  where
+    tests_agree : (sum : ℕ) → (let refusal : Option Refusal = cond (leb sum 9223372036854775807) None (Some TooFar) in refusal) ≡ (let refusal : Option Refusal = cond (ltb 9223372036854775807 sum) (Some TooFar) None in refusal)
+    tests_agree sum = grind (arith, nat_tests)
+
+    refusal_is : (commands : List Command) → StandsFor old commands → (some : Bool) → ltb 0 (length old.line) ≡ some →
+        (let refusal : Option Refusal = cond some (cond (leb (first_progress old.line + n) 9223372036854775807) None (Some TooFar)) (Some NothingFlushed) in refusal)
+        ≡ refusal_of old.settings.estimate (rows_after old.settings.estimate commands) (Progress n)
+    refusal_is commands stands true is = tests_agree (first_progress old.line + n) ∙ sym (refused_by_sum old commands n stands (fronted old commands stands (grind (arith, nat_tests))))
+    refusal_is commands stands false is = sym (nothing_refused old commands n stands (grind (arith, nat_tests)))
+
+    some_line : (some : Bool) (own : Option Refusal) → (let refusal : Option Refusal = cond some own (Some NothingFlushed) in refusal) ≡ None → some ≡ true
+    some_line true own none = refl
+    some_line false own none = absurd (cc)
+
+    front_of : (commands : List Command) → StandsFor old commands → (progress_step n old).refusal ≡ None → Fronted old commands
+    front_of commands stands none =
+        let some = some_line (ltb 0 (length old.line)) (cond (leb (first_progress old.line + n) 9223372036854775807) None (Some TooFar)) none in
+        fronted old commands stands (grind (arith, nat_tests))
+
+    accepted : (commands : List Command) → StandsFor old commands → (progress_step n old).refusal ≡ None → refusal_of old.settings.estimate (rows_after old.settings.estimate commands) (Progress n) ≡ None
+    accepted commands stands none = sym (refusal_is commands stands (ltb 0 (length old.line)) refl) ∙ none

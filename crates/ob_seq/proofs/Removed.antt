@@ -21,7 +21,7 @@ use Rattle.ob_seq.specs.Closed.{is_close}
 use Rattle.ob_seq.specs.Word.{word_after}
 use Rattle.ob_seq.specs.Answer.{answer_of, refusal_of, settlements_from, reply_of}
 use Rattle.ob_seq.specs.Pending.{Pending, StandsFor}
-use Rattle.ob_seq.specs.Steps.{front_taken, front_removed, front_settlement, removal_reply}
+use Rattle.ob_seq.specs.Steps.{front_taken, front_removed, front_settlement, removal_reply, removal_step}
 use Rattle.ob_seq.proofs.Acceptance.{open_history, same_reply}
 use Rattle.ob_seq.proofs.Along.{moments_of_one, moments_of_same, settlements_of_one, settlements_of_same}
 use Rattle.ob_seq.proofs.Held.{opening_of, word_at_end, Held, held_of, line_count, stands_by, stands_same, word_by_moments}
@@ -29,6 +29,7 @@ use Rattle.ob_seq.proofs.History.{moments_after, rows_after_more, accepted_more}
 use Rattle.ob_seq.proofs.Marks.{IsQuiet, half_after, word_after_same}
 use Rattle.ob_seq.proofs.Order.{IsGone, IsFresh, with_front_gone, with_front_fresh, with_front_standing, layout_of}
 use Rattle.ob_seq.proofs.Parts.{front_of_parts, no_front_of_parts}
+use Rattle.ob_seq.proofs.Simulation.{Simulates}
 use Rattle.ob_seq.proofs.Taken.{taken_held, taken_word, taken_settlement}
 
 -- the command takes the front away with this outcome
@@ -131,3 +132,16 @@ module _ (command : Command) (outcome : Outcome) (is : IsRemoval command outcome
       let layout = layout_of buffer.settings.estimate commands in
       let held = held_of buffer commands stands in
       by_line layout.gone layout.standing layout.fresh layout.is held (ltb 0 (length buffer.line)) (ap (ltb 0) (sym (line_count buffer layout.gone layout.standing layout.fresh held)))
+
+-- the removal simulates the command
+pub removal_simulates : (command : Command) (outcome : Outcome) → IsRemoval command outcome → (old : Pending) → Simulates command old (removal_step outcome old)
+removal_simulates command outcome is old = record {
+  refusal = λ commands stands. sym (is.accepted old.settings.estimate (rows_after old.settings.estimate commands));
+  reply = λ commands stands unclosed none. (removed command outcome is old commands stands unclosed).1;
+  after = λ commands stands unclosed none. (removed command outcome is old commands stands unclosed).0;
+  settings = by_test (ltb 0 (length old.line));
+}
+  where
+    by_test : (some : Bool) → (let after : Pending = cond some (front_taken true outcome old) old in after.settings) ≡ old.settings
+    by_test true = refl
+    by_test false = refl

@@ -1,11 +1,13 @@
 -- A buffer with one more message stands for the history with the write.
-use Rattle.std.proofs.Common.{◌≡◌, ℕ, ◌+◌, true, List, [], ◌∷◌, ◌++◌, length, map, refl, sym, ap, ◌∙◌, append-nil, arith, false}
+use Rattle.std.proofs.Common.{◌≡◌, ℕ, ◌+◌, Bool, true, not, cond, leb, ltb, ◌&&◌, ◌||◌, List, [], ◌∷◌, ◌++◌, length, map, refl, sym, ap, ◌∙◌, append-nil, arith, false}
 use Rattle.std.proofs.lemmas.Bool.Decides.{nat_tests}
 use Rattle.std.proofs.lemmas.List.{map-append, length-map}
 use Rattle.std.proofs.lemmas.List.Elements.{filter-append}
 use Rattle.std.proofs.lemmas.List.Sums.{sum_by_push}
 use Rattle.ob_types.specs.WaterMark.{Marks}
-use Rattle.ob_types.specs.PendingSize.{counted_bytes}
+use Rattle.ob_types.specs.PendingSize.{counted_bytes, is_oversize}
+use Rattle.ob_types.specs.declared.refusal.Refusal.{Refusal}
+use Rattle.ob_types.specs.declared.refusal.Refusal.TheVariants.{Oversize, TooMuch}
 use Rattle.ob_types.specs.Change.{change_between}
 use Rattle.ob_types.specs.declared.estimate.Estimate.{Estimate}
 use Rattle.ob_types.specs.declared.message.Message.{Message}
@@ -22,15 +24,16 @@ use Rattle.ob_seq.specs.Total.{counted_size, total}
 use Rattle.ob_seq.specs.Effect.{rows_after}
 use Rattle.ob_seq.specs.Moment.{moment_of, moments_along, moments_of}
 use Rattle.ob_seq.specs.Word.{word_after}
-use Rattle.ob_seq.specs.Answer.{settlements_from, settlements_of, reply_of, refusal_of}
+use Rattle.ob_seq.specs.Answer.{is_too_much, settlements_from, settlements_of, reply_of, refusal_of}
 use Rattle.ob_seq.specs.Pending.{Pending, StandsFor}
-use Rattle.ob_seq.specs.Steps.{sum_of, pending_total, written, word_after_rise}
+use Rattle.ob_seq.specs.Steps.{has_room, sum_of, pending_total, written, word_after_rise, write_step}
 use Rattle.ob_seq.proofs.Acceptance.{open_history, same_reply}
+use Rattle.ob_seq.proofs.Simulation.{Simulates}
 use Rattle.ob_seq.proofs.Rows.{sum_of_rows}
 use Rattle.ob_seq.proofs.Along.{moments_along_same, settlements_from_same}
 use Rattle.ob_seq.proofs.History.{rows_after_more, accepted_more, closed_more}
 use Rattle.ob_seq.proofs.Marks.{word_step, word_after_more}
-use Rattle.std.specs.Prelude.{None}
+use Rattle.std.specs.Prelude.{Option, Some, None}
 
 -- the bytes pending in a buffer are those of the rows
 pub pending_total_stands : (buffer : Pending) (commands : List Command) → StandsFor buffer commands → pending_total buffer ≡ total (rows_after buffer.settings.estimate commands)
@@ -117,3 +120,39 @@ reply_of_write buffer commands message stands =
     same_reply (ap (λ id. Id (record { 0 = id })) count) (sym (settlements_of_write estimate rows message))
     (ap (λ before. change_between before (word_after_rise buffer.marks buffer.word (counted_bytes estimate message) (pending_total buffer + counted_bytes estimate message))) stands.word
     ∙ ap (change_between (word_after buffer.settings commands)) (word_of_write buffer commands message stands))
+
+-- whether a message is too much, seen by the buffer
+too_much_is : (buffer : Pending) (commands : List Command) (size : ℕ) → StandsFor buffer commands →
+    is_too_much buffer.settings.estimate (rows_after buffer.settings.estimate commands) size ≡ not (has_room size buffer)
+too_much_is buffer commands size stands =
+    let rows = rows_after buffer.settings.estimate commands in
+    ap (λ sum. ltb 4294967295 (sum + size) || leb 1048576 (length rows)) (sym (pending_total_stands buffer commands stands))
+    ∙ ap (λ count. ltb 4294967295 (pending_total buffer + size) || leb 1048576 count) (sym (ap length stands.promises ∙ length-map rows (λ row. row.promise)))
+    ∙ too_much_or_room (pending_total buffer + size) (length buffer.promises)
+  where
+    too_much_or_room : (sum count : ℕ) → (ltb 4294967295 sum || leb 1048576 count) ≡ not (leb sum 4294967295 && ltb count 1048576)
+    too_much_or_room sum count = grind (arith, nat_tests)
+
+-- the write simulates the command
+pub write_simulates : (message : Message) (old : Pending) → Simulates (Write message) old (write_step message old)
+write_simulates message old = record {
+  refusal = refusal_is;
+  reply = λ commands stands unclosed none. reply_of_write old commands message stands;
+  after = λ commands stands unclosed none. written_stands old commands message stands unclosed (sym (refusal_is commands stands) ∙ none);
+  settings = refl;
+}
+  where
+    -- the first refusal by the two tests
+    first_by : Bool → Bool → Option Refusal
+    first_by large much = cond large (Some Oversize) (cond much (Some TooMuch) None)
+
+    by_tests : (large room : Bool) → (let refusal : Option Refusal = cond large (Some Oversize) (cond room None (Some TooMuch)) in refusal) ≡ first_by large (not room)
+    by_tests true room = refl
+    by_tests false true = refl
+    by_tests false false = refl
+
+    refusal_is : (commands : List Command) → StandsFor old commands → (write_step message old).refusal ≡ refusal_of old.settings.estimate (rows_after old.settings.estimate commands) (Write message)
+    refusal_is commands stands =
+        let size = counted_bytes old.settings.estimate message in
+        by_tests (is_oversize old.settings.estimate message) (has_room size old)
+        ∙ ap (first_by (is_oversize old.settings.estimate message)) (sym (too_much_is old commands size stands))

@@ -1,16 +1,24 @@
 -- What one call does to what a buffer holds, step by step. No public clause cites this module.
-use Rattle.std.specs.Prelude.{ℕ, ◌^◌, count_by, not, map, bit_and, bit_or, ◌+◌, ◌-◌, ◌*◌, ◌/◌, ◌&&◌, Bool, true, false, List, [], ◌∷◌, ◌++◌, length, drop, sum_by, slice_set, nat_lt, if◌then◌else◌, zero, suc, slice_index_or, take, min, Option, Some, None}
+use Rattle.std.specs.Prelude.{ℕ, ◌^◌, map, bit_and, bit_or, ◌+◌, ◌-◌, ◌*◌, ◌/◌, ◌&&◌, Bool, true, false, List, [], ◌∷◌, ◌++◌, length, drop, sum_by, slice_set, nat_le, nat_lt, if◌then◌else◌, zero, suc, slice_index_or, take, min, Option, Some, None, Result, is_ok}
 use Rattle.std.specs.Int.{bit_not, w32}
 use Rattle.ob_types.specs.WaterMark.{Marks}
+use Rattle.ob_types.specs.PendingSize.{counted_bytes, is_oversize}
+use Rattle.ob_types.specs.declared.command.Command.{Command}
+use Rattle.ob_types.specs.declared.command.Command.TheVariants.{Write, Flush, Remove, RemoveWith, RemoveBytes, Progress, Cancel, FailFlushed, Close, UserBit}
 use Rattle.ob_types.specs.declared.message.Message.{Message}
 use Rattle.ob_types.specs.declared.promise.Outcome.{Outcome}
 use Rattle.ob_types.specs.declared.promise.Cause.{Cause}
-use Rattle.ob_types.specs.declared.promise.Outcome.TheVariants.{Success, Failed}
+use Rattle.ob_types.specs.declared.promise.Outcome.TheVariants.{Success, Failed, Cancelled}
 use Rattle.ob_types.specs.declared.promise.PromiseState.TheVariants.{Waiting, Fixed, Settled}
 use Rattle.ob_seq.specs.declared.contents.cut.Cut.{Cut}
-use Rattle.ob_types.specs.Limits.{greatest_progress}
+use Rattle.ob_types.specs.declared.refusal.Refusal.{Refusal}
+use Rattle.ob_types.specs.declared.refusal.Refusal.TheVariants.{Oversize, TooMuch, Closed, NothingFlushed, TooFar, TooManyBytes, BadIndex, FlushedLeft, UnknownPromise}
+use Rattle.ob_types.specs.Limits.{greatest_progress, greatest_total, most_writes}
 use Rattle.ob_types.specs.Waiting.{is_waiting}
 use Rattle.ob_seq.specs.Entry.{PendingEntry, blocks_left}
+use Rattle.ob_seq.specs.Answer.{unless_refused}
+use Rattle.ob_seq.specs.Settles.{settled_by}
+use Rattle.ob_seq.specs.UserBit.{is_user_index}
 use Rattle.ob_seq.specs.Effect.{failed}
 use Rattle.ob_seq.specs.Word.{bit_value}
 use Rattle.ob_seq.specs.Pending.{Pending}
@@ -20,9 +28,36 @@ use Rattle.ob_seq.specs.ByteRun.{block_bytes}
 use Rattle.ob_types.specs.declared.message.Message.TheVariants.{Block}
 use Rattle.ob_types.specs.declared.promise.PromiseId.{PromiseId}
 use Rattle.ob_types.specs.declared.reply.Reply.{Reply}
-use Rattle.ob_types.specs.declared.reply.Answer.TheVariants.{Yes, Count}
+use Rattle.ob_types.specs.declared.reply.Answer.TheVariants.{Id, Count, Yes, Done}
 use Rattle.ob_types.specs.Change.{change_between}
 use Rattle.ob_types.specs.declared.promise.PromiseState.{PromiseState}
+
+-- one command carried out on what a buffer holds that is not closed: why it is refused, if it is, and else what it replies
+-- and what the buffer holds after it
+pub record Step : Type 0 where
+  pub refusal : Option Refusal
+  pub reply : Reply
+  pub after : Pending
+
+-- the first refusal of a step: that the buffer is closed comes before its own
+abbrev pub first_of_step : Pending → Step → Option Refusal
+first_of_step old step = if old.closed then Some Closed else step.refusal
+
+-- the answer of a step
+abbrev pub answer_by : Pending → Step → Result Reply Refusal
+answer_by old step = unless_refused (first_of_step old step) step.reply
+
+-- what is held after a step with this answer: a refused one changes nothing
+abbrev pub held_by : Pending → Step → Result Reply Refusal → Pending
+held_by old step answer = if is_ok answer then step.after else old
+
+-- how many promises a step of a buffer that is not closed settles: those of its reply, and none where it is refused
+abbrev pub settled_open : Step → ℕ
+settled_open step = length (settled_by (unless_refused step.refusal step.reply))
+
+-- how many promises a step settles
+abbrev pub settled_by_step : Pending → Step → ℕ
+settled_by_step old step = length (settled_by (answer_by old step))
 
 -- the word with bit 0 as given
 abbrev pub with_mark : Bool → ℕ → ℕ
@@ -146,11 +181,13 @@ removal_reply outcome old = record {
 abbrev pub promise_set : ℕ → PromiseState → Pending → Pending
 promise_set id state old = record old { promises = slice_set old.promises id state }
 
+-- where a removal of n bytes from these pieces ends, if they hold so many
+abbrev pub whole_cut : ℕ → List (List ℕ) → Cut
+whole_cut n pieces = record { whole = pieces_within n pieces; rest = n - bytes_in (take (pieces_within n pieces) pieces) }
+
 -- where a removal of n bytes from these pieces ends, or nothing where they hold fewer
 abbrev pub cut_of : ℕ → List (List ℕ) → Option Cut
-cut_of n pieces =
-    if nat_lt (bytes_in pieces) n then None
-    else Some (record { whole = pieces_within n pieces; rest = n - bytes_in (take (pieces_within n pieces) pieces) })
+cut_of n pieces = if nat_lt (bytes_in pieces) n then None else Some (whole_cut n pieces)
 
 -- how many bytes the block of the first entry has left, or 0
 abbrev pub first_length : List PendingEntry → ℕ
@@ -186,15 +223,6 @@ bytes_reply cut old = record {
   change = change_between old.word (bytes_removed cut old).word;
 }
 
--- how many promises a removal of n bytes settles where it is accepted: those of the entries that it takes away whole
--- and that were not voided
-abbrev pub settled_by_bytes : ℕ → List PendingEntry → ℕ
-settled_by_bytes n line = count_by (λ entry. not entry.voided) (take (pieces_within n (blocks_left line)) line)
-
--- how many promises a removal of n bytes settles: none where the blocks in front hold fewer
-abbrev pub bytes_settled : ℕ → List PendingEntry → ℕ
-bytes_settled n line = if nat_lt (bytes_in (blocks_left line)) n then 0 else settled_by_bytes n line
-
 -- a buffer after all in line are taken away as failed
 abbrev pub line_failed : Cause → Bool → Pending → Pending
 line_failed cause notice old = times (length old.line) (front_taken notice (Failed cause)) old
@@ -228,10 +256,6 @@ closing_reply cause old = record {
   change = change_between old.word old.word;
 }
 
--- how many promises a close settles: none where something is in line
-abbrev pub closing_settled : Pending → ℕ
-closing_settled old = if nat_lt 0 (length old.line) then 0 else count_by (λ state. is_waiting state) (drop (unflushed_id old) old.promises)
-
 -- the word with the user bit of this index set, or clear where it is to be writable
 abbrev pub with_user_bit : ℕ → Bool → ℕ → ℕ
 with_user_bit index writable word = if writable then bit_and word (bit_not w32 (2 ^ index)) else bit_or word (2 ^ index)
@@ -239,3 +263,100 @@ with_user_bit index writable word = if writable then bit_and word (bit_not w32 (
 -- a buffer with a user bit changed
 abbrev pub bit_changed : ℕ → Bool → Pending → Pending
 bit_changed index writable old = record old { word = with_user_bit index writable old.word }
+
+-- whether a message is too much for what is held
+abbrev pub has_room : ℕ → Pending → Bool
+has_room size old = nat_le (pending_total old + size) greatest_total && nat_lt (length old.promises) most_writes
+
+-- a write as a step
+abbrev pub write_step : Message → Pending → Step
+write_step message old =
+    let size = counted_bytes old.settings.estimate message in
+    let after = written old message size in record {
+      refusal = if is_oversize old.settings.estimate message then Some Oversize else (if has_room size old then None else Some TooMuch);
+      reply = record { answer = Id (record { 0 = length old.promises }); settled = []; change = change_between old.word after.word };
+      after = after;
+    }
+
+-- a buffer with all its entries in line
+abbrev pub all_flushed : Pending → Pending
+all_flushed old = times (length old.unflushed) next_flushed old
+
+-- a flush as a step
+abbrev pub flush_step : Pending → Step
+flush_step old = record {
+  refusal = None;
+  reply = record { answer = Count (length old.unflushed); settled = []; change = change_between old.word (all_flushed old).word };
+  after = all_flushed old;
+}
+
+-- a removal of the front as a step
+abbrev pub removal_step : Outcome → Pending → Step
+removal_step outcome old = record { refusal = None; reply = removal_reply outcome old; after = front_removed outcome old }
+
+-- a removal of n bytes as a step
+abbrev pub bytes_step : ℕ → Pending → Step
+bytes_step n old = record {
+  refusal = if nat_lt (bytes_in (blocks_left old.line)) n then Some TooManyBytes else None;
+  reply = bytes_reply (whole_cut n (blocks_left old.line)) old;
+  after = bytes_removed (whole_cut n (blocks_left old.line)) old;
+}
+
+-- progress as a step
+abbrev pub progress_step : ℕ → Pending → Step
+progress_step n old = record {
+  refusal = if nat_lt 0 (length old.line)
+      then (if nat_le (first_progress old.line + n) greatest_progress then None else Some TooFar)
+      else Some NothingFlushed;
+  reply = record { answer = Done; settled = []; change = change_between old.word old.word };
+  after = front_changed (progressed_entry n) old;
+}
+
+-- the state of the promise with this id
+abbrev pub state_at : Pending → ℕ → PromiseState
+state_at old id = slice_index_or old.promises id Waiting
+
+-- a cancellation as a step
+abbrev pub cancel_step : ℕ → Pending → Step
+cancel_step id old = record {
+  refusal = if nat_lt id (length old.promises) then None else Some UnknownPromise;
+  reply = record {
+    answer = Yes (is_waiting (state_at old id));
+    settled = if is_waiting (state_at old id) then (record { 0 = id }, Cancelled) ∷ [] else [];
+    change = change_between old.word old.word;
+  };
+  after = if is_waiting (state_at old id) then promise_set id (Settled Cancelled) old else old;
+}
+
+-- a failing of all in line as a step
+abbrev pub failing_step : Cause → Bool → Pending → Step
+failing_step cause notice old = record { refusal = None; reply = failing_reply cause notice old; after = line_failed cause notice old }
+
+-- a close as a step
+abbrev pub closing_step : Cause → Pending → Step
+closing_step cause old = record {
+  refusal = if nat_lt 0 (length old.line) then Some FlushedLeft else None;
+  reply = closing_reply cause old;
+  after = closed_pending cause old;
+}
+
+-- a change of a user bit as a step
+abbrev pub bit_step : ℕ → Bool → Pending → Step
+bit_step index writable old = record {
+  refusal = if is_user_index index then None else Some BadIndex;
+  reply = record { answer = Done; settled = []; change = change_between old.word (bit_changed index writable old).word };
+  after = bit_changed index writable old;
+}
+
+-- the step that a command is
+abbrev pub step_of : Command → Pending → Step
+step_of (Write message) old = write_step message old
+step_of Flush old = flush_step old
+step_of Remove old = removal_step Success old
+step_of (RemoveWith cause) old = removal_step (Failed cause) old
+step_of (RemoveBytes n) old = bytes_step n old
+step_of (Progress n) old = progress_step n old
+step_of (Cancel id) old = cancel_step id.0 old
+step_of (FailFlushed cause notice) old = failing_step cause notice old
+step_of (Close cause) old = closing_step cause old
+step_of (UserBit index writable) old = bit_step index writable old

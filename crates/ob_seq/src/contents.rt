@@ -1,9 +1,8 @@
-ghost use Rattle.std.specs.Prelude.{◌≡◌, ◌≤◌, false, [], IsTrue, IsErrOf, OnErr};
+ghost use Rattle.std.specs.Prelude.{◌≡◌, ◌<◌, ◌≤◌, [], length};
 ghost use Rattle.ob_types.specs.Change.{change_between};
 ghost use Rattle.ob_types.specs.Limits.{greatest_overhead, greatest_unknown};
-ghost use Rattle.ob_types.specs.Write.{is_write};
-ghost use Rattle.ob_seq.specs.Pending.{StandsFor, Answers, Follows, Accepts, takes_no_memory};
-ghost use Rattle.ob_seq.specs.Settles.{SparesMemory};
+ghost use Rattle.ob_seq.specs.Pending.{StandsFor};
+ghost use Rattle.ob_seq.specs.Steps.{pending_total, state_at};
 
 mod cancel;
 mod close;
@@ -30,8 +29,7 @@ use std::alloc::Global;
 use std::collections::VecDeque;
 use std::marker::Model;
 
-/// What a buffer holds. Its calls are those of `Buffer`, with the same contracts; between their steps it may stand for no
-/// list of commands.
+/// What a buffer holds. Its calls make the steps of `Buffer`'s; between them it may stand for no list of commands.
 ///
 /// No call goes over entries that it neither takes away, voids nor hands out, but for the one where it ends: the bytes
 /// that are pending are kept as they change, a flush moves the end of the line over the entries, and a removal takes
@@ -82,6 +80,35 @@ impl Contents {
             word: 0,
             closed: false,
         }
+    }
+
+    /// How many entries stand in line.
+    fn line_count(&self) -> usize
+        ensures { result ≡ length self.now.line }
+    {
+        self.flushed
+    }
+
+    /// How many entries no flush has reached.
+    fn unflushed_count(&self) -> usize
+        ensures { result ≡ length self.now.unflushed }
+    {
+        self.entries.len() - self.flushed
+    }
+
+    /// The bytes that are pending.
+    fn total(&self) -> u32
+        ensures { result ≡ pending_total self.now }
+    {
+        self.total
+    }
+
+    /// The state of the promise with this id.
+    fn state_at(&self, id: usize) -> PromiseState
+        requires { id < length self.now.promises }
+        ensures { result ≡ state_at self.now id }
+    {
+        self.promises[id]
     }
 
     /// The reply of a call that found the word `before`.

@@ -1,38 +1,41 @@
-ghost use Rattle.std.specs.Prelude.{◌≡◌, ◌≤◌, length, drop, IsErrOf, IsOk, IfOk, OnErr};
+ghost use Rattle.std.specs.Prelude.{◌≡◌, ◌<◌, ◌≤◌, length, drop, None, IsErrOf, IsOk, IfOk};
 ghost use Rattle.ob_types.specs.Limits.{inline_settlements};
-ghost use Rattle.ob_types.specs.declared.command.Command.TheVariants.{Close};
-ghost use Rattle.ob_seq.specs.Pending.{Answers, Follows, Accepts};
-ghost use Rattle.ob_seq.specs.Settles.{SparesMemory};
-ghost use Rattle.ob_seq.specs.Steps.{failed_from, failures, unflushed_id};
+ghost use Rattle.ob_seq.specs.Steps.{answer_by, closed_pending, closing_step, failed_from, failures, first_of_step, held_by, unflushed_id};
 
 use crate::contents::Contents;
 use ob_types::{Answer, Cause, Outcome, PromiseId, PromiseState, Refusal, Reply, Settlements};
 use std::alloc::AllocError;
 
 impl Contents {
-    /// As `Buffer::close`.
+    /// The step of `Buffer::close`.
     pub fn close(&mut self, cause: Cause) -> Result<Reply, Refusal>
-        ensures answer { ¬ IsErrOf result Refusal.NoMemory → Answers self.old (Close cause) result }
-        ensures stands { Follows self.old (Close cause) result self.new }
-        ensures settings { self.new.settings ≡ self.old.settings }
-        ensures refused { OnErr result (self.new ≡ self.old) }
-        ensures no_memory_last { IsErrOf result Refusal.NoMemory → Accepts self.old (Close cause) }
-        ensures spares { SparesMemory self.old (Close cause) result }
+        ensures answer { ¬ IsErrOf result Refusal.NoMemory → result ≡ answer_by self.old (closing_step cause self.old) }
+        ensures after { self.new ≡ held_by self.old (closing_step cause self.old) result }
+        ensures no_memory_last { IsErrOf result Refusal.NoMemory → first_of_step self.old (closing_step cause self.old) ≡ None }
+        ensures frugal { IsErrOf result Refusal.NoMemory → inline_settlements < length (closing_step cause self.old).reply.settled }
     {
         if self.closed {
             return Err(Refusal::Closed);
         }
-        if self.flushed > 0 {
+        if self.line_count() > 0 {
             return Err(Refusal::FlushedLeft);
         }
         let settled = self.failures(cause)?;
-        let count = self.entries.len();
+        let count = self.unflushed_count();
+        self.close_with(cause);
+        Ok(self.reply(Answer::Count(count as u32), settled, self.word))
+    }
+
+    /// Fails the unflushed promises that still wait, takes all entries away, and closes, where nothing is in line.
+    fn close_with(&mut self, cause: Cause)
+        requires { length self.old.line ≡ 0 }
+        ensures { self.new ≡ closed_pending cause self.old }
+    {
         let first = self.first_unflushed();
         fail_waiting(&mut self.promises, first, cause);
         self.entries.clear();
         self.total = 0;
         self.closed = true;
-        Ok(self.reply(Answer::Count(count as u32), settled, self.word))
     }
 
     /// What the unflushed promises settle when they fail. The first four need no memory.
@@ -53,7 +56,7 @@ impl Contents {
     pub(crate) fn first_unflushed(&self) -> usize
         ensures { result ≡ unflushed_id self.now }
     {
-        self.promises.len() - (self.entries.len() - self.flushed)
+        self.promises.len() - self.unflushed_count()
     }
 }
 

@@ -1,25 +1,22 @@
-ghost use Rattle.std.specs.Prelude.{◌≡◌, IsErrOf, OnErr};
-ghost use Rattle.ob_types.specs.declared.command.Command.TheVariants.{FailFlushed};
-ghost use Rattle.ob_seq.specs.Pending.{Answers, Follows, Accepts};
-ghost use Rattle.ob_seq.specs.Settles.{SparesMemory};
+ghost use Rattle.std.specs.Prelude.{◌≡◌, ◌<◌, length, None, IsErrOf};
+ghost use Rattle.ob_types.specs.Limits.{inline_settlements};
+ghost use Rattle.ob_seq.specs.Steps.{answer_by, failing_step, first_of_step, held_by};
 
 use crate::contents::Contents;
 use ob_types::{Answer, Cause, Outcome, Refusal, Reply};
 
 impl Contents {
-    /// As `Buffer::fail_flushed`.
+    /// The step of `Buffer::fail_flushed`.
     pub fn fail_flushed(&mut self, cause: Cause, notify: bool) -> Result<Reply, Refusal>
-        ensures answer { ¬ IsErrOf result Refusal.NoMemory → Answers self.old (FailFlushed cause notify) result }
-        ensures stands { Follows self.old (FailFlushed cause notify) result self.new }
-        ensures settings { self.new.settings ≡ self.old.settings }
-        ensures refused { OnErr result (self.new ≡ self.old) }
-        ensures no_memory_last { IsErrOf result Refusal.NoMemory → Accepts self.old (FailFlushed cause notify) }
-        ensures spares { SparesMemory self.old (FailFlushed cause notify) result }
+        ensures answer { ¬ IsErrOf result Refusal.NoMemory → result ≡ answer_by self.old (failing_step cause notify self.old) }
+        ensures after { self.new ≡ held_by self.old (failing_step cause notify self.old) result }
+        ensures no_memory_last { IsErrOf result Refusal.NoMemory → first_of_step self.old (failing_step cause notify self.old) ≡ None }
+        ensures frugal { IsErrOf result Refusal.NoMemory → inline_settlements < length (failing_step cause notify self.old).reply.settled }
     {
         if self.closed {
             return Err(Refusal::Closed);
         }
-        let count = self.flushed;
+        let count = self.line_count();
         let settled = self.settlements(count, Outcome::Failed(cause))?;
         let before = self.word;
         self.take_first(count, Outcome::Failed(cause), notify);

@@ -1,9 +1,7 @@
-ghost use Rattle.std.specs.Prelude.{◌≡◌, ◌<◌, length, true, IsErrOf, OnErr};
-ghost use Rattle.ob_types.specs.declared.command.Command.TheVariants.{Flush};
+ghost use Rattle.std.specs.Prelude.{◌≡◌, ◌<◌, length, true};
 ghost use Rattle.ob_seq.specs.Inside.{pending_entry};
-ghost use Rattle.ob_seq.specs.Pending.{Answers, Follows};
-ghost use Rattle.ob_seq.specs.Steps.{next_flushed, reached_entry, times};
 ghost use Rattle.ob_seq.specs.Row.{is_cancelled as is_cancelled_state};
+ghost use Rattle.ob_seq.specs.Steps.{answer_by, flush_step, held_by, next_flushed, reached_entry, times};
 
 use crate::contents::{Contents, word};
 use crate::entry::Entry;
@@ -12,19 +10,16 @@ use ob_types::{Answer, Message, Outcome, PromiseState, Refusal, Reply};
 use std::mem;
 
 impl Contents {
-    /// As `Buffer::flush`.
+    /// The step of `Buffer::flush`.
     pub fn flush(&mut self) -> Result<Reply, Refusal>
-        ensures answer { Answers self.old Flush result }
-        ensures stands { Follows self.old Flush result self.new }
-        ensures settings { self.new.settings ≡ self.old.settings }
-        ensures refused { OnErr result (self.new ≡ self.old) }
-        ensures frugal { ¬ IsErrOf result Refusal.NoMemory }
+        ensures answer { result ≡ answer_by self.old (flush_step self.old) }
+        ensures after { self.new ≡ held_by self.old (flush_step self.old) result }
     {
         if self.closed {
             return Err(Refusal::Closed);
         }
         let before = self.word;
-        let reached = self.entries.len() - self.flushed;
+        let reached = self.unflushed_count();
         self.flush_all(reached);
         Ok(self.reply(Answer::Count(reached as u32), self.no_settlements(), before))
     }

@@ -54,7 +54,7 @@ impl Contents {
     }
 
     /// The progress of the front, or 0.
-    fn current_progress(&self) -> u64
+    pub(crate) fn current_progress(&self) -> u64
         ensures { result ≡ first_progress self.now.line }
     {
         if self.flushed == 0 {

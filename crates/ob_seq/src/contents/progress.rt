@@ -1,41 +1,57 @@
-ghost use Rattle.std.specs.Prelude.{◌≡◌, ◌+◌, ◌≤◌, IsErrOf, OnErr};
-ghost use Rattle.std.specs.Option.{SomeIff};
+ghost use Rattle.std.specs.Prelude.{◌≡◌, ◌+◌, ◌<◌, ◌≤◌, nat_le, length};
 ghost use Rattle.ob_types.specs.Limits.{greatest_progress};
-ghost use Rattle.ob_types.specs.declared.command.Command.TheVariants.{Progress};
-ghost use Rattle.ob_seq.specs.Pending.{Answers, Follows};
+ghost use Rattle.ob_seq.specs.Inside.{pending_entry};
+ghost use Rattle.ob_seq.specs.Steps.{answer_by, first_progress, front_changed, held_by, progress_step, progressed_entry};
 
 use crate::contents::Contents;
+use crate::entry::Entry;
 use ob_types::{Answer, Refusal, Reply};
 
 /// The most progress of one message, in bytes: `Long.MAX_VALUE`. Our own limit.
 pub const MAX_PROGRESS: u64 = 9223372036854775807;
 
 impl Contents {
-    /// As `Buffer::progress`.
+    /// The step of `Buffer::progress`.
     pub fn progress(&mut self, n: u64) -> Result<Reply, Refusal>
-        ensures answer { Answers self.old (Progress n) result }
-        ensures stands { Follows self.old (Progress n) result self.new }
-        ensures settings { self.new.settings ≡ self.old.settings }
-        ensures refused { OnErr result (self.new ≡ self.old) }
-        ensures frugal { ¬ IsErrOf result Refusal.NoMemory }
+        ensures answer { result ≡ answer_by self.old (progress_step n self.old) }
+        ensures after { self.new ≡ held_by self.old (progress_step n self.old) result }
     {
         if self.closed {
             return Err(Refusal::Closed);
         }
-        if self.flushed == 0 {
+        if self.line_count() == 0 {
             return Err(Refusal::NothingFlushed);
         }
-        let Some(sum) = progress_sum(self.entries[0].progress, n) else {
+        if !has_room(self.current_progress(), n) {
             return Err(Refusal::TooFar);
-        };
-        self.entries[0].progress = sum;
+        }
+        self.tell_front(n);
         Ok(self.reply(Answer::Done, self.no_settlements(), self.word))
+    }
+
+    /// Tells of so many more bytes of progress of the front.
+    fn tell_front(&mut self, n: u64)
+        requires some { 0 < length self.old.line }
+        requires fits { first_progress self.old.line + n ≤ greatest_progress }
+        ensures { self.new ≡ front_changed (progressed_entry n) self.old }
+    {
+        tell(&mut self.entries[0], n);
     }
 }
 
-/// The progress with so many bytes more, unless it passes the limit.
-fn progress_sum(progress: u64, n: u64) -> Option<u64>
-    ensures { SomeIff result (progress + n ≤ greatest_progress) (progress + n) }
+/// Whether so many more bytes of progress do not pass the limit.
+fn has_room(progress: u64, n: u64) -> bool
+    ensures { result ≡ nat_le (progress + n) greatest_progress }
 {
-    progress.checked_add(n).filter(|sum| *sum <= MAX_PROGRESS)
+    progress
+        .checked_add(n)
+        .is_some_and(|sum| sum <= MAX_PROGRESS)
+}
+
+/// Adds to the progress of an entry.
+fn tell(entry: &mut Entry, n: u64)
+    requires { entry.old.progress + n ≤ greatest_progress }
+    ensures { pending_entry entry.new ≡ progressed_entry n (pending_entry entry.old) }
+{
+    entry.progress += n;
 }

@@ -1,19 +1,15 @@
-ghost use Rattle.std.specs.Prelude.{◌≡◌, IsErrOf, OnErr};
-ghost use Rattle.ob_types.specs.declared.command.Command.TheVariants.{Remove, RemoveWith};
-ghost use Rattle.ob_seq.specs.Pending.{Answers, Follows};
-ghost use Rattle.ob_seq.specs.Steps.{front_removed, removal_reply};
+ghost use Rattle.std.specs.Prelude.{◌≡◌};
+ghost use Rattle.ob_types.specs.declared.promise.Outcome.TheVariants.{Success, Failed};
+ghost use Rattle.ob_seq.specs.Steps.{answer_by, front_removed, held_by, removal_reply, removal_step};
 
 use crate::contents::Contents;
 use ob_types::{Answer, Cause, Outcome, Refusal, Reply, Settlements};
 
 impl Contents {
-    /// As `Buffer::remove`.
+    /// The step of `Buffer::remove`.
     pub fn remove(&mut self) -> Result<Reply, Refusal>
-        ensures answer { Answers self.old Remove result }
-        ensures stands { Follows self.old Remove result self.new }
-        ensures settings { self.new.settings ≡ self.old.settings }
-        ensures refused { OnErr result (self.new ≡ self.old) }
-        ensures frugal { ¬ IsErrOf result Refusal.NoMemory }
+        ensures answer { result ≡ answer_by self.old (removal_step Success self.old) }
+        ensures after { self.new ≡ held_by self.old (removal_step Success self.old) result }
     {
         if self.closed {
             return Err(Refusal::Closed);
@@ -21,13 +17,10 @@ impl Contents {
         Ok(self.remove_as(Outcome::Success))
     }
 
-    /// As `Buffer::remove_with`.
+    /// The step of `Buffer::remove_with`.
     pub fn remove_with(&mut self, cause: Cause) -> Result<Reply, Refusal>
-        ensures answer { Answers self.old (RemoveWith cause) result }
-        ensures stands { Follows self.old (RemoveWith cause) result self.new }
-        ensures settings { self.new.settings ≡ self.old.settings }
-        ensures refused { OnErr result (self.new ≡ self.old) }
-        ensures frugal { ¬ IsErrOf result Refusal.NoMemory }
+        ensures answer { result ≡ answer_by self.old (removal_step (Failed cause) self.old) }
+        ensures after { self.new ≡ held_by self.old (removal_step (Failed cause) self.old) result }
     {
         if self.closed {
             return Err(Refusal::Closed);

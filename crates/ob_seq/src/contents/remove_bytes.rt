@@ -1,10 +1,8 @@
-ghost use Rattle.std.specs.Prelude.{◌≡◌, ◌≤◌, length, IsErrOf, OnErr};
-ghost use Rattle.ob_types.specs.declared.command.Command.TheVariants.{RemoveBytes};
+ghost use Rattle.std.specs.Prelude.{◌≡◌, ◌<◌, ◌≤◌, length, None, IsErrOf};
+ghost use Rattle.ob_types.specs.Limits.{inline_settlements};
 ghost use Rattle.ob_seq.specs.ByteRun.{block_bytes};
 ghost use Rattle.ob_seq.specs.Inside.{pending_entry};
-ghost use Rattle.ob_seq.specs.Pending.{Answers, Follows, Accepts};
-ghost use Rattle.ob_seq.specs.Settles.{SparesMemory};
-ghost use Rattle.ob_seq.specs.Steps.{first_length, front_skipped, skipped_entry};
+ghost use Rattle.ob_seq.specs.Steps.{answer_by, bytes_step, first_length, first_of_step, front_skipped, held_by, skipped_entry};
 
 use crate::contents::Contents;
 use crate::contents::progress::MAX_PROGRESS;
@@ -12,14 +10,12 @@ use crate::entry::Entry;
 use ob_types::{Answer, Message, Outcome, Refusal, Reply};
 
 impl Contents {
-    /// As `Buffer::remove_bytes`.
+    /// The step of `Buffer::remove_bytes`.
     pub fn remove_bytes(&mut self, n: u64) -> Result<Reply, Refusal>
-        ensures answer { ¬ IsErrOf result Refusal.NoMemory → Answers self.old (RemoveBytes n) result }
-        ensures stands { Follows self.old (RemoveBytes n) result self.new }
-        ensures settings { self.new.settings ≡ self.old.settings }
-        ensures refused { OnErr result (self.new ≡ self.old) }
-        ensures no_memory_last { IsErrOf result Refusal.NoMemory → Accepts self.old (RemoveBytes n) }
-        ensures spares { SparesMemory self.old (RemoveBytes n) result }
+        ensures answer { ¬ IsErrOf result Refusal.NoMemory → result ≡ answer_by self.old (bytes_step n self.old) }
+        ensures after { self.new ≡ held_by self.old (bytes_step n self.old) result }
+        ensures no_memory_last { IsErrOf result Refusal.NoMemory → first_of_step self.old (bytes_step n self.old) ≡ None }
+        ensures frugal { IsErrOf result Refusal.NoMemory → inline_settlements < length (bytes_step n self.old).reply.settled }
     {
         if self.closed {
             return Err(Refusal::Closed);

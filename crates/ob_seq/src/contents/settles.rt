@@ -1,20 +1,19 @@
-ghost use Rattle.std.specs.Prelude.{◌≡◌, ◌≤◌, not, count_by, length, take, if◌then◌else◌};
+ghost use Rattle.std.specs.Prelude.{◌≡◌, ◌≤◌, not, count_by, length, take, drop};
 ghost use Rattle.std.specs.VecDeque.{deque_len};
 ghost use Rattle.ob_types.specs.Waiting.{is_waiting};
-ghost use Rattle.ob_types.specs.declared.promise.Outcome.TheVariants.{Success};
-ghost use Rattle.ob_seq.specs.Answer.{still_waits};
-ghost use Rattle.ob_seq.specs.Settles.{Settles};
-ghost use Rattle.ob_seq.specs.Steps.{bytes_settled, closing_settled, removal_reply};
+ghost use Rattle.ob_types.specs.declared.promise.Cause.{Cause};
+ghost use Rattle.ob_types.specs.declared.promise.Outcome.{Outcome};
+ghost use Rattle.ob_seq.specs.Steps.{bytes_step, cancel_step, closing_step, removal_step, settled_by_step, settled_open, step_of, unflushed_id};
 
 use crate::contents::Contents;
 use crate::entry::Entry;
-use ob_types::{Command, PromiseState};
+use ob_types::{Command, PromiseId, PromiseState};
 use std::collections::VecDeque;
 
 impl Contents {
-    /// As `Buffer::settles`.
+    /// How many promises the step of a command would settle.
     pub fn settles(&self, command: &Command) -> u32
-        ensures { Settles self.now command.now result }
+        ensures { result ≡ settled_by_step self.now (step_of command.now self.now) }
     {
         if self.closed {
             return 0;
@@ -26,8 +25,8 @@ impl Contents {
             Command::RemoveWith(_) => self.removal_settles(),
             Command::RemoveBytes(n) => self.bytes_settle(*n),
             Command::Progress(_) => 0,
-            Command::Cancel(id) => waiting(self.promise(*id)),
-            Command::FailFlushed(_, _) => self.unvoided(self.flushed),
+            Command::Cancel(id) => self.cancel_settles(*id),
+            Command::FailFlushed(_, _) => self.unvoided(self.line_count()),
             Command::Close(_) => self.closing_settles(),
             Command::UserBit(_, _) => 0,
         }
@@ -35,17 +34,28 @@ impl Contents {
 
     /// How many promises a removal of the front would settle: none where it was voided, or where nothing is in line.
     fn removal_settles(&self) -> u32
-        ensures { result ≡ length (removal_reply Success self.now).settled }
+        ensures { (outcome : Outcome) → result ≡ settled_open (removal_step outcome self.now) }
     {
-        if self.flushed == 0 || self.entries[0].voided {
+        if self.line_count() == 0 || self.entries[0].voided {
             return 0;
         }
         1
     }
 
+    /// How many promises a cancellation would settle: none where the promise does not wait, or is unknown.
+    fn cancel_settles(&self, id: PromiseId) -> u32
+        ensures { result ≡ settled_open (cancel_step id.0 self.now) }
+    {
+        let at = id.0 as usize;
+        if at < self.promises.len() && self.state_at(at).is_waiting() {
+            return 1;
+        }
+        0
+    }
+
     /// How many promises a removal of so many bytes would settle: none where the blocks in front hold fewer.
     fn bytes_settle(&self, n: u64) -> u32
-        ensures { result ≡ bytes_settled n self.now.line }
+        ensures { result ≡ settled_open (bytes_step n self.now) }
     {
         match self.find_cut(n) {
             Some(cut) => self.unvoided(cut.whole),
@@ -55,11 +65,18 @@ impl Contents {
 
     /// How many promises a close would settle: none where a flushed message is left.
     fn closing_settles(&self) -> u32
-        ensures { result ≡ closing_settled self.now }
+        ensures { (cause : Cause) → result ≡ settled_open (closing_step cause self.now) }
     {
-        if self.flushed > 0 {
+        if self.line_count() > 0 {
             return 0;
         }
+        self.unflushed_waiting()
+    }
+
+    /// How many promises of unflushed messages still wait.
+    fn unflushed_waiting(&self) -> u32
+        ensures { result ≡ count_by is_waiting (drop (unflushed_id self.now) self.now.promises) }
+    {
         count_waiting(&self.promises[self.first_unflushed()..]) as u32
     }
 
@@ -85,11 +102,4 @@ fn unvoided(entries: &VecDeque<Entry>, count: usize) -> usize
     ensures { result ≡ count_by (λ entry. not entry.voided) (take count entries.now.items) }
 {
     entries.range(..count).filter(|entry| !entry.voided).count()
-}
-
-/// 1 where nothing has become of a promise yet, and else 0.
-fn waiting(state: Option<PromiseState>) -> u32
-    ensures { result ≡ (if still_waits state then 1 else 0) }
-{
-    u32::from(state.is_some_and(PromiseState::is_waiting))
 }

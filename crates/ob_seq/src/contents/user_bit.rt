@@ -1,18 +1,14 @@
-ghost use Rattle.std.specs.Prelude.{◌≡◌, IsErrOf, OnErr};
-ghost use Rattle.ob_types.specs.declared.command.Command.TheVariants.{UserBit};
-ghost use Rattle.ob_seq.specs.Pending.{Answers, Follows};
+ghost use Rattle.std.specs.Prelude.{◌≡◌};
+ghost use Rattle.ob_seq.specs.Steps.{answer_by, bit_step, held_by};
 
 use crate::contents::{Contents, word};
 use ob_types::{Answer, Refusal, Reply};
 
 impl Contents {
-    /// As `Buffer::user_bit`.
+    /// The step of `Buffer::user_bit`.
     pub fn user_bit(&mut self, index: u32, writable: bool) -> Result<Reply, Refusal>
-        ensures answer { Answers self.old (UserBit index writable) result }
-        ensures stands { Follows self.old (UserBit index writable) result self.new }
-        ensures settings { self.new.settings ≡ self.old.settings }
-        ensures refused { OnErr result (self.new ≡ self.old) }
-        ensures frugal { ¬ IsErrOf result Refusal.NoMemory }
+        ensures answer { result ≡ answer_by self.old (bit_step index writable self.old) }
+        ensures after { self.new ≡ held_by self.old (bit_step index writable self.old) result }
     {
         if self.closed {
             return Err(Refusal::Closed);

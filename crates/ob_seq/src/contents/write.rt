@@ -1,8 +1,6 @@
-ghost use Rattle.std.specs.Prelude.{◌≡◌, ◌+◌, ◌<◌, ◌≤◌, ◌&&◌, length, nat_le, nat_lt, IsErrOf, OnOk, OnErr};
+ghost use Rattle.std.specs.Prelude.{◌≡◌, ◌+◌, ◌<◌, ◌≤◌, length, None, IsErrOf, OnOk, OnErr};
 ghost use Rattle.ob_types.specs.Limits.{greatest_total, most_writes};
-ghost use Rattle.ob_types.specs.declared.command.Command.TheVariants.{Write};
-ghost use Rattle.ob_seq.specs.Pending.{Answers, Follows, Accepts};
-ghost use Rattle.ob_seq.specs.Steps.{pending_total, written};
+ghost use Rattle.ob_seq.specs.Steps.{answer_by, first_of_step, has_room, held_by, pending_total, write_step, written};
 
 use crate::contents::{Contents, word};
 use crate::entry::Entry;
@@ -16,13 +14,11 @@ const MAX_TOTAL: u64 = 4294967295;
 pub const MAX_WRITES: usize = 1048576;
 
 impl Contents {
-    /// As `Buffer::write`.
+    /// The step of `Buffer::write`.
     pub fn write(&mut self, message: Message) -> Result<Reply, Refusal>
-        ensures answer { ¬ IsErrOf result Refusal.NoMemory → Answers self.old (Write message) result }
-        ensures stands { Follows self.old (Write message) result self.new }
-        ensures settings { self.new.settings ≡ self.old.settings }
-        ensures refused { OnErr result (self.new ≡ self.old) }
-        ensures no_memory_last { IsErrOf result Refusal.NoMemory → Accepts self.old (Write message) }
+        ensures answer { ¬ IsErrOf result Refusal.NoMemory → result ≡ answer_by self.old (write_step message self.old) }
+        ensures after { self.new ≡ held_by self.old (write_step message self.old) result }
+        ensures no_memory_last { IsErrOf result Refusal.NoMemory → first_of_step self.old (write_step message self.old) ≡ None }
     {
         if self.closed {
             return Err(Refusal::Closed);
@@ -39,9 +35,9 @@ impl Contents {
 
     /// Whether one more message that counts so many bytes is not too much.
     fn has_room_for(&self, size: u32) -> bool
-        ensures { result ≡ (nat_le (pending_total self.now + size) greatest_total && nat_lt (length self.now.promises) most_writes) }
+        ensures { result ≡ has_room size self.now }
     {
-        let total = u64::from(self.total) + u64::from(size);
+        let total = u64::from(self.total()) + u64::from(size);
         total <= MAX_TOTAL && self.promises.len() < MAX_WRITES
     }
 

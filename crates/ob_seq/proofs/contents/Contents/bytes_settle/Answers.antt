@@ -1,35 +1,36 @@
-use Rattle.std.proofs.Common.{◌≡◌, ℕ, ◌-◌, Bool, true, false, not, List, take, refl, ap, ◌∙◌, cond, ltb}
+use Rattle.std.proofs.Common.{◌≡◌, Bool, true, false, not, length, take, refl, sym, ap, ◌∙◌, cond, ltb}
 use Rattle.std.specs.Prelude.{Option, Some, None, count_by}
+use Rattle.ob_types.specs.declared.promise.Outcome.TheVariants.{Success}
+use Rattle.ob_types.specs.declared.refusal.Refusal.{Refusal}
+use Rattle.ob_types.specs.declared.refusal.Refusal.TheVariants.{TooManyBytes}
 use Rattle.ob_seq.specs.declared.contents.cut.Cut.{Cut}
+use Rattle.ob_seq.specs.Answer.{unless_refused}
 use Rattle.ob_seq.specs.Entry.{PendingEntry, blocks_left}
-use Rattle.ob_seq.specs.Pieces.{bytes_in, pieces_within}
-use Rattle.ob_seq.specs.Steps.{bytes_settled, cut_of}
+use Rattle.ob_seq.specs.Pending.{Pending}
+use Rattle.ob_seq.specs.Pieces.{bytes_in}
+use Rattle.ob_seq.specs.Settles.{settled_by}
+use Rattle.ob_seq.specs.Steps.{bytes_reply, front_id, whole_cut}
+use Rattle.ob_seq.proofs.EntrySettlements.{count_of_settlements}
 use Rattle.ob_seq.proofs.contents.Contents.bytes_settle.Goals as goal
 
--- how many of the entries up to a place were not voided
-abbrev unvoided_within : List PendingEntry → ℕ → ℕ
-unvoided_within line whole = count_by (λ (entry : PendingEntry). not entry.voided) (take whole line)
+none_by : (few : Bool) (one : Cut) (now : Pending) → (let found : Option Cut = cond few None (Some one) in None ≡ found) →
+    0 ≡ length (settled_by (unless_refused (let refusal : Option Refusal = cond few (Some TooManyBytes) None in refusal) (bytes_reply one now)))
+none_by true one now none = refl
+none_by false one now none = absurd (cc)
 
-none_by : (few : Bool) (one : Cut) (count : ℕ) → (let found : Option Cut = cond few None (Some one) in None ≡ found) → 0 ≡ cond few 0 count
-none_by true one count none = refl
-none_by false one count none = absurd (cc)
-
-some_by : (few : Bool) (one cut : Cut) (line : List PendingEntry) → (let found : Option Cut = cond few None (Some one) in Some cut ≡ found) → unvoided_within line cut.whole ≡ cond few 0 (unvoided_within line one.whole)
-some_by true one cut line some = absurd (cc)
-some_by false one cut line some = let same : cut ≡ one = cc in ap (λ (c : Cut). unvoided_within line c.whole) same
-
-module _ (n : ℕ) (line : List PendingEntry) where
-  abbrev cut_there : Cut
-  cut_there = record { whole = pieces_within n (blocks_left line); rest = n - bytes_in (take (pieces_within n (blocks_left line)) (blocks_left line)) }
-
-  none_settled : None ≡ cut_of n (blocks_left line) → 0 ≡ bytes_settled n line
-  none_settled none = none_by (ltb (bytes_in (blocks_left line)) n) cut_there (unvoided_within line cut_there.whole) none
-
-  some_settled : (cut : Cut) → Some cut ≡ cut_of n (blocks_left line) → unvoided_within line cut.whole ≡ bytes_settled n line
-  some_settled cut some = some_by (ltb (bytes_in (blocks_left line)) n) cut_there cut line some
+some_by : (few : Bool) (one cut : Cut) (now : Pending) → (let found : Option Cut = cond few None (Some one) in Some cut ≡ found) →
+    count_by (λ (entry : PendingEntry). not entry.voided) (take cut.whole now.line) ≡ length (settled_by (unless_refused (let refusal : Option Refusal = cond few (Some TooManyBytes) None in refusal) (bytes_reply one now)))
+some_by true one cut now some = absurd (cc)
+some_by false one cut now some =
+    let same : cut ≡ one = cc in
+    ap (λ (c : Cut). count_by (λ (entry : PendingEntry). not entry.voided) (take c.whole now.line)) same ∙ sym (count_of_settlements Success (front_id now) (take one.whole now.line))
 
 pub returns-in-Some : goal.returns-in-Some
-returns-in-Some c = c.unvoided.ensures ∙ some_settled c.args.n c.args.self.now.line c.in-Some.cut c.in-Some.ensures.value
+returns-in-Some c =
+    let now = c.args.self.now in
+    c.unvoided.ensures ∙ some_by (ltb (bytes_in (blocks_left now.line)) c.args.n) (whole_cut c.args.n (blocks_left now.line)) c.in-Some.cut now c.in-Some.ensures.value
 
 pub returns-in-None : goal.returns-in-None
-returns-in-None c = none_settled c.args.n c.args.self.now.line c.in-None.ensures.value
+returns-in-None c =
+    let now = c.args.self.now in
+    none_by (ltb (bytes_in (blocks_left now.line)) c.args.n) (whole_cut c.args.n (blocks_left now.line)) now c.in-None.ensures.value
