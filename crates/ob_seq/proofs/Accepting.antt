@@ -1,5 +1,6 @@
 -- The accepted commands among those that are given.
-use Rattle.std.proofs.Common.{◌≡◌, Bool, true, false, ◌&&◌, List, [], ◌∷◌, ◌++◌, refl, sym, ap, ◌∙◌, cond}
+use Rattle.std.proofs.Common.{◌≡◌, Bool, true, false, ◌&&◌, List, [], ◌∷◌, ◌++◌, refl, sym, ap, ◌∙◌, cond, ◌⊎◌, inl}
+use Rattle.std.proofs.Common.{inr}
 use Rattle.std.proofs.Common.{append_assoc, append-nil, subst}
 use Rattle.std.specs.Prelude.{Option, Some, None, is_ok, fold}
 use Rattle.ob_types.specs.declared.command.Command.{Command}
@@ -9,13 +10,19 @@ use Rattle.ob_types.specs.declared.promise.PromiseId.{PromiseId}
 use Rattle.ob_types.specs.declared.refusal.Refusal.{Refusal}
 use Rattle.ob_types.specs.declared.refusal.Refusal.TheVariants.{Closed}
 use Rattle.ob_seq.specs.Settings.{Settings}
-use Rattle.ob_seq.specs.Answer.{answer_to, is_accepted, are_accepted, commands_after, first_refusal, refusal_of, reply_of}
+use Rattle.ob_seq.specs.Answer.{answer_to, is_accepted, are_accepted, commands_after, first_refusal, refusal_of}
+use Rattle.ob_seq.specs.Answer.{reply_of}
 use Rattle.ob_seq.specs.Answer.{unless_refused}
 use Rattle.ob_seq.specs.Closed.{is_closed}
 use Rattle.ob_seq.specs.Effect.{rows_after}
 use Rattle.ob_seq.specs.Accepted.{accepted_among}
 use Rattle.ob_seq.specs.Settles.{settled_along, settled_by}
 use Rattle.ob_seq.proofs.History.{accepted_by, accepted_from_more}
+
+-- a first refusal is none, or there is one
+pub refused_or_not : (refusal : Option Refusal) → (refusal ≡ None) ⊎ ((first : Refusal) × (refusal ≡ Some first))
+refused_or_not None = inl refl
+refused_or_not (Some refusal) = inr (refusal, refl)
 
 -- the first command of accepted ones is accepted, and so are the others after it
 first_and_rest : (settings : Settings) (earlier : List Command) (command : Command) (commands : List Command) →

@@ -1,15 +1,13 @@
 -- The blocks that entries have left, one entry after another.
-use Rattle.std.proofs.Common.{◌≡◌, ℕ, ◌+◌, ◌<◌, ◌≤◌, Bool, true, false, List, [], ◌∷◌, length, map, drop, get_or, refl, sym, ap, ◌∙◌, cond, arith}
+use Rattle.std.proofs.Common.{◌≡◌, ℕ, ◌+◌, ◌<◌, ◌≤◌, Bool, true, false, List, [], ◌∷◌, length, map, drop, get_or, refl, sym, ap, ◌∙◌, cond}
 use Rattle.std.specs.Prelude.{take_while}
-use Rattle.std.proofs.lemmas.List.{drop-map, drop_more, drop_all, length-map}
+use Rattle.std.proofs.lemmas.List.{drop_more, drop_all}
 use Rattle.std.proofs.lemmas.List.Sums.{take_while-cons}
 use Rattle.ob_types.specs.declared.message.Message.{Message}
 use Rattle.ob_types.specs.declared.message.Message.TheVariants.{Block, Region, Other}
 use Rattle.ob_types.specs.Block.{is_block}
-use Rattle.ob_seq.specs.declared.entry.Entry.{Entry}
 use Rattle.ob_seq.specs.ByteRun.{block_bytes}
 use Rattle.ob_seq.specs.Entry.{PendingEntry, blocks_left}
-use Rattle.ob_seq.specs.Inside.{pending_entry, pending_entries}
 use Rattle.ob_seq.specs.Steps.{first_length}
 
 abbrev message_of : PendingEntry → Message
@@ -27,28 +25,26 @@ no_block (Block bytes) other = absurd (other bytes refl)
 no_block (Region units) other = refl
 no_block (Other value) other = refl
 
-module _ (line : List Entry) (i : ℕ) (entry : Entry) (inside : i < length line) (is : entry ≡ get_or line i entry) where
-  split : drop i (pending_entries line) ≡ pending_entry entry ∷ drop (i + 1) (pending_entries line)
-  split =
-      drop-map pending_entry i line ∙ ap pending_entries (drop_more line i entry inside ∙ ap (λ e. e ∷ drop (i + 1) line) (sym is))
-      ∙ ap (λ rest. pending_entry entry ∷ rest) (sym (drop-map pending_entry (i + 1) line))
+module _ (line : List PendingEntry) (i : ℕ) (entry : PendingEntry) (inside : i < length line) (is : entry ≡ get_or line i entry) where
+  split : drop i line ≡ entry ∷ drop (i + 1) line
+  split = drop_more line i entry inside ∙ ap (λ e. e ∷ drop (i + 1) line) (sym is)
 
   -- from a block on
-  pub left_from_block : (bytes : List ℕ) → entry.message ≡ Block bytes → blocks_left (drop i (pending_entries line)) ≡ bytes ∷ blocks_left (drop (i + 1) (pending_entries line))
+  pub left_from_block : (bytes : List ℕ) → entry.message ≡ Block bytes → blocks_left (drop i line) ≡ bytes ∷ blocks_left (drop (i + 1) line)
   left_from_block bytes block =
-      ap blocks_left split ∙ first_of_left (pending_entry entry) (drop (i + 1) (pending_entries line))
-      ∙ ap (λ message. cond (is_block message) (block_bytes message ∷ blocks_left (drop (i + 1) (pending_entries line))) []) block
+      ap blocks_left split ∙ first_of_left entry (drop (i + 1) line)
+      ∙ ap (λ message. cond (is_block message) (block_bytes message ∷ blocks_left (drop (i + 1) line)) []) block
 
   -- whose bytes are those of the first entry
-  pub first_length_is : (bytes : List ℕ) → entry.message ≡ Block bytes → first_length (drop i (pending_entries line)) ≡ length bytes
+  pub first_length_is : (bytes : List ℕ) → entry.message ≡ Block bytes → first_length (drop i line) ≡ length bytes
   first_length_is bytes block = ap first_length split ∙ ap (λ message. length (block_bytes message)) block
 
   -- from another message on
-  pub left_from_other : ((bytes : List ℕ) → entry.message ≡ Block bytes → ⊥) → blocks_left (drop i (pending_entries line)) ≡ []
+  pub left_from_other : ((bytes : List ℕ) → entry.message ≡ Block bytes → ⊥) → blocks_left (drop i line) ≡ []
   left_from_other other =
-      ap blocks_left split ∙ first_of_left (pending_entry entry) (drop (i + 1) (pending_entries line))
-      ∙ ap (λ block. cond block (block_bytes entry.message ∷ blocks_left (drop (i + 1) (pending_entries line))) []) (no_block entry.message other)
+      ap blocks_left split ∙ first_of_left entry (drop (i + 1) line)
+      ∙ ap (λ block. cond block (block_bytes entry.message ∷ blocks_left (drop (i + 1) line)) []) (no_block entry.message other)
 
 -- and at the end
-pub left_at_end : (line : List Entry) (i : ℕ) → length line ≤ i → blocks_left (drop i (pending_entries line)) ≡ []
-left_at_end line i past = ap blocks_left (drop_all i (pending_entries line) (omega (arith, length-map line pending_entry)))
+pub left_at_end : (line : List PendingEntry) (i : ℕ) → length line ≤ i → blocks_left (drop i line) ≡ []
+left_at_end line i past = ap blocks_left (drop_all i line past)

@@ -1,5 +1,6 @@
 -- A buffer after a removal of bytes stands for the history with the removal.
-use Rattle.std.proofs.Common.{◌≡◌, ℕ, ◌+◌, ◌-◌, ◌≤◌, Bool, true, false, List, [], ◌∷◌, ◌++◌, length, map, take, drop, refl, sym, ap, ◌∙◌, cond, append_assoc, subst, ltb, zero-add}
+use Rattle.std.proofs.Common.{◌≡◌, ℕ, ◌+◌, ◌-◌, ◌≤◌, Bool, true, false, List, [], ◌∷◌, ◌++◌, length, map, take, drop}
+use Rattle.std.proofs.Common.{refl, sym, ap, ◌∙◌, cond, append_assoc, subst, ltb, zero-add}
 use Rattle.std.specs.Prelude.{Option, Some, None}
 use Rattle.std.specs.List.{AllByRecursion}
 use Rattle.std.proofs.lemmas.List.{length-take-le, take-append-drop, map-append, length-map}
@@ -17,21 +18,24 @@ use Rattle.ob_seq.specs.Row.{Row}
 use Rattle.ob_seq.specs.Line.{line}
 use Rattle.ob_seq.specs.Pieces.{bytes_in, pieces_within}
 use Rattle.ob_seq.specs.ByteRun.{blocks_in_front, byte_run, whole_rows, bytes_left_over}
-use Rattle.ob_seq.specs.Effect.{effect, rows_after, taken_row, with_fronts_sent, with_skipped}
+use Rattle.ob_seq.specs.Effect.{effect, rows_after, taken_row, with_first, with_skipped}
 use Rattle.ob_seq.specs.Moment.{moments_along, moments_of}
 use Rattle.ob_seq.specs.Word.{word_after}
 use Rattle.ob_seq.specs.Answer.{refusal_of, settlements_from, reply_of}
 use Rattle.ob_seq.specs.Entry.{blocks_left, entry_of}
 use Rattle.ob_seq.specs.Pending.{Pending, StandsFor}
-use Rattle.ob_seq.specs.Steps.{bytes_removed, bytes_reply, cut_of, front_id, front_skipped, front_taken, entry_settlements, times}
+use Rattle.ob_seq.specs.Steps.{bytes_removed, bytes_reply, cut_of, front_id, front_skipped, front_taken}
+use Rattle.ob_seq.specs.Steps.{entry_settlements, times}
 use Rattle.ob_seq.proofs.Acceptance.{open_history, same_reply}
 use Rattle.ob_seq.proofs.Along.{moments_along_same, settlements_from_same}
-use Rattle.ob_seq.proofs.Held.{opening, opening_of, word_at_end, Held, held_of, front_id_is, line_count, stands_by, word_by_moments}
+use Rattle.ob_seq.proofs.Held.{opening, opening_of, word_at_end, Held, held_of, front_id_is, line_count, stands_by}
+use Rattle.ob_seq.proofs.Held.{word_by_moments}
 use Rattle.ob_seq.proofs.Marks.{half_after}
 use Rattle.ob_seq.proofs.History.{moments_after, rows_after_more, accepted_more}
 use Rattle.ob_seq.proofs.Order.{IsGone, IsStanding, each_append, layout_of}
-use Rattle.ob_seq.proofs.Sent.{with_fronts_sent_is, all_taken_gone, all_taken, moments_of_sent, settlements_of_taken}
-use Rattle.ob_seq.proofs.Skipped.{rows_skipped, with_skipped_is, moments_of_skipped, settlements_of_skipped, skipped_held, skipped_word, skipped_opening, skipped_closed}
+use Rattle.ob_seq.proofs.Sent.{with_first_sent, all_taken_gone, all_taken, moments_of_sent, settlements_of_taken}
+use Rattle.ob_seq.proofs.Skipped.{rows_skipped, with_skipped_is, moments_of_skipped, settlements_of_skipped}
+use Rattle.ob_seq.proofs.Skipped.{skipped_held, skipped_word, skipped_opening, skipped_closed}
 
 -- the byte run is what the entries in line have left
 pub run_is : (buffer : Pending) (commands : List Command) → StandsFor buffer commands → byte_run (rows_after buffer.settings.estimate commands) ≡ blocks_left buffer.line
@@ -103,10 +107,10 @@ module _ (buffer : Pending) (commands : List Command) (n : ℕ) (stands : Stands
 
       effect_is : effect buffer.settings.estimate rows (RemoveBytes n) ≡ passed ++ after
       effect_is =
-          ap (λ k. with_skipped (bytes_left_over n rows) (with_fronts_sent k rows)) (whole_is ∙ sym count)
-          ∙ ap (λ r. with_skipped r (with_fronts_sent (length first) rows)) rest_is
-          ∙ ap (λ all. with_skipped cut.rest (with_fronts_sent (length first) all)) rows_split
-          ∙ ap (with_skipped cut.rest) (with_fronts_sent_is first gone behind held.all_gone standing_first ∙ sym (append_assoc gone (map (taken_row Success) first) behind))
+          ap (λ k. with_skipped (bytes_left_over n rows) (with_first k (taken_row Success) rows)) (whole_is ∙ sym count)
+          ∙ ap (λ r. with_skipped r (with_first (length first) (taken_row Success) rows)) rest_is
+          ∙ ap (λ all. with_skipped cut.rest (with_first (length first) (taken_row Success) all)) rows_split
+          ∙ ap (with_skipped cut.rest) (with_first_sent first gone behind held.all_gone standing_first ∙ sym (append_assoc gone (map (taken_row Success) first) behind))
           ∙ with_skipped_is cut.rest passed fresh passed_gone held.all_fresh rest standing_rest
 
       moments_are : moments_of buffer.settings.estimate rows (RemoveBytes n) ≡ moments_along true gone (first ++ behind) (map (taken_row Success) first ++ behind)

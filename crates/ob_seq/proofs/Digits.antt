@@ -1,6 +1,9 @@
 -- The user bits as a number in binary.
-use Rattle.std.proofs.Common.{◌≡◌, ℕ, zero, suc, ◌+◌, ◌*◌, ◌^◌, ◌/◌, ◌%◌, ◌<◌, ◌≤◌, Bool, true, false, refl, sym, ap, ◌∙◌, cond, arith, add-zero, add-one}
+use Rattle.std.proofs.Common.{◌≡◌, ℕ, zero, suc, ◌+◌, ◌*◌, ◌^◌, ◌/◌, ◌%◌, ◌<◌, ◌≤◌, Bool, true, false, refl, sym, ap}
+use Rattle.std.proofs.Common.{◌∙◌, cond}
+use Rattle.std.proofs.Common.{arith, add-zero, add-one, ltb}
 use Rattle.std.specs.Prelude.{sum_by}
+use Rattle.std.proofs.lemmas.Bool.Decides.{nat_tests}
 use Rattle.std.specs.List.{range_with_len}
 use Rattle.std.specs.Int.{bit_at}
 use Rattle.std.proofs.lemmas.List.Sums.{sum_by-cons}
@@ -72,6 +75,44 @@ no_digit_at bit from zero i past = bit_at-zero i
 no_digit_at bit from (suc count) zero past = absurd (omega arith)
 no_digit_at bit from (suc count) (suc i) past =
     bit_at-suc (number bit from (suc count)) i ∙ ap (λ n. bit_at n i) (others (bit from) (number bit (from + 1) count)) ∙ no_digit_at bit (from + 1) count i (omega arith)
+
+-- the number with these 32 digits
+pub word_of : (ℕ → Bool) → ℕ
+word_of bit = number bit 0 32
+
+pub digit_of : (bit : ℕ → Bool) (i : ℕ) → bit_at (word_of bit) i ≡ cond (ltb i 32) (digit (bit i)) 0
+unfolding word_of
+digit_of bit i = by_place (ltb i 32) refl
+  where
+    by_place : (within : Bool) → ltb i 32 ≡ within → bit_at (word_of bit) i ≡ cond within (digit (bit i)) 0
+    by_place true is = digit_at bit 0 32 i (grind (arith, nat_tests)) ∙ ap (λ at. digit (bit at)) (omega arith)
+    by_place false is = no_digit_at bit 0 32 i (grind (arith, nat_tests))
+
+digit_small : (bit : Bool) → digit bit < 2
+digit_small true = omega arith
+digit_small false = omega arith
+
+-- numbers of so many digits are below that power
+number_small : (bit : ℕ → Bool) (from count : ℕ) → number bit from count < 2 ^ count
+number_small bit from zero = omega arith
+number_small bit from (suc count) =
+    omega (arith, digit_small (bit from), number_small bit (from + 1) count, pow-suc 2 count)
+
+pub word_small : (bit : ℕ → Bool) → word_of bit < 4294967296
+unfolding word_of
+word_small bit = number_small bit 0 32
+
+-- the digits of a word: bit 0 as given, and then the user bits
+abbrev pub word_digits : Bool → (ℕ → Bool) → ℕ → Bool
+word_digits first bit zero = first
+word_digits first bit (suc i) = bit (suc i)
+
+pub word_of_digits : (first : Bool) (bit : ℕ → Bool) → digit first + half_bits bit * 2 ≡ word_of (word_digits first bit)
+unfolding word_of
+word_of_digits first bit = twice (digit first) (half_bits bit)
+  where
+    twice : (low half : ℕ) → low + half * 2 ≡ low + 2 * half
+    twice low half = omega arith
 
 -- numbers of the same digits are the same
 pub same_number : (bit other : ℕ → Bool) → ((index : ℕ) → bit index ≡ other index) → (from count : ℕ) → number bit from count ≡ number other from count

@@ -1,6 +1,6 @@
 -- Entries, as the code keeps them and as contracts see them.
-use Rattle.std.proofs.Common.{◌≡◌, ℕ, ◌+◌, ◌-◌, ◌<◌, ◌≤◌, min, List, [], ◌∷◌, ◌++◌, length, take, drop, get_or, refl, sym, ap, ◌∙◌, subst}
-use Rattle.std.specs.Prelude.{sum_by}
+use Rattle.std.proofs.Common.{◌≡◌, ℕ, ◌+◌, ◌-◌, ◌<◌, ◌≤◌, min, List, [], ◌∷◌, ◌++◌, length, take, drop, get_or, refl, sym, ap, ◌∙◌, cond, subst}
+use Rattle.std.specs.Prelude.{count_by, not, sum_by}
 use Rattle.std.proofs.lemmas.List.{get_or-map, length-drop, length-map, length-take, length-take-le, map-append, take-append-drop, take-map}
 use Rattle.std.proofs.lemmas.List.Sums.{sum_by-append, sum_by-cons}
 use Rattle.ob_seq.specs.declared.entry.Entry.{Entry}
@@ -33,6 +33,13 @@ pub sum_of_entries : (items : List Entry) → sum_of (pending_entries items) ≡
 sum_of_entries [] = refl
 sum_of_entries (entry ∷ items) =
     sum_by-cons (λ e. e.size) (pending_entry entry) (pending_entries items) ∙ ap (λ sum. entry.size + sum) (sum_of_entries items) ∙ sym (sum_by-cons (λ e. e.size) entry items)
+
+-- how many of them were not voided, one by one
+pub unvoided_seen : (items : List Entry) → count_by (λ (entry : Entry). not entry.voided) items ≡ count_by (λ (entry : PendingEntry). not entry.voided) (pending_entries items)
+unvoided_seen [] = refl
+unvoided_seen (entry ∷ items) =
+    sum_by-cons (λ (e : Entry). cond (not e.voided) 1 0) entry items ∙ ap (λ count. cond (not entry.voided) 1 0 + count) (unvoided_seen items)
+    ∙ sym (sum_by-cons (λ (e : PendingEntry). cond (not e.voided) 1 0) (pending_entry entry) (pending_entries items))
 
 -- one entry more, and the entry at a place
 pub entries_pushed : (items items' : List Entry) (entry : Entry) → items' ≡ items ++ entry ∷ [] → pending_entries items' ≡ pending_entries items ++ pending_entry entry ∷ []

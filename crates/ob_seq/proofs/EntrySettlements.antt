@@ -1,17 +1,12 @@
 -- What entries settle when they are taken away.
-use Rattle.std.proofs.Common.{◌≡◌, ℕ, zero, suc, ◌+◌, ◌-◌, ◌<◌, ◌≤◌, Bool, true, false, not, List, [], ◌∷◌, ◌++◌, length, take, drop, get_or, refl, sym, ap, ◌∙◌, cond, append_assoc, append-nil, length-append, add-zero, arith}
+use Rattle.std.proofs.Common.{◌≡◌, ℕ, zero, suc, ◌+◌, ◌<◌, ◌≤◌, Bool, true, false, not, List, [], ◌∷◌, ◌++◌, length, take, get_or, refl, sym, ap, ◌∙◌, cond, append_assoc, append-nil, length-append, add-zero, arith}
 use Rattle.std.specs.Prelude.{count_by}
-use Rattle.std.proofs.lemmas.List.{length-take-le, take_more, get_or-take}
+use Rattle.std.proofs.lemmas.List.{length-take-le, take_more}
 use Rattle.std.proofs.lemmas.List.Sums.{sum_by-cons}
 use Rattle.ob_types.specs.declared.promise.PromiseId.{PromiseId}
 use Rattle.ob_types.specs.declared.promise.Outcome.{Outcome}
-use Rattle.ob_types.specs.declared.promise.PromiseState.{PromiseState}
-use Rattle.ob_seq.specs.declared.entry.Entry.{Entry}
 use Rattle.ob_seq.specs.Entry.{PendingEntry}
-use Rattle.ob_seq.specs.Inside.{pending_entry, pending_entries}
-use Rattle.ob_seq.specs.Pending.{Pending}
-use Rattle.ob_seq.specs.Steps.{front_id, entry_settlement, entry_settlements}
-use Rattle.ob_seq.proofs.Entries.{entry_at, line_size, rest_size}
+use Rattle.ob_seq.specs.Steps.{entry_settlement, entry_settlements}
 
 settlements_append : (outcome : Outcome) (id : ℕ) (xs ys : List PendingEntry) → entry_settlements outcome id (xs ++ ys) ≡ entry_settlements outcome id xs ++ entry_settlements outcome (id + length xs) ys
 settlements_append outcome id [] ys = ap (λ at. entry_settlements outcome at ys) (sym (add-zero id))
@@ -57,18 +52,3 @@ count_of_settlements outcome id [] = refl
 count_of_settlements outcome id (entry ∷ entries) =
     length_by outcome id entry.voided entries ∙ ap (λ n. cond (not entry.voided) 1 0 + n) (count_of_settlements outcome (suc id) entries)
     ∙ sym (sum_by-cons (λ e. cond (not e.voided) 1 0) entry entries)
-
--- the id of the front, by the lengths of the lists
-pub front_id_by : (held : Pending) (items : List Entry) (flushed : ℕ) (promises : List PromiseState) → held.line ≡ take flushed (pending_entries items) →
-    held.unflushed ≡ drop flushed (pending_entries items) → held.promises ≡ promises → length items ≤ length promises → front_id held ≡ length promises - length items
-front_id_by held items flushed promises line unflushed same fits =
-    let a = ap length line ∙ line_size flushed items in
-    let b = ap length unflushed ∙ rest_size flushed items in
-    let d = ap length same in
-    omega arith
-
--- an entry in line is the one at its place
-pub in_line : (line : List PendingEntry) (items : List Entry) (flushed i : ℕ) (entry : Entry) → line ≡ take flushed (pending_entries items) → i < flushed → i < length items →
-    entry ≡ get_or items i entry → pending_entry entry ≡ get_or line i (pending_entry entry)
-in_line line items flushed i entry is inside within at =
-    entry_at items i entry (pending_entry entry) within at ∙ sym (ap (λ all. get_or all i (pending_entry entry)) is ∙ get_or-take flushed (pending_entries items) i (pending_entry entry) inside)

@@ -3,7 +3,6 @@ use Rattle.std.proofs.Common.{◌≡◌, ℕ, zero, suc, ◌+◌, ◌-◌, ◌<�
 use Rattle.std.specs.Prelude.{slice_set, if◌then◌else◌}
 use Rattle.std.proofs.Math.Seq.{take-append_seam, drop-append_seam, set-append_seam, get_or-append_seam}
 use Rattle.std.proofs.lemmas.List.{take-append-drop, take-append-le, drop-append-le, length-drop}
-use Rattle.std.proofs.lemmas.List.Sums.{sum_by_push, sum_by-cons, sum_by-append}
 use Rattle.ob_types.specs.declared.message.Message.{Message}
 use Rattle.ob_types.specs.declared.promise.Outcome.{Outcome}
 use Rattle.ob_types.specs.declared.promise.PromiseState.{PromiseState}
@@ -31,42 +30,34 @@ abbrev pub kept : Settings → List PendingEntry → ℕ → List PromiseState �
 kept settings entries flushed promises word closed = pending_from settings (take flushed entries) (drop flushed entries) promises word closed
 
 -- an entry behind the others is unflushed
-pub kept_written : (settings : Settings) (entries : List PendingEntry) (flushed : ℕ) (promises : List PromiseState) (word : ℕ) (closed : Bool) (size : ℕ) (message : Message)
-    (entries' : List PendingEntry) (promises' : List PromiseState) (word' sum : ℕ) → flushed ≤ length entries →
-    entries' ≡ entries ++ record { message = message; size = size; progress = 0; voided = false } ∷ [] → promises' ≡ promises ++ Waiting ∷ [] → sum ≡ sum_of entries' →
-    word' ≡ word_after_rise settings.marks word size sum → kept settings entries' flushed promises' word' closed ≡ written (kept settings entries flushed promises word closed) message size
-kept_written settings entries flushed promises word closed size message entries' promises' word' sum within pushed promised summed risen =
+pub kept_written : (settings : Settings) (entries : List PendingEntry) (flushed : ℕ) (promises : List PromiseState) (word : ℕ) (closed : Bool)
+    (size : ℕ) (message : Message) (entries' : List PendingEntry) (promises' : List PromiseState) (word' : ℕ) → flushed ≤ length entries →
+    entries' ≡ entries ++ record { message = message; size = size; progress = 0; voided = false } ∷ [] → promises' ≡ promises ++ Waiting ∷ [] →
+    word' ≡ word_after_rise settings.marks word size (sum_of entries + size) →
+    kept settings entries' flushed promises' word' closed ≡ written (kept settings entries flushed promises word closed) message size
+kept_written settings entries flushed promises word closed size message entries' promises' word' within pushed promised risen =
     let entry : PendingEntry = record { message = message; size = size; progress = 0; voided = false } in
     same_pending settings closed
     (ap (take flushed) pushed ∙ take-append-le flushed entries (entry ∷ []) within)
     (ap (drop flushed) pushed ∙ drop-append-le flushed entries (entry ∷ []) within)
     promised
-    (risen ∙ ap (word_after_rise settings.marks word size) (summed ∙ ap sum_of pushed ∙ sum_by_push (λ entry. entry.size) entries entry ∙ ap (λ all. all + size) (sym (sum_of_parts flushed entries))))
-
-without_first : (all size rest : ℕ) → all ≡ size + rest → rest ≡ all - size
-without_first all size rest is = omega arith
+    (risen ∙ ap (λ all. word_after_rise settings.marks word size (all + size)) (sym (sum_of_parts flushed entries)))
 
 -- without the first entry the line is shorter by one
-pub kept_taken : (settings : Settings) (entries : List PendingEntry) (flushed : ℕ) (promises : List PromiseState) (word : ℕ) (closed : Bool) (entry : PendingEntry) (notice : Bool) (outcome : Outcome)
-    (entries' : List PendingEntry) (promises' : List PromiseState) (word' : ℕ) → 0 < flushed → flushed ≤ length entries → entry ≡ get_or entries 0 entry →
-    entries' ≡ drop 1 entries →
-    promises' ≡ (if entry.voided then promises else slice_set promises (length promises - length entries) (Settled outcome)) →
-    word' ≡ (if notice then word_after_fall settings.marks word entry.size (sum_of entries') else word) →
-    kept settings entries' (flushed - 1) promises' word' closed ≡ front_taken notice outcome (kept settings entries flushed promises word closed)
-kept_taken settings [] flushed promises word closed entry notice outcome entries' promises' word' some within first taken settled fallen = absurd (omega arith)
-kept_taken settings (e ∷ es) zero promises word closed entry notice outcome entries' promises' word' some within first taken settled fallen = absurd (omega arith)
-kept_taken settings (e ∷ es) (suc n) promises word closed entry notice outcome entries' promises' word' some within first taken settled fallen =
+pub kept_taken : (settings : Settings) (entry : PendingEntry) (entries : List PendingEntry) (flushed : ℕ) (promises : List PromiseState) (word : ℕ)
+    (closed notice : Bool) (outcome : Outcome) (promises' : List PromiseState) (word' : ℕ) → 0 < flushed →
+    promises' ≡ (if entry.voided then promises else slice_set promises (length promises - length (entry ∷ entries)) (Settled outcome)) →
+    word' ≡ (if notice then word_after_fall settings.marks word entry.size (sum_of (entry ∷ entries) - entry.size) else word) →
+    kept settings entries (flushed - 1) promises' word' closed ≡ front_taken notice outcome (kept settings (entry ∷ entries) flushed promises word closed)
+kept_taken settings entry entries zero promises word closed notice outcome promises' word' some settled fallen = absurd (omega arith)
+kept_taken settings entry entries (suc n) promises word closed notice outcome promises' word' some settled fallen =
     let less : suc n - 1 ≡ n = omega arith in
-    let parts : length (e ∷ es) ≡ length (take (suc n) (e ∷ es)) + length (drop (suc n) (e ∷ es)) =
-    sym (ap length (take-append-drop (suc n) (e ∷ es))) ∙ length-append (take (suc n) (e ∷ es)) (drop (suc n) (e ∷ es)) in
-    let all : sum_of (take (suc n) (e ∷ es)) + sum_of (drop (suc n) (e ∷ es)) ≡ e.size + sum_of es = sum_of_parts (suc n) (e ∷ es) ∙ sum_by-cons (λ entry. entry.size) e es in
-    same_pending settings closed
-    (ap (λ count. take count entries') less ∙ ap (take n) taken)
-    (ap (λ count. drop count entries') less ∙ ap (drop n) taken)
-    (settled ∙ ap (λ (one : PendingEntry). if one.voided then promises else slice_set promises (length promises - length (e ∷ es)) (Settled outcome)) first
-    ∙ ap (λ count. if e.voided then promises else slice_set promises (length promises - count) (Settled outcome)) parts)
-    (fallen ∙ ap (λ (one : PendingEntry). cond notice (word_after_fall settings.marks word one.size (sum_of entries')) word) first
-    ∙ ap (λ sum. cond notice (word_after_fall settings.marks word e.size sum) word) (ap sum_of taken ∙ without_first _ e.size (sum_of es) all))
+    let all = entry ∷ entries in
+    let parts : length all ≡ length (take (suc n) all) + length (drop (suc n) all) =
+    sym (ap length (take-append-drop (suc n) all)) ∙ length-append (take (suc n) all) (drop (suc n) all) in
+    same_pending settings closed (ap (λ count. take count entries) less) (ap (λ count. drop count entries) less)
+    (settled ∙ ap (λ count. if entry.voided then promises else slice_set promises (length promises - count) (Settled outcome)) parts)
+    (fallen ∙ ap (λ sum. cond notice (word_after_fall settings.marks word entry.size (sum - entry.size)) word) (sym (sum_of_parts (suc n) all)))
 
 -- a list with the entry at an index apart
 record Split (n : ℕ) (entries : List PendingEntry) : Type 0 where
@@ -101,23 +92,19 @@ module _ (n : ℕ) (before : List PendingEntry) (entry : PendingEntry) (behind :
   drop_more_seam = ap (λ all. drop (n + 1) all) (sym (append_assoc before (entry ∷ []) behind))
       ∙ ap (λ count. drop count ((before ++ entry ∷ []) ++ behind)) (sym more_size) ∙ drop-append_seam (before ++ entry ∷ []) behind
 
-sums : (front size rest all left : ℕ) → all ≡ front + (size + rest) → left ≡ front + (0 + rest) → left ≡ all - size
-sums front size rest all left is less = omega arith
-
 flag_is : (entries : List PendingEntry) (flushed : ℕ) (promises : List PromiseState) (back : Bool) → is_cancelled (get_or promises (length promises - (length entries - flushed)) Waiting) ≡ back →
     is_cancelled (get_or promises (length promises - length (drop flushed entries)) Waiting) ≡ back
 flag_is entries flushed promises back is = ap (λ n. is_cancelled (get_or promises (length promises - n) Waiting)) (length-drop flushed entries) ∙ is
 
 -- one more entry in line, by whether its promise was taken back
 pub kept_next : (settings : Settings) (entries : List PendingEntry) (flushed : ℕ) (promises : List PromiseState) (word : ℕ) (closed : Bool) (back : Bool)
-    (entries' : List PendingEntry) (promises' : List PromiseState) (word' sum : ℕ) → flushed < length entries →
+    (entries' : List PendingEntry) (promises' : List PromiseState) (word' : ℕ) → flushed < length entries →
     is_cancelled (get_or promises (length promises - (length entries - flushed)) Waiting) ≡ back →
     ((d : PendingEntry) → entries' ≡ (if back then slice_set entries flushed (reached_entry true (get_or entries flushed d)) else entries)) →
     promises' ≡ (if back then promises else slice_set promises (length promises - (length entries - flushed)) Fixed) →
-    sum ≡ sum_of entries' →
-    ((d : PendingEntry) → word' ≡ (if back then word_after_fall settings.marks word (get_or entries flushed d).size sum else word)) →
+    ((d : PendingEntry) → word' ≡ (if back then word_after_fall settings.marks word (get_or entries flushed d).size (sum_of entries - (get_or entries flushed d).size) else word)) →
     kept settings entries' (flushed + 1) promises' word' closed ≡ next_flushed (kept settings entries flushed promises word closed)
-kept_next settings entries flushed promises word closed true entries' promises' word' sum within back_is entries_are promises_are summed word_is =
+kept_next settings entries flushed promises word closed true entries' promises' word' within back_is entries_are promises_are word_is =
     let s = split flushed entries within in
     let e = s.entry in
     let found : get_or entries flushed e ≡ e =
@@ -128,21 +115,17 @@ kept_next settings entries flushed promises word closed true entries' promises' 
     let flag = flag_is entries flushed promises true back_is in
     let front : take flushed entries ≡ s.before = ap (take flushed) s.is ∙ take_seam flushed s.before e s.behind s.size in
     let rest : drop flushed entries ≡ e ∷ s.behind = ap (drop flushed) s.is ∙ drop_seam flushed s.before e s.behind s.size in
-    let less : sum ≡ sum_of (take flushed entries) + sum_of (drop flushed entries) - e.size =
-    sums (sum_of s.before) e.size (sum_of s.behind) (sum_of (take flushed entries) + sum_of (drop flushed entries)) sum
-    (ap (λ all. sum_of all + sum_of (drop flushed entries)) front ∙ ap (λ all. sum_of s.before + sum_of all) rest ∙ ap (λ n. sum_of s.before + n) (sum_by-cons (λ entry. entry.size) e s.behind))
-    (summed ∙ ap sum_of now ∙ sum_by-append (λ entry. entry.size) s.before (reached_entry true e ∷ s.behind) ∙ ap (λ n. sum_of s.before + n) (sum_by-cons (λ entry. entry.size) (reached_entry true e) s.behind)) in
     same_pending settings closed
     (ap (take (flushed + 1)) now ∙ take_more_seam flushed s.before (reached_entry true e) s.behind s.size
     ∙ sym (ap (λ all. all ++ first_reached (is_cancelled (get_or promises (length promises - length (drop flushed entries)) Waiting)) (drop flushed entries)) front
     ∙ ap (λ fl. s.before ++ first_reached fl (drop flushed entries)) flag ∙ ap (λ all. s.before ++ first_reached true all) rest))
     (ap (drop (flushed + 1)) now ∙ drop_more_seam flushed s.before (reached_entry true e) s.behind s.size ∙ sym (ap (drop 1) rest))
     (promises_are ∙ sym (ap (λ fl. cond fl promises (slice_set promises (length promises - length (drop flushed entries)) Fixed)) flag))
-    (word_is e ∙ ap (λ one. word_after_fall settings.marks word one.size sum) found
-    ∙ ap (word_after_fall settings.marks word e.size) less
+    (word_is e ∙ ap (λ one. word_after_fall settings.marks word one.size (sum_of entries - one.size)) found
+    ∙ ap (λ all. word_after_fall settings.marks word e.size (all - e.size)) (sym (sum_of_parts flushed entries))
     ∙ ap (λ size. word_after_fall settings.marks word size (sum_of (take flushed entries) + sum_of (drop flushed entries) - size)) (sym (ap first_size rest))
     ∙ sym (ap (λ fl. cond fl (word_after_fall settings.marks word (first_size (drop flushed entries)) (sum_of (take flushed entries) + sum_of (drop flushed entries) - first_size (drop flushed entries))) word) flag))
-kept_next settings entries flushed promises word closed false entries' promises' word' sum within back_is entries_are promises_are summed word_is =
+kept_next settings entries flushed promises word closed false entries' promises' word' within back_is entries_are promises_are word_is =
     let s = split flushed entries within in
     let e = s.entry in
     let now : entries' ≡ s.before ++ e ∷ s.behind = entries_are e ∙ s.is in

@@ -6,10 +6,13 @@ mod BytesRemoved
 mod Cancelled
 mod Closing
 mod Digits
+pub mod EachRow
 mod Entries
 mod EntrySettlements
 mod Failing
 mod Failures
+mod Fields
+mod Fits
 mod Fitting
 mod Flushing
 mod Fronts

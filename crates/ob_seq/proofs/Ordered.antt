@@ -1,57 +1,197 @@
 -- The rows stand in order: gone, in line, unflushed.
-use Rattle.std.proofs.Common.{◌≡◌, Bool, true, false, List, [], ◌∷◌, ◌++◌, refl, sym, ap, ◌∙◌, cond, subst, inl, inr}
-use Rattle.std.specs.List.{AllByRecursion}
-use Rattle.ob_types.specs.declared.command.Command.{Command}
+use Rattle.std.proofs.Common.{◌≡◌, ℕ, zero, suc, ◌+◌, ◌-◌, ◌*◌, ◌/◌, ◌≤◌, Bool, false, ◌&&◌, List, [], ◌∷◌}
+use Rattle.std.proofs.Common.{◌++◌}
+use Rattle.std.proofs.Common.{map, length, min, refl, cond, ltb, length-append, arith, ◌⊎◌, inl, inr}
+use Rattle.std.specs.Prelude.{filter, fold}
+use Rattle.std.proofs.lemmas.Bool.Decides.{nat_tests}
+use Rattle.std.proofs.lemmas.List.Elements.{filter-append}
 use Rattle.ob_types.specs.declared.estimate.Estimate.{Estimate}
-use Rattle.ob_seq.specs.Effect.{rows_after}
-use Rattle.ob_seq.specs.Line.{line, unflushed}
+use Rattle.ob_types.specs.declared.command.Command.{Command}
+use Rattle.ob_types.specs.declared.command.Command.TheVariants.{Write, Flush, Remove, RemoveWith, RemoveBytes}
+use Rattle.ob_types.specs.declared.command.Command.TheVariants.{Progress, Cancel, FailFlushed, Close, UserBit}
+use Rattle.ob_types.specs.declared.promise.Cause.{Cause}
+use Rattle.ob_types.specs.declared.promise.Outcome.{Outcome}
+use Rattle.ob_types.specs.declared.promise.Outcome.TheVariants.{Success, Failed}
+use Rattle.ob_seq.specs.ByteRun.{whole_rows, bytes_left_over}
+use Rattle.ob_seq.specs.Effect.{closed_row, effect, failed_row, flushed_row, progressed_row, rows_after}
+use Rattle.ob_seq.specs.Effect.{taken_row, with_cancelled, with_first, with_first_behind, with_front}
+use Rattle.ob_seq.specs.Effect.{with_skipped}
+use Rattle.ob_seq.specs.Line.{is_in_line, line}
 use Rattle.ob_seq.specs.Order.{StandInOrder, gone, is_gone}
-use Rattle.ob_seq.specs.Row.{Row}
-use Rattle.ob_seq.proofs.Order.{IsFresh, IsGone, IsStanding, layout_of}
-use Rattle.ob_seq.proofs.Parts.{line_of_parts, unflushed_of_parts}
+use Rattle.ob_seq.specs.Row.{Row, Place, Unflushed, Flushed, Voided, Gone}
+use Rattle.ob_seq.specs.Row.{new_row}
+use Rattle.ob_seq.proofs.EachRow.{EachRow, cancelled_row, front_row, map_rows, skipped_rows}
 
--- the rows that are gone, by the first row
-gone_first : (row : Row) (rows : List Row) (is : Bool) → is_gone row.place ≡ is →
-    gone (row ∷ rows) ≡ cond is (row ∷ gone rows) (gone rows)
-gone_first row rows is place = ap (λ here. cond here (row ∷ gone rows) (gone rows)) place
+module _ (change : Row → Row) where
+  -- the first so many in line changed, counted one after another
+  abbrev pub first_in_line : ℕ → List Row → List Row
+  first_in_line zero rows = rows
+  first_in_line (suc count) [] = []
+  first_in_line (suc count) (row ∷ rows) =
+      cond (is_in_line row) (change row ∷ first_in_line count rows) (row ∷ first_in_line (suc count) rows)
 
-none_fresh : (fresh : List Row) → AllByRecursion IsFresh fresh → gone fresh ≡ []
-none_fresh [] all = refl
-none_fresh (row ∷ fresh) all = gone_first row fresh false (ap is_gone all.0.place) ∙ none_fresh fresh all.1
+  line_count : (before : List Row) (row : Row) →
+      length (line (before ++ row ∷ [])) ≡ length (line before) + cond (is_in_line row) 1 0
+  line_count before row = rw (filter-append is_in_line before (row ∷ []), length-append) (grind arith)
 
-not_gone : (row : Row) → IsStanding row → is_gone row.place ≡ false
-not_gone row (inl sent) = ap is_gone sent.place
-not_gone row (inr void) = ap is_gone void.place
+  -- those before which fewer stand in line are the first so many
+  first_behind : (count left : ℕ) (before rows : List Row) → count - length (line before) ≡ left →
+      with_first_behind count change before rows ≡ first_in_line left rows
+  first_behind count zero before [] is = refl
+  first_behind count (suc left) before [] is = refl
+  first_behind count zero before (row ∷ rows) is =
+      let more = line_count before row in
+      let none = late (is_in_line row) (length (line before)) count is in
+      rw (none, first_behind count zero (before ++ row ∷ []) rows (omega arith))
+    where
+      late : (here : Bool) (early count : ℕ) → count - early ≡ 0 → (here && ltb early count) ≡ false
+      late here early count is = grind (arith, nat_tests)
+  first_behind count (suc left) before (row ∷ rows) is =
+      step (is_in_line row) (length (line before)) _ _ (line_count before row)
+      (λ left. first_behind count left (before ++ row ∷ []) rows) is
+    where
+      step : (here : Bool) (early more : ℕ) (others : List Row) → more ≡ early + cond here 1 0 →
+          ((left : ℕ) → count - more ≡ left → others ≡ first_in_line left rows) → count - early ≡ suc left →
+          cond (here && ltb early count) (change row) row ∷ others
+          ≡ cond here (change row ∷ first_in_line left rows) (row ∷ first_in_line (suc left) rows)
+      step here early more others sum rest is = grind (arith, nat_tests, rest left, rest (suc left))
 
-none_standing : (standing fresh : List Row) → AllByRecursion IsStanding standing → AllByRecursion IsFresh fresh →
-    gone (standing ++ fresh) ≡ []
-none_standing [] fresh all all_fresh = none_fresh fresh all_fresh
-none_standing (row ∷ standing) fresh all all_fresh =
-    gone_first row (standing ++ fresh) false (not_gone row all.0) ∙ none_standing standing fresh all.1 all_fresh
+  pub with_first_is : (count : ℕ) (rows : List Row) → with_first count change rows ≡ first_in_line count rows
+  with_first_is count rows = first_behind count count [] rows (omega arith)
 
--- the rows that are gone, by the parts of the rows
-gone_of_parts : (first standing fresh : List Row) →
-    AllByRecursion IsGone first → AllByRecursion IsStanding standing → AllByRecursion IsFresh fresh →
-    gone (first ++ (standing ++ fresh)) ≡ first
-gone_of_parts [] standing fresh all all_standing all_fresh = none_standing standing fresh all_standing all_fresh
-gone_of_parts (row ∷ first) standing fresh all all_standing all_fresh =
-    gone_first row (first ++ (standing ++ fresh)) true (ap is_gone all.0.place)
-    ∙ ap (λ rest. row ∷ rest) (gone_of_parts first standing fresh all.1 all_standing all_fresh)
+  with_front_is : (rows : List Row) → with_front change rows ≡ first_in_line 1 rows
+  with_front_is [] = refl
+  with_front_is (row ∷ rows) = rw (with_front_is rows)
 
--- rows that are gone, standing and fresh stand in order
-parts_in_order : (first standing fresh : List Row) →
-    AllByRecursion IsGone first → AllByRecursion IsStanding standing → AllByRecursion IsFresh fresh →
-    StandInOrder (first ++ (standing ++ fresh))
-parts_in_order first standing fresh all all_standing all_fresh =
-    let rows = first ++ (standing ++ fresh) in
-    let leaving = gone_of_parts first standing fresh all all_standing all_fresh in
-    sym (ap (λ kept. kept ++ (line rows ++ unflushed rows)) leaving
-    ∙ ap (λ kept. first ++ (kept ++ unflushed rows)) (line_of_parts first standing fresh all all_standing all_fresh)
-    ∙ ap (λ kept. first ++ (standing ++ kept)) (unflushed_of_parts first standing fresh all all_standing all_fresh))
+-- where a row comes in the order
+abbrev rank : Place → ℕ
+rank Unflushed = 2
+rank Flushed = 1
+rank Voided = 1
+rank Gone = 0
 
--- and so do the rows of each history
+-- rows in order, from a rank on
+abbrev InOrder : ℕ → List Row → Type 0
+InOrder least [] = Unit {0}
+InOrder least (row ∷ rows) = (least ≤ rank row.place) × InOrder (rank row.place) rows
+
+in_order_from : (least now : ℕ) (rows : List Row) → now ≤ least → InOrder least rows → InOrder now rows
+in_order_from least now [] lower order = tt
+in_order_from least now (row ∷ rows) lower order = (omega (arith, order.0), order.1)
+
+-- where each rank becomes another in the same order
+in_order_by : (to : ℕ → ℕ) → ((a b : ℕ) → a ≤ b → to a ≤ to b) → (least : ℕ) (before after : List Row) →
+    EachRow (λ was row. rank row.place ≡ to (rank was.place)) before after → InOrder least before →
+    InOrder (to least) after
+in_order_by to grows least [] [] each order = tt
+in_order_by to grows least [] (row ∷ after) each order = absurd each
+in_order_by to grows least (was ∷ before) [] each order = absurd each
+in_order_by to grows least (was ∷ before) (row ∷ after) each order =
+    rw each.0 (grows least (rank was.place) order.0, in_order_by to grows (rank was.place) before after each.1 order.1)
+
+-- where no place changes
+same_order : (before after : List Row) → EachRow (λ was row. rank row.place ≡ rank was.place) before after →
+    InOrder 0 before → InOrder 0 after
+same_order before after each order = in_order_by (λ n. n) (λ a b le. le) 0 before after each order
+
+written_order : (least : ℕ) (rows : List Row) (row : Row) → row.place ≡ Unflushed → least ≤ 2 → InOrder least rows →
+    InOrder least (rows ++ row ∷ [])
+written_order least [] row fresh low order = rw fresh (low, tt)
+written_order least (first ∷ rows) row fresh low order =
+    (order.0, written_order (rank first.place) rows row fresh (few first.place) order.1)
+  where
+    few : (place : Place) → rank place ≤ 2
+    few Unflushed = omega arith
+    few Flushed = omega arith
+    few Voided = omega arith
+    few Gone = omega arith
+
+flushed_rank : (row : Row) → rank (flushed_row row).place ≡ min (rank row.place) 1
+flushed_rank row = grind arith
+
+-- all of the line gone leaves the others in their order
+failed_rank : (cause : Cause) (row : Row) → rank (failed_row cause row).place ≡ rank row.place / 2 * 2
+failed_rank cause row = grind arith
+
+-- the first of the line gone: they still stand before all others
+first_order : (outcome : Outcome) (count least now : ℕ) (rows : List Row) → now ≤ least →
+    (now ≡ 0) ⊎ (least ≡ 2) → InOrder least rows → InOrder now (first_in_line (taken_row outcome) count rows)
+first_order outcome zero least now rows lower when order = in_order_from least now rows lower order
+first_order outcome (suc count) least now [] lower when order = tt
+first_order outcome (suc count) least now (row ∷ rows) lower when order =
+    step _ _ (first_order outcome count 1 0 rows (omega arith) (inl refl))
+    (first_order outcome (suc count) 0 0 rows (omega arith) (inl refl))
+    (first_order outcome (suc count) 2 2 rows (omega arith) (inr refl)) order.0 order.1
+  where
+    step : (taken kept : List Row) → (InOrder 1 rows → InOrder 0 taken) → (InOrder 0 rows → InOrder 0 kept) →
+        (InOrder 2 rows → InOrder 2 kept) → least ≤ rank row.place → InOrder (rank row.place) rows →
+        InOrder now (cond (is_in_line row) (taken_row outcome row ∷ taken) (row ∷ kept))
+    step taken kept one none two low order = grind arith
+
+removed_order : (outcome : Outcome) (rows : List Row) → InOrder 0 rows → InOrder 0 (with_front (taken_row outcome) rows)
+removed_order outcome rows order =
+    rw with_front_is (first_order outcome 1 0 0 rows (omega arith) (inl refl) order)
+
+-- each command keeps the order
+effect_order : (estimate : Estimate) (rows : List Row) (command : Command) → InOrder 0 rows →
+    InOrder 0 (effect estimate rows command)
+effect_order estimate rows (Write message) order =
+    written_order 0 rows (new_row estimate message) refl (omega arith) order
+effect_order estimate rows Flush order =
+    in_order_by (λ n. min n 1) (λ a b le. omega arith) 0 rows (map flushed_row rows)
+    (map_rows _ flushed_row flushed_rank rows) order
+effect_order estimate rows Remove order = removed_order Success rows order
+effect_order estimate rows (RemoveWith cause) order = removed_order (Failed cause) rows order
+effect_order estimate rows (RemoveBytes n) order =
+    let sent = with_first (whole_rows n rows) (taken_row Success) rows in
+    same_order sent (with_skipped (bytes_left_over n rows) sent)
+    (skipped_rows _ (λ row. refl) (bytes_left_over n rows) (λ row. refl) sent (ltb 0 (bytes_left_over n rows)))
+    (rw with_first_is (first_order Success (whole_rows n rows) 0 0 rows (omega arith) (inl refl) order))
+effect_order estimate rows (Progress n) order =
+    same_order rows (with_front (progressed_row n) rows)
+    (front_row _ (λ row. refl) (progressed_row n) (λ row is. refl) rows) order
+effect_order estimate rows (Cancel id) order =
+    same_order rows (with_cancelled id.0 rows) (cancelled_row _ (λ row. refl) (λ row. refl) id.0 rows) order
+effect_order estimate rows (FailFlushed cause notify) order =
+    in_order_by (λ n. n / 2 * 2) (λ a b le. omega arith) 0 rows (map (failed_row cause) rows)
+    (map_rows _ (failed_row cause) (failed_rank cause) rows) order
+effect_order estimate rows (Close cause) order =
+    in_order_by (λ n. 0) (λ a b le. omega arith) 0 rows (map (closed_row cause) rows)
+    (map_rows _ (closed_row cause) (λ row. refl) rows) order
+effect_order estimate rows (UserBit index writable) order = order
+
+order_along : (estimate : Estimate) (rows : List Row) (commands : List Command) → InOrder 0 rows →
+    InOrder 0 (fold (effect estimate) rows commands)
+order_along estimate rows [] order = order
+order_along estimate rows (command ∷ commands) order =
+    order_along estimate (effect estimate rows command) commands (effect_order estimate rows command order)
+
+-- a filter that none passes from a rank on
+none_from : (test : Row → Bool) (least : ℕ) → ((row : Row) → least ≤ rank row.place → test row ≡ false) →
+    (rows : List Row) → InOrder least rows → filter test rows ≡ []
+none_from test least fails [] order = refl
+none_from test least fails (row ∷ rows) order =
+    rw (fails row order.0, none_from test (rank row.place) (λ later le. fails later (omega (arith, le, order.0))) rows order.1)
+
+-- one more row in front of rows in order, before those of a higher rank
+row_in_order : (row : Row) (rows : List Row) → (1 ≤ rank row.place → gone rows ≡ []) →
+    (2 ≤ rank row.place → line rows ≡ []) → StandInOrder rows → StandInOrder (row ∷ rows)
+row_in_order row rows none nothing rest = grind arith
+
+-- such rows are those that are gone, those in line and the unflushed ones
+stand_in_order : (least : ℕ) (rows : List Row) → InOrder least rows → StandInOrder rows
+stand_in_order least [] order = refl
+stand_in_order least (row ∷ rows) order =
+    row_in_order row rows (λ le. none_from (λ row. is_gone row.place) (rank row.place) (not_gone le) rows order.1)
+    (λ le. none_from is_in_line (rank row.place) (not_in_line le) rows order.1)
+    (stand_in_order (rank row.place) rows order.1)
+  where
+    not_gone : 1 ≤ rank row.place → (later : Row) → rank row.place ≤ rank later.place → is_gone later.place ≡ false
+    not_gone low later le = grind arith
+
+    not_in_line : 2 ≤ rank row.place → (later : Row) → rank row.place ≤ rank later.place → is_in_line later ≡ false
+    not_in_line low later le = grind arith
+
 pub rows_in_order : (estimate : Estimate) (commands : List Command) → StandInOrder (rows_after estimate commands)
 rows_in_order estimate commands =
-    let layout = layout_of estimate commands in
-    subst StandInOrder (sym layout.is)
-    (parts_in_order layout.gone layout.standing layout.fresh layout.all_gone layout.all_standing layout.all_fresh)
+    stand_in_order 0 (rows_after estimate commands) (order_along estimate [] commands tt)

@@ -1,13 +1,12 @@
 -- The first rows in line taken away, one after another.
-use Rattle.std.proofs.Common.{◌≡◌, ℕ, suc, ◌+◌, Bool, true, List, [], ◌∷◌, ◌++◌, length, map, refl, sym, ap, ◌∙◌, cond, append_assoc, append-nil, subst, arith, inl, inr}
+use Rattle.std.proofs.Common.{◌≡◌, ℕ, suc, ◌+◌, Bool, true, List, [], ◌∷◌, ◌++◌, length, map, refl, sym, ap, ◌∙◌}
+use Rattle.std.proofs.Common.{append_assoc, append-nil, subst, arith}
 use Rattle.std.specs.List.{AllByRecursion}
 use Rattle.ob_types.specs.declared.promise.Outcome.{Outcome}
 use Rattle.ob_types.specs.declared.promise.Outcome.TheVariants.{Success}
-use Rattle.std.specs.Prelude.{None}
-use Rattle.ob_types.specs.declared.promise.PromiseState.TheVariants.{Fixed, Settled}
-use Rattle.ob_seq.specs.Row.{Row, is_flushed, is_voided}
+use Rattle.ob_seq.specs.Row.{Row}
 use Rattle.ob_seq.specs.Total.{counted_size, total}
-use Rattle.ob_seq.specs.Effect.{taken_row, with_fronts_sent}
+use Rattle.ob_seq.specs.Effect.{taken_row, with_first}
 use Rattle.ob_seq.specs.Moment.{Moment, moment_of, moments_along}
 use Rattle.ob_seq.specs.Answer.{outcome_of, settlement, settlements_from}
 use Rattle.ob_seq.specs.Entry.{entry_of}
@@ -16,8 +15,8 @@ use Rattle.ob_seq.specs.Steps.{front_taken, entry_settlement, entry_settlements,
 use Rattle.ob_seq.proofs.Along.{moments_behind}
 use Rattle.ob_seq.proofs.Held.{opening, Held}
 use Rattle.ob_seq.proofs.Marks.{word_from}
-use Rattle.ob_seq.proofs.Order.{IsGone, IsStanding, each_append, with_front_gone, with_front_standing}
-use Rattle.ob_seq.proofs.EntrySettlements.{settlement_of_unvoided, settlement_of_voided}
+use Rattle.ob_seq.proofs.Order.{IsGone, IsStanding, first_gone, standing_in_line}
+use Rattle.ob_seq.proofs.Ordered.{first_in_line, with_first_is}
 use Rattle.ob_seq.proofs.Taken.{taken_held, taken_word}
 use Rattle.ob_seq.proofs.Times.{times_first}
 
@@ -25,16 +24,17 @@ use Rattle.ob_seq.proofs.Times.{times_first}
 abbrev pub sent : Row → Row
 sent row = taken_row Success row
 
+first_sent : (first behind : List Row) → AllByRecursion IsStanding first →
+    first_in_line sent (length first) (first ++ behind) ≡ map sent first ++ behind
+first_sent [] behind all = refl
+first_sent (row ∷ first) behind all = rw (standing_in_line row all.0, first_sent first behind all.1)
+
 -- the rows when those are gone
-pub with_fronts_sent_is : (first gone behind : List Row) → AllByRecursion IsGone gone → AllByRecursion IsStanding first →
-    with_fronts_sent (length first) (gone ++ (first ++ behind)) ≡ gone ++ (map sent first ++ behind)
-with_fronts_sent_is [] gone behind all_gone all_standing = refl
-with_fronts_sent_is (row ∷ first) gone behind all_gone all_standing =
-    ap (with_fronts_sent (length first)) (with_front_gone sent gone (row ∷ (first ++ behind)) all_gone
-    ∙ ap (λ rest. gone ++ rest) (with_front_standing sent row (first ++ behind) all_standing.0)
-    ∙ sym (append_assoc gone (sent row ∷ []) (first ++ behind)))
-    ∙ with_fronts_sent_is first (gone ++ sent row ∷ []) behind (each_append IsGone gone (sent row ∷ []) all_gone (record { place = refl }, tt)) all_standing.1
-    ∙ append_assoc gone (sent row ∷ []) (map sent first ++ behind)
+pub with_first_sent : (first gone behind : List Row) → AllByRecursion IsGone gone → AllByRecursion IsStanding first →
+    with_first (length first) sent (gone ++ (first ++ behind)) ≡ gone ++ (map sent first ++ behind)
+with_first_sent first gone behind all_gone all_standing =
+    with_first_is sent (length first) (gone ++ (first ++ behind))
+    ∙ rw (first_gone sent (length first) gone (first ++ behind) all_gone, first_sent first behind all_standing)
 
 -- each of them is gone
 pub all_taken_gone : (outcome : Outcome) (rows : List Row) → AllByRecursion IsGone (map (taken_row outcome) rows)
@@ -85,13 +85,7 @@ moments_of_sent (row ∷ first) passed before after none =
 
 -- what one of them settles
 settled_by_one : (outcome : Outcome) (id : ℕ) (row : Row) → IsStanding row → settlement id (outcome_of row.promise) (outcome_of (taken_row outcome row).promise) ≡ entry_settlement outcome id (entry_of row)
-settled_by_one outcome id row (inl flushed) =
-    ap (λ promise. settlement id (outcome_of promise) (outcome_of (cond (is_flushed row.place) (Settled outcome) promise))) flushed.promise
-    ∙ ap (λ place. settlement id None (outcome_of (cond (is_flushed place) (Settled outcome) Fixed))) flushed.place
-    ∙ sym (settlement_of_unvoided outcome id (entry_of row) (ap is_voided flushed.place))
-settled_by_one outcome id row (inr void) =
-    ap (λ promise. settlement id (outcome_of promise) (outcome_of (cond (is_flushed row.place) (Settled outcome) promise))) void.promise
-    ∙ sym (settlement_of_voided outcome id (entry_of row) (ap is_voided void.place))
+settled_by_one outcome id row standing = grind arith
 
 -- what they settle, where nothing behind them is settled
 pub settlements_of_taken : (outcome : Outcome) (id : ℕ) (first before after : List Row) → AllByRecursion IsStanding first → settlements_from (id + length first) before after ≡ [] →

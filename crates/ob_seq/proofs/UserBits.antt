@@ -1,12 +1,15 @@
 -- A user bit set or cleared in the word is the user bit after one more command.
-use Rattle.std.proofs.Common.{◌≡◌, ◌≢◌, ℕ, zero, suc, ◌+◌, ◌*◌, ◌^◌, ◌/◌, ◌%◌, ◌<◌, ◌≤◌, Bool, true, false, not, List, [], ◌∷◌, ◌++◌, reverse, refl, sym, ap, ◌∙◌, cond, eqb, ltb, bit_and, bit_or, append-nil, map, arith}
+use Rattle.std.proofs.Common.{◌≡◌, ℕ, zero, suc, ◌-◌, ◌^◌, ◌<◌, ◌≤◌, Bool, true, false, not, List, [], ◌∷◌, ◌++◌}
+use Rattle.std.proofs.Common.{reverse}
+use Rattle.std.proofs.Common.{refl, sym, ap, ◌∙◌, cond, eqb, ltb, bit_and, bit_or, append-nil, map, min, max, arith}
 use Rattle.std.specs.Prelude.{Option, Some, None, filter_map, slice_get, unwrap_or, if◌then◌else◌}
 use Rattle.std.specs.Int.{bit_at, bit_not, w32}
 use Rattle.std.specs.List.{cons_option}
 use Rattle.std.proofs.lemmas.Bool.Decides.{nat_tests}
 use Rattle.std.proofs.lemmas.List.{reverse-append}
 use Rattle.std.proofs.lemmas.List.Elements.{filter_map-append}
-use Rattle.std.proofs.lemmas.Nat.Bits.{bit_at_or, bit_at_and, bit_at_not, same_from_bits, bit_at_lowest, bit_at-suc, bit_at-lt, bit_at-pow_same, bit_at-pow_other}
+use Rattle.std.proofs.lemmas.Nat.Bits.{bit_at_or, bit_at_and, bit_at_not, same_from_bits, bit_at-pow_same}
+use Rattle.std.proofs.lemmas.Nat.Bits.{bit_at-pow_other}
 use Rattle.std.proofs.Math.Pow.{pow-lt}
 use Rattle.ob_types.specs.Change.{change_between}
 use Rattle.ob_types.specs.declared.command.Command.{Command}
@@ -18,7 +21,6 @@ use Rattle.ob_types.specs.declared.reply.Answer.TheVariants.{Done}
 use Rattle.ob_seq.specs.Settings.{Settings}
 use Rattle.ob_seq.specs.Effect.{rows_after}
 use Rattle.ob_seq.specs.Line.{line, unflushed}
-use Rattle.ob_seq.specs.Moment.{Moment}
 use Rattle.ob_seq.specs.UserBit.{bit_request, is_user_index, user_bit}
 use Rattle.ob_seq.specs.Word.{word_after}
 use Rattle.ob_seq.specs.Answer.{refusal_of, reply_of}
@@ -27,9 +29,9 @@ use Rattle.ob_seq.specs.Pending.{Pending, StandsFor}
 use Rattle.ob_seq.specs.Steps.{bit_changed, with_user_bit}
 use Rattle.ob_seq.proofs.Acceptance.{open_history, same_reply}
 use Rattle.ob_seq.proofs.Along.{moments_of_same, settlements_of_same}
-use Rattle.ob_seq.proofs.Digits.{digit, digit_at, no_digit_at, half_bits}
+use Rattle.ob_seq.proofs.Digits.{digit, digit_of, word_digits, word_of, word_of_digits}
 use Rattle.ob_seq.proofs.History.{moments_after, moments_after_more, rows_after_more, accepted_more, closed_more}
-use Rattle.ob_seq.proofs.Marks.{mark_of, half_after, word_from, word_is_from}
+use Rattle.ob_seq.proofs.Marks.{mark_of, word_is_from}
 
 -- the user bits after one more command
 bit_by : (requests : List Bool) (here now : Bool) →
@@ -44,165 +46,91 @@ user_bit_changes commands at writable index =
     ap (λ requests. unwrap_or (slice_get (reverse requests) 0) false) (filter_map-append (bit_request index) commands (UserBit at writable ∷ []))
     ∙ bit_by (filter_map (bit_request index) commands) (eqb at index) (not writable)
 
-lowest : (bit : Bool) (half : ℕ) → (digit bit + half * 2) % 2 ≡ digit bit
-lowest true half = omega arith
-lowest false half = omega arith
+-- one digit set, and one clear
+set_digit : (within here bit : Bool) → (here ≡ true → within ≡ true) →
+    max (cond within (digit bit) 0) (cond here 1 0) ≡ cond within (digit (cond here true bit)) 0
+set_digit true true true inside = refl
+set_digit true true false inside = refl
+set_digit true false bit inside = omega arith
+set_digit false true bit inside = absurd (let no = inside refl in cc)
+set_digit false false bit inside = refl
 
-above : (bit : Bool) (half : ℕ) → (digit bit + half * 2) / 2 ≡ half
-above true half = omega arith
-above false half = omega arith
+clear_digit : (here bit : Bool) → min (digit bit) (1 - cond here 1 0) ≡ digit (cond here false bit)
+clear_digit true true = refl
+clear_digit true false = refl
+clear_digit false true = refl
+clear_digit false false = refl
 
--- the digits of a word
-at_zero : (bit : Bool) (half : ℕ) → bit_at (digit bit + half * 2) 0 ≡ digit bit
-at_zero bit half = bit_at_lowest (digit bit + half * 2) ∙ lowest bit half
+pow_digit : (at i : ℕ) → bit_at (2 ^ at) i ≡ cond (eqb at i) 1 0
+pow_digit at i = by_place (eqb at i) refl
+  where
+    by_place : (here : Bool) → eqb at i ≡ here → bit_at (2 ^ at) i ≡ cond here 1 0
+    by_place true is = let same : i ≡ at = grind (arith, nat_tests) in rw same (bit_at-pow_same at)
+    by_place false is = bit_at-pow_other at i (λ same. grind (arith, nat_tests))
 
-at_next : (bit : Bool) (half i : ℕ) → bit_at (digit bit + half * 2) (suc i) ≡ bit_at half i
-at_next bit half i = bit_at-suc (digit bit + half * 2) i ∙ ap (λ n. bit_at n i) (above bit half)
+module _ (bit after : ℕ → Bool) (at : ℕ) (within : at < 32) (now : Bool)
+    (changes : (i : ℕ) → after i ≡ cond (eqb at i) now (bit i)) where
+  -- a number of 32 digits with one of them set
+  set_number : now ≡ true → bit_or (word_of bit) (2 ^ at) ≡ word_of after
+  set_number set = same_from_bits _ _ (λ i. bit_at_or (word_of bit) (2 ^ at) i
+      ∙ rw (digit_of bit i, digit_of after i, pow_digit at i, changes i, set)
+      (set_digit (ltb i 32) (eqb at i) (bit i) (λ here. grind (arith, nat_tests))))
 
-small_digit : (bit : Bool) → digit bit ≤ 1
-small_digit true = omega arith
-small_digit false = omega arith
-
-module _ (mark : Bool) (bit after : ℕ → Bool) (place : ℕ) (within : place < 31) (now : Bool)
-    (changes : (index : ℕ) → after index ≡ cond (eqb (suc place) index) now (bit index)) where
-  abbrev word : ℕ
-  word = digit mark + half_bits bit * 2
-
-  at_itself : after (1 + place) ≡ now
-  at_itself = changes (1 + place) ∙ ap (λ here. cond here now (bit (1 + place))) (itself place)
+  -- and with one clear
+  clear_number : now ≡ false → bit_and (word_of bit) (bit_not w32 (2 ^ at)) ≡ word_of after
+  clear_number clear = same_from_bits _ _ (λ i. bit_at_and (word_of bit) (bit_not w32 (2 ^ at)) i
+      ∙ rw (digit_of bit i, digit_of after i, changes i, clear) (by_place i (ltb i 32) refl))
     where
-      itself : (n : ℕ) → eqb (suc n) (1 + n) ≡ true
-      itself n = grind (arith, nat_tests)
+      by_place : (i : ℕ) (inside : Bool) → ltb i 32 ≡ inside →
+          min (cond inside (digit (bit i)) 0) (bit_at (bit_not w32 (2 ^ at)) i)
+          ≡ cond inside (digit (cond (eqb at i) false (bit i))) 0
+      by_place i true is =
+          rw (bit_at_not w32 (2 ^ at) i (pow-lt within) (grind (arith, nat_tests)), pow_digit at i)
+          (clear_digit (eqb at i) (bit i))
+      by_place i false is = omega arith
 
-  at_another : (i : ℕ) → i ≢ place → after (1 + i) ≡ bit (1 + i)
-  at_another i other = changes (1 + i) ∙ ap (λ here. cond here now (bit (1 + i))) (another i place other)
-    where
-      another : (i n : ℕ) → i ≢ n → eqb (suc n) (1 + i) ≡ false
-      another i n other = grind (arith, nat_tests)
+-- the word of a history, by its 32 digits
+abbrev digits_after : Settings → List Command → ℕ → Bool
+digits_after settings commands =
+    word_digits (mark_of settings.marks (moments_after settings.estimate commands)) (user_bit commands)
 
-  -- the digits of the user bits, but for the one that changes
-  same_digit : (i : ℕ) → i ≢ place → bit_at (half_bits bit) i ≡ bit_at (half_bits after) i
-  same_digit i other = by_range (ltb i 31) refl
-    where
-      by_range : (inside : Bool) → ltb i 31 ≡ inside → bit_at (half_bits bit) i ≡ bit_at (half_bits after) i
-      by_range true is = digit_at bit 1 31 i (grind (arith, nat_tests)) ∙ ap digit (sym (at_another i other)) ∙ sym (digit_at after 1 31 i (grind (arith, nat_tests)))
-      by_range false is = no_digit_at bit 1 31 i (grind (arith, nat_tests)) ∙ sym (no_digit_at after 1 31 i (grind (arith, nat_tests)))
+word_is : (settings : Settings) (commands : List Command) →
+    word_after settings commands ≡ word_of (digits_after settings commands)
+word_is settings commands =
+    word_is_from settings commands
+    ∙ word_of_digits (mark_of settings.marks (moments_after settings.estimate commands)) (user_bit commands)
 
-  new_digit : bit_at (half_bits after) place ≡ digit now
-  new_digit = digit_at after 1 31 place within ∙ ap digit at_itself
-
-  not_first : 0 ≢ suc place
-  not_first is = omega (arith, is)
-
-  set_at : now ≡ true → (i : ℕ) → bit_at (bit_or word (2 ^ suc place)) i ≡ bit_at (digit mark + half_bits after * 2) i
-  set_at set zero =
-      let one = bit_at-pow_other (suc place) 0 not_first in
-      let old = at_zero mark (half_bits bit) in
-      let new = at_zero mark (half_bits after) in
-      omega (arith, bit_at_or word (2 ^ suc place) 0, one, old, new)
-  set_at set (suc i) = by_place (eqb i place) refl
-    where
-      by_place : (here : Bool) → eqb i place ≡ here → bit_at (bit_or word (2 ^ suc place)) (suc i) ≡ bit_at (digit mark + half_bits after * 2) (suc i)
-      by_place true is =
-          let same : i ≡ place = grind (arith, nat_tests) in
-          let one = ap (λ at. bit_at (2 ^ suc place) (suc at)) same ∙ bit_at-pow_same (suc place) in
-          let low = bit_at-lt word (suc i) in
-          let new = at_next mark (half_bits after) i ∙ ap (bit_at (half_bits after)) same ∙ new_digit ∙ ap digit set in
-          omega (arith, bit_at_or word (2 ^ suc place) (suc i), one, low, new)
-      by_place false is =
-          let other : i ≢ place = λ same. absurd (grind (arith, nat_tests)) in
-          let one = bit_at-pow_other (suc place) (suc i) (λ same. other (omega (arith, same))) in
-          let old = at_next mark (half_bits bit) i ∙ same_digit i other ∙ sym (at_next mark (half_bits after) i) in
-          omega (arith, bit_at_or word (2 ^ suc place) (suc i), one, old)
-
-  pub set_word : now ≡ true → bit_or word (2 ^ suc place) ≡ digit mark + half_bits after * 2
-  set_word set = same_from_bits _ _ (set_at set)
-
-  mask_small : 2 ^ suc place < 4294967296
-  mask_small = pow-lt (below within)
-    where
-      below : place < 31 → suc place < 32
-      below h = omega arith
-
-  -- a word has 32 digits
-  none_above : (i : ℕ) → 31 ≤ i → bit_at word (suc i) ≡ 0
-  none_above i past = at_next mark (half_bits bit) i ∙ no_digit_at bit 1 31 i past
-
-  clear_at : now ≡ false → (i : ℕ) → bit_at (bit_and word (bit_not w32 (2 ^ suc place))) i ≡ bit_at (digit mark + half_bits after * 2) i
-  clear_at clear zero =
-      let one = bit_at-pow_other (suc place) 0 not_first in
-      let mask = bit_at_not w32 (2 ^ suc place) 0 mask_small (omega arith) in
-      let old = at_zero mark (half_bits bit) in
-      let new = at_zero mark (half_bits after) in
-      let small = small_digit mark in
-      omega (arith, bit_at_and word (bit_not w32 (2 ^ suc place)) 0, one, mask, old, new, small)
-  clear_at clear (suc i) = by_place (eqb i place) refl
-    where
-      by_place : (here : Bool) → eqb i place ≡ here → bit_at (bit_and word (bit_not w32 (2 ^ suc place))) (suc i) ≡ bit_at (digit mark + half_bits after * 2) (suc i)
-      by_place true is =
-          let same : i ≡ place = grind (arith, nat_tests) in
-          let one = ap (λ at. bit_at (2 ^ suc place) (suc at)) same ∙ bit_at-pow_same (suc place) in
-          let mask = bit_at_not w32 (2 ^ suc place) (suc i) mask_small (omega (arith, same, within)) in
-          let new = at_next mark (half_bits after) i ∙ ap (bit_at (half_bits after)) same ∙ new_digit ∙ ap digit clear in
-          omega (arith, bit_at_and word (bit_not w32 (2 ^ suc place)) (suc i), one, mask, new)
-      by_place false is = by_range (ltb i 31) refl
-        where
-          other : i ≢ place
-          other same = absurd (grind (arith, nat_tests))
-
-          old : bit_at word (suc i) ≡ bit_at (digit mark + half_bits after * 2) (suc i)
-          old = at_next mark (half_bits bit) i ∙ same_digit i other ∙ sym (at_next mark (half_bits after) i)
-
-          by_range : (inside : Bool) → ltb i 31 ≡ inside → bit_at (bit_and word (bit_not w32 (2 ^ suc place))) (suc i) ≡ bit_at (digit mark + half_bits after * 2) (suc i)
-          by_range true range =
-              let few : i < 31 = grind (arith, nat_tests) in
-              let one = bit_at-pow_other (suc place) (suc i) (λ same. other (omega (arith, same))) in
-              let mask = bit_at_not w32 (2 ^ suc place) (suc i) mask_small (omega arith) in
-              let low = bit_at-lt word (suc i) in
-              omega (arith, bit_at_and word (bit_not w32 (2 ^ suc place)) (suc i), one, mask, low, old)
-          by_range false range =
-              let none = none_above i (grind (arith, nat_tests)) in
-              omega (arith, bit_at_and word (bit_not w32 (2 ^ suc place)) (suc i), none, old)
-
-  pub clear_word : now ≡ false → bit_and word (bit_not w32 (2 ^ suc place)) ≡ digit mark + half_bits after * 2
-  clear_word clear = same_from_bits _ _ (clear_at clear)
-
-module _ (settings : Settings) (commands : List Command) where
-  abbrev moments : List Moment
-  moments = moments_after settings.estimate commands
-
-  abbrev mark : Bool
-  mark = mark_of settings.marks moments
-
-  changed_by : (place : ℕ) → place < 31 → (writable : Bool) →
-      with_user_bit (suc place) writable (digit mark + half_after commands * 2) ≡ digit mark + half_after (commands ++ UserBit (suc place) writable ∷ []) * 2
-  changed_by place within true =
-      clear_word mark (user_bit commands) (user_bit (commands ++ UserBit (suc place) true ∷ [])) place within false (user_bit_changes commands (suc place) true) refl
-  changed_by place within false =
-      set_word mark (user_bit commands) (user_bit (commands ++ UserBit (suc place) false ∷ [])) place within true (user_bit_changes commands (suc place) false) refl
-
-  same_mark : (at : ℕ) (writable : Bool) → word_after settings (commands ++ UserBit at writable ∷ []) ≡ digit mark + half_after (commands ++ UserBit at writable ∷ []) * 2
-  same_mark at writable =
-      word_is_from settings (commands ++ UserBit at writable ∷ [])
-      ∙ ap (word_from settings.marks (half_after (commands ++ UserBit at writable ∷ [])))
-      (moments_after_more settings.estimate commands (UserBit at writable)
-      ∙ ap (λ more. moments ++ more) (moments_of_same true (rows_after settings.estimate commands)) ∙ append-nil moments)
+module _ (settings : Settings) (commands : List Command) (at : ℕ) (writable : Bool) (some : 1 ≤ at) where
+  digits_change : (i : ℕ) → digits_after settings (commands ++ UserBit at writable ∷ []) i
+      ≡ cond (eqb at i) (not writable) (digits_after settings commands i)
+  digits_change zero =
+      let same = moments_of_same true (rows_after settings.estimate commands) in
+      let other : eqb at 0 ≡ false = grind (arith, nat_tests) in
+      rw (other, moments_after_more settings.estimate commands (UserBit at writable), same, append-nil)
+  digits_change (suc i) = user_bit_changes commands at writable (suc i)
 
   -- the word with a user bit changed is the word after that command
-  pub bit_changed_word : (at : ℕ) (writable : Bool) → 1 ≤ at → at ≤ 31 → with_user_bit at writable (word_after settings commands) ≡ word_after settings (commands ++ UserBit at writable ∷ [])
-  bit_changed_word zero writable some few = absurd (omega arith)
-  bit_changed_word (suc place) writable some few =
-      ap (with_user_bit (suc place) writable) (word_is_from settings commands) ∙ changed_by place (omega arith) writable ∙ sym (same_mark (suc place) writable)
+  bit_changed_word : at ≤ 31 →
+      with_user_bit at writable (word_after settings commands) ≡ word_after settings (commands ++ UserBit at writable ∷ [])
+  bit_changed_word few =
+      ap (with_user_bit at writable) (word_is settings commands) ∙ by_kind writable digits_change
+      ∙ sym (word_is settings (commands ++ UserBit at writable ∷ []))
+    where
+      by_kind : (asked : Bool) → ((i : ℕ) → digits_after settings (commands ++ UserBit at writable ∷ []) i
+          ≡ cond (eqb at i) (not asked) (digits_after settings commands i)) →
+          with_user_bit at asked (word_of (digits_after settings commands))
+          ≡ word_of (digits_after settings (commands ++ UserBit at writable ∷ []))
+      by_kind true changes = clear_number _ _ at (omega arith) false changes refl
+      by_kind false changes = set_number _ _ at (omega arith) true changes refl
 
 -- the word has the digit 1 at the index of a user bit where that is set
-pub user_bit_shows : (settings : Settings) (commands : List Command) (index : ℕ) → 0 < index → index ≤ 31 → eqb (bit_at (word_after settings commands) index) 1 ≡ user_bit commands index
+pub user_bit_shows : (settings : Settings) (commands : List Command) (index : ℕ) → 0 < index → index ≤ 31 →
+    eqb (bit_at (word_after settings commands) index) 1 ≡ user_bit commands index
 user_bit_shows settings commands zero some few = absurd (omega arith)
-user_bit_shows settings commands (suc place) some few =
-    ap (λ shown. eqb shown 1)
-    (ap (λ word. bit_at word (suc place)) (word_is_from settings commands)
-    ∙ at_next (mark_of settings.marks (moments_after settings.estimate commands)) (half_after commands) place
-    ∙ digit_at (user_bit commands) 1 31 place (omega arith) ∙ ap (λ at. digit (user_bit commands at)) (omega arith))
-    ∙ shown (user_bit commands (suc place))
+user_bit_shows settings commands (suc i) some few =
+    let within : ltb (suc i) 32 ≡ true = grind (arith, nat_tests) in
+    rw (word_is settings commands, digit_of (digits_after settings commands) (suc i), within)
+    (shown (user_bit commands (suc i)))
   where
     shown : (bit : Bool) → eqb (digit bit) 1 ≡ bit
     shown true = refl
@@ -216,8 +144,8 @@ module _ (buffer : Pending) (commands : List Command) (at : ℕ) (writable : Boo
       by_range : (n : ℕ) → 1 ≤ n → n ≤ 31 → (let refusal : Option Refusal = if is_user_index n then None else Some BadIndex in refusal ≡ None)
       by_range n some few = grind (arith, nat_tests)
 
-  word_is : (bit_changed at writable buffer).word ≡ word_after buffer.settings (commands ++ UserBit at writable ∷ [])
-  word_is = ap (with_user_bit at writable) stands.word ∙ bit_changed_word buffer.settings commands at writable some few
+  changed_word : (bit_changed at writable buffer).word ≡ word_after buffer.settings (commands ++ UserBit at writable ∷ [])
+  changed_word = ap (with_user_bit at writable) stands.word ∙ bit_changed_word buffer.settings commands at writable some few
 
   rows_stay : rows_after buffer.settings.estimate (commands ++ UserBit at writable ∷ []) ≡ rows_after buffer.settings.estimate commands
   rows_stay = rows_after_more buffer.settings.estimate commands (UserBit at writable)
@@ -231,10 +159,10 @@ module _ (buffer : Pending) (commands : List Command) (at : ℕ) (writable : Boo
     line = stands.line ∙ sym (ap (λ all. map entry_of (line all)) rows_stay);
     unflushed = stands.unflushed ∙ sym (ap (λ all. map entry_of (unflushed all)) rows_stay);
     promises = stands.promises ∙ sym (ap (map (λ row. row.promise)) rows_stay);
-    word = word_is;
+    word = changed_word;
   }
 
   -- its reply
   pub reply_of_bit : (let reply : Reply = record { answer = Done; settled = []; change = change_between buffer.word (bit_changed at writable buffer).word } in reply ≡ reply_of buffer.settings commands (UserBit at writable))
   reply_of_bit = same_reply refl (sym (settlements_of_same (rows_after buffer.settings.estimate commands)))
-      (ap (λ before. change_between before (bit_changed at writable buffer).word) stands.word ∙ ap (change_between (word_after buffer.settings commands)) word_is)
+      (ap (λ before. change_between before (bit_changed at writable buffer).word) stands.word ∙ ap (change_between (word_after buffer.settings commands)) changed_word)

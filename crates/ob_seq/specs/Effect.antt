@@ -1,15 +1,17 @@
 -- What an accepted command does to the rows.
-use Rattle.std.specs.Prelude.{List, [], ◌∷◌, ◌++◌, map, fold, if◌then◌else◌, ℕ, zero, suc, ◌+◌, min, nat_lt}
+use Rattle.std.specs.Prelude.{List, [], ◌∷◌, ◌++◌, map, fold, length, if◌then◌else◌, ℕ, zero, suc, ◌+◌, min, nat_lt}
+use Rattle.std.specs.Prelude.{Bool, ◌&&◌}
 use Rattle.ob_types.specs.Limits.{greatest_progress}
 use Rattle.ob_types.specs.declared.estimate.Estimate.{Estimate}
 use Rattle.ob_types.specs.declared.command.Command.{Command}
-use Rattle.ob_types.specs.declared.command.Command.TheVariants.{Write, Flush, Remove, RemoveWith, RemoveBytes, Progress, Cancel, FailFlushed, Close, UserBit}
+use Rattle.ob_types.specs.declared.command.Command.TheVariants.{Write, Flush, Remove, RemoveWith, RemoveBytes, Progress}
+use Rattle.ob_types.specs.declared.command.Command.TheVariants.{Cancel, FailFlushed, Close, UserBit}
 use Rattle.ob_types.specs.declared.promise.Cause.{Cause}
 use Rattle.ob_types.specs.declared.promise.Outcome.{Outcome}
 use Rattle.ob_types.specs.declared.promise.Outcome.TheVariants.{Success, Failed, Cancelled}
 use Rattle.ob_types.specs.declared.promise.PromiseState.TheVariants.{Fixed, Settled, Waiting}
 use Rattle.ob_seq.specs.Row.{Row, Flushed, Gone, new_row, is_unflushed, is_flushed, Voided, is_cancelled}
-use Rattle.ob_seq.specs.Line.{is_in_line}
+use Rattle.ob_seq.specs.Line.{is_in_line, line}
 use Rattle.ob_seq.specs.ByteRun.{whole_rows, bytes_left_over}
 use Rattle.ob_types.specs.declared.promise.PromiseState.{PromiseState}
 
@@ -44,10 +46,20 @@ abbrev pub with_front : (Row → Row) → List Row → List Row
 with_front change [] = []
 with_front change (row ∷ rows) = if is_in_line row then change row ∷ rows else row ∷ with_front change rows
 
--- the rows when so many of the line are taken away as sent, one after another
-abbrev pub with_fronts_sent : ℕ → List Row → List Row
-with_fronts_sent zero rows = rows
-with_fronts_sent (suc count) rows = with_fronts_sent count (with_front (taken_row Success) rows)
+-- whether a row stands in line with fewer than so many in line among the rows before it
+abbrev pub is_among_first : ℕ → List Row → Row → Bool
+is_among_first count before row = is_in_line row && nat_lt (length (line before)) count
+
+-- rows with each of those changed, where these rows stand before them
+abbrev pub with_first_behind : ℕ → (Row → Row) → List Row → List Row → List Row
+with_first_behind count change before [] = []
+with_first_behind count change before (row ∷ rows) =
+    (if is_among_first count before row then change row else row)
+    ∷ with_first_behind count change (before ++ row ∷ []) rows
+
+-- the rows with so many in line changed, the first ones: each before which fewer than so many stand in line
+abbrev pub with_first : ℕ → (Row → Row) → List Row → List Row
+with_first count change rows = with_first_behind count change [] rows
 
 -- a row of which so many more bytes are skipped, and told as progress, which stops at the greatest progress
 abbrev pub skipped_row : ℕ → Row → Row
@@ -79,7 +91,8 @@ effect estimate rows (Write message) = rows ++ new_row estimate message ∷ []
 effect estimate rows Flush = map flushed_row rows
 effect estimate rows Remove = with_front (taken_row Success) rows
 effect estimate rows (RemoveWith cause) = with_front (taken_row (Failed cause)) rows
-effect estimate rows (RemoveBytes n) = with_skipped (bytes_left_over n rows) (with_fronts_sent (whole_rows n rows) rows)
+effect estimate rows (RemoveBytes n) =
+    with_skipped (bytes_left_over n rows) (with_first (whole_rows n rows) (taken_row Success) rows)
 effect estimate rows (Progress n) = with_front (progressed_row n) rows
 effect estimate rows (Cancel id) = with_cancelled id.0 rows
 effect estimate rows (FailFlushed cause notify) = map (failed_row cause) rows

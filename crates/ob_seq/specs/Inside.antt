@@ -1,6 +1,7 @@
 -- How a buffer keeps what it holds. No public clause cites this module.
-use Rattle.std.specs.Prelude.{◌≤◌, List, map, take, drop, sum_by, vec_len}
-use Rattle.ob_types.specs.Limits.{greatest_overhead, greatest_total, greatest_unknown, most_writes}
+use Rattle.std.specs.Prelude.{◌≡◌, ◌≤◌, List, map, take, drop, sum_by, vec_len}
+use Rattle.std.specs.VecDeque.{deque_len}
+use Rattle.ob_types.specs.Limits.{greatest_overhead, greatest_unknown, most_writes}
 use Rattle.ob_seq.specs.Entry.{PendingEntry}
 use Rattle.ob_seq.specs.Pending.{Pending}
 use Rattle.ob_seq.specs.declared.entry.Entry.{Entry}
@@ -26,11 +27,12 @@ pending_of inside = record {
   closed = inside.closed;
 }
 
--- what every call keeps: the numbers fit, and each entry has a promise
+-- what every call keeps: the line is within the entries, each entry has a promise, the numbers fit, and the total is the
+-- sum of the sizes
 pub record IsSound (inside : Inside) : Type 0 where
-  pub line_within : inside.flushed ≤ vec_len inside.entries
-  pub each_promised : vec_len inside.entries ≤ vec_len inside.promises
+  pub line_within : inside.flushed ≤ deque_len inside.entries
+  pub each_promised : deque_len inside.entries ≤ vec_len inside.promises
   pub few_writes : vec_len inside.promises ≤ most_writes
-  pub total_fits : sum_by (λ entry. entry.size) inside.entries.items ≤ greatest_total
+  pub total : inside.total ≡ sum_by (λ entry. entry.size) inside.entries.items
   pub small_overhead : inside.estimate.overhead ≤ greatest_overhead
   pub small_unknown : inside.estimate.unknown ≤ greatest_unknown

@@ -6,7 +6,7 @@ use Rattle.ob_types.specs.declared.message.Message.TheVariants.{Block}
 use Rattle.ob_types.specs.declared.promise.Outcome.TheVariants.{Success, Failed, Cancelled}
 use Rattle.ob_types.specs.declared.promise.PromiseState.TheVariants.{Waiting, Settled}
 use Rattle.ob_seq.specs.Accepted.{accepted_among}
-use Rattle.ob_seq.specs.Effect.{rows_after}
+use Rattle.ob_seq.specs.Effect.{rows_after, taken_row, with_first}
 use Rattle.ob_seq.specs.Fitting.{FitsItsPlace}
 use Rattle.ob_seq.specs.Order.{StandInOrder}
 use Rattle.ob_seq.specs.Row.{Row, Place, Unflushed, Flushed, Voided, Gone}
@@ -54,6 +54,14 @@ OutOfOrder =
     (¬ StandInOrder (row_at Unflushed ∷ row_at Flushed ∷ []))
     × (¬ StandInOrder (row_at Voided ∷ row_at Gone ∷ []))
     × StandInOrder (row_at Gone ∷ row_at Flushed ∷ row_at Voided ∷ row_at Unflushed ∷ [])
+
+-- of rows in line the first two go, wherever rows that are not in line stand
+abbrev pub TheFirstTwo : Type 0
+TheFirstTwo =
+    map (λ (row : Row). row.place)
+    (with_first 2 (taken_row Success)
+    (row_at Gone ∷ row_at Flushed ∷ row_at Unflushed ∷ row_at Voided ∷ row_at Flushed ∷ row_at Unflushed ∷ []))
+    ≡ Gone ∷ Gone ∷ Unflushed ∷ Gone ∷ Flushed ∷ Unflushed ∷ []
 
 -- a promise that waits fits an unflushed message, and none that is flushed, voided or gone
 abbrev pub WaitsUnflushedAlone : Type 0

@@ -1,6 +1,6 @@
 -- What a buffer tells of its state after small histories, and which commands never want memory, worked out by hand
 -- beforehand.
-use Rattle.std.specs.Prelude.{◌≡◌, Bool, true, false, List, [], ◌∷◌, map}
+use Rattle.std.specs.Prelude.{◌≡◌, true, false, List, [], ◌∷◌, map}
 use Rattle.ob_types.specs.declared.command.Command.{Command}
 use Rattle.ob_types.specs.declared.command.Command.TheVariants.{Write, Flush, Remove, RemoveWith, RemoveBytes, Progress, Cancel, FailFlushed, Close, UserBit}
 use Rattle.ob_types.specs.declared.message.Message.TheVariants.{Region}

@@ -1,11 +1,9 @@
 ghost use Rattle.std.specs.Prelude.{◌≡◌, ◌≤◌, false, [], IsTrue, IsErrOf, OnErr};
 ghost use Rattle.ob_types.specs.Change.{change_between};
-ghost use Rattle.ob_types.specs.Limits.{greatest_overhead, greatest_total, greatest_unknown};
+ghost use Rattle.ob_types.specs.Limits.{greatest_overhead, greatest_unknown};
 ghost use Rattle.ob_types.specs.Write.{is_write};
-ghost use Rattle.ob_seq.specs.Inside.{pending_entries};
 ghost use Rattle.ob_seq.specs.Pending.{StandsFor, Answers, Follows, Accepts, takes_no_memory};
 ghost use Rattle.ob_seq.specs.Settles.{SparesMemory};
-ghost use Rattle.ob_seq.specs.Steps.{sum_of};
 
 mod cancel;
 mod close;
@@ -29,20 +27,27 @@ use ob_types::{
     Answer, Change, Command, Estimate, PromiseState, Refusal, Reply, Settlements, WaterMark,
 };
 use std::alloc::Global;
+use std::collections::VecDeque;
 use std::marker::Model;
 
 /// What a buffer holds. Its calls are those of `Buffer`, with the same contracts; between their steps it may stand for no
 /// list of commands.
+///
+/// No call goes over entries that it neither takes away, voids nor hands out, but for the one where it ends: the bytes
+/// that are pending are kept as they change, a flush moves the end of the line over the entries, and a removal takes
+/// the first of them off the ring.
 #[derive(Debug, Drop)]
 pub struct Contents {
     marks: WaterMark,
     estimate: Estimate,
     /// What stands in line, and behind it what no flush has reached, each oldest first.
-    entries: Vec<Entry>,
+    entries: VecDeque<Entry>,
     /// How many of the entries stand in line.
     flushed: usize,
     /// The state of each promise, by its id.
     promises: Vec<PromiseState>,
+    /// The bytes that the entries count together.
+    total: u32,
     word: u32,
     closed: bool,
 }
@@ -70,9 +75,10 @@ impl Contents {
         Contents {
             marks,
             estimate,
-            entries: Vec::new(alloc),
+            entries: VecDeque::new(alloc),
             flushed: 0,
             promises: Vec::new(alloc),
+            total: 0,
             word: 0,
             closed: false,
         }
@@ -95,12 +101,4 @@ impl Contents {
     {
         Settlements::new(*self.entries.allocator())
     }
-}
-
-/// The bytes that the entries count together.
-fn total_of(entries: &[Entry]) -> u32
-    requires { sum_of (pending_entries entries.now) ≤ greatest_total }
-    ensures { result ≡ sum_of (pending_entries entries.now) }
-{
-    entries.iter().map(|entry| entry.size).sum()
 }

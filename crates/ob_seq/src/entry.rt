@@ -5,10 +5,10 @@ use ob_types::Message;
 pub struct Entry {
     /// What is left of the message.
     pub message: Message,
-    /// The bytes that it counts.
-    pub size: u32,
     /// The progress that was told of it, in bytes.
     pub progress: u64,
+    /// The bytes that it counts: none once it was voided.
+    pub size: u32,
     /// Whether it was voided at its flush.
     pub voided: bool,
 }

@@ -1,10 +1,12 @@
 ghost use Rattle.std.specs.Prelude.{◌≡◌};
 ghost use Rattle.std.specs.Iterator.{YieldsFirstRef, item_count};
+ghost use Rattle.std.specs.VecDeque.Iter.{deque_iter_rest};
 ghost use Rattle.ob_seq.specs.Entry.{messages_to_send};
 ghost use Rattle.ob_seq.specs.Inside.{pending_entries};
 
 use crate::entry::Entry;
 use ob_types::Message;
+use std::collections::vec_deque::Iter;
 use std::iter::FusedIterator;
 use std::marker::Model;
 
@@ -13,7 +15,7 @@ use std::marker::Model;
 #[derive(Drop)]
 pub struct Flushed<'a> {
     /// What stands in line behind the messages that were handed out.
-    entries: &'a [Entry],
+    entries: Iter<'a, Entry>,
 }
 
 impl<'a> Model for Flushed<'a> {
@@ -22,16 +24,17 @@ impl<'a> Model for Flushed<'a> {
 
     ghost Value = { List Message };
 
+    ghost use Rattle.std.specs.VecDeque.Iter.{deque_iter_rest};
     ghost use Rattle.ob_seq.specs.Entry.{messages_to_send};
     ghost use Rattle.ob_seq.specs.Inside.{pending_entries};
 
-    ghost view = { λ flushed. messages_to_send (pending_entries flushed.entries.now) };
+    ghost view = { λ flushed. messages_to_send (pending_entries (deque_iter_rest flushed.entries)) };
 }
 
 impl<'a> Flushed<'a> {
     /// The messages of these entries.
-    pub(crate) fn new(entries: &'a [Entry]) -> Flushed<'a>
-        ensures { result ≡ messages_to_send (pending_entries entries.now) }
+    pub(crate) fn new(entries: Iter<'a, Entry>) -> Flushed<'a>
+        ensures { result ≡ messages_to_send (pending_entries (deque_iter_rest entries.entry)) }
     {
         Flushed { entries }
     }
@@ -45,10 +48,9 @@ impl<'a> Iterator for Flushed<'a> {
     ghost remaining = { item_count (λ rest. rest) };
 
     fn next(&mut self) -> Option<&'a Message> {
-        while let Some((first, others)) = self.entries.split_first() {
-            self.entries = others;
-            if !first.voided {
-                return Some(&first.message);
+        while let Some(entry) = self.entries.next() {
+            if !entry.voided {
+                return Some(&entry.message);
             }
         }
         None

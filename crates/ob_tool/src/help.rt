@@ -1,11 +1,11 @@
-//! What `--help` shows behind the options: the lines of a script, and what the number of a fault means.
+//! What `--help` shows behind the options: the lines of a script, what is written for them, and what the numbers mean.
 
-/// The lines of a script, the faults that a line may have (those of any script, and then those of this one), and the
-/// statuses of the program.
+/// How a script is given, what its lines ask and what is written for them, the faults that a line may have (those of
+/// any script, and then those of this one), and what goes to which stream.
 macro_rules! help_on_scripts {
     ($lines:literal, $own_faults:literal) => {
         concat!(
-            "The script comes on standard input:\n",
+            "The script comes on standard input. Its lines end with the byte 10 alone, one space parts two words:\n",
             $lines,
             "
 Faults of a line, told as `line N: fault F`:
@@ -18,7 +18,8 @@ Faults of a line, told as `line N: fault F`:
 ",
             $own_faults,
             "
-Status: 0 done, 1 the command line, 2 a line, 3 reading or writing, 4 memory"
+Faults, and help and the version where they are asked for, go to standard error.
+Status: 0 done, 1 the command line (help and the version too), 2 a line, 3 reading or writing, 4 memory"
         )
     };
 }
@@ -38,12 +39,27 @@ Lines of a script:
   p N     tell of N more bytes of progress of the first flushed message
   x ID    cancel the promise ID
   fl C V  fail all flushed messages with the cause C, with notice where V is 1, without where it is 0
-  cl C    close with the cause C
+  cl C    close with the cause C; it is refused while flushed messages are left
   u I V   set the user bit I where V is 0, clear it where V is 1
   ?       look at the buffer
   g C N   gather at most C blocks, 1 to 1024, of together at most N bytes, 1 to 2147483647
 Where no range stands here, the N of r, rb and p go up to 18446744073709551615, I up to 255, and all else up to
 4294967295.
+
+Each line gives one line on standard output; ANSWER t=T w=W CHANGE SETTLEMENTS for a command:
+  ANSWER       `id N` the promise of a write, `n N` so many messages, `yes` or `no` whether there was one to remove or
+               to cancel, `ok`, or `!R` where it is refused
+  t=T w=W      the pending bytes, and the word in hexadecimal digits: the buffer is writable where it is 00000000
+  CHANGE       `-` the buffer became unwritable, `+` it became writable, or nothing
+  SETTLEMENTS  of each promise `ID:ok` as sent, `ID:fC` as failed for the cause C, `ID:x` as cancelled
+A look gives size=S cur=P bu=X bw=Y t=T w=W: S messages are flushed, P is the progress of the first, X bytes more make
+the buffer unwritable, Y bytes fewer writable. A gathering gives g, the length of each block, and t=T w=W.
+
+A refused command changes nothing. The numbers R of `!R`:
+  1 the message is too long        3 too many pending bytes, or writes    4 the buffer is closed
+  5 nothing is flushed             6 too far a progress                   7 more bytes than the blocks in front have
+  8 no user bit (1 to 31)          9 flushed messages are left            10 no such promise
+  11 as many commands as --limit says are recorded
 ",
     ""
 );
@@ -60,7 +76,19 @@ Lines of a script, those of the lanes first; the lanes are numbered from 0:
   w L       lane L reads the word
   t L       lane L reads the total
   k L       lane L goes on with the call that it is in the middle of
-I goes up to 255, and all else up to 4294967295.
+I goes up to 255, and all else up to 4294967295. A lane in the middle of a call goes on with it, whatever it is asked.
+
+Each line gives one line on standard output; `lane K` for a lane, EVENT t=T w=W CHANGE for a turn:
+  EVENT    `add` charged, and then to raise where that passed high; `sub` discharged, and then to lower where that came
+           below low; `raise` set bit 0 of the word; `lower` cleared it; `bit` set or cleared a user bit; `word` and
+           `total` read; `none` a charge of 0 or its discharge; `!F` refused, and nothing changed
+  t=T w=W  the total, and the word in hexadecimal digits
+  CHANGE   `-` the word left 0, `+` it came back to 0, or nothing
+The last line is `end quiet owed=S`, or `end busy owed=S` where a lane is in the middle of a call: S is owed in all.
+
+The numbers F of `!F`:
+  1 no such lane                   2 the charge is above the lane's room  3 the lane owes a charge already
+  4 the lane owes nothing          5 the lane does not hold the bit       6 the lane is in the middle of no call
 ",
     "  7  a lane behind a turn, a turn before the first lane, a 65th lane, a lane with bit 0 or with a bit that
      another holds, or one whose room brings the rooms above 4294967295

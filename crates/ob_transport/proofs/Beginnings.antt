@@ -1,5 +1,6 @@
 -- The beginning of blocks, taken block by block.
-use Rattle.std.proofs.Common.{◌≡◌, ℕ, zero, suc, ◌-◌, ◌<◌, min, List, [], ◌∷◌, ◌++◌, length, take, drop, get_or, refl, sym, ap, ◌∙◌, arith, append_assoc, append-nil}
+use Rattle.std.proofs.Common.{◌≡◌, ℕ, zero, suc, ◌-◌, ◌<◌, min, List, [], ◌∷◌, ◌++◌, length, take, drop, get_or}
+use Rattle.std.proofs.Common.{sym, ap, ◌∙◌, arith, append_assoc}
 use Rattle.std.specs.List.{concat}
 use Rattle.std.proofs.Math.Seq.{drop-cons, take-nil}
 
@@ -38,14 +39,3 @@ one_more_block bytes left i blocks all block d within is so_far =
     ∙ ap (λ first. bytes ++ take left (first ++ concat (drop (suc i) blocks))) is
     ∙ sym (ap (λ rest. bytes ++ take left (concat rest)) (drop-cons blocks i d within))
     ∙ so_far
-
--- with no block left
-pub no_block_left : (bytes : List ℕ) (left : ℕ) (blocks : List (List ℕ)) (all : List ℕ) →
-    bytes ++ take left (concat (drop (length blocks) blocks)) ≡ all → bytes ≡ all
-no_block_left bytes left blocks all is =
-    sym (append-nil bytes) ∙ sym (ap (λ more. bytes ++ more) (take-nil left))
-    ∙ sym (ap (λ rest. bytes ++ take left (concat rest)) (none blocks)) ∙ is
-  where
-    none : (blocks : List (List ℕ)) → drop (length blocks) blocks ≡ []
-    none [] = refl
-    none (block ∷ blocks) = none blocks

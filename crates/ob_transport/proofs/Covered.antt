@@ -1,5 +1,6 @@
 -- Calls that a reservation covers.
-use Rattle.std.proofs.Common.{◌≡◌, ℕ, suc, ◌+◌, ◌<◌, ◌≤◌, Bool, true, false, List, [], ◌∷◌, ◌++◌, length, refl, sym, ap, ◌∙◌, subst, cond, eqb, arith, length-append}
+use Rattle.std.proofs.Common.{◌≡◌, ℕ, suc, ◌+◌, ◌<◌, ◌≤◌, Bool, true, false, List, [], ◌∷◌, ◌++◌, length, refl, sym, ap}
+use Rattle.std.proofs.Common.{◌∙◌, subst, cond, eqb, arith, length-append}
 use Rattle.std.specs.Prelude.{Option, Some, None, Err}
 use Rattle.std.proofs.lemmas.Bool.Decides.{nat_tests}
 use Rattle.ob_types.specs.declared.command.Command.{Command}
@@ -7,7 +8,8 @@ use Rattle.ob_types.specs.declared.command.Command.TheVariants.{Remove, Progress
 use Rattle.ob_types.specs.declared.promise.Outcome.{Outcome}
 use Rattle.ob_types.specs.declared.promise.Outcome.TheVariants.{Success}
 use Rattle.ob_types.specs.declared.refusal.Refusal.{Refusal}
-use Rattle.ob_seq.specs.Answer.{first_refusal, outcome_of, reply_of, settlement, settlements_from, settlements_of, unless_refused}
+use Rattle.ob_seq.specs.Answer.{first_refusal, outcome_of, reply_of, settlement, settlements_from, settlements_of}
+use Rattle.ob_seq.specs.Answer.{unless_refused}
 use Rattle.ob_seq.specs.Effect.{progressed_row, rows_after, taken_row, with_front}
 use Rattle.ob_seq.specs.Line.{is_in_line}
 use Rattle.ob_seq.specs.Row.{Row}

@@ -1,5 +1,6 @@
 -- What there is to do next, by what stands in front.
-use Rattle.std.proofs.Common.{◌≡◌, ◌≢◌, ℕ, ◌+◌, ◌-◌, ◌<◌, ◌≤◌, Bool, true, false, List, [], ◌∷◌, length, refl, sym, ap, ◌∙◌, subst, cond, eqb, leb, arith}
+use Rattle.std.proofs.Common.{◌≡◌, ◌≢◌, ℕ, ◌+◌, ◌-◌, ◌<◌, ◌≤◌, Bool, true, false, List, [], ◌∷◌, length, refl, sym, ap}
+use Rattle.std.proofs.Common.{◌∙◌, subst, cond, eqb, leb, arith}
 use Rattle.std.specs.List.{concat}
 use Rattle.std.specs.Prelude.{Option, Some, None, Result, Ok, Err}
 use Rattle.std.proofs.lemmas.Bool.Decides.{nat_tests}
@@ -12,15 +13,15 @@ use Rattle.ob_seq.specs.Pending.{Pending, StandsFor}
 use Rattle.ob_seq.specs.Settings.{Settings}
 use Rattle.ob_history.specs.Accepted.{accepted_commands}
 use Rattle.ob_history.specs.History.{LacksPlaces}
-use Rattle.ob_transport.specs.Failures.{failures_in}
 use Rattle.ob_transport.specs.IsPass.{IsPass}
-use Rattle.ob_transport.specs.Offer.{Bytes, Clearing, Ends, HasBytes, Nothing, Offer, Units, offer_after, offer_at, offer_by}
+use Rattle.ob_transport.specs.Offer.{Bytes, Clearing, Ends, HasBytes, Nothing, Offer, Units, offer_after, offer_at}
+use Rattle.ob_transport.specs.Offer.{offer_by}
 use Rattle.ob_transport.specs.InFront.{current_in, gathered_in, progress_in}
 use Rattle.ob_transport.specs.Standing.{Standing}
 use Rattle.ob_transport.specs.declared.fault.Pass.{Pass}
-use Rattle.ob_transport.specs.declared.fault.Pass.TheVariants.{Idle, Stalled, Cleared, Took}
+use Rattle.ob_transport.specs.declared.fault.Pass.TheVariants.{Idle}
 use Rattle.ob_transport.specs.declared.fault.PassFault.{PassFault}
-use Rattle.ob_transport.specs.declared.fault.PassFault.TheVariants.{Sink, HistoryFull, NoMemory, Unbooked}
+use Rattle.ob_transport.specs.declared.fault.PassFault.TheVariants.{HistoryFull}
 use Rattle.ob_transport.specs.declared.limits.Limits.{Limits}
 
 -- with a block in front and something gathered there are bytes to be offered
@@ -39,14 +40,6 @@ offer_there limits before buffer offer stands settings is =
     let commands = accepted_commands before.history.records in
     is commands stands ∙ ap (λ settings. offer_after limits settings commands) settings
 
-pub bytes_there : (limits : Limits) (before : Standing) (buffer : Pending) →
-    StandsFor buffer (accepted_commands before.history.records) → buffer.settings ≡ before.history.settings →
-    ((commands : List Command) → StandsFor buffer commands → HasBytes (offer_after limits buffer.settings commands)) →
-    HasBytes (offer_at limits before)
-bytes_there limits before buffer stands settings has =
-    let commands = accepted_commands before.history.records in
-    subst (λ settings. HasBytes (offer_after limits settings commands)) settings (has commands stands)
-
 -- the commands that such a buffer stands for are accepted
 pub accepted_there : (before : Standing) (buffer : Pending) →
     StandsFor buffer (accepted_commands before.history.records) → buffer.settings ≡ before.history.settings →
@@ -57,40 +50,47 @@ accepted_there before buffer stands settings =
 
 module _ (limits : Limits) (caller : ℕ) (before : Standing) (result : Result Pass PassFault) (after : Standing)
     (ends : Ends caller (offer_at limits before) before result after) where
+  abbrev EndsBy : Offer → Type 0
+  EndsBy offer = Ends caller offer before result after
+
+  -- what there is to do, by what is known of the front and of what is gathered
+  by_front : (message : Option Message) → current_in before.history ≡ message →
+      offer_at limits before ≡ offer_by message (gathered_in limits before.history) (progress_in before.history)
+  by_front message is =
+      ap (λ message. offer_by message (gathered_in limits before.history) (progress_in before.history)) is
+
+  by_blocks : (bytes : List ℕ) → current_in before.history ≡ Some (Block bytes) → (blocks : List (List ℕ)) →
+      gathered_in limits before.history ≡ blocks →
+      offer_at limits before ≡ offer_by (Some (Block bytes)) blocks (progress_in before.history)
+  by_blocks bytes is blocks gathered =
+      by_front (Some (Block bytes)) is
+      ∙ ap (λ blocks. offer_by (Some (Block bytes)) blocks (progress_in before.history)) gathered
+
   bytes_offered : (bytes : List ℕ) → current_in before.history ≡ Some (Block bytes) → (blocks : List (List ℕ)) →
       gathered_in limits before.history ≡ blocks → blocks ≢ [] →
       offer_at limits before ≡ Bytes (concat (gathered_in limits before.history))
   bytes_offered bytes is [] gathered some = absurd (some refl)
   bytes_offered bytes is (block ∷ blocks) gathered some =
-      ap (λ message. offer_by message (gathered_in limits before.history) (progress_in before.history)) is
-      ∙ ap (λ blocks. offer_by (Some (Block bytes)) blocks (progress_in before.history)) gathered
-      ∙ sym (ap (λ blocks. Bytes (concat blocks)) gathered)
+      by_blocks bytes is (block ∷ blocks) gathered ∙ sym (ap (λ blocks. Bytes (concat blocks)) gathered)
 
-  abbrev EndsBy : Offer → Type 0
-  EndsBy offer = Ends caller offer before result after
+  by_rest : (length : ℕ) → current_in before.history ≡ Some (Region length) → (done : Bool) →
+      leb length (progress_in before.history) ≡ done →
+      offer_at limits before ≡ cond done (Clearing Remove) (Units (length - progress_in before.history))
+  by_rest length is done test =
+      by_front (Some (Region length)) is
+      ∙ ap (λ done. cond done (Clearing Remove) (Units (length - progress_in before.history))) test
 
   -- a pass that ends so does what a pass does
   pub pass_of_offer : IsPass limits caller before result after
   pass_of_offer = record {
-    idle = λ is. subst EndsBy (ap (λ message. offer_by message (gathered_in limits before.history)
-        (progress_in before.history)) is) ends;
-    no_bytes = λ bytes is none.
-        subst EndsBy
-        (ap (λ message. offer_by message (gathered_in limits before.history) (progress_in before.history)) is
-        ∙ ap (λ blocks. offer_by (Some (Block bytes)) blocks (progress_in before.history)) none) ends;
+    idle = λ is. subst EndsBy (by_front None is) ends;
+    no_bytes = λ bytes is none. subst EndsBy (by_blocks bytes is [] none) ends;
     bytes = λ bytes is some. subst EndsBy (bytes_offered bytes is (gathered_in limits before.history) refl some) ends;
     no_units = λ length is done.
-        subst EndsBy
-        (ap (λ message. offer_by message (gathered_in limits before.history) (progress_in before.history)) is
-        ∙ ap (λ none. cond none (Clearing Remove) (Units (length - progress_in before.history)))
-        (at_most length (progress_in before.history) done)) ends;
+        subst EndsBy (by_rest length is true (at_most length (progress_in before.history) done)) ends;
     units = λ length is more.
-        subst EndsBy
-        (ap (λ message. offer_by message (gathered_in limits before.history) (progress_in before.history)) is
-        ∙ ap (λ none. cond none (Clearing Remove) (Units (length - progress_in before.history)))
-        (above length (progress_in before.history) more)) ends;
-    other = λ value is. subst EndsBy (ap (λ message. offer_by message (gathered_in limits before.history)
-        (progress_in before.history)) is) ends;
+        subst EndsBy (by_rest length is false (above length (progress_in before.history) more)) ends;
+    other = λ value is. subst EndsBy (by_front (Some (Other value)) is) ends;
   }
     where
       at_most : (n m : ℕ) → n ≤ m → leb n m ≡ true
@@ -98,57 +98,6 @@ module _ (limits : Limits) (caller : ℕ) (before : Standing) (result : Result P
 
       above : (n m : ℕ) → m < n → leb n m ≡ false
       above n m h = grind (arith, nat_tests)
-
--- the sink fails once where its fault is the result, and else not
-pub failures_of_offer : (caller : ℕ) (offer : Offer) (before : Standing) (result : Result Pass PassFault)
-    (after : Standing) →
-    Ends caller offer before result after → after.sink.failures ≡ before.sink.failures + failures_in result
-failures_of_offer caller Nothing before result after ends = failures_same before result after ends.0 ends.1
-  where
-    failures_same : (before : Standing) (result : Result Pass PassFault) (after : Standing) → result ≡ Ok Idle →
-        after ≡ before →
-        after.sink.failures ≡ before.sink.failures + failures_in result
-    failures_same before result after idle same =
-        let none = ap (λ (result : Result Pass PassFault). failures_in result) idle in
-        omega (arith, none, ap (λ at. at.sink.failures) same)
-failures_of_offer caller (Clearing command) before (Ok Idle) after ends = absurd ends
-failures_of_offer caller (Clearing command) before (Ok Stalled) after ends = absurd ends
-failures_of_offer caller (Clearing command) before (Ok (Took n)) after ends = absurd ends
-failures_of_offer caller (Clearing command) before (Ok Cleared) after ends = omega
-    (arith, ap (λ at. at.sink.failures) ends.1)
-failures_of_offer caller (Clearing command) before (Err (Sink fault)) after ends = absurd ends
-failures_of_offer caller (Clearing command) before (Err HistoryFull) after ends = omega
-    (arith, ap (λ at. at.sink.failures) ends.1)
-failures_of_offer caller (Clearing command) before (Err NoMemory) after ends = omega
-    (arith, ap (λ at. at.sink.failures) ends.2)
-failures_of_offer caller (Clearing command) before (Err (Unbooked taken)) after ends = absurd ends
-failures_of_offer caller (Bytes bytes) before (Ok Idle) after ends = absurd ends
-failures_of_offer caller (Bytes bytes) before (Ok Stalled) after ends = omega
-    (arith, ap (λ at. at.sink.failures) ends.left)
-failures_of_offer caller (Bytes bytes) before (Ok (Took n)) after ends = omega
-    (arith, ap (λ at. at.sink.failures) ends.2.left)
-failures_of_offer caller (Bytes bytes) before (Ok Cleared) after ends = absurd ends
-failures_of_offer caller (Bytes bytes) before (Err (Sink fault)) after ends = omega
-    (arith, ap (λ at. at.sink.failures) ends.left)
-failures_of_offer caller (Bytes bytes) before (Err HistoryFull) after ends = omega
-    (arith, ap (λ at. at.sink.failures) ends.1)
-failures_of_offer caller (Bytes bytes) before (Err NoMemory) after ends = omega
-    (arith, ap (λ at. at.sink.failures) ends)
-failures_of_offer caller (Bytes bytes) before (Err (Unbooked taken)) after ends = omega
-    (arith, ap (λ at. at.sink.failures) ends.3.left)
-failures_of_offer caller (Units rest) before (Ok Idle) after ends = absurd ends
-failures_of_offer caller (Units rest) before (Ok Stalled) after ends = omega
-    (arith, ap (λ at. at.sink.failures) ends.left)
-failures_of_offer caller (Units rest) before (Ok (Took n)) after ends = omega
-    (arith, ap (λ at. at.sink.failures) ends.2.left)
-failures_of_offer caller (Units rest) before (Ok Cleared) after ends = absurd ends
-failures_of_offer caller (Units rest) before (Err (Sink fault)) after ends = omega
-    (arith, ap (λ at. at.sink.failures) ends.left)
-failures_of_offer caller (Units rest) before (Err HistoryFull) after ends = omega
-    (arith, ap (λ at. at.sink.failures) ends.1)
-failures_of_offer caller (Units rest) before (Err NoMemory) after ends = omega
-    (arith, ap (λ at. at.sink.failures) ends.1.left)
-failures_of_offer caller (Units rest) before (Err (Unbooked taken)) after ends = absurd ends
 
 -- how a pass ends that does what such a buffer has to do
 pub ends_there : (limits : Limits) (caller : ℕ) (before : Standing) (buffer : Pending) (offer : Offer)

@@ -1,11 +1,13 @@
 -- With something in line a buffer is open, and a region has a length that was accepted.
-use Rattle.std.proofs.Common.{◌≡◌, ℕ, ◌≤◌, Bool, true, false, List, [], ◌∷◌, ◌++◌, map, refl, sym, ap, ◌∙◌, subst, cond, ltb, ◌||◌, arith}
+use Rattle.std.proofs.Common.{◌≡◌, ℕ, ◌≤◌, Bool, true, false, List, [], ◌∷◌, ◌++◌, map, refl, sym, ap, ◌∙◌, subst, cond}
+use Rattle.std.proofs.Common.{ltb, ◌||◌, arith}
 use Rattle.std.specs.Prelude.{Option, Some, None}
 use Rattle.std.specs.List.{AllByRecursion}
 use Rattle.std.proofs.lemmas.Bool.Decides.{nat_tests}
 use Rattle.ob_types.specs.PendingSize.{counted_bytes, is_oversize}
 use Rattle.ob_types.specs.declared.command.Command.{Command}
-use Rattle.ob_types.specs.declared.command.Command.TheVariants.{Write, Flush, Remove, RemoveWith, RemoveBytes, Progress, Cancel, FailFlushed, Close, UserBit}
+use Rattle.ob_types.specs.declared.command.Command.TheVariants.{Write, Flush, Remove, RemoveWith, RemoveBytes, Progress}
+use Rattle.ob_types.specs.declared.command.Command.TheVariants.{Cancel, FailFlushed, Close, UserBit}
 use Rattle.ob_types.specs.declared.estimate.Estimate.{Estimate}
 use Rattle.ob_types.specs.declared.message.Message.{Message}
 use Rattle.ob_types.specs.declared.message.Message.TheVariants.{Block, Region, Other}
@@ -76,8 +78,9 @@ module _ (settings : Settings) where
     open_with_front row is = by_test (is_closed commands) refl
       where
         by_test : (closed : Bool) → is_closed commands ≡ closed → closed ≡ false
-        by_test true closed = absurd (let none = kept_along_accepted settings ClosedIsEmpty one_more_empty [] commands all
-            (λ no. absurd (cc)) closed in cc)
+        by_test true closed =
+            let empty = kept_along_accepted settings ClosedIsEmpty one_more_empty [] commands all (λ no. absurd (cc)) in
+            absurd (let none = empty closed in cc)
         by_test false closed = refl
 
   -- a message that is no region is short, and a region where its length is at most the greatest
@@ -182,5 +185,5 @@ module _ (settings : Settings) where
       front (rows_after estimate commands) ≡ Some row → unread_part row ≡ Region length → length ≤ greatest_region
   unfolding ShortAfter
   region_within commands all row length is part =
-      length_within row length
-      (found_short (rows_after estimate commands) row (kept_along_accepted settings ShortAfter one_more_short [] commands all tt) is) part
+      let short = kept_along_accepted settings ShortAfter one_more_short [] commands all tt in
+      length_within row length (found_short (rows_after estimate commands) row short is) part

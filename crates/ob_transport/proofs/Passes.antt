@@ -1,5 +1,6 @@
 -- A pass sends what the sink took.
-use Rattle.std.proofs.Common.{◌≡◌, ℕ, suc, ◌+◌, ◌-◌, ◌<◌, ◌≤◌, Bool, true, false, List, [], ◌∷◌, ◌++◌, length, map, take, refl, sym, ap, ◌∙◌, subst, cond, eqb, leb, ltb, arith, append-nil, length-append}
+use Rattle.std.proofs.Common.{◌≡◌, ℕ, suc, ◌+◌, ◌-◌, ◌<◌, ◌≤◌, Bool, true, false, List, [], ◌∷◌, ◌++◌, length, map}
+use Rattle.std.proofs.Common.{take, refl, sym, ap, ◌∙◌, subst, cond, eqb, leb, ltb, arith, append-nil, length-append}
 use Rattle.std.specs.Prelude.{Option, Some, None, Result, Ok, Err, option_map}
 use Rattle.std.specs.List.{concat}
 use Rattle.std.proofs.Math.Seq.{take-append_seam}
@@ -19,13 +20,14 @@ use Rattle.ob_seq.specs.Row.{Row, unread_part}
 use Rattle.ob_history.specs.Accepted.{accepted_commands}
 use Rattle.ob_history.specs.Call.{history_after, is_full}
 use Rattle.ob_history.specs.History.{History, LacksPlaces}
-use Rattle.ob_transport.specs.Content.{Content, with_more_bytes}
+use Rattle.ob_transport.specs.Content.{Content, with_more_bytes, with_more_units}
 use Rattle.ob_transport.specs.GrowAlike.{GrowAlike, GrowAlikeBut, IsBooked}
 use Rattle.ob_transport.specs.IsPass.{IsPass}
 use Rattle.ob_transport.specs.Outcome.{Clears, SendsBytes, SendsUnits, booked_units, ready}
 use Rattle.ob_transport.specs.SentBytes.{bytes_sent_by, front_bytes, unread_bytes}
 use Rattle.ob_transport.specs.SentUnits.{units_at, units_sent_by}
-use Rattle.ob_transport.specs.InFront.{current_in, gathered_in, progress_in, rows_in, sent_bytes_in, sent_units_in, unread_in}
+use Rattle.ob_transport.specs.InFront.{current_in, gathered_in, progress_in, rows_in, sent_bytes_in, sent_units_in}
+use Rattle.ob_transport.specs.InFront.{unread_in}
 use Rattle.ob_transport.specs.Standing.{Standing, standing}
 use Rattle.ob_transport.specs.declared.fault.Pass.{Pass}
 use Rattle.ob_transport.specs.declared.fault.Pass.TheVariants.{Idle, Stalled, Cleared, Took}
@@ -34,7 +36,8 @@ use Rattle.ob_transport.specs.declared.fault.PassFault.TheVariants.{Sink, Histor
 use Rattle.ob_transport.specs.declared.limits.Limits.{Limits}
 use Rattle.ob_transport.proofs.Covered.{first_has_place}
 use Rattle.ob_transport.proofs.Open.{open_with_front, region_within, rows_more}
-use Rattle.ob_transport.proofs.Sent.{accepted_commands_after, bytes_sent, gathered_first, length_of_concat, no_bytes_sent, no_units_sent, settings_after, units_sent}
+use Rattle.ob_transport.proofs.Sent.{bytes_sent, gathered_first, length_of_concat, no_bytes_sent, no_units_sent}
+use Rattle.ob_transport.proofs.Sent.{one_more, units_sent}
 
 -- the row of what stands in front
 pub record FrontRow (rows : List Row) (message : Message) : Type 0 where
@@ -64,6 +67,23 @@ front_progressed n (row ∷ rows) = by_line (is_in_line row) refl (front_progres
     by_line true is rest = ap (λ here. cond here (Some (progressed_row n row)) (front rows)) is
     by_line false is rest = ap (λ here. cond here (Some row) (front (with_front (progressed_row n) rows))) is ∙ rest
 
+-- with this result what is taken is sent, but for bytes that are told of as unbooked
+abbrev Grows : Standing → Result Pass PassFault → Standing → Type 0
+Grows before (Ok pass) after = GrowAlike before after
+Grows before (Err (Sink fault)) after = GrowAlike before after
+Grows before (Err HistoryFull) after = GrowAlike before after
+Grows before (Err NoMemory) after = GrowAlike before after
+Grows before (Err (Unbooked taken)) after = GrowAlikeBut taken before after
+
+-- so where no bytes are unbooked, both grow alike
+pub alike_of : {before after : Standing} (result : Result Pass PassFault) → Grows before result after →
+    IsBooked result → GrowAlike before after
+alike_of (Ok pass) grows booked = grows
+alike_of (Err (Sink fault)) grows booked = grows
+alike_of (Err HistoryFull) grows booked = grows
+alike_of (Err NoMemory) grows booked = grows
+alike_of (Err (Unbooked taken)) grows booked = absurd (booked taken refl)
+
 module _ (before : Standing) where
   -- where neither grows, both grow alike
   alike_still : (after : Standing) → after.sink.bytes ≡ before.sink.bytes → after.sink.units ≡ before.sink.units →
@@ -87,21 +107,21 @@ module _ (before : Standing) where
 
   module _ (caller : ℕ) where
     -- a command that sends nothing
-    clears_alike : (command : Command) → bytes_sent_by (rows_in before.history) command ≡ [] →
+    clears_grow : (command : Command) → bytes_sent_by (rows_in before.history) command ≡ [] →
         units_sent_by (rows_in before.history) command ≡ 0 →
         (result : Result Pass PassFault) (after : Standing) → Clears caller command before result after →
-        GrowAlike before after
-    clears_alike command bytes units (Ok Idle) after clears = absurd clears
-    clears_alike command bytes units (Ok Stalled) after clears = absurd clears
-    clears_alike command bytes units (Ok (Took n)) after clears = absurd clears
-    clears_alike command bytes units (Ok Cleared) after clears =
+        Grows before result after
+    clears_grow command bytes units (Ok Idle) after clears = absurd clears
+    clears_grow command bytes units (Ok Stalled) after clears = absurd clears
+    clears_grow command bytes units (Ok (Took n)) after clears = absurd clears
+    clears_grow command bytes units (Ok Cleared) after clears =
         subst (GrowAlike before) (sym clears.1)
         (alike_still (record before { history = history_after before.history caller command }) refl refl
         (no_bytes_sent before.history caller command bytes) (no_units_sent before.history caller command units))
-    clears_alike command bytes units (Err (Sink fault)) after clears = absurd clears
-    clears_alike command bytes units (Err HistoryFull) after clears = stays after clears.1
-    clears_alike command bytes units (Err NoMemory) after clears = stays after clears.2
-    clears_alike command bytes units (Err (Unbooked taken)) after clears = absurd clears
+    clears_grow command bytes units (Err (Sink fault)) after clears = absurd clears
+    clears_grow command bytes units (Err HistoryFull) after clears = stays after clears.1
+    clears_grow command bytes units (Err NoMemory) after clears = stays after clears.2
+    clears_grow command bytes units (Err (Unbooked taken)) after clears = absurd clears
 
     module _ (all : are_accepted before.history.settings [] (accepted_commands before.history.records) ≡ true)
       where
@@ -127,15 +147,15 @@ module _ (before : Standing) where
         module _ (row : Row) (is : front (rows_in before.history) ≡ Some row) (offered : List ℕ)
             (first : (n : ℕ) → n ≤ length offered →
             (take n offered ≡ take n (unread_in before.history)) × (n ≤ length (unread_in before.history))) where
-          -- offered bytes that were taken are sent by their removal
-          sends_bytes_alike : (result : Result Pass PassFault) (after : Standing) →
-              SendsBytes caller offered before result after → IsBooked result →
-              GrowAlike before after
-          sends_bytes_alike (Ok Idle) after sends booked = absurd sends
-          sends_bytes_alike (Ok Stalled) after sends booked =
+          -- offered bytes that were taken are sent by their removal, and where that met want of memory, they are the
+          -- first unread ones
+          sends_bytes_grow : (result : Result Pass PassFault) (after : Standing) →
+              SendsBytes caller offered before result after → Grows before result after
+          sends_bytes_grow (Ok Idle) after sends = absurd sends
+          sends_bytes_grow (Ok Stalled) after sends =
               subst (GrowAlike before) (sym sends.left)
               (alike_still (record before { history = ready before }) refl refl refl refl)
-          sends_bytes_alike (Ok (Took n)) after sends booked =
+          sends_bytes_grow (Ok (Took n)) after sends =
               let these = first n sends.1 in
               let place = first_has_place before.history caller sends.2.places in
               subst (GrowAlike before) (sym sends.2.left) (record {
@@ -148,18 +168,12 @@ module _ (before : Standing) where
                 );
                 units = (0, omega arith, no_units_sent (ready before) caller (RemoveBytes n) refl ∙ omega arith);
               })
-          sends_bytes_alike (Ok Cleared) after sends booked = absurd sends
-          sends_bytes_alike (Err (Sink fault)) after sends booked =
+          sends_bytes_grow (Ok Cleared) after sends = absurd sends
+          sends_bytes_grow (Err (Sink fault)) after sends =
               subst (GrowAlike before) (sym sends.left) (alike_still _ refl refl refl refl)
-          sends_bytes_alike (Err HistoryFull) after sends booked = stays after sends.1
-          sends_bytes_alike (Err NoMemory) after sends booked = stays after sends
-          sends_bytes_alike (Err (Unbooked taken)) after sends booked = absurd (booked taken refl)
-
-          -- and where the removal met want of memory, they are the first unread ones
-          unbooked_stand : (taken : ℕ) (after : Standing) →
-              SendsBytes caller offered before (Err (Unbooked taken)) after →
-              GrowAlikeBut taken before after
-          unbooked_stand taken after sends =
+          sends_bytes_grow (Err HistoryFull) after sends = stays after sends.1
+          sends_bytes_grow (Err NoMemory) after sends = stays after sends
+          sends_bytes_grow (Err (Unbooked taken)) after sends =
               let these = first taken sends.1 in
               subst (GrowAlikeBut taken before) (sym sends.3.left) (record {
                 unread = these.1;
@@ -194,7 +208,8 @@ module _ (before : Standing) where
 
           module _ (n : ℕ) (within : n ≤ length - progress_in before.history)
               (places : ¬ LacksPlaces before.history 2) where
-            progressed : History
+            -- the history with their progress
+            abbrev progressed : History
             progressed = history_after (ready before) caller (Progress n)
 
             accepted : first_refusal before.history.settings.estimate (accepted_commands before.history.records)
@@ -202,86 +217,71 @@ module _ (before : Standing) where
             accepted = accepted_there there.row there.is (Progress n) (progress_fits n within)
 
             -- after its progress the region still stands in front
-            still_there : front_bytes (front (rows_after
-                (history_after (ready before) caller (Progress n)).settings.estimate
-                (accepted_commands (history_after (ready before) caller (Progress n)).records))) ≡ []
+            still_there : front_bytes (front (rows_in progressed)) ≡ []
             still_there =
                 let place = first_has_place before.history caller places in
                 let commands = accepted_commands before.history.records in
-                let estimate = before.history.settings.estimate in
-                ap (λ settings. front_bytes (front (rows_after settings.estimate
-                (accepted_commands (history_after (ready before) caller (Progress n)).records))))
-                (settings_after (ready before) caller (Progress n) place accepted)
-                ∙ ap (λ all. front_bytes (front (rows_after estimate all)))
-                (accepted_commands_after (ready before) caller (Progress n) place accepted)
-                ∙ ap (λ rows. front_bytes (front rows)) (rows_more estimate commands (Progress n))
+                one_more (ready before) caller (Progress n) place accepted
+                (λ settings commands. front_bytes (front (rows_after settings.estimate commands)))
+                ∙ ap (λ rows. front_bytes (front rows))
+                (rows_more before.history.settings.estimate commands (Progress n))
                 ∙ ap front_bytes (front_progressed n (rows_in before.history))
                 ∙ ap (λ found. front_bytes (option_map (progressed_row n) found)) there.is
                 ∙ ap block_bytes there.part
 
-            pub units_alike : (sink : Content) → sink ≡ record before.sink { units = before.sink.units + n } →
-                GrowAlike before (standing (booked_units caller (length - progress_in before.history) n (ready before))
-                sink)
-            units_alike sink taken = by_test (eqb n (length - progress_in before.history))
-              where
-                first : History
-                first = history_after (ready before) caller (Progress n)
+            first_bytes : sent_bytes_in progressed ≡ sent_bytes_in before.history
+            first_bytes = no_bytes_sent (ready before) caller (Progress n) refl
 
-                first_bytes : sent_bytes_in (history_after (ready before) caller (Progress n))
-                    ≡ sent_bytes_in before.history
-                first_bytes = no_bytes_sent (ready before) caller (Progress n) refl
+            first_units : sent_units_in progressed ≡ sent_units_in before.history + n
+            first_units =
+                units_sent (ready before) caller (Progress n) (first_has_place before.history caller places) accepted
+                ∙ ap (λ units. sent_units_in before.history + units) (region_units n)
 
-                first_units : sent_units_in (history_after (ready before) caller (Progress n))
-                    ≡ sent_units_in before.history + n
-                first_units =
-                    units_sent (ready before) caller (Progress n) (first_has_place before.history caller places) accepted
-                    ∙ ap (λ units. sent_units_in before.history + units) (region_units n)
+            -- and the removal with its last unit sends nothing more
+            booked_bytes : (whole : Bool) →
+                sent_bytes_in (cond whole (history_after progressed caller Remove) progressed)
+                ≡ sent_bytes_in before.history
+            booked_bytes true = no_bytes_sent progressed caller Remove still_there ∙ first_bytes
+            booked_bytes false = first_bytes
 
-                by_test : (whole : Bool) →
-                    GrowAlike before (standing (cond whole (history_after
-                    (history_after (ready before) caller (Progress n)) caller Remove)
-                    (history_after (ready before) caller (Progress n))) sink)
-                by_test true = record {
+            booked_sent : (whole : Bool) →
+                sent_units_in (cond whole (history_after progressed caller Remove) progressed)
+                ≡ sent_units_in before.history + n
+            booked_sent true = no_units_sent progressed caller Remove refl ∙ first_units
+            booked_sent false = first_units
+
+            units_alike : GrowAlike before (record {
+              history = booked_units caller (length - progress_in before.history) n (ready before);
+              sink = with_more_units n before.sink;
+            })
+            units_alike =
+                let whole = eqb n (length - progress_in before.history) in
+                record {
                   bytes = (
                     [],
-                    ap (λ content. content.bytes) taken ∙ sym (append-nil before.sink.bytes),
-                    no_bytes_sent (history_after (ready before) caller (Progress n)) caller Remove still_there
-                        ∙ first_bytes ∙ sym (append-nil (sent_bytes_in before.history)),
+                    sym (append-nil before.sink.bytes),
+                    booked_bytes whole ∙ sym (append-nil (sent_bytes_in before.history)),
                   );
-                  units = (
-                    n,
-                    ap (λ content. content.units) taken,
-                    no_units_sent
-                        (history_after (ready before) caller (Progress n)) caller Remove refl ∙ first_units,
-                  );
-                }
-                by_test false = record {
-                  bytes = (
-                    [],
-                    ap (λ content. content.bytes) taken ∙ sym (append-nil before.sink.bytes),
-                    first_bytes
-                        ∙ sym (append-nil (sent_bytes_in before.history)),
-                  );
-                  units = (n, ap (λ content. content.units) taken, first_units);
+                  units = (n, refl, booked_sent whole);
                 }
 
           -- offered units that were taken are sent by their progress
-          sends_units_alike : (result : Result Pass PassFault) (after : Standing) →
+          sends_units_grow : (result : Result Pass PassFault) (after : Standing) →
               SendsUnits caller (length - progress_in before.history) before result after →
-              GrowAlike before after
-          sends_units_alike (Ok Idle) after sends = absurd sends
-          sends_units_alike (Ok Stalled) after sends =
+              Grows before result after
+          sends_units_grow (Ok Idle) after sends = absurd sends
+          sends_units_grow (Ok Stalled) after sends =
               subst (GrowAlike before) (sym sends.left)
               (alike_still (record before { history = ready before }) refl refl refl refl)
-          sends_units_alike (Ok (Took n)) after sends =
+          sends_units_grow (Ok (Took n)) after sends =
               subst (GrowAlike before) (sym sends.2.left)
-              (units_alike n sends.1 sends.2.places (record before.sink { units = before.sink.units + n }) refl)
-          sends_units_alike (Ok Cleared) after sends = absurd sends
-          sends_units_alike (Err (Sink fault)) after sends =
+              (units_alike n sends.1 sends.2.places)
+          sends_units_grow (Ok Cleared) after sends = absurd sends
+          sends_units_grow (Err (Sink fault)) after sends =
               subst (GrowAlike before) (sym sends.left) (alike_still _ refl refl refl refl)
-          sends_units_alike (Err HistoryFull) after sends = stays after sends.1
-          sends_units_alike (Err NoMemory) after sends = stays after sends.1.left
-          sends_units_alike (Err (Unbooked taken)) after sends = absurd sends
+          sends_units_grow (Err HistoryFull) after sends = stays after sends.1
+          sends_units_grow (Err NoMemory) after sends = stays after sends.1.left
+          sends_units_grow (Err (Unbooked taken)) after sends = absurd sends
 
         region_cleared : (length : ℕ) → FrontRow (rows_in before.history) (Region length) →
             bytes_sent_by (rows_in before.history) Remove ≡ []
@@ -290,77 +290,43 @@ module _ (before : Standing) where
   module _ (limits : Limits) (caller : ℕ) (all : are_accepted before.history.settings []
       (accepted_commands before.history.records) ≡ true) where
     -- what a pass takes is sent, by what stands in front
-    pub pass_alike : (result : Result Pass PassFault) (after : Standing) → IsPass limits caller before result after →
-        IsBooked result →
-        GrowAlike before after
-    pass_alike result after pass booked = by_message (current_in before.history) refl
+    pub pass_grows : (result : Result Pass PassFault) (after : Standing) → IsPass limits caller before result after →
+        Grows before result after
+    pass_grows result after pass = by_message (current_in before.history) refl
       where
         by_gathered : (bytes : List ℕ) → current_in before.history ≡ Some (Block bytes) → (blocks : List (List ℕ)) →
             gathered_in limits before.history ≡ blocks →
-            GrowAlike before after
-        by_gathered bytes is [] none = clears_alike caller (RemoveBytes 0) refl refl result after
+            Grows before result after
+        by_gathered bytes is [] none = clears_grow caller (RemoveBytes 0) refl refl result after
             (pass.no_bytes bytes is none)
         by_gathered bytes is (block ∷ blocks) some =
             let there = front_row (rows_in before.history) (Block bytes) is in
-            sends_bytes_alike caller all there.row there.is (concat (gathered_in limits before.history))
+            sends_bytes_grow caller all there.row there.is (concat (gathered_in limits before.history))
             (gathered_first limits.max_count limits.max_bytes (byte_run (rows_in before.history))) result after
-            (pass.bytes bytes is (λ none. absurd (cc))) booked
+            (pass.bytes bytes is (λ none. absurd (cc)))
 
         by_rest : (length : ℕ) → current_in before.history ≡ Some (Region length) → (done : Bool) →
             leb length (progress_in before.history) ≡ done →
-            GrowAlike before after
+            Grows before result after
         by_rest length is true done =
-            clears_alike caller Remove (region_cleared caller all length
+            clears_grow caller Remove (region_cleared caller all length
             (front_row (rows_in before.history) (Region length) is)) refl result after
             (pass.no_units length is (grind (arith, nat_tests)))
         by_rest length is false done =
             let less = more length (progress_in before.history) done in
-            sends_units_alike caller all length (front_row (rows_in before.history) (Region length) is) less result
+            sends_units_grow caller all length (front_row (rows_in before.history) (Region length) is) less result
             after (pass.units length is less)
           where
             more : (length progress : ℕ) → leb length progress ≡ false → progress < length
             more length progress done = grind (arith, nat_tests)
 
-        by_message : (message : Option Message) → current_in before.history ≡ message → GrowAlike before after
-        by_message None is = stays after (pass.idle is).1
+        by_message : (message : Option Message) → current_in before.history ≡ message → Grows before result after
+        by_message None is =
+            subst (λ result. Grows before result after) (sym (pass.idle is).0) (stays after (pass.idle is).1)
         by_message (Some (Block bytes)) is = by_gathered bytes is (gathered_in limits before.history) refl
         by_message (Some (Region length)) is = by_rest length is (leb length (progress_in before.history)) refl
-        by_message (Some (Other value)) is = clears_alike caller (RemoveWith (record { 0 = 1 })) refl refl result after
+        by_message (Some (Other value)) is = clears_grow caller (RemoveWith (record { 0 = 1 })) refl refl result after
             (pass.other value is)
-
-    -- no clearing leaves bytes unbooked
-    clears_books : (command : Command) (taken : ℕ) (after : Standing) →
-        Clears caller command before (Err (Unbooked taken)) after → ⊥
-    clears_books command taken after clears = clears
-
-    pub pass_unbooked : (taken : ℕ) (after : Standing) → IsPass limits caller before (Err (Unbooked taken)) after →
-        GrowAlikeBut taken before after
-    pass_unbooked taken after pass = by_message (current_in before.history) refl
-      where
-        by_gathered : (bytes : List ℕ) → current_in before.history ≡ Some (Block bytes) → (blocks : List (List ℕ)) →
-            gathered_in limits before.history ≡ blocks →
-            GrowAlikeBut taken before after
-        by_gathered bytes is [] none = absurd (pass.no_bytes bytes is none)
-        by_gathered bytes is (block ∷ blocks) some =
-            let there = front_row (rows_in before.history) (Block bytes) is in
-            unbooked_stand caller all there.row there.is (concat (gathered_in limits before.history))
-            (gathered_first limits.max_count limits.max_bytes (byte_run (rows_in before.history))) taken after
-            (pass.bytes bytes is (λ none. absurd (cc)))
-
-        by_rest : (length : ℕ) → current_in before.history ≡ Some (Region length) → (done : Bool) →
-            leb length (progress_in before.history) ≡ done →
-            GrowAlikeBut taken before after
-        by_rest length is true done = absurd (pass.no_units length is (grind (arith, nat_tests)))
-        by_rest length is false done = absurd (pass.units length is (more length (progress_in before.history) done))
-          where
-            more : (length progress : ℕ) → leb length progress ≡ false → progress < length
-            more length progress done = grind (arith, nat_tests)
-
-        by_message : (message : Option Message) → current_in before.history ≡ message → GrowAlikeBut taken before after
-        by_message None is = absurd (let idle = (pass.idle is).0 in cc)
-        by_message (Some (Block bytes)) is = by_gathered bytes is (gathered_in limits before.history) refl
-        by_message (Some (Region length)) is = by_rest length is (leb length (progress_in before.history)) refl
-        by_message (Some (Other value)) is = absurd (pass.other value is)
 
 -- with nothing in front no byte is unread
 none_in_line : (rows : List Row) → front rows ≡ None → line rows ≡ []

@@ -1,5 +1,6 @@
 -- What one more call sends.
-use Rattle.std.proofs.Common.{◌≡◌, ℕ, suc, ◌+◌, ◌≤◌, min, max, Bool, true, false, List, [], ◌∷◌, ◌++◌, length, take, drop, refl, sym, ap, ◌∙◌, cond, ltb, arith, append-nil, length-append}
+use Rattle.std.proofs.Common.{◌≡◌, ℕ, suc, ◌+◌, ◌≤◌, min, max, Bool, true, false, List, [], ◌∷◌, ◌++◌, length, take}
+use Rattle.std.proofs.Common.{drop, refl, sym, ap, ◌∙◌, cond, ltb, arith, append-nil, length-append}
 use Rattle.std.specs.Prelude.{Option, None, fold, is_ok, sum_by}
 use Rattle.std.specs.List.{concat, flat_map}
 use Rattle.std.proofs.lemmas.Bool.Decides.{nat_tests}
@@ -42,10 +43,10 @@ steps_more estimate rows (first ∷ commands) command =
 
 module _ (settings : Settings) where
   -- what accepted commands send
-  abbrev pub bytes_of : List Command → List ℕ
+  abbrev bytes_of : List Command → List ℕ
   bytes_of commands = flat_map bytes_in_step (steps_from settings.estimate [] commands)
 
-  abbrev pub units_of : List Command → ℕ
+  abbrev units_of : List Command → ℕ
   units_of commands = sum_by units_in_step (steps_from settings.estimate [] commands)
 
   bytes_more : (commands : List Command) (command : Command) →
@@ -67,104 +68,98 @@ module _ (settings : Settings) where
       ∙ ap (λ more. units_of commands + more) (sum_by-cons units_in_step one [] ∙ omega arith)
 
   -- an accepted command comes behind the others
-  pub accepted_behind : (commands : List Command) (command : Command) →
+  accepted_behind : (commands : List Command) (command : Command) →
       first_refusal settings.estimate commands command ≡ None →
       commands_after settings commands command ≡ commands ++ command ∷ []
   accepted_behind commands command accepted =
       ap (λ (refusal : Option Refusal). cond (is_ok (unless_refused refusal (reply_of settings commands command)))
       (commands ++ command ∷ []) commands) accepted
 
-  -- a command that sends nothing sends nothing, accepted or refused
-  nothing_more : (commands : List Command) (command : Command) →
-      bytes_sent_by (rows_after settings.estimate commands) command ≡ [] →
-      bytes_of (commands_after settings commands command) ≡ bytes_of commands
-  nothing_more commands command none = by_test (is_ok (answer_to settings commands command))
-    where
-      by_test : (accepted : Bool) → bytes_of (cond accepted (commands ++ command ∷ []) commands) ≡ bytes_of commands
-      by_test true = bytes_more commands command ∙ ap (λ more. bytes_of commands ++ more) none
-          ∙ append-nil (bytes_of commands)
-      by_test false = refl
-
-  no_more_units : (commands : List Command) (command : Command) →
-      units_sent_by (rows_after settings.estimate commands) command ≡ 0 →
-      units_of (commands_after settings commands command) ≡ units_of commands
-  no_more_units commands command none = by_test (is_ok (answer_to settings commands command))
-    where
-      by_test : (accepted : Bool) → units_of (cond accepted (commands ++ command ∷ []) commands) ≡ units_of commands
-      by_test true = units_more commands command ∙ ap (λ more. units_of commands + more) none ∙ omega arith
-      by_test false = refl
-
 module _ (history : History) (caller : ℕ) (command : Command) where
-  -- the accepted commands of a history
-  commands : List Command
-  commands = accepted_commands history.records
-
   -- the accepted commands once one more is recorded
   recorded : accepted_commands (with_record history (next_record history caller command)).records
       ≡ commands_after history.settings (accepted_commands history.records) command
   recorded = accepted_with_next history.settings history.records (next_record history caller command) refl
+
+  module _ {A : Type 0} (of : Settings → List Command → A) where
+    -- what no accepted command more would change stays as it was, whatever becomes of the call
+    stays_along : of history.settings (accepted_commands history.records ++ command ∷ [])
+        ≡ of history.settings (accepted_commands history.records) →
+        of (history_after history caller command).settings
+        (accepted_commands (history_after history caller command).records)
+        ≡ of history.settings (accepted_commands history.records)
+    stays_along same = by_place (is_full history)
+      where
+        by_answer : (accepted : Bool) →
+            of history.settings (cond accepted (accepted_commands history.records ++ command ∷ [])
+            (accepted_commands history.records)) ≡ of history.settings (accepted_commands history.records)
+        by_answer true = same
+        by_answer false = refl
+
+        by_place : (full : Bool) →
+            (let after = cond full history (with_record history (next_record history caller command)) in
+            of after.settings (accepted_commands after.records)
+            ≡ of history.settings (accepted_commands history.records))
+        by_place true = refl
+        by_place false =
+            ap (of history.settings) recorded
+            ∙ by_answer (is_ok (answer_to history.settings (accepted_commands history.records) command))
 
   -- where the command sends no bytes, the history sends no more of them
   pub no_bytes_sent : bytes_sent_by (rows_after history.settings.estimate (accepted_commands history.records)) command
       ≡ [] →
       sent_bytes (history_after history caller command).settings (history_after history caller command).records
       ≡ sent_bytes history.settings history.records
-  no_bytes_sent none = by_test (is_full history)
-    where
-      by_test : (full : Bool) →
-          (let after = cond full history (with_record history (next_record history caller command)) in
-          sent_bytes after.settings after.records ≡ sent_bytes history.settings history.records)
-      by_test true = refl
-      by_test false =
-          ap (bytes_of history.settings) recorded
-          ∙ nothing_more history.settings (accepted_commands history.records) command none
+  no_bytes_sent none =
+      let commands = accepted_commands history.records in
+      stays_along bytes_of (bytes_more history.settings commands command
+      ∙ ap (λ more. bytes_of history.settings commands ++ more) none
+      ∙ append-nil (bytes_of history.settings commands))
 
   pub no_units_sent : units_sent_by (rows_after history.settings.estimate (accepted_commands history.records)) command
       ≡ 0 →
       sent_units (history_after history caller command).settings (history_after history caller command).records
       ≡ sent_units history.settings history.records
-  no_units_sent none = by_test (is_full history)
-    where
-      by_test : (full : Bool) →
-          (let after = cond full history (with_record history (next_record history caller command)) in
-          sent_units after.settings after.records ≡ sent_units history.settings history.records)
-      by_test true = refl
-      by_test false =
-          ap (units_of history.settings) recorded
-          ∙ no_more_units history.settings (accepted_commands history.records) command none
+  no_units_sent none =
+      let commands = accepted_commands history.records in
+      stays_along units_of (units_more history.settings commands command
+      ∙ ap (λ more. units_of history.settings commands + more) none ∙ omega arith)
 
   module _ (place : is_full history ≡ false)
       (accepted : first_refusal history.settings.estimate (accepted_commands history.records) command ≡ None) where
     -- a recorded and accepted command comes behind the others
-    pub accepted_commands_after : accepted_commands (history_after history caller command).records
+    accepted_commands_after : accepted_commands (history_after history caller command).records
         ≡ accepted_commands history.records ++ command ∷ []
     accepted_commands_after =
         ap (λ full. accepted_commands (cond full history
         (with_record history (next_record history caller command))).records) place
         ∙ recorded ∙ accepted_behind history.settings (accepted_commands history.records) command accepted
 
-    pub settings_after : (history_after history caller command).settings ≡ history.settings
+    settings_after : (history_after history caller command).settings ≡ history.settings
     settings_after = ap (λ full. (cond full history
         (with_record history (next_record history caller command))).settings) place
 
-    -- and sends what it sends
+    -- so what is told of a history is told of them
+    pub one_more : {A : Type 0} (of : Settings → List Command → A) →
+        of (history_after history caller command).settings
+        (accepted_commands (history_after history caller command).records)
+        ≡ of history.settings (accepted_commands history.records ++ command ∷ [])
+    one_more of =
+        ap (λ settings. of settings (accepted_commands (history_after history caller command).records)) settings_after
+        ∙ ap (of history.settings) accepted_commands_after
+
+    -- and it sends what it sends
     pub bytes_sent : sent_bytes (history_after history caller command).settings
         (history_after history caller command).records
         ≡ sent_bytes history.settings history.records
         ++ bytes_sent_by (rows_after history.settings.estimate (accepted_commands history.records)) command
-    bytes_sent =
-        ap (λ settings. sent_bytes settings (history_after history caller command).records) settings_after
-        ∙ ap (bytes_of history.settings) accepted_commands_after
-        ∙ bytes_more history.settings (accepted_commands history.records) command
+    bytes_sent = one_more bytes_of ∙ bytes_more history.settings (accepted_commands history.records) command
 
     pub units_sent : sent_units (history_after history caller command).settings
         (history_after history caller command).records
         ≡ sent_units history.settings history.records + units_sent_by
         (rows_after history.settings.estimate (accepted_commands history.records)) command
-    units_sent =
-        ap (λ settings. sent_units settings (history_after history caller command).records) settings_after
-        ∙ ap (units_of history.settings) accepted_commands_after
-        ∙ units_more history.settings (accepted_commands history.records) command
+    units_sent = one_more units_of ∙ units_more history.settings (accepted_commands history.records) command
 
 -- the blocks that hold a byte have all the bytes
 all_bytes : (blocks : List (List ℕ)) → concat (with_bytes blocks) ≡ concat blocks

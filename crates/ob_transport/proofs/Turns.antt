@@ -1,7 +1,7 @@
 -- Several passes, one after another.
 use Rattle.std.proofs.Common.{◌≡◌, ℕ, ◌+◌, ◌++◌, sym, ap, ◌∙◌, subst, arith, append_assoc, add-one}
 use Rattle.std.specs.Prelude.{Ok, Err, Result}
-use Rattle.ob_transport.specs.Drains.{EndsWith, GoesOn, Passes}
+use Rattle.ob_transport.specs.Drains.{GoesOn, Passes}
 use Rattle.ob_transport.specs.GrowAlike.{GrowAlike, GrowAlikeBut, IsBooked}
 use Rattle.ob_transport.specs.IsPass.{IsPass}
 use Rattle.ob_transport.specs.Standing.{Standing}
@@ -10,9 +10,9 @@ use Rattle.ob_transport.specs.declared.fault.PassFault.{PassFault}
 use Rattle.ob_transport.specs.declared.limits.Limits.{Limits}
 
 -- what grows alike twice grows alike
-pub alike_both : (before middle after : Standing) → GrowAlike before middle → GrowAlike middle after →
+pub alike_both : {before middle after : Standing} → GrowAlike before middle → GrowAlike middle after →
     GrowAlike before after
-alike_both before middle after first second = record {
+alike_both first second = record {
   bytes = (
     first.bytes.0 ++ second.bytes.0,
     second.bytes.1 ∙ ap (λ bytes. bytes ++ second.bytes.0) first.bytes.1 ∙ append_assoc _ first.bytes.0 second.bytes.0,
@@ -25,34 +25,22 @@ alike_both before middle after first second = record {
   );
 }
 
-pub alike_but : (taken : ℕ) (before middle after : Standing) → GrowAlike before middle →
+pub alike_but : {taken : ℕ} {before middle after : Standing} → GrowAlike before middle →
     GrowAlikeBut taken middle after → GrowAlikeBut taken before after
-alike_but taken before middle after first second = record {
+alike_but first second = record {
   unread = second.unread;
   booked = second.booked;
-  alike = alike_both before middle (record after { sink = second.booked }) first second.alike;
+  alike = alike_both first second.alike;
   taken_last = second.taken_last;
 }
 
-module _ (limits : Limits) (caller caller' count : ℕ) (before middle after : Standing)
-    (passes : Passes limits caller count before middle)
-    (same : caller' ≡ caller) where
-  -- one more pass after which there may be more to do
-  pub one_more_pass : (pass : Pass) → GoesOn pass → IsPass limits caller' middle (Ok pass) after →
-      Passes limits caller (count + 1) before after
-  one_more_pass pass goes is =
-      subst (λ n. Passes limits caller n before after) (sym (add-one count))
-      (middle, pass, passes, goes, subst (λ name. IsPass limits name middle (Ok pass) after) same is)
-
-  -- the last pass
-  pub last_pass : (result : Result Pass PassFault) → IsPass limits caller' middle result after →
-      EndsWith limits caller count before result after
-  last_pass result is = record {
-    middle = middle;
-    passes = passes;
-    last = subst
-        (λ name. IsPass limits name middle result after) same is;
-  }
+-- one more pass after which there may be more to do
+pub one_more_pass : (limits : Limits) (caller caller' count : ℕ) (before middle after : Standing) (pass : Pass) →
+    Passes limits caller count before middle → caller' ≡ caller → GoesOn pass →
+    IsPass limits caller' middle (Ok pass) after → Passes limits caller (count + 1) before after
+one_more_pass limits caller caller' count before middle after pass passes same goes is =
+    subst (λ n. Passes limits caller n before after) (sym (add-one count))
+    (middle, pass, passes, goes, subst (λ name. IsPass limits name middle (Ok pass) after) same is)
 
 -- an error that is booked as one result is booked as another
 fault_in : {A : Type 0} → PassFault → Result A PassFault → PassFault

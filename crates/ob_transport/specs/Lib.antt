@@ -7,6 +7,7 @@ pub mod InFront
 pub mod IsPass
 pub mod Offer
 pub mod Outcome
+pub mod PassFault
 pub mod Refused
 pub mod InsideScript
 pub mod Script

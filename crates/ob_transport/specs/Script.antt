@@ -1,8 +1,9 @@
 -- What a contract sees of a sink of a script.
-use Rattle.std.specs.Prelude.{ℕ, List, [], ◌∷◌, drop}
+use Rattle.std.specs.Prelude.{ℕ, List, [], ◌∷◌, drop, min, Result, Ok, Err}
 use Rattle.ob_transport.specs.Content.{Content}
 use Rattle.ob_transport.specs.declared.script.SinkStep.{SinkStep}
-use Rattle.ob_transport.specs.declared.script.SinkStep.TheVariants.{Take}
+use Rattle.ob_transport.specs.declared.script.SinkStep.TheVariants.{Take, Fail}
+use Rattle.ob_transport.specs.declared.sink.SinkFault.{SinkFault}
 
 -- the steps that are left, how much is taken at most once none is, and what was taken
 pub record Script : Type 0 where
@@ -31,3 +32,12 @@ next_step script = first_step script.steps script.most_after
 -- the script with its next step used
 abbrev pub with_step_used : Script → Script
 with_step_used script = record script { steps = drop 1 script.steps }
+
+-- what a step answers to a call that offers so much: it takes at most its number of it, or fails with its number
+abbrev pub answer_by : SinkStep → ℕ → Result ℕ SinkFault
+answer_by (Take most) offered = Ok (min most offered)
+answer_by (Fail number) offered = Err (record { 0 = number })
+
+-- the fault of a script's sink where memory was refused
+abbrev pub wants_memory : SinkFault
+wants_memory = record { 0 = 12 }

@@ -2,7 +2,8 @@
 use Rattle.std.specs.Prelude.{ℕ, List, [], take, Option, Some, None}
 use Rattle.std.specs.List.{concat, flat_map}
 use Rattle.ob_types.specs.declared.command.Command.{Command}
-use Rattle.ob_types.specs.declared.command.Command.TheVariants.{Write, Flush, Remove, RemoveWith, RemoveBytes, Progress, Cancel, FailFlushed, Close, UserBit}
+use Rattle.ob_types.specs.declared.command.Command.TheVariants.{Write, Flush, Remove, RemoveWith, RemoveBytes, Progress}
+use Rattle.ob_types.specs.declared.command.Command.TheVariants.{Cancel, FailFlushed, Close, UserBit}
 use Rattle.ob_seq.specs.Row.{Row, unread_part}
 use Rattle.ob_seq.specs.Line.{front}
 use Rattle.ob_seq.specs.ByteRun.{block_bytes, byte_run}

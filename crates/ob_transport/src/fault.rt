@@ -1,3 +1,5 @@
+ghost use Rattle.std.specs.Prelude.{◌≡◌};
+
 use crate::sink::SinkFault;
 use ob_types::Refusal;
 use thiserror::Error;
@@ -37,8 +39,23 @@ pub enum PassFault {
     },
 }
 
+impl PassFault {
+    ghost use Rattle.ob_transport.specs.PassFault.{number_of};
+
+    /// The number of the fault, 1 to 4.
+    pub fn number(self) -> u8
+        ensures { result ≡ number_of self }
+    {
+        match self {
+            PassFault::Sink(_) => 1,
+            PassFault::HistoryFull => 2,
+            PassFault::NoMemory => 3,
+            PassFault::Unbooked { .. } => 4,
+        }
+    }
+}
+
 impl From<SinkFault> for PassFault {
-    ghost use Rattle.std.specs.Prelude.{◌≡◌};
     ghost use Rattle.ob_transport.specs.declared.fault.PassFault.TheVariants.{Sink};
 
     ghost from_gives = { λ fault given. given ≡ Sink fault };
@@ -50,7 +67,6 @@ impl From<SinkFault> for PassFault {
 
 /// A call of a booked buffer is refused as a full history or for want of memory alone.
 impl From<Refusal> for PassFault {
-    ghost use Rattle.std.specs.Prelude.{◌≡◌};
     ghost use Rattle.ob_transport.specs.Refused.{fault_of};
 
     ghost from_gives = { λ refusal given. given ≡ fault_of refusal };

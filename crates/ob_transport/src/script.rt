@@ -1,7 +1,7 @@
 ghost use Rattle.std.specs.List.{concat};
-ghost use Rattle.std.specs.Prelude.{◌≡◌, length, min, take, IfErr, IfOk, OnErr, OnOk};
-ghost use Rattle.ob_transport.specs.Content.{with_failure, with_more_bytes};
-ghost use Rattle.ob_transport.specs.Script.{new_script, next_step, with_step_used};
+ghost use Rattle.std.specs.Prelude.{◌≡◌, ◌<◌, ◌≤◌, ◌+◌, ◌-◌, ◌^◌, drop, length, min, take, IfErr, IfOk, IsErrOf, OnErr, OnOk};
+ghost use Rattle.ob_transport.specs.Content.{with_failure, with_more_bytes, with_more_units};
+ghost use Rattle.ob_transport.specs.Script.{answer_by, new_script, next_step, wants_memory, with_step_used};
 
 use crate::sink::{Sink, SinkFault};
 use bytes::Bytes;
@@ -139,7 +139,19 @@ fn beginning(alloc: Global, blocks: &[Bytes], most: u64) -> Result<Vec<u8>, Allo
 impl Sink for ScriptSink {
     ghost content = { λ sink. sink.content };
 
-    fn take(&mut self, blocks: &[Bytes]) -> Result<usize, SinkFault> {
+    /// Does what the next step says of all bytes of the blocks. `SinkFault(12)` comes where memory was refused too. A
+    /// failure that can no longer be counted takes nothing, and tells no fault.
+    fn take(&mut self, blocks: &[Bytes]) -> Result<usize, SinkFault>
+        ensures within { IfOk result (λ count. count ≤ length (concat blocks.now)) }
+        ensures taken { IfOk result (λ count. self.new.content
+            ≡ with_more_bytes (take count (concat blocks.now)) self.old.content) }
+        ensures failed { OnErr result (self.new.content ≡ with_failure self.old.content) }
+
+        ensures plays { self.old.content.failures < 2 ^ 64 - 1 → ¬ IsErrOf result wants_memory
+            → result ≡ answer_by (next_step self.old) (length (concat blocks.now)) }
+        ensures used { self.new.steps ≡ drop 1 self.old.steps }
+        ensures most_after { self.new.most_after ≡ self.old.most_after }
+    {
         match self.next_step() {
             SinkStep::Take(most) => match self.keep(blocks, most) {
                 Ok(count) => Ok(count),
@@ -155,7 +167,18 @@ impl Sink for ScriptSink {
         }
     }
 
-    fn take_region(&mut self, units: u64) -> Result<u64, SinkFault> {
+    /// Does what the next step says of the units. Units that can no longer be counted are not taken, and a failure that
+    /// cannot takes nothing, and tells no fault.
+    fn take_region(&mut self, units: u64) -> Result<u64, SinkFault>
+        ensures within { IfOk result (λ count. count ≤ units) }
+        ensures taken { IfOk result (λ count. self.new.content ≡ with_more_units count self.old.content) }
+        ensures failed { OnErr result (self.new.content ≡ with_failure self.old.content) }
+
+        ensures plays { self.old.content.failures < 2 ^ 64 - 1 → self.old.content.units + units < 2 ^ 128
+            → result ≡ answer_by (next_step self.old) units }
+        ensures used { self.new.steps ≡ drop 1 self.old.steps }
+        ensures most_after { self.new.most_after ≡ self.old.most_after }
+    {
         match self.next_step() {
             SinkStep::Take(most) => {
                 let count = most.min(units);

@@ -1,2 +1,5 @@
+mod buffers;
+mod memory;
 mod passes;
+mod rows;
 mod worked;

@@ -9,7 +9,8 @@ use crate::buffer::Buffer;
 use ob_types::{Cause, Message, PromiseId, Refusal, Reply};
 
 impl Buffer {
-    /// Adds a message behind all others (Netty's `addMessage`), and answers its promise.
+    /// Adds a message behind all others (Netty's `addMessage`), and answers its promise. It takes the same few steps
+    /// whatever is pending; a growth of the lists is shared among the writes that filled them.
     ///
     /// `Closed` comes where the buffer is closed, then `Oversize` where the message counts more than 2147483647 bytes or
     /// is a region longer than 9223372036854775807, then `TooMuch` where more than 4294967295 bytes would be pending or
@@ -27,7 +28,8 @@ impl Buffer {
 
     /// Lets the transport have all that was written so far (Netty's `addFlush`), fixes the promises of those
     /// messages, and answers how many they are. A message whose promise was cancelled is voided: it becomes an
-    /// empty block that counts nothing, and stays in line. It takes no memory.
+    /// empty block that counts nothing, and stays in line. It goes once over the messages that it reaches, and takes no
+    /// memory.
     ///
     /// `Closed` comes where the buffer is closed.
     pub fn flush(&mut self) -> Result<Reply, Refusal>
@@ -42,7 +44,7 @@ impl Buffer {
 
     /// Takes the first flushed message away, as sent (Netty's `remove()`): unless it was voided its promise
     /// succeeds, and the pending bytes fall with notice. With nothing flushed it answers false, and all is as it
-    /// was. It takes no memory.
+    /// was. It takes the same few steps whatever is pending, and no memory.
     ///
     /// `Closed` comes where the buffer is closed.
     pub fn remove(&mut self) -> Result<Reply, Refusal>
@@ -56,7 +58,7 @@ impl Buffer {
     }
 
     /// Takes the first flushed message away as `remove` does, but as failed for this cause (Netty's
-    /// `remove(Throwable)`). It takes no memory.
+    /// `remove(Throwable)`), and costs the same. It takes no memory.
     ///
     /// `Closed` comes where the buffer is closed.
     pub fn remove_with(&mut self, cause: Cause) -> Result<Reply, Refusal>
@@ -75,7 +77,8 @@ impl Buffer {
     /// Each message that is gone whole is taken away as by `remove`, empty and voided ones along with the others;
     /// what is left of the bytes is skipped in the next message, and added to its progress, which stops at
     /// 9223372036854775807. So 0 bytes take away the empty messages in front. Bytes that are skipped stay pending
-    /// until their message is gone.
+    /// until their message is gone. It goes over the messages that it takes away, and one more; where it is refused for
+    /// too many bytes, over the flushed blocks in front.
     ///
     /// `Closed` comes where the buffer is closed, then `TooManyBytes` where the flushed blocks before the first other
     /// message hold fewer bytes, and then `NoMemory` where more than four promises are settled and the allocator
@@ -91,7 +94,8 @@ impl Buffer {
         self.contents.remove_bytes(n)
     }
 
-    /// Tells of so many more bytes of progress of the first flushed message (Netty's `progress`). It takes no memory.
+    /// Tells of so many more bytes of progress of the first flushed message (Netty's `progress`). It takes the same few
+    /// steps whatever is pending, and no memory.
     ///
     /// `Closed` comes where the buffer is closed, then `NothingFlushed` where no message is flushed, and then `TooFar`
     /// where the progress would pass 9223372036854775807.
@@ -107,7 +111,7 @@ impl Buffer {
 
     /// Takes a promise back (Netty's `Future.cancel`), and answers whether that came in time: a promise that a
     /// flush has fixed, or that is settled, stays as it is. The pending bytes stay too: they fall at the flush. It
-    /// takes no memory.
+    /// takes the same few steps whatever is pending, and no memory.
     ///
     /// `Closed` comes where the buffer is closed, and then `UnknownPromise` where no write was accepted under the id.
     pub fn cancel(&mut self, id: PromiseId) -> Result<Reply, Refusal>
@@ -122,7 +126,8 @@ impl Buffer {
 
     /// Takes all flushed messages away, oldest first, as failed for this cause (Netty's `failFlushed`), and answers how
     /// many they were, voided ones too. The promise of each that was not voided fails. Where `notify` is not set the
-    /// pending bytes fall without notice: the word stays as it was, below the low mark too.
+    /// pending bytes fall without notice: the word stays as it was, below the low mark too. It goes over the messages
+    /// that it takes away.
     ///
     /// `Closed` comes where the buffer is closed, and then `NoMemory` where more than four promises are settled and the
     /// allocator refused; both leave all as it was.
@@ -139,7 +144,8 @@ impl Buffer {
 
     /// Closes the buffer for good: takes all messages away that no flush has reached, oldest first and without notice,
     /// fails their promises for this cause unless they were cancelled, and answers how many messages they were (Netty's
-    /// `close`). The word stays as it was. After it each command is refused as `Closed`, and looks still answer.
+    /// `close`). The word stays as it was. After it each command is refused as `Closed`, and looks still answer. It goes
+    /// over the messages that it takes away.
     ///
     /// `Closed` comes where the buffer is closed already, then `FlushedLeft` where a flushed message is left, voided
     /// ones too, and then `NoMemory` where more than four promises are settled and the allocator refused; all leave
@@ -156,7 +162,8 @@ impl Buffer {
     }
 
     /// Sets the user bit of this index, or clears it where `writable` is set (Netty's
-    /// `setUserDefinedWritability`). The buffer is writable while no user bit and no mark is set. It takes no memory.
+    /// `setUserDefinedWritability`). The buffer is writable while no user bit and no mark is set. It takes the same few
+    /// steps whatever is pending, and no memory.
     ///
     /// `Closed` comes where the buffer is closed, and then `BadIndex` where the index is not 1 to 31.
     pub fn user_bit(&mut self, index: u32, writable: bool) -> Result<Reply, Refusal>

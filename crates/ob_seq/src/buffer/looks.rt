@@ -15,14 +15,15 @@ use bytes::Bytes;
 use ob_types::{Command, Message, PromiseId, PromiseState, Refusal};
 
 impl Buffer {
-    /// What is pending now. It changes nothing and takes no memory.
+    /// What is pending now. It changes nothing, takes the same few steps whatever is pending, and no memory.
     pub fn look(&self) -> Look
         ensures { Shows self.now result }
     {
         self.contents.look()
     }
 
-    /// What has become of a promise, or nothing where no write was accepted under the id. It takes no memory.
+    /// What has become of a promise, or nothing where no write was accepted under the id. It takes the same few
+    /// steps whatever is pending, and no memory.
     pub fn promise(&self, id: PromiseId) -> Option<PromiseState>
         ensures { Tells self.now id result }
     {
@@ -30,7 +31,7 @@ impl Buffer {
     }
 
     /// What is left of the first flushed message: the unread part of a block, which is empty where the message was
-    /// voided (Netty's `current`). It takes no memory.
+    /// voided (Netty's `current`). It takes the same few steps whatever is pending, and no memory.
     pub fn current(&self) -> Option<&Message>
         ensures { IsCurrent self.now (option_copied result) }
     {
@@ -38,7 +39,7 @@ impl Buffer {
     }
 
     /// What is left of each flushed message that was not voided, oldest first (Netty's `forEachFlushedMessage`). It
-    /// takes no memory.
+    /// takes no memory, and the iterator goes over what it gives and over the voided messages that it passes.
     pub fn flushed(&self) -> Flushed<'_>
         ensures { AreFlushed self.now result }
     {
@@ -50,8 +51,9 @@ impl Buffer {
     /// first of them however long it is, and none where `max_count` is 0. They share their memory with the buffer, which
     /// stays as it is.
     ///
-    /// It takes memory for the list alone. `NoMemory` comes where the allocator refused or a block has more
-    /// owners than can be counted, and not where nothing is gathered.
+    /// It goes over the blocks that it gives and the empty ones that it passes, and takes memory for the list alone.
+    /// `NoMemory` comes where the allocator refused or a block has more owners than can be counted, and not where nothing
+    /// is gathered.
     pub fn gather(&self, max_count: u32, max_bytes: u32) -> Result<Vec<Bytes>, Refusal>
         ensures blocks { IfOk result (λ blocks. AreGathered self.now max_count max_bytes blocks.items) }
         ensures no_memory { IfErr result (λ refusal. refusal ≡ Refusal.NoMemory) }
@@ -62,8 +64,8 @@ impl Buffer {
     }
 
     /// How many promises a command would settle: the number of settlements in its reply, and 0 where it would be
-    /// refused. It changes nothing and takes no memory. A command that is no write and settles at most four promises
-    /// takes none either. Our own.
+    /// refused. It changes nothing, takes no memory, and goes no further than the command would. A command that is no
+    /// write and settles at most four promises takes no memory either. Our own.
     pub fn settles(&self, command: &Command) -> u32
         ensures { Settles self.now command.now result }
     {

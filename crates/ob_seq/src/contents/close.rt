@@ -1,4 +1,5 @@
 ghost use Rattle.std.specs.Prelude.{◌≡◌, ◌≤◌, length, drop, IsErrOf, IsOk, IfOk, OnErr};
+ghost use Rattle.ob_types.specs.Limits.{inline_settlements};
 ghost use Rattle.ob_types.specs.declared.command.Command.TheVariants.{Close};
 ghost use Rattle.ob_seq.specs.Pending.{Answers, Follows, Accepts};
 ghost use Rattle.ob_seq.specs.Settles.{SparesMemory};
@@ -29,6 +30,7 @@ impl Contents {
         let first = self.first_unflushed();
         fail_waiting(&mut self.promises, first, cause);
         self.entries.clear();
+        self.total = 0;
         self.closed = true;
         Ok(self.reply(Answer::Count(count as u32), settled, self.word))
     }
@@ -36,7 +38,7 @@ impl Contents {
     /// What the unflushed promises settle when they fail. The first four need no memory.
     fn failures(&self, cause: Cause) -> Result<Settlements, AllocError>
         ensures value { IfOk result (λ settled. settled ≡ failures cause (unflushed_id self.now) (drop (unflushed_id self.now) self.now.promises)) }
-        ensures frugal { length (failures cause (unflushed_id self.now) (drop (unflushed_id self.now) self.now.promises)) ≤ 4 → IsOk result }
+        ensures frugal { length (failures cause (unflushed_id self.now) (drop (unflushed_id self.now) self.now.promises)) ≤ inline_settlements → IsOk result }
     {
         let mut settled = self.no_settlements();
         for id in self.first_unflushed()..self.promises.len() {

@@ -1,9 +1,8 @@
 ghost use Rattle.std.specs.Prelude.{◌≡◌, ◌≤◌, length, drop, IfSome};
 ghost use Rattle.ob_seq.specs.Entry.{blocks_left};
-ghost use Rattle.ob_seq.specs.Inside.{pending_entries};
 ghost use Rattle.ob_seq.specs.Steps.{cut_of, first_length};
 
-use crate::entry::Entry;
+use crate::contents::Contents;
 use ob_types::Message;
 
 /// Where a removal of bytes ends.
@@ -15,27 +14,30 @@ pub struct Cut {
     pub rest: u64,
 }
 
-/// Where the removal of so many bytes ends, or nothing where the blocks in front hold fewer.
-pub fn find_cut(line: &[Entry], n: u64) -> Option<Cut>
-    ensures value { result ≡ cut_of n (blocks_left (pending_entries line.now)) }
-    ensures within { IfSome result (λ cut. cut.whole ≤ length line.now) }
-    ensures rest { IfSome result (λ cut. cut.rest ≤ first_length (drop cut.whole (pending_entries line.now))) }
-{
-    let mut whole = 0;
-    let mut rest = n;
-    for entry in line {
-        let Message::Block(bytes) = &entry.message else {
-            break;
-        };
-        let left = bytes.len() as u64;
-        if left > rest {
-            return Some(Cut { whole, rest });
+impl Contents {
+    /// Where the removal of so many bytes ends, or nothing where the blocks in front hold fewer. It goes over the
+    /// entries that such a removal takes away, and one more.
+    pub(crate) fn find_cut(&self, n: u64) -> Option<Cut>
+        ensures value { result ≡ cut_of n (blocks_left self.now.line) }
+        ensures within { IfSome result (λ cut. cut.whole ≤ length self.now.line) }
+        ensures rest { IfSome result (λ cut. cut.rest ≤ first_length (drop cut.whole self.now.line)) }
+    {
+        let mut whole = 0;
+        let mut rest = n;
+        while whole < self.flushed {
+            let Message::Block(bytes) = &self.entries[whole].message else {
+                break;
+            };
+            let left = bytes.len() as u64;
+            if left > rest {
+                return Some(Cut { whole, rest });
+            }
+            whole += 1;
+            rest -= left;
         }
-        whole += 1;
-        rest -= left;
+        if rest > 0 {
+            return None;
+        }
+        Some(Cut { whole, rest })
     }
-    if rest > 0 {
-        return None;
-    }
-    Some(Cut { whole, rest })
 }

@@ -5,7 +5,7 @@ ghost use Rattle.ob_seq.specs.Pending.{Answers, Follows};
 ghost use Rattle.ob_seq.specs.Steps.{next_flushed, reached_entry, times};
 ghost use Rattle.ob_seq.specs.Row.{is_cancelled as is_cancelled_state};
 
-use crate::contents::{Contents, total_of, word};
+use crate::contents::{Contents, word};
 use crate::entry::Entry;
 use bytes::Bytes;
 use ob_types::{Answer, Message, Outcome, PromiseState, Refusal, Reply};
@@ -44,11 +44,11 @@ impl Contents {
         requires { 0 < length self.old.unflushed }
         ensures { self.new ≡ next_flushed self.old }
     {
-        let id = self.promises.len() - (self.entries.len() - self.flushed);
+        let id = self.first_unflushed();
         if is_cancelled(self.promises[id]) {
             let size = void(&mut self.entries[self.flushed]);
-            let total = total_of(&self.entries);
-            self.word = word::after_fall(self.marks, self.word, size, total);
+            self.total -= size;
+            self.word = word::after_fall(self.marks, self.word, size, self.total);
         } else {
             self.promises[id] = PromiseState::Fixed;
         }

@@ -17,8 +17,8 @@ impl Contents {
     {
         let mut gathered = Vec::new(*self.entries.allocator());
         let mut room = u64::from(max_bytes);
-        for entry in &self.entries[..self.flushed] {
-            let Message::Block(bytes) = &entry.message else {
+        for place in 0..self.flushed {
+            let Message::Block(bytes) = &self.entries[place].message else {
                 break;
             };
             let length = bytes.len() as u64;

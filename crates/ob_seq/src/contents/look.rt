@@ -4,7 +4,7 @@ ghost use Rattle.ob_seq.specs.Looks.{before_unwritable, before_writable};
 ghost use Rattle.ob_seq.specs.Pending.{AreFlushed, IsCurrent, Shows, Tells};
 ghost use Rattle.ob_seq.specs.Steps.{first_progress};
 
-use crate::contents::{Contents, total_of};
+use crate::contents::Contents;
 use crate::flushed::Flushed;
 use crate::look::Look;
 use ob_types::{Message, PromiseId, PromiseState, WaterMark};
@@ -14,13 +14,12 @@ impl Contents {
     pub fn look(&self) -> Look
         ensures { Shows self.now result }
     {
-        let total = total_of(&self.entries);
         Look {
-            total,
+            total: self.total,
             word: self.word,
             size: self.flushed as u32,
-            before_unwritable: before_unwritable(self.marks, self.word, total),
-            before_writable: before_writable(self.marks, self.word, total),
+            before_unwritable: before_unwritable(self.marks, self.word, self.total),
+            before_writable: before_writable(self.marks, self.word, self.total),
             current_progress: self.current_progress(),
         }
     }
@@ -51,7 +50,7 @@ impl Contents {
     pub fn flushed(&self) -> Flushed<'_>
         ensures { AreFlushed self.now result }
     {
-        Flushed::new(&self.entries[..self.flushed])
+        Flushed::new(self.entries.range(..self.flushed))
     }
 
     /// The progress of the front, or 0.

@@ -7,7 +7,6 @@ ghost use Rattle.ob_seq.specs.Settles.{SparesMemory};
 ghost use Rattle.ob_seq.specs.Steps.{first_length, front_skipped, skipped_entry};
 
 use crate::contents::Contents;
-use crate::contents::cut::find_cut;
 use crate::contents::progress::MAX_PROGRESS;
 use crate::entry::Entry;
 use ob_types::{Answer, Message, Outcome, Refusal, Reply};
@@ -25,7 +24,7 @@ impl Contents {
         if self.closed {
             return Err(Refusal::Closed);
         }
-        let Some(cut) = find_cut(&self.entries[..self.flushed], n) else {
+        let Some(cut) = self.find_cut(n) else {
             return Err(Refusal::TooManyBytes);
         };
         let settled = self.settlements(cut.whole, Outcome::Success)?;

@@ -1,15 +1,15 @@
-ghost use Rattle.std.specs.Prelude.{◌≡◌, not, count_by, length, if◌then◌else◌};
+ghost use Rattle.std.specs.Prelude.{◌≡◌, ◌≤◌, not, count_by, length, take, if◌then◌else◌};
+ghost use Rattle.std.specs.VecDeque.{deque_len};
 ghost use Rattle.ob_types.specs.Waiting.{is_waiting};
 ghost use Rattle.ob_types.specs.declared.promise.Outcome.TheVariants.{Success};
 ghost use Rattle.ob_seq.specs.Answer.{still_waits};
-ghost use Rattle.ob_seq.specs.Inside.{pending_entries};
 ghost use Rattle.ob_seq.specs.Settles.{Settles};
 ghost use Rattle.ob_seq.specs.Steps.{bytes_settled, closing_settled, removal_reply};
 
 use crate::contents::Contents;
-use crate::contents::cut::find_cut;
 use crate::entry::Entry;
 use ob_types::{Command, PromiseState};
+use std::collections::VecDeque;
 
 impl Contents {
     /// As `Buffer::settles`.
@@ -27,7 +27,7 @@ impl Contents {
             Command::RemoveBytes(n) => self.bytes_settle(*n),
             Command::Progress(_) => 0,
             Command::Cancel(id) => waiting(self.promise(*id)),
-            Command::FailFlushed(_, _) => unvoided(&self.entries[..self.flushed]) as u32,
+            Command::FailFlushed(_, _) => self.unvoided(self.flushed),
             Command::Close(_) => self.closing_settles(),
             Command::UserBit(_, _) => 0,
         }
@@ -47,9 +47,8 @@ impl Contents {
     fn bytes_settle(&self, n: u64) -> u32
         ensures { result ≡ bytes_settled n self.now.line }
     {
-        let line = &self.entries[..self.flushed];
-        match find_cut(line, n) {
-            Some(cut) => unvoided(&line[..cut.whole]) as u32,
+        match self.find_cut(n) {
+            Some(cut) => self.unvoided(cut.whole),
             None => 0,
         }
     }
@@ -63,6 +62,14 @@ impl Contents {
         }
         count_waiting(&self.promises[self.first_unflushed()..]) as u32
     }
+
+    /// How many of the first so many in line were not voided.
+    fn unvoided(&self, count: usize) -> u32
+        requires { count ≤ length self.now.line }
+        ensures { result ≡ count_by (λ entry. not entry.voided) (take count self.now.line) }
+    {
+        unvoided(&self.entries, count) as u32
+    }
 }
 
 /// How many promises still wait.
@@ -72,11 +79,12 @@ fn count_waiting(promises: &[PromiseState]) -> usize
     promises.iter().filter(|state| state.is_waiting()).count()
 }
 
-/// How many of the entries were not voided.
-fn unvoided(entries: &[Entry]) -> usize
-    ensures { result ≡ count_by (λ entry. not entry.voided) (pending_entries entries.now) }
+/// How many of the first so many entries were not voided.
+fn unvoided(entries: &VecDeque<Entry>, count: usize) -> usize
+    requires { count ≤ deque_len entries.now }
+    ensures { result ≡ count_by (λ entry. not entry.voided) (take count entries.now.items) }
 {
-    entries.iter().filter(|entry| !entry.voided).count()
+    entries.range(..count).filter(|entry| !entry.voided).count()
 }
 
 /// 1 where nothing has become of a promise yet, and else 0.

@@ -1,9 +1,10 @@
 //! How entries are taken away from the front of the line.
 
 ghost use Rattle.std.specs.Prelude.{◌≡◌, ◌<◌, ◌≤◌, length, take, option_to_list, option_map, IsOk, IfOk};
+ghost use Rattle.ob_types.specs.Limits.{inline_settlements};
 ghost use Rattle.ob_seq.specs.Steps.{entry_settlements, front_id, front_settlement, front_taken, times};
 
-use crate::contents::{Contents, total_of, word};
+use crate::contents::{Contents, word};
 use ob_types::{Outcome, PromiseId, PromiseState, Settlements};
 use std::alloc::AllocError;
 
@@ -17,7 +18,7 @@ impl Contents {
     ) -> Result<Settlements, AllocError>
         requires { count ≤ length self.now.line }
         ensures value { IfOk result (λ settled. settled ≡ entry_settlements outcome (front_id self.now) (take count self.now.line)) }
-        ensures frugal { length (entry_settlements outcome (front_id self.now) (take count self.now.line)) ≤ 4 → IsOk result }
+        ensures frugal { length (entry_settlements outcome (front_id self.now) (take count self.now.line)) ≤ inline_settlements → IsOk result }
     {
         let first = self.promises.len() - self.entries.len();
         let mut settled = self.no_settlements();
@@ -47,11 +48,11 @@ impl Contents {
         ensures taken { self.new ≡ front_taken notice outcome self.old }
     {
         let id = self.promises.len() - self.entries.len();
-        let entry = self.entries.remove(0);
+        let entry = self.entries.pop_front()?;
         self.flushed -= 1;
+        self.total -= entry.size;
         if notice {
-            let total = total_of(&self.entries);
-            self.word = word::after_fall(self.marks, self.word, entry.size, total);
+            self.word = word::after_fall(self.marks, self.word, entry.size, self.total);
         }
         if entry.voided {
             return None;

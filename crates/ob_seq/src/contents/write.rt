@@ -4,7 +4,7 @@ ghost use Rattle.ob_types.specs.declared.command.Command.TheVariants.{Write};
 ghost use Rattle.ob_seq.specs.Pending.{Answers, Follows, Accepts};
 ghost use Rattle.ob_seq.specs.Steps.{pending_total, written};
 
-use crate::contents::{Contents, total_of, word};
+use crate::contents::{Contents, word};
 use crate::entry::Entry;
 use ob_types::{Answer, Message, PromiseId, PromiseState, Refusal, Reply, pending_size};
 use std::alloc::AllocError;
@@ -41,7 +41,7 @@ impl Contents {
     fn has_room_for(&self, size: u32) -> bool
         ensures { result ≡ (nat_le (pending_total self.now + size) greatest_total && nat_lt (length self.now.promises) most_writes) }
     {
-        let total = u64::from(total_of(&self.entries)) + u64::from(size);
+        let total = u64::from(self.total) + u64::from(size);
         total <= MAX_TOTAL && self.promises.len() < MAX_WRITES
     }
 
@@ -54,15 +54,15 @@ impl Contents {
     {
         self.entries.reserve(1)?;
         self.promises.reserve(1)?;
-        self.entries.push_reserved(Entry {
+        self.entries.push_back_reserved(Entry {
             message,
-            size,
             progress: 0,
+            size,
             voided: false,
         });
         self.promises.push_reserved(PromiseState::Waiting);
-        let total = total_of(&self.entries);
-        self.word = word::after_rise(self.marks, self.word, size, total);
+        self.total += size;
+        self.word = word::after_rise(self.marks, self.word, size, self.total);
         Ok(())
     }
 }

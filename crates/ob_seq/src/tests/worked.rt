@@ -9,7 +9,7 @@ ghost use Rattle.ob_seq.specs.WorkedBytes.{WritableByBytes, WritableByManyBytes,
 ghost use Rattle.ob_seq.specs.WorkedEndings.{ClosedPastAVoided, EachEnd, NothingLeftAfterAClose};
 ghost use Rattle.ob_seq.specs.WorkedEndings.{PromisesAfterAClose, PromisesBeforeAnEnd};
 ghost use Rattle.ob_seq.specs.WorkedHistories.{AcceptedOfThem, FourWrites, SettledInTurn, OneOfEachPlace};
-ghost use Rattle.ob_seq.specs.WorkedHistories.{OutOfOrder, WaitsUnflushedAlone, SentOnlyWhenGone};
+ghost use Rattle.ob_seq.specs.WorkedHistories.{OutOfOrder, TheFirstTwo, WaitsUnflushedAlone, SentOnlyWhenGone};
 ghost use Rattle.ob_seq.specs.WorkedLimits.{TotalAtItsLimit, LookAtTheLimit, SizesAtTheirLimits, ProgressAtItsTop};
 ghost use Rattle.ob_seq.specs.WorkedLooks.{WritableAtTheMarks, UnwritableAtTheMarks, UnwritableBelowLow};
 ghost use Rattle.ob_seq.specs.WorkedLooks.{UnderAUserBit, UnderALowMarkOfZero};
@@ -94,6 +94,7 @@ fn worked_histories()
     ensures settled_in_turn { SettledInTurn }
     ensures one_of_each_place { OneOfEachPlace }
     ensures out_of_order { OutOfOrder }
+    ensures the_first_two { TheFirstTwo }
     ensures waits_unflushed_alone { WaitsUnflushedAlone }
     ensures sent_only_when_gone { SentOnlyWhenGone }
 {}

@@ -20,7 +20,7 @@ Options:
       --limit <RECORDS>   Commands that are recorded, 1 to 1048576; further ones are refused (1048576 where it is not given)
   -h, --help              Print help
 
-The script comes on standard input:
+The script comes on standard input. Its lines end with the byte 10 alone, one space parts two words:
   ob_tool run --low 200 --high 400 < FILE
 
 Lines of a script:
@@ -34,12 +34,27 @@ Lines of a script:
   p N     tell of N more bytes of progress of the first flushed message
   x ID    cancel the promise ID
   fl C V  fail all flushed messages with the cause C, with notice where V is 1, without where it is 0
-  cl C    close with the cause C
+  cl C    close with the cause C; it is refused while flushed messages are left
   u I V   set the user bit I where V is 0, clear it where V is 1
   ?       look at the buffer
   g C N   gather at most C blocks, 1 to 1024, of together at most N bytes, 1 to 2147483647
 Where no range stands here, the N of r, rb and p go up to 18446744073709551615, I up to 255, and all else up to
 4294967295.
+
+Each line gives one line on standard output; ANSWER t=T w=W CHANGE SETTLEMENTS for a command:
+  ANSWER       `id N` the promise of a write, `n N` so many messages, `yes` or `no` whether there was one to remove or
+               to cancel, `ok`, or `!R` where it is refused
+  t=T w=W      the pending bytes, and the word in hexadecimal digits: the buffer is writable where it is 00000000
+  CHANGE       `-` the buffer became unwritable, `+` it became writable, or nothing
+  SETTLEMENTS  of each promise `ID:ok` as sent, `ID:fC` as failed for the cause C, `ID:x` as cancelled
+A look gives size=S cur=P bu=X bw=Y t=T w=W: S messages are flushed, P is the progress of the first, X bytes more make
+the buffer unwritable, Y bytes fewer writable. A gathering gives g, the length of each block, and t=T w=W.
+
+A refused command changes nothing. The numbers R of `!R`:
+  1 the message is too long        3 too many pending bytes, or writes    4 the buffer is closed
+  5 nothing is flushed             6 too far a progress                   7 more bytes than the blocks in front have
+  8 no user bit (1 to 31)          9 flushed messages are left            10 no such promise
+  11 as many commands as --limit says are recorded
 
 Faults of a line, told as `line N: fault F`:
   1  its first word is none of these
@@ -49,7 +64,8 @@ Faults of a line, told as `line N: fault F`:
   5  too many words follow the first
   6  it has more than 200 bytes
 
-Status: 0 done, 1 the command line, 2 a line, 3 reading or writing, 4 memory
+Faults, and help and the version where they are asked for, go to standard error.
+Status: 0 done, 1 the command line (help and the version too), 2 a line, 3 reading or writing, 4 memory
 ";
 
 /// Gives the program these words, which end it before it reads, and answers what it tells.
@@ -85,6 +101,8 @@ fn help_of_core(rt: HostRuntime) -> Result<(), Fail> {
         "\n  w L  ",
         "\n  t L  ",
         "\n  k L  ",
+        "\nEach line gives one line on standard output; `lane K` for a lane, EVENT t=T w=W CHANGE for a turn:\n  EVENT  ",
+        "\nThe numbers F of `!F`:\n  1 no such lane ",
         "\n  6  it has more than 200 bytes\n  7  a lane behind a turn, a turn before the first lane, ",
     ];
     for part in parts {

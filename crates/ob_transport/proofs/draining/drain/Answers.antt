@@ -11,37 +11,25 @@ use Rattle.ob_transport.proofs.draining.drain.Goals as goal
 pub returns-in_err-pass-clause-alike : goal.returns-in_err-pass-clause-alike
 returns-in_err-pass-clause-alike g c =
     let p = err_from_is_err_and c.from_residual.result c.from_residual.ensures.1 in
-    let before = standing (g.B.Booked.history c.args.booked.now) (g.S.Sink.content c.args.sink.now) in
-    let now = standing (g.B.Booked.history c.loop-turn.booked) (g.S.Sink.content c.loop-turn.sink) in
-    let after = standing (g.B.Booked.history c.pass.new.booked) (g.S.Sink.content c.pass.new.sink) in
     let fault = c.in_err-pass.field-0.0 in
-    rw (p.1, p.2) (λ booked. alike_both before now after c.loop-turn.invariant.2
+    rw (p.1, p.2) (λ booked. alike_both c.loop-turn.invariant.2
     (c.in_err-pass.ensures.alike (λ taken is. booked taken
     (same_fault {A = Pass} {B = Drained} fault (Unbooked taken) is))))
 
 pub returns-in_err-pass-clause-unbooked : goal.returns-in_err-pass-clause-unbooked
 returns-in_err-pass-clause-unbooked g c =
     let p = err_from_is_err_and c.from_residual.result c.from_residual.ensures.1 in
-    let before = standing (g.B.Booked.history c.args.booked.now) (g.S.Sink.content c.args.sink.now) in
-    let now = standing (g.B.Booked.history c.loop-turn.booked) (g.S.Sink.content c.loop-turn.sink) in
-    let after = standing (g.B.Booked.history c.pass.new.booked) (g.S.Sink.content c.pass.new.sink) in
     let fault = c.in_err-pass.field-0.0 in
-    rw (p.1, p.2) (λ taken is. alike_but taken before now after c.loop-turn.invariant.2
+    rw (p.1, p.2) (λ taken is. alike_but c.loop-turn.invariant.2
     (c.in_err-pass.ensures.unbooked taken (same_fault {A = Drained} {B = Pass} fault (Unbooked taken) is)))
 
 pub returns-in-Idle-clause-alike : goal.returns-in-Idle-clause-alike
 returns-in-Idle-clause-alike g c booked =
-    let before = standing (g.B.Booked.history c.args.booked.now) (g.S.Sink.content c.args.sink.now) in
-    let now = standing (g.B.Booked.history c.loop-turn.booked) (g.S.Sink.content c.loop-turn.sink) in
-    let after = standing (g.B.Booked.history c.pass.new.booked) (g.S.Sink.content c.pass.new.sink) in
-    alike_both before now after c.loop-turn.invariant.2 (c.in_ok-pass.ensures.alike (booked_with c.in_ok-pass.field-0))
+    alike_both c.loop-turn.invariant.2 (c.in_ok-pass.ensures.alike (booked_with c.in_ok-pass.field-0))
 
 pub returns-in-Stalled-clause-alike : goal.returns-in-Stalled-clause-alike
 returns-in-Stalled-clause-alike g c booked =
-    let before = standing (g.B.Booked.history c.args.booked.now) (g.S.Sink.content c.args.sink.now) in
-    let now = standing (g.B.Booked.history c.loop-turn.booked) (g.S.Sink.content c.loop-turn.sink) in
-    let after = standing (g.B.Booked.history c.pass.new.booked) (g.S.Sink.content c.pass.new.sink) in
-    alike_both before now after c.loop-turn.invariant.2 (c.in_ok-pass.ensures.alike (booked_with c.in_ok-pass.field-0))
+    alike_both c.loop-turn.invariant.2 (c.in_ok-pass.ensures.alike (booked_with c.in_ok-pass.field-0))
 
 pub loop-turn-preserved : goal.loop-turn-preserved
 loop-turn-preserved g c =
@@ -51,10 +39,9 @@ loop-turn-preserved g c =
     let goes : GoesOn c.in_ok-pass.field-0 =
     elim c.in-Cleared.is [ inl cleared ↦ subst GoesOn (sym cleared) tt | inr took ↦ subst GoesOn (sym took.1) tt ] in
     let kept = c.loop-turn.invariant in (
-      one_more_pass c.args.limits (g.B.Booked.caller c.args.booked.now)
-          (g.B.Booked.caller c.loop-turn.booked) c.loop-turn.turn before now after
-          kept.0 kept.1 c.in_ok-pass.field-0 goes c.in_ok-pass.ensures.by_front,
+      one_more_pass c.args.limits (g.B.Booked.caller c.args.booked.now) (g.B.Booked.caller c.loop-turn.booked)
+          c.loop-turn.turn before now after c.in_ok-pass.field-0 kept.0 kept.1 goes c.in_ok-pass.ensures.by_front,
       c.in_ok-pass.ensures.caller ∙ kept.1,
-      alike_both before now after kept.2 (c.in_ok-pass.ensures.alike (booked_with c.in_ok-pass.field-0)),
+      alike_both kept.2 (c.in_ok-pass.ensures.alike (booked_with c.in_ok-pass.field-0)),
       omega (arith, c.in_ok-pass.ensures.failures, kept.3),
     )

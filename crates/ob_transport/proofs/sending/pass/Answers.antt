@@ -1,7 +1,9 @@
+use Rattle.std.specs.Prelude.{Err}
 use Rattle.ob_transport.specs.Offer.{offer_of}
 use Rattle.ob_transport.specs.Standing.{standing}
+use Rattle.ob_transport.specs.declared.fault.PassFault.TheVariants.{Unbooked}
 use Rattle.ob_transport.proofs.Offers.{accepted_there, ends_there, full_of_offer, idle_of_offer, offer_there}
-use Rattle.ob_transport.proofs.Passes.{pass_alike, pass_unbooked}
+use Rattle.ob_transport.proofs.Passes.{alike_of, pass_grows}
 use Rattle.ob_transport.proofs.sending.pass.Goals as goal
 
 pub returns-clause-by_front : goal.returns-clause-by_front
@@ -15,32 +17,27 @@ returns-clause-by_front g c =
 pub returns-clause-alike : goal.returns-clause-alike
 returns-clause-alike g c =
     let before = standing (g.B.Booked.history c.args.booked.now) (g.S.Sink.content c.args.sink.now) in
-    let after = standing (g.B.Booked.history c.act.new.booked) (g.S.Sink.content c.act.new.sink) in
-    pass_alike before c.args.limits (g.B.Booked.caller c.args.booked.now)
+    alike_of c.act.result (pass_grows before c.args.limits (g.B.Booked.caller c.args.booked.now)
     (accepted_there before c.buffer.result.now c.buffer.ensures.stands c.buffer.ensures.settings)
-    c.act.result after (returns-clause-by_front g c)
+    c.act.result _ (returns-clause-by_front g c))
 
 pub returns-clause-unbooked : goal.returns-clause-unbooked
 returns-clause-unbooked g c taken is =
     let before = standing (g.B.Booked.history c.args.booked.now) (g.S.Sink.content c.args.sink.now) in
-    let after = standing (g.B.Booked.history c.act.new.booked) (g.S.Sink.content c.act.new.sink) in
-    pass_unbooked before c.args.limits (g.B.Booked.caller c.args.booked.now)
+    pass_grows before c.args.limits (g.B.Booked.caller c.args.booked.now)
     (accepted_there before c.buffer.result.now c.buffer.ensures.stands c.buffer.ensures.settings)
-    taken after (rw is at (returns-clause-by_front g c))
+    (Err (Unbooked taken)) _ (rw is at (returns-clause-by_front g c))
 
 pub returns-clause-idle : goal.returns-clause-idle
 returns-clause-idle g c is =
     let before = standing (g.B.Booked.history c.args.booked.now) (g.S.Sink.content c.args.sink.now) in
-    let after = standing (g.B.Booked.history c.act.new.booked) (g.S.Sink.content c.act.new.sink) in
-    let caller = g.B.Booked.caller c.args.booked.now in
     let there = offer_there c.args.limits before c.buffer.result.now (offer_of c.in_ok-next.next)
     c.buffer.ensures.stands c.buffer.ensures.settings c.in_ok-next.ensures.offer in
     let ends = rw is at c.act.ensures.ends in
-    idle_of_offer c.args.limits caller before after (rw there at ends)
+    idle_of_offer c.args.limits (g.B.Booked.caller c.args.booked.now) before _ (rw there at ends)
 
 pub returns-clause-full : goal.returns-clause-full
 returns-clause-full g c is =
     let before = standing (g.B.Booked.history c.args.booked.now) (g.S.Sink.content c.args.sink.now) in
-    let after = standing (g.B.Booked.history c.act.new.booked) (g.S.Sink.content c.act.new.sink) in
-    full_of_offer (g.B.Booked.caller c.args.booked.now) (offer_of c.in_ok-next.next) before after
+    full_of_offer (g.B.Booked.caller c.args.booked.now) (offer_of c.in_ok-next.next) before _
     (rw is at c.act.ensures.ends)

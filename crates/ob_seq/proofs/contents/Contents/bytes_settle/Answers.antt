@@ -1,13 +1,9 @@
-use Rattle.std.proofs.Common.{◌≡◌, ℕ, ◌-◌, Bool, true, false, not, List, take, refl, sym, ap, ◌∙◌, cond, ltb}
+use Rattle.std.proofs.Common.{◌≡◌, ℕ, ◌-◌, Bool, true, false, not, List, take, refl, ap, ◌∙◌, cond, ltb}
 use Rattle.std.specs.Prelude.{Option, Some, None, count_by}
-use Rattle.std.proofs.lemmas.List.{take-map}
 use Rattle.ob_seq.specs.declared.contents.cut.Cut.{Cut}
 use Rattle.ob_seq.specs.Entry.{PendingEntry, blocks_left}
-use Rattle.ob_seq.specs.Inside.{pending_entry}
-use Rattle.ob_seq.specs.Pending.{Pending}
 use Rattle.ob_seq.specs.Pieces.{bytes_in, pieces_within}
 use Rattle.ob_seq.specs.Steps.{bytes_settled, cut_of}
-use Rattle.ob_seq.proofs.Entries.{seen}
 use Rattle.ob_seq.proofs.contents.Contents.bytes_settle.Goals as goal
 
 -- how many of the entries up to a place were not voided
@@ -33,15 +29,7 @@ module _ (n : ℕ) (line : List PendingEntry) where
   some_settled cut some = some_by (ltb (bytes_in (blocks_left line)) n) cut_there cut line some
 
 pub returns-in-Some : goal.returns-in-Some
-returns-in-Some c =
-    let now = c.args.self.now in
-    let line = seen now c.deref.result.now c.self.inside.entries.items c.self.inside.flushed c.deref.ensures.value (ap (λ (held : Pending). held.line) (sym c.self.view_is)) in
-    c.unvoided.ensures
-    ∙ ap (count_by (λ (entry : PendingEntry). not entry.voided)) (sym (take-map pending_entry c.in-Some.cut.whole (take c.self.inside.flushed c.deref.result.now)) ∙ ap (take c.in-Some.cut.whole) line)
-    ∙ some_settled c.args.n now.line c.in-Some.cut (c.in-Some.ensures.value ∙ ap (λ entries. cut_of c.args.n (blocks_left entries)) line)
+returns-in-Some c = c.unvoided.ensures ∙ some_settled c.args.n c.args.self.now.line c.in-Some.cut c.in-Some.ensures.value
 
 pub returns-in-None : goal.returns-in-None
-returns-in-None c =
-    let now = c.args.self.now in
-    let line = seen now c.deref.result.now c.self.inside.entries.items c.self.inside.flushed c.deref.ensures.value (ap (λ (held : Pending). held.line) (sym c.self.view_is)) in
-    none_settled c.args.n now.line (c.in-None.ensures.value ∙ ap (λ entries. cut_of c.args.n (blocks_left entries)) line)
+returns-in-None c = none_settled c.args.n c.args.self.now.line c.in-None.ensures.value

@@ -1,12 +1,17 @@
-use Rattle.std.proofs.Common.{sym, ap, ◌∙◌}
+use Rattle.std.proofs.Common.{◌≡◌, take, sym, ap, ◌∙◌}
+use native.Mathlib.Numerals.{unary_clauses}
+use Rattle.std.specs.VecDeque.Iter.{deque_iter_rest}
+use Rattle.std.proofs.lemmas.List.{take-map}
 use Rattle.ob_seq.specs.Effect.{rows_after}
 use Rattle.ob_seq.specs.Entry.{messages_to_send}
-use Rattle.ob_seq.specs.Pending.{Pending}
-use Rattle.ob_seq.proofs.Entries.{seen}
+use Rattle.ob_seq.specs.Inside.{pending_entry, pending_entries}
+use Rattle.ob_seq.proofs.Fields.{line_is}
 use Rattle.ob_seq.proofs.Sending.{to_send_is}
 use Rattle.ob_seq.proofs.contents.Contents.flushed.Goals as goal
 
 pub returns : goal.returns
 returns c commands stands =
-    c.new.ensures ∙ ap messages_to_send (seen c.args.self.now c.deref.result.now c.self.inside.entries.items c.self.inside.flushed c.deref.ensures.value (ap (λ (held : Pending). held.line) (sym c.self.view_is)) ∙ stands.line)
-    ∙ to_send_is (rows_after c.args.self.now.settings.estimate commands)
+    let now = c.args.self.now in
+    let rest : deque_iter_rest c.range.result ≡ take c.self.inside.flushed c.self.inside.entries.items = simp unary_clauses at c.range.ensures.rest in
+    c.new.ensures ∙ ap (λ entries. messages_to_send (pending_entries entries)) rest ∙ ap messages_to_send (sym (take-map pending_entry c.self.inside.flushed c.self.inside.entries.items))
+    ∙ ap messages_to_send (sym (line_is now c.self.inside c.self.view_is c.self.invariant) ∙ stands.line) ∙ to_send_is (rows_after now.settings.estimate commands)

@@ -1,23 +1,15 @@
-use Rattle.std.proofs.Common.{◌≡◌, ℕ, ◌+◌, ◌-◌, ◌<◌, ◌≤◌, Bool, true, false, ◌&&◌, ◌||◌, List, [], ◌∷◌, ◌++◌, length, take, drop, sym, ap, ◌∙◌, cond, leb, ltb, append-nil, append_assoc, length-append, get_or, arith}
+use Rattle.std.proofs.Common.{◌≡◌, ℕ, ◌+◌, ◌-◌, ◌<◌, ◌≤◌, Bool, true, false, ◌&&◌, ◌||◌, List, [], ◌∷◌, ◌++◌, length, drop, sym, ap, ◌∙◌, cond, leb, ltb, append-nil, append_assoc, length-append, arith}
 use Rattle.std.proofs.lemmas.Bool.Decides.{nat_tests}
-use Rattle.ob_types.specs.declared.message.Message.TheVariants.{Block}
-use Rattle.ob_seq.specs.declared.entry.Entry.{Entry}
-use Rattle.ob_seq.specs.Entry.{PendingEntry, blocks_left}
-use Rattle.ob_seq.specs.Inside.{pending_entries}
+use Rattle.ob_types.specs.declared.command.Command.{Command}
+use Rattle.ob_seq.specs.Entry.{blocks_left}
 use Rattle.ob_seq.specs.Gathering.{with_bytes, first_blocks, gathered_after}
-use Rattle.ob_seq.specs.Pending.{Pending}
-use Rattle.ob_seq.proofs.Blocks.{left_from_block, left_from_other, left_at_end}
+use Rattle.ob_seq.specs.Pending.{Pending, StandsFor}
+use Rattle.ob_seq.proofs.Blocks.{left_at_end}
 use Rattle.ob_seq.proofs.BytesRemoved.{run_is}
-use Rattle.ob_seq.proofs.Entries.{seen}
+use Rattle.ob_seq.proofs.Fields.{left_at_block, left_at_other, line_count}
 use Rattle.ob_seq.proofs.Gathered.{gather_from, first_blocks_are}
 use Rattle.ob_seq.proofs.contents.Contents.gather.Goals as goal
-use Rattle.ob_seq.proofs.contents.Contents.gather.Goals.{then-length-gt0+else-not-has_room+in_ok-clone+in_ok-push, else-length-gt0, else-loop-entry-test, then-loop-entry-test+in_default, then-loop-entry-test+in-Block+then-length-gt0+then-not-has_room}
-
--- the blocks left in line from one on, seen through the slice that is walked
-block_seen : (line : List PendingEntry) (slice : List Entry) (i : ℕ) (entry : Entry) (bytes : List ℕ) → pending_entries slice ≡ line → i < length slice → entry ≡ get_or slice i entry →
-    entry.message ≡ Block bytes → blocks_left (drop i line) ≡ bytes ∷ blocks_left (drop (i + 1) line)
-block_seen line slice i entry bytes same inside is block =
-    ap (λ entries. blocks_left (drop i entries)) (sym same) ∙ left_from_block slice i entry inside is bytes block ∙ ap (λ entries. bytes ∷ blocks_left (drop (i + 1) entries)) same
+use Rattle.ob_seq.proofs.contents.Contents.gather.Goals.{then-length-gt0+else-not-has_room+in_ok-clone+in_ok-push, else-length-gt0, else-loop-place-test, then-loop-place-test+in_default, then-loop-place-test+in-Block+then-length-gt0+then-not-has_room}
 
 holds : (n : ℕ) → 0 < n → ltb 0 n ≡ true
 holds n some = grind (arith, nat_tests)
@@ -60,73 +52,84 @@ pushed max_count room room' items items' block blocks same left =
     ∙ ap (λ all. all ++ gather_from max_count (length all) (room - length block) blocks) (sym same)
     ∙ ap (λ r. items' ++ gather_from max_count (length items') r blocks) (sym left)
 
+-- with a block that goes along something is gathered
+module _ (held : Pending) (commands : List Command) (stands : StandsFor held commands) (max_count max_bytes place room : ℕ) (items : List (List ℕ)) (block : List ℕ)
+    (so_far : gather_from max_count 0 max_bytes (blocks_left held.line) ≡ items ++ gather_from max_count (length items) room (blocks_left (drop place held.line)))
+    (left : blocks_left (drop place held.line) ≡ block ∷ blocks_left (drop (place + 1) held.line)) where
+  some_gathered : 0 < length block → (ltb (length items) max_count && (leb (length items) 0 || leb (length block) room)) ≡ true →
+      gathered_after held.settings commands max_count max_bytes ≡ [] → ⊥
+  some_gathered some fits nothing =
+      let behind = blocks_left (drop (place + 1) held.line) in
+      let none = ap (λ run. first_blocks max_count max_bytes (with_bytes run)) (sym (run_is held commands stands)) ∙ nothing in
+      let whole = so_far ∙ ap (λ rest. items ++ gather_from max_count (length items) room rest) left ∙ ap (λ more. items ++ more) (one_more max_count (length items) room block behind some fits) in
+      not_empty (gather_from max_count 0 max_bytes (blocks_left held.line)) items (gather_from max_count (length items + 1) (room - length block) behind) block whole
+      (first_blocks_are max_count max_bytes (blocks_left held.line) ∙ none)
+
 pub returns-in_err-clone-clause-frugal : goal.returns-in_err-clone-clause-frugal
 returns-in_err-clone-clause-frugal c commands stands nothing =
-    let none = ap (λ run. first_blocks c.args.max_count c.args.max_bytes (with_bytes run)) (sym (run_is c.args.self.now commands stands)) ∙ nothing in
-    let line = seen c.args.self.now c.deref.result.now c.self.inside.entries.items c.self.inside.flushed c.deref.ensures.value (ap (λ (held : Pending). held.line) (sym c.self.view_is)) in
-    let left = block_seen c.args.self.now.line (take c.self.inside.flushed c.deref.result.now) c.loop-entry.entry-index c.entry-item.result c.in-Block.bytes line c.loop-entry-test.true c.entry-item.is c.in-Block.is in
-    let items = c.loop-entry.gathered.items in
-    let behind = blocks_left (drop (c.loop-entry.entry-index + 1) c.args.self.now.line) in
-    let fits = same_test c.args.max_count c.len.result (length items) c.loop-entry.room c.len-length.result (length c.in-Block.bytes) c.has_room.result true c.has_room.ensures (c.len.ensures ∙ c.loop-entry.gathered.ok.0) c.len-length.ensures.value c.if-not-has_room.false in
-    let whole = c.loop-entry.invariant ∙ ap (λ rest. items ++ gather_from c.args.max_count (length items) c.loop-entry.room rest) left
-    ∙ ap (λ more. items ++ more) (one_more c.args.max_count (length items) c.loop-entry.room c.in-Block.bytes behind (omega (arith, c.len-length.ensures.value, c.if-length-gt0.true)) fits) in
-    absurd (not_empty (gather_from c.args.max_count 0 c.args.max_bytes (blocks_left c.args.self.now.line)) items (gather_from c.args.max_count (length items + 1) (c.loop-entry.room - length c.in-Block.bytes) behind) c.in-Block.bytes whole
-    (first_blocks_are c.args.max_count c.args.max_bytes (blocks_left c.args.self.now.line) ∙ none))
+    let now = c.args.self.now in
+    let place = c.loop-place.place in
+    let items = c.loop-place.gathered.items in
+    let left = left_at_block now c.self.inside c.self.view_is c.self.invariant place c.index.result.now c.loop-place-test.true c.index.ensures c.in-Block.bytes c.in-Block.is in
+    let fits = same_test c.args.max_count c.len.result (length items) c.loop-place.room c.len-length.result (length c.in-Block.bytes) c.has_room.result true c.has_room.ensures
+    (c.len.ensures ∙ c.loop-place.gathered.ok.0) c.len-length.ensures.value c.if-not-has_room.false in
+    absurd (some_gathered now commands stands c.args.max_count c.args.max_bytes place c.loop-place.room items c.in-Block.bytes c.loop-place.invariant left
+    (omega (arith, c.len-length.ensures.value, c.if-length-gt0.true)) fits nothing)
 
 pub returns-in_err-push-clause-frugal : goal.returns-in_err-push-clause-frugal
 returns-in_err-push-clause-frugal c commands stands nothing =
-    let none = ap (λ run. first_blocks c.args.max_count c.args.max_bytes (with_bytes run)) (sym (run_is c.args.self.now commands stands)) ∙ nothing in
-    let line = seen c.args.self.now c.deref.result.now c.self.inside.entries.items c.self.inside.flushed c.deref.ensures.value (ap (λ (held : Pending). held.line) (sym c.self.view_is)) in
-    let left = block_seen c.args.self.now.line (take c.self.inside.flushed c.deref.result.now) c.loop-entry.entry-index c.entry-item.result c.in-Block.bytes line c.loop-entry-test.true c.entry-item.is c.in-Block.is in
-    let items = c.loop-entry.gathered.items in
-    let behind = blocks_left (drop (c.loop-entry.entry-index + 1) c.args.self.now.line) in
-    let fits = same_test c.args.max_count c.len.result (length items) c.loop-entry.room c.len-length.result (length c.in-Block.bytes) c.has_room.result true c.has_room.ensures (c.len.ensures ∙ c.loop-entry.gathered.ok.0) c.len-length.ensures.value c.if-not-has_room.false in
-    let whole = c.loop-entry.invariant ∙ ap (λ rest. items ++ gather_from c.args.max_count (length items) c.loop-entry.room rest) left
-    ∙ ap (λ more. items ++ more) (one_more c.args.max_count (length items) c.loop-entry.room c.in-Block.bytes behind (omega (arith, c.len-length.ensures.value, c.if-length-gt0.true)) fits) in
-    absurd (not_empty (gather_from c.args.max_count 0 c.args.max_bytes (blocks_left c.args.self.now.line)) items (gather_from c.args.max_count (length items + 1) (c.loop-entry.room - length c.in-Block.bytes) behind) c.in-Block.bytes whole
-    (first_blocks_are c.args.max_count c.args.max_bytes (blocks_left c.args.self.now.line) ∙ none))
+    let now = c.args.self.now in
+    let place = c.loop-place.place in
+    let items = c.loop-place.gathered.items in
+    let left = left_at_block now c.self.inside c.self.view_is c.self.invariant place c.index.result.now c.loop-place-test.true c.index.ensures c.in-Block.bytes c.in-Block.is in
+    let fits = same_test c.args.max_count c.len.result (length items) c.loop-place.room c.len-length.result (length c.in-Block.bytes) c.has_room.result true c.has_room.ensures
+    (c.len.ensures ∙ c.loop-place.gathered.ok.0) c.len-length.ensures.value c.if-not-has_room.false in
+    absurd (some_gathered now commands stands c.args.max_count c.args.max_bytes place c.loop-place.room items c.in-Block.bytes c.loop-place.invariant left
+    (omega (arith, c.len-length.ensures.value, c.if-length-gt0.true)) fits nothing)
 
-pub loop-entry-preserved : goal.loop-entry-preserved
-loop-entry-preserved c =
-    let line = seen c.args.self.now c.deref.result.now c.self.inside.entries.items c.self.inside.flushed c.deref.ensures.value (ap (λ (held : Pending). held.line) (sym c.self.view_is)) in
-    let left = block_seen c.args.self.now.line (take c.self.inside.flushed c.deref.result.now) c.loop-entry.entry-index c.entry-item.result c.in-Block.bytes line c.loop-entry-test.true c.entry-item.is c.in-Block.is in
-    let behind = blocks_left (drop (c.loop-entry.entry-index + 1) c.args.self.now.line) in
+pub loop-place-preserved : goal.loop-place-preserved
+loop-place-preserved c =
+    let now = c.args.self.now in
+    let place = c.loop-place.place in
+    let items = c.loop-place.gathered.items in
+    let left = left_at_block now c.self.inside c.self.view_is c.self.invariant place c.index.result.now c.loop-place-test.true c.index.ensures c.in-Block.bytes c.in-Block.is in
+    let behind = blocks_left (drop (place + 1) now.line) in
+    let so_far = c.loop-place.invariant ∙ ap (λ rest. items ++ gather_from c.args.max_count (length items) c.loop-place.room rest) left in
     elim c.if-length-gt0.branch [
       | then-length-gt0+else-not-has_room+in_ok-clone+in_ok-push w ↦
-          c.loop-entry.invariant
-          ∙ ap (λ rest. c.loop-entry.gathered.items ++ gather_from c.args.max_count (length c.loop-entry.gathered.items) c.loop-entry.room rest) left
-          ∙ ap (λ more. c.loop-entry.gathered.items ++ more) (one_more c.args.max_count (length c.loop-entry.gathered.items) c.loop-entry.room c.in-Block.bytes behind (omega (arith, c.len-length.ensures.value, w.if-length-gt0.true))
-          (same_test c.args.max_count w.len.result (length c.loop-entry.gathered.items) c.loop-entry.room c.len-length.result (length c.in-Block.bytes) w.has_room.result true w.has_room.ensures (w.len.ensures ∙ c.loop-entry.gathered.ok.0) c.len-length.ensures.value w.if-not-has_room.false))
-          ∙ pushed c.args.max_count c.loop-entry.room c.if-length-gt0.room c.loop-entry.gathered.items c.if-length-gt0.gathered.items c.in-Block.bytes behind
-          (ap (λ held. held.items) w.gathered-is ∙ w.in_ok-push.ensures.items ∙ ap (λ block. c.loop-entry.gathered.items ++ block ∷ []) w.in_ok-clone.ensures.cases)
-          (w.room-is ∙ w.saturating_sub-room.ensures ∙ ap (λ l. c.loop-entry.room - l) c.len-length.ensures.value)
+          so_far
+          ∙ ap (λ more. items ++ more) (one_more c.args.max_count (length items) c.loop-place.room c.in-Block.bytes behind (omega (arith, c.len-length.ensures.value, w.if-length-gt0.true))
+          (same_test c.args.max_count w.len.result (length items) c.loop-place.room c.len-length.result (length c.in-Block.bytes) w.has_room.result true w.has_room.ensures
+          (w.len.ensures ∙ c.loop-place.gathered.ok.0) c.len-length.ensures.value w.if-not-has_room.false))
+          ∙ pushed c.args.max_count c.loop-place.room c.if-length-gt0.room items c.if-length-gt0.gathered.items c.in-Block.bytes behind
+          (ap (λ held. held.items) w.gathered-is ∙ w.in_ok-push.ensures.items ∙ ap (λ block. items ++ block ∷ []) w.in_ok-clone.ensures.cases)
+          (w.room-is ∙ w.saturating_sub-room.ensures ∙ ap (λ l. c.loop-place.room - l) c.len-length.ensures.value)
       | else-length-gt0 w ↦
-          c.loop-entry.invariant
-          ∙ ap (λ rest. c.loop-entry.gathered.items ++ gather_from c.args.max_count (length c.loop-entry.gathered.items) c.loop-entry.room rest) left
-          ∙ ap (λ more. c.loop-entry.gathered.items ++ more) (passed c.args.max_count (length c.loop-entry.gathered.items) c.loop-entry.room c.in-Block.bytes behind (omega (arith, c.len-length.ensures.value, w.if-length-gt0.false)))
-          ∙ ap (λ r. c.loop-entry.gathered.items ++ gather_from c.args.max_count (length c.loop-entry.gathered.items) r behind) (sym w.room-is)
+          so_far
+          ∙ ap (λ more. items ++ more) (passed c.args.max_count (length items) c.loop-place.room c.in-Block.bytes behind (omega (arith, c.len-length.ensures.value, w.if-length-gt0.false)))
+          ∙ ap (λ r. items ++ gather_from c.args.max_count (length items) r behind) (sym w.room-is)
           ∙ ap (λ all. all ++ gather_from c.args.max_count (length all) c.if-length-gt0.room behind) (sym (ap (λ held. held.items) w.gathered-is))
     ]
 
 pub returns-clause-blocks : goal.returns-clause-blocks
-returns-clause-blocks c commands stands = elim c.loop-entry-test.branch [
-  | else-loop-entry-test w ↦ whole (ap (gather_from c.args.max_count (length c.loop-entry.gathered.items) c.loop-entry.room)
-      (ap (λ entries. blocks_left (drop c.loop-entry.entry-index entries)) (sym line) ∙ left_at_end (take c.self.inside.flushed c.deref.result.now) c.loop-entry.entry-index w.loop-entry-test.false))
-  | then-loop-entry-test+in_default w ↦ whole (ap (gather_from c.args.max_count (length c.loop-entry.gathered.items) c.loop-entry.room)
-      (ap (λ entries. blocks_left (drop c.loop-entry.entry-index entries)) (sym line)
-      ∙ left_from_other (take c.self.inside.flushed c.deref.result.now) c.loop-entry.entry-index w.entry-item.result w.loop-entry-test.true w.entry-item.is w.in_default.not-Block))
-  | then-loop-entry-test+in-Block+then-length-gt0+then-not-has_room w ↦ whole (ap (gather_from c.args.max_count (length c.loop-entry.gathered.items) c.loop-entry.room)
-      (block_seen c.args.self.now.line (take c.self.inside.flushed c.deref.result.now) c.loop-entry.entry-index w.entry-item.result w.in-Block.bytes line w.loop-entry-test.true w.entry-item.is w.in-Block.is)
-      ∙ ended c.args.max_count (length c.loop-entry.gathered.items) c.loop-entry.room w.in-Block.bytes (blocks_left (drop (c.loop-entry.entry-index + 1) c.args.self.now.line)) (omega (arith, w.len-length.ensures.value, w.if-length-gt0.true))
-      (same_test c.args.max_count w.len.result (length c.loop-entry.gathered.items) c.loop-entry.room w.len-length.result (length w.in-Block.bytes) w.has_room.result false w.has_room.ensures (w.len.ensures ∙ c.loop-entry.gathered.ok.0) w.len-length.ensures.value w.if-not-has_room.true))
+returns-clause-blocks c commands stands = elim c.loop-place-test.branch [
+  | else-loop-place-test w ↦ whole (ap (gather_from c.args.max_count (length items) c.loop-place.room)
+      (left_at_end c.args.self.now.line c.loop-place.place (omega (arith, w.loop-place-test.false, line_count c.args.self.now c.self.inside c.self.view_is c.self.invariant))))
+  | then-loop-place-test+in_default w ↦ whole (ap (gather_from c.args.max_count (length items) c.loop-place.room)
+      (left_at_other c.args.self.now c.self.inside c.self.view_is c.self.invariant c.loop-place.place w.index.result.now w.loop-place-test.true w.index.ensures w.in_default.not-Block))
+  | then-loop-place-test+in-Block+then-length-gt0+then-not-has_room w ↦ whole (ap (gather_from c.args.max_count (length items) c.loop-place.room)
+      (left_at_block c.args.self.now c.self.inside c.self.view_is c.self.invariant c.loop-place.place w.index.result.now w.loop-place-test.true w.index.ensures w.in-Block.bytes w.in-Block.is)
+      ∙ ended c.args.max_count (length items) c.loop-place.room w.in-Block.bytes (blocks_left (drop (c.loop-place.place + 1) c.args.self.now.line)) (omega (arith, w.len-length.ensures.value, w.if-length-gt0.true))
+      (same_test c.args.max_count w.len.result (length items) c.loop-place.room w.len-length.result (length w.in-Block.bytes) w.has_room.result false w.has_room.ensures
+      (w.len.ensures ∙ c.loop-place.gathered.ok.0) w.len-length.ensures.value w.if-not-has_room.true))
 ]
   where
-    line : pending_entries (take c.self.inside.flushed c.deref.result.now) ≡ c.args.self.now.line
-    line = seen c.args.self.now c.deref.result.now c.self.inside.entries.items c.self.inside.flushed c.deref.ensures.value (ap (λ (held : Pending). held.line) (sym c.self.view_is))
+    items : List (List ℕ)
+    items = c.loop-place.gathered.items
 
-    whole : gather_from c.args.max_count (length c.loop-entry.gathered.items) c.loop-entry.room (blocks_left (drop c.loop-entry.entry-index c.args.self.now.line)) ≡ [] →
-        c.loop-entry.gathered.items ≡ gathered_after c.args.self.now.settings commands c.args.max_count c.args.max_bytes
+    whole : gather_from c.args.max_count (length items) c.loop-place.room (blocks_left (drop c.loop-place.place c.args.self.now.line)) ≡ [] →
+        items ≡ gathered_after c.args.self.now.settings commands c.args.max_count c.args.max_bytes
     whole none =
-        sym (c.loop-entry.invariant ∙ ap (λ more. c.loop-entry.gathered.items ++ more) none ∙ append-nil c.loop-entry.gathered.items)
+        sym (c.loop-place.invariant ∙ ap (λ more. items ++ more) none ∙ append-nil items)
         ∙ first_blocks_are c.args.max_count c.args.max_bytes (blocks_left c.args.self.now.line)
         ∙ ap (λ run. first_blocks c.args.max_count c.args.max_bytes (with_bytes run)) (sym (run_is c.args.self.now commands stands))

@@ -3,6 +3,6 @@ use Rattle.ob_seq.specs.Entry.{blocks_left}
 use Rattle.ob_seq.proofs.Gathered.{gather_from}
 use Rattle.ob_seq.proofs.contents.Contents.gather.Given as goal
 
-abbrev pub invariant-loop-entry : goal.invariant-loop-entry
-invariant-loop-entry l =
-    gather_from l.max_count 0 l.max_bytes (blocks_left l.self.line) ≡ l.gathered.items ++ gather_from l.max_count (length l.gathered.items) l.room (blocks_left (drop l.entry-index l.self.line))
+abbrev pub invariant-loop-place : goal.invariant-loop-place
+invariant-loop-place l =
+    gather_from l.max_count 0 l.max_bytes (blocks_left l.self.line) ≡ l.gathered.items ++ gather_from l.max_count (length l.gathered.items) l.room (blocks_left (drop l.place l.self.line))

@@ -1,10 +1,8 @@
 use Rattle.std.proofs.Common.{◌≡◌, ℕ, ◌+◌, ◌<◌, ◌≤◌, ◌&&◌, length, leb, ltb, sym, ap, ◌∙◌, arith}
 use Rattle.std.proofs.lemmas.Bool.Decides.{nat_tests}
 use Rattle.ob_types.specs.Limits.{greatest_total, most_writes}
-use Rattle.ob_seq.specs.Inside.{pending_entries}
-use Rattle.ob_seq.specs.Pending.{Pending}
-use Rattle.ob_seq.specs.Steps.{sum_of, pending_total}
-use Rattle.ob_seq.proofs.Entries.{sum_of_parts}
+use Rattle.ob_seq.specs.Steps.{pending_total}
+use Rattle.ob_seq.proofs.Fields.{promise_count, total_is}
 use Rattle.ob_seq.proofs.contents.Contents.has_room_for.Goals as goal
 
 -- the two tests one after the other are the two tests joined
@@ -16,19 +14,21 @@ overflows sum count over = grind (arith, nat_tests)
 
 pub returns-then-total-le-MAX_TOTAL : goal.returns-then-total-le-MAX_TOTAL
 returns-then-total-le-MAX_TOTAL c =
-    let pending : pending_total c.args.self.now ≡ c.total_of.result =
-    ap pending_total (sym c.self.view_is) ∙ sum_of_parts c.self.inside.flushed (pending_entries c.self.inside.entries.items) ∙ sym (c.total_of.ensures ∙ ap (λ items. sum_of (pending_entries items)) c.deref.ensures.value) in
-    let sum : pending_total c.args.self.now + c.args.size ≡ c.from.result + c.from-2.result = omega (arith, pending) in
-    let count : length c.args.self.now.promises ≡ c.len.result = ap (λ (held : Pending). length held.promises) (sym c.self.view_is) ∙ sym c.self.inside.promises.ok.0 ∙ sym c.len.ensures in
+    let now = c.args.self.now in
+    let pending : c.self.inside.total ≡ pending_total now =
+    total_is now c.self.inside c.self.view_is c.self.invariant in
+    let sum : pending_total now + c.args.size ≡ c.from.result + c.from-2.result = omega (arith, pending) in
+    let count : length now.promises ≡ c.len.result = promise_count now c.self.inside c.self.view_is c.self.invariant ∙ sym c.len.ensures in
     let fits : c.from.result + c.from-2.result ≤ greatest_total = c.if-total-le-MAX_TOTAL.true in
     fits_then (c.from.result + c.from-2.result) c.len.result fits
-    ∙ ap (λ all. leb all greatest_total && ltb c.len.result most_writes) (sym sum) ∙ ap (λ all. leb (pending_total c.args.self.now + c.args.size) greatest_total && ltb all most_writes) (sym count)
+    ∙ ap (λ all. leb all greatest_total && ltb c.len.result most_writes) (sym sum) ∙ ap (λ all. leb (pending_total now + c.args.size) greatest_total && ltb all most_writes) (sym count)
 
 pub returns-else-total-le-MAX_TOTAL : goal.returns-else-total-le-MAX_TOTAL
 returns-else-total-le-MAX_TOTAL c =
-    let pending : pending_total c.args.self.now ≡ c.total_of.result =
-    ap pending_total (sym c.self.view_is) ∙ sum_of_parts c.self.inside.flushed (pending_entries c.self.inside.entries.items) ∙ sym (c.total_of.ensures ∙ ap (λ items. sum_of (pending_entries items)) c.deref.ensures.value) in
-    let sum : pending_total c.args.self.now + c.args.size ≡ c.from.result + c.from-2.result = omega (arith, pending) in
+    let now = c.args.self.now in
+    let pending : c.self.inside.total ≡ pending_total now =
+    total_is now c.self.inside c.self.view_is c.self.invariant in
+    let sum : pending_total now + c.args.size ≡ c.from.result + c.from-2.result = omega (arith, pending) in
     let over : greatest_total < c.from.result + c.from-2.result = c.if-total-le-MAX_TOTAL.false in
-    overflows (c.from.result + c.from-2.result) (length c.args.self.now.promises) over
-    ∙ ap (λ all. leb all greatest_total && ltb (length c.args.self.now.promises) most_writes) (sym sum)
+    overflows (c.from.result + c.from-2.result) (length now.promises) over
+    ∙ ap (λ all. leb all greatest_total && ltb (length now.promises) most_writes) (sym sum)

@@ -1,11 +1,10 @@
-use Rattle.std.proofs.Common.{◌≡◌, ◌+◌, ◌-◌, ◌<◌, List, [], ◌∷◌, ◌++◌, true, false, length, take, min, sym, ap, ◌∙◌, append-nil, length-append, arith}
+use Rattle.std.proofs.Common.{◌≡◌, ◌+◌, ◌-◌, ◌<◌, List, [], ◌∷◌, ◌++◌, true, false, length, take, sym, ap, ◌∙◌, append-nil, length-append, arith}
 use Rattle.ob_types.specs.declared.promise.PromiseId.{PromiseId}
 use Rattle.ob_types.specs.declared.promise.Outcome.{Outcome}
-use Rattle.ob_seq.specs.Inside.{pending_entry, pending_entries}
-use Rattle.ob_seq.specs.Pending.{Pending}
+use Rattle.ob_seq.specs.Inside.{pending_entry}
 use Rattle.ob_seq.specs.Steps.{front_id, entry_settlement, entry_settlements}
-use Rattle.ob_seq.proofs.Entries.{line_size}
-use Rattle.ob_seq.proofs.EntrySettlements.{settlements_more, settlements_few, settlement_of_unvoided, settlement_of_voided, front_id_by, in_line}
+use Rattle.ob_seq.proofs.EntrySettlements.{settlements_more, settlements_few, settlement_of_unvoided, settlement_of_voided}
+use Rattle.ob_seq.proofs.Fields.{in_line, line_count, promise_count, unflushed_count}
 use Rattle.ob_seq.proofs.contents.Contents.settlements.Goals as goal
 use Rattle.ob_seq.proofs.contents.Contents.settlements.Goals.{then-not-index+in_ok-push, else-not-index}
 
@@ -13,10 +12,9 @@ pub returns-in_err-push-clause-frugal : goal.returns-in_err-push-clause-frugal
 returns-in_err-push-clause-frugal c few =
     let now = c.args.self.now in
     let inside = c.self.inside in
-    let line_is : now.line ≡ take inside.flushed (pending_entries inside.entries.items) = ap (λ (held : Pending). held.line) (sym c.self.view_is) in
-    let line : length now.line ≡ min inside.flushed (length inside.entries.items) = ap length line_is ∙ line_size inside.flushed inside.entries.items in
+    let line = line_count now inside c.self.view_is c.self.invariant in
     let place : c.loop-place.place < length now.line = omega (arith, c.loop-place-test.true, c.requires) in
-    let entry = in_line now.line inside.entries.items inside.flushed c.loop-place.place c.index.result.now line_is (omega arith) (omega arith) c.index.ensures in
+    let entry = in_line now inside c.self.view_is c.self.invariant c.loop-place.place c.index.result.now (omega arith) c.index.ensures in
     let more = settlements_more c.args.outcome (front_id now) now.line c.loop-place.place (pending_entry c.index.result.now) place entry in
     let one = settlement_of_unvoided c.args.outcome (front_id now + c.loop-place.place) (pending_entry c.index.result.now) c.if-not-index.true in
     let most = settlements_few c.args.outcome (front_id now) (c.loop-place.place + 1) c.args.count now.line (omega (arith, c.loop-place-test.true)) in
@@ -30,15 +28,13 @@ pub loop-place-preserved : goal.loop-place-preserved
 loop-place-preserved c =
     let now = c.args.self.now in
     let inside = c.self.inside in
-    let line_is : now.line ≡ take inside.flushed (pending_entries inside.entries.items) = ap (λ (held : Pending). held.line) (sym c.self.view_is) in
-    let line : length now.line ≡ min inside.flushed (length inside.entries.items) = ap length line_is ∙ line_size inside.flushed inside.entries.items in
+    let line = line_count now inside c.self.view_is c.self.invariant in
     let place : c.loop-place.place < length now.line = omega (arith, c.loop-place-test.true, c.requires) in
-    let entry = in_line now.line inside.entries.items inside.flushed c.loop-place.place c.index.result.now line_is (omega arith) (omega arith) c.index.ensures in
+    let entry = in_line now inside c.self.view_is c.self.invariant c.loop-place.place c.index.result.now (omega arith) c.index.ensures in
     let more = settlements_more c.args.outcome (front_id now) now.line c.loop-place.place (pending_entry c.index.result.now) place entry in
-    let id : front_id now ≡ c.len.result - c.len-2.result =
-    front_id_by now inside.entries.items inside.flushed inside.promises.items line_is (ap (λ (held : Pending). held.unflushed) (sym c.self.view_is)) (ap (λ (held : Pending). held.promises) (sym c.self.view_is))
-    (omega (arith, c.self.invariant.each_promised, inside.entries.ok, inside.promises.ok))
-    ∙ sym (ap (λ count. count - c.len-2.result) (c.len.ensures ∙ inside.promises.ok.0) ∙ ap (λ count. length inside.promises.items - count) (c.len-2.ensures ∙ inside.entries.ok.0)) in
+    let unflushed = unflushed_count now inside c.self.view_is c.self.invariant in
+    let promises = promise_count now inside c.self.view_is c.self.invariant in
+    let id : front_id now ≡ c.len.result - c.len-2.result = omega (arith, c.len.ensures, c.len-2.ensures, c.self.invariant.line_within) in
     elim c.if-not-index.branch [
       | then-not-index+in_ok-push w ↦
           w.settled-is ∙ w.in_ok-push.ensures.ok

@@ -1,9 +1,10 @@
-use Rattle.std.proofs.Common.{◌≡◌, false, ap, sym, ◌∙◌, cond}
+use Rattle.std.proofs.Common.{◌≡◌, false, ap, sym, ◌∙◌, cond, arith}
 use Rattle.std.specs.Prelude.{count_by, not}
+use Rattle.std.proofs.lemmas.List.{take_all}
 use Rattle.ob_seq.specs.Answer.{still_waits}
 use Rattle.ob_seq.specs.Pending.{Pending}
 use Rattle.ob_seq.specs.Settles.{settled_after}
-use Rattle.ob_seq.proofs.Entries.{seen}
+use Rattle.ob_seq.proofs.Fields.{line_count}
 use Rattle.ob_seq.proofs.Settled.{write_settles, flush_settles, remove_settles, remove_with_settles, bytes_settle, progress_settles, cancel_settles, failing_settles, closing_settles, bit_settles}
 use Rattle.ob_seq.proofs.contents.Contents.settles.Goals as goal
 
@@ -55,8 +56,8 @@ pub returns-in-FailFlushed : goal.returns-in-FailFlushed
 returns-in-FailFlushed c commands stands =
     let now = c.args.self.now in
     let unclosed : now.closed ≡ false = ap (λ (held : Pending). held.closed) (sym c.self.view_is) ∙ c.if-self.false in
-    let line = seen now c.deref.result.now c.self.inside.entries.items c.self.inside.flushed c.deref.ensures.value (ap (λ (held : Pending). held.line) (sym c.self.view_is)) in
-    c.unvoided.ensures ∙ ap (count_by (λ entry. not entry.voided)) line ∙ failing_settles now commands stands unclosed c.in-FailFlushed.field-0 c.in-FailFlushed.field-1
+    let whole = take_all c.self.inside.flushed now.line (omega (arith, line_count now c.self.inside c.self.view_is c.self.invariant)) in
+    c.unvoided.ensures ∙ ap (count_by (λ entry. not entry.voided)) whole ∙ failing_settles now commands stands unclosed c.in-FailFlushed.field-0 c.in-FailFlushed.field-1
     ∙ ap (settled_after now.settings commands) (sym c.in-FailFlushed.is)
 
 pub returns-in-Close : goal.returns-in-Close

@@ -1,0 +1,58 @@
+-- What the fields of a buffer say of what it holds.
+use Rattle.std.proofs.Common.{◌≡◌, ℕ, ◌+◌, ◌-◌, ◌<◌, ◌≤◌, List, [], ◌∷◌, length, take, drop, get_or, sym, ap, ◌∙◌, arith}
+use Rattle.std.proofs.lemmas.List.{get_or-take, take-take}
+use Rattle.ob_types.specs.declared.message.Message.TheVariants.{Block}
+use Rattle.ob_seq.specs.declared.entry.Entry.{Entry}
+use Rattle.ob_seq.specs.declared.contents.Contents.TheInside.{Inside}
+use Rattle.ob_seq.specs.Entry.{blocks_left}
+use Rattle.ob_seq.specs.Inside.{IsSound, pending_entry, pending_entries, pending_of}
+use Rattle.ob_seq.specs.Pending.{Pending}
+use Rattle.ob_seq.specs.Steps.{first_length, pending_total}
+use Rattle.ob_seq.proofs.Blocks.{left_from_block, left_from_other, first_length_is}
+use Rattle.ob_seq.proofs.Entries.{entry_at, line_size, rest_size, sum_of_entries, sum_of_parts}
+
+module _ (held : Pending) (inside : Inside) (view : pending_of inside ≡ held) (sound : IsSound inside) where
+  pub line_is : held.line ≡ take inside.flushed (pending_entries inside.entries.items)
+  line_is = ap (λ (buffer : Pending). buffer.line) (sym view)
+
+  -- as many stand in line as the cursor says, and as many behind it as there are more
+  pub line_count : length held.line ≡ inside.flushed
+  line_count = let line = ap length line_is ∙ line_size inside.flushed inside.entries.items in omega (arith, sound.line_within, inside.entries.ok)
+
+  pub unflushed_count : length held.unflushed ≡ inside.entries.len - inside.flushed
+  unflushed_count =
+      ap (λ (buffer : Pending). length buffer.unflushed) (sym view) ∙ rest_size inside.flushed inside.entries.items
+      ∙ ap (λ count. count - inside.flushed) (sym inside.entries.ok.0)
+
+  pub promise_count : length held.promises ≡ inside.promises.len
+  promise_count = ap (λ (buffer : Pending). length buffer.promises) (sym view) ∙ sym inside.promises.ok.0
+
+  -- the total that is kept is that of what is held
+  pub total_is : inside.total ≡ pending_total held
+  total_is = sound.total ∙ sym (sum_of_entries inside.entries.items) ∙ sym (sum_of_parts inside.flushed (pending_entries inside.entries.items)) ∙ ap pending_total view
+
+  -- the first entries are the first in line
+  pub first_in_line : (count : ℕ) → count ≤ length held.line → take count (pending_entries inside.entries.items) ≡ take count held.line
+  first_in_line count few =
+      let size = line_count in
+      sym (ap (take count) line_is ∙ take-take count inside.flushed (pending_entries inside.entries.items) (omega arith))
+
+  -- the entry at a place before the cursor stands there in line
+  module _ (place : ℕ) (entry : Entry) (before : place < inside.flushed) (is : entry ≡ get_or inside.entries.items place entry) where
+    pub in_line : pending_entry entry ≡ get_or held.line place (pending_entry entry)
+    in_line =
+        entry_at inside.entries.items place entry (pending_entry entry) (omega (arith, sound.line_within, inside.entries.ok)) is
+        ∙ sym (ap (λ line. get_or line place (pending_entry entry)) line_is ∙ get_or-take inside.flushed (pending_entries inside.entries.items) place (pending_entry entry) before)
+
+    within : place < length held.line
+    within = let count = line_count in omega arith
+
+    -- what is left from a block on, and from another message on
+    pub left_at_block : (bytes : List ℕ) → entry.message ≡ Block bytes → blocks_left (drop place held.line) ≡ bytes ∷ blocks_left (drop (place + 1) held.line)
+    left_at_block bytes block = left_from_block held.line place (pending_entry entry) within in_line bytes block
+
+    pub length_at_block : (bytes : List ℕ) → entry.message ≡ Block bytes → first_length (drop place held.line) ≡ length bytes
+    length_at_block bytes block = first_length_is held.line place (pending_entry entry) within in_line bytes block
+
+    pub left_at_other : ((bytes : List ℕ) → entry.message ≡ Block bytes → ⊥) → blocks_left (drop place held.line) ≡ []
+    left_at_other other = left_from_other held.line place (pending_entry entry) within in_line other

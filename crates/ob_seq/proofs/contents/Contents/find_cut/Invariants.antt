@@ -1,0 +1,13 @@
+use Rattle.std.proofs.Common.{◌≡◌, ◌≤◌, ◌-◌, drop, length}
+use Rattle.ob_seq.specs.Entry.{blocks_left}
+use Rattle.ob_seq.proofs.Pieces.{cut_from}
+use Rattle.ob_seq.proofs.contents.Contents.find_cut.Given as goal
+
+abbrev pub invariant-loop-whole : goal.invariant-loop-whole
+invariant-loop-whole l = record {
+  so_far : cut_from 0 l.n (blocks_left l.self.line) ≡ cut_from l.whole l.rest (blocks_left (drop l.whole l.self.line));
+  within : l.whole ≤ length l.self.line;
+}
+
+abbrev pub decreases-loop-whole : goal.decreases-loop-whole
+decreases-loop-whole l = length l.self.line - l.whole

@@ -1,0 +1,18 @@
+use Rattle.std.proofs.Common.{take, sym, ap, ◌∙◌, arith}
+use Rattle.std.specs.Prelude.{count_by, not}
+use Rattle.std.proofs.lemmas.List.{take-map}
+use Rattle.ob_seq.specs.Entry.{PendingEntry}
+use Rattle.ob_seq.specs.Inside.{pending_entry}
+use Rattle.ob_seq.proofs.Entries.{unvoided_seen}
+use Rattle.ob_seq.proofs.Fields.{first_in_line, line_count}
+use Rattle.ob_seq.proofs.contents.Contents.unvoided.Goals as goal
+
+pub unvoided-requires : goal.unvoided-requires
+unvoided-requires c = omega (arith, line_count c.args.self.now c.self.inside c.self.view_is c.self.invariant, c.self.invariant.line_within, c.requires)
+
+pub returns : goal.returns
+returns c =
+    let items = c.self.inside.entries.items in
+    c.unvoided.ensures ∙ unvoided_seen (take c.args.count items)
+    ∙ ap (count_by (λ (entry : PendingEntry). not entry.voided))
+    (sym (take-map pending_entry c.args.count items) ∙ first_in_line c.args.self.now c.self.inside c.self.view_is c.self.invariant c.args.count c.requires)
