@@ -1,8 +1,8 @@
 -- A call of a history, full or not.
-use Rattle.std.proofs.Common.{◌≡◌, ℕ, Bool, true, false, Result, Ok, Err, length, refl, ap, arith}
+use Rattle.std.proofs.Common.{◌≡◌, ℕ, Bool, true, false, [], ◌∷◌, ◌++◌, Result, Ok, Err, get_or, length, ◌<◌, refl, sym, ap, ◌∙◌, arith}
 use Rattle.std.specs.Prelude.{◌≢◌, if◌then◌else◌}
 use Rattle.std.proofs.lemmas.Bool.{eqb-false}
-use Rattle.std.proofs.lemmas.List.{length_push}
+use Rattle.std.proofs.lemmas.List.{get_or_push, length_push}
 use Rattle.ob_types.specs.declared.command.Command.{Command}
 use Rattle.ob_types.specs.declared.refusal.Refusal.{Refusal}
 use Rattle.ob_types.specs.declared.refusal.Refusal.TheVariants.{HistoryFull}
@@ -11,6 +11,7 @@ use Rattle.ob_history.specs.History.{History, IsBounded}
 use Rattle.ob_history.specs.Legal.{IsLegal}
 use Rattle.ob_history.specs.Receipt.{receipt_of}
 use Rattle.ob_history.specs.declared.receipt.Receipt.{Receipt}
+use Rattle.ob_history.specs.declared.record.Record.{Record}
 use Rattle.ob_history.proofs.Histories.{legal_with_next}
 
 -- a history that is not full answers a call with the receipt of its record
@@ -26,6 +27,18 @@ pub after_with_place : (history : History) (caller : ℕ) (command : Command) �
 after_with_place history caller command free =
     let after : Bool → History = λ full. if full then history else with_record history (next_record history caller command) in
     ap after free
+
+-- and that record stands last in it
+pub record_at_place : (history after : History) (caller : ℕ) (command : Command) (place : ℕ) (other : Record)
+    → is_full history ≡ false → place ≡ length history.records → after ≡ history_after history caller command
+    → (place < length after.records) × (get_or after.records place other ≡ next_record history caller command)
+record_at_place history after caller command place other free is_place is_after =
+    let one = next_record history caller command in
+    let records : after.records ≡ history.records ++ one ∷ [] =
+    ap (λ (h : History). h.records) (is_after ∙ after_with_place history caller command free) in (
+      omega (arith, is_place, ap (λ rs. length rs) records, length_push history.records one),
+      ap (λ rs. get_or rs place other) records ∙ get_or_push history.records one other place (sym is_place),
+    )
 
 module _ (history : History) (caller : ℕ) (command : Command) where
   -- the history after a call that is answered so

@@ -1,8 +1,7 @@
-ghost use Rattle.std.specs.Prelude.{◌≡◌, true, ◌+◌, ◌++◌, ◌%◌, [], ◌∷◌, IsOk, IfOk, OnOk, string_bytes};
+ghost use Rattle.std.specs.Prelude.{◌≡◌, true, not, ◌+◌, ◌++◌, ◌%◌, [], ◌∷◌, IsOk, IfOk, OnOk, string_bytes};
 ghost use Rattle.ob_history.specs.Accepted.{accepted_commands};
 ghost use Rattle.ob_history.specs.Call.{history_after, is_full};
 ghost use Rattle.ob_history.specs.Seen.{seen_now};
-ghost use Rattle.ob_tool.specs.Call.{told_after};
 ghost use Rattle.ob_tool.specs.Options.{first_history};
 ghost use Rattle.ob_seq.specs.Writes.{writes_in};
 ghost use Rattle.ob_tool.specs.RunScript.{block_write, call_text, history_after_line, history_after_lines, line_trace, run_language};
@@ -15,35 +14,31 @@ use crate::line_word::LineWord;
 use crate::options::Options;
 use crate::script_line::ScriptLine;
 use crate::text::{push_gathered, push_look, push_refusal, push_reply};
-use ob_history::{As, Booked, Recorded};
+use ob_history::Recorded;
 use ob_seq::Look;
-use ob_types::{Command, Message, Refusal, Reply};
+use ob_types::{Command, Message, Refusal};
 use std::alloc::{AllocError, Global};
 
 /// A recorded buffer that carries out the lines of a script, whose caller is 0.
 #[derive(Drop)]
 pub struct Session {
     pub options: Options,
-    pub booked: As,
+    pub recorded: Recorded,
     /// The first byte of the next block: how many writes were accepted, modulo 256.
     pub next_byte: u8,
-    ghost caller: { booked.caller ≡ 0 },
-    ghost counted: { next_byte ≡ writes_in (accepted_commands booked.recorded.records) % 256 },
+    ghost counted: { next_byte ≡ writes_in (accepted_commands recorded.records) % 256 },
 }
 
 impl Session {
     /// A session before its first line.
     pub fn new(alloc: Global, options: Options) -> Session
-        ensures history { result.booked.recorded ≡ first_history options }
+        ensures history { result.recorded ≡ first_history options }
         ensures options { result.options ≡ options }
     {
         let recorded = Recorded::new(alloc, options.marks, options.estimate, options.limit);
         Session {
             options,
-            booked: As {
-                recorded,
-                caller: 0,
-            },
+            recorded,
             next_byte: 0,
         }
     }
@@ -56,8 +51,8 @@ impl Session {
         text: &mut String,
     ) -> Result<(), AllocError>
         ensures options { self.new.options ≡ self.old.options }
-        ensures after { OnOk result (self.new.booked.recorded ≡ history_after_line self.old.booked.recorded line) }
-        ensures text { OnOk result (string_bytes text.new ≡ string_bytes text.old ++ line_trace self.old.booked.recorded line) }
+        ensures after { OnOk result (self.new.recorded ≡ history_after_line self.old.recorded line) }
+        ensures text { OnOk result (string_bytes text.new ≡ string_bytes text.old ++ line_trace self.old.recorded line) }
     {
         match line {
             ScriptLine::Block(size) => {
@@ -72,7 +67,7 @@ impl Session {
 
     /// The write of a script's block of so many bytes.
     fn block_write(&self, alloc: Global, size: u64) -> Result<Command, AllocError>
-        ensures { IfOk result (λ command. command ≡ block_write self.now.booked.recorded size) }
+        ensures { IfOk result (λ command. command ≡ block_write self.now.recorded size) }
     {
         let bytes = block(alloc, self.next_byte, size)?;
         Ok(Command::Write(Message::Block(bytes)))
@@ -80,17 +75,17 @@ impl Session {
 
     /// A look at the buffer.
     fn look(&self) -> Look
-        ensures { result ≡ (seen_now self.now.booked.recorded).look }
+        ensures { result ≡ (seen_now self.now.recorded).look }
     {
-        self.booked.buffer().look()
+        self.recorded.buffer().look()
     }
 
     /// Adds the trace of a gathering to the text.
     fn gather(&self, max_count: u32, max_bytes: u32, text: &mut String) -> Result<(), AllocError>
         ensures { OnOk result (string_bytes text.new
-            ≡ string_bytes text.old ++ line_trace self.now.booked.recorded (ScriptLine.Gather max_count max_bytes)) }
+            ≡ string_bytes text.old ++ line_trace self.now.recorded (ScriptLine.Gather max_count max_bytes)) }
     {
-        match self.booked.buffer().gather(max_count, max_bytes) {
+        match self.recorded.buffer().gather(max_count, max_bytes) {
             Ok(blocks) => push_gathered(text, &blocks, &self.look()),
             Err(_) => Err(AllocError),
         }
@@ -99,32 +94,38 @@ impl Session {
     /// Gives a command to the buffer, and adds its trace to the text.
     fn give(&mut self, command: Command, text: &mut String) -> Result<(), AllocError>
         ensures options { self.new.options ≡ self.old.options }
-        ensures after { OnOk result (self.new.booked.recorded ≡ history_after self.old.booked.recorded 0 command) }
-        ensures text { OnOk result (string_bytes text.new ≡ string_bytes text.old ++ call_text self.old.booked.recorded command) }
+        ensures after { OnOk result (self.new.recorded ≡ history_after self.old.recorded 0 command) }
+        ensures text { OnOk result (string_bytes text.new ≡ string_bytes text.old ++ call_text self.old.recorded command) }
     {
-        match self.call(command)? {
-            Ok(reply) => push_reply(text, &reply, &self.look()),
-            Err(refusal) => push_refusal(text, refusal, &self.look()),
+        let place = self.recorded.records().len();
+        if !self.call(command)? {
+            return push_refusal(text, Refusal::HistoryFull, &self.look());
+        }
+        let look = self.look();
+        match &self.recorded.records()[place].reply {
+            Ok(reply) => push_reply(text, reply, &look),
+            Err(refusal) => push_refusal(text, *refusal, &look),
         }
     }
 
-    /// Gives a command to the buffer and answers its reply or its refusal, that of a full history too. It fails for
+    /// Gives a command to the buffer and records the call, or answers `false` where the history is full. It fails for
     /// want of memory alone, and so never where the history is full.
-    fn call(&mut self, command: Command) -> Result<Result<Reply, Refusal>, AllocError>
+    fn call(&mut self, command: Command) -> Result<bool, AllocError>
         ensures options { self.new.options ≡ self.old.options }
-        ensures after { OnOk result (self.new.booked.recorded ≡ history_after self.old.booked.recorded 0 command) }
-        ensures answer { IfOk result (λ answer. answer ≡ told_after self.old.booked.recorded command) }
-        ensures full { is_full self.old.booked.recorded ≡ true → IsOk result }
+        ensures after { OnOk result (self.new.recorded ≡ history_after self.old.recorded 0 command) }
+        ensures answer { IfOk result (λ recorded. recorded ≡ not (is_full self.old.recorded)) }
+        ensures full { is_full self.old.recorded ≡ true → IsOk result }
     {
+        let place = self.recorded.records().len();
         let next_byte = next_byte(self.next_byte, &command);
-        match self.booked.call(command) {
-            Ok(receipt) => {
-                if receipt.reply.is_ok() {
+        match self.recorded.record(0, command) {
+            Ok(()) => {
+                if self.recorded.records()[place].reply.is_ok() {
                     self.next_byte = next_byte;
                 }
-                Ok(receipt.reply)
+                Ok(true)
             }
-            Err(Refusal::HistoryFull) => Ok(Err(Refusal::HistoryFull)),
+            Err(Refusal::HistoryFull) => Ok(false),
             Err(_) => Err(AllocError),
         }
     }
@@ -135,7 +136,7 @@ impl Interpreter for Session {
 
     ghost language = { λ session. run_language (first_history session.options) };
 
-    ghost HasDone = { λ session lines. session.booked.recorded ≡ history_after_lines (first_history session.options) lines };
+    ghost HasDone = { λ session lines. session.recorded ≡ history_after_lines (first_history session.options) lines };
 
     fn read(&self, line: &[u8]) -> Result<ScriptLine, LineFault> {
         read_line::<LineWord>(line)

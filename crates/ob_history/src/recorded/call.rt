@@ -1,4 +1,4 @@
-ghost use Rattle.std.specs.Prelude.{◌≡◌, false, IsErrOf, IsOk, OnErr};
+ghost use Rattle.std.specs.Prelude.{◌≡◌, true, false, IsErrOf, IsOk, IsOkUnless, OnErr};
 ghost use Rattle.ob_history.specs.Call.{IsCovered, call_answer, history_after, is_full};
 
 use crate::answer;
@@ -25,23 +25,33 @@ impl Recorded {
         ensures frugal { IsCovered self.old command → IsOk result }
         ensures refused { OnErr result (self.new ≡ self.old) }
     {
+        let place = self.records.len();
+        if place == self.limit as usize {
+            return Err(Refusal::HistoryFull);
+        }
+        let copies = Copies::new(*self.records.allocator(), &self.buffer, &command)?;
+        self.record(caller, command)?;
+        Ok(copies.receipt(&self.records[place]))
+    }
+
+    /// Gives the buffer one command and records the call, as `call` does, for who wants no receipt: the record is the
+    /// last of `records`, and nothing of it is copied. Our own.
+    ///
+    /// `HistoryFull` and `NoMemory` come as in `call`, and leave all as it was.
+    pub fn record(&mut self, caller: u32, command: Command) -> Result<(), Refusal>
+        ensures full { is_full self.old ≡ true → IsErrOf result Refusal.HistoryFull }
+        ensures no_memory { is_full self.old ≡ false → IsOkUnless result Refusal.NoMemory }
+        ensures after { ¬ IsErrOf result Refusal.NoMemory → self.new ≡ history_after self.old caller command }
+        ensures frugal { IsCovered self.old command → IsOk result }
+        ensures refused { OnErr result (self.new ≡ self.old) }
+    {
         if self.records.len() == self.limit as usize {
             return Err(Refusal::HistoryFull);
         }
         self.records.reserve(1)?;
-        let Copies { asked, told, spare } = Copies::new(
-            *self.records.allocator(),
-            &self.buffer,
-            &command,
-        )?;
+        let asked = command.copy()?;
         let reply = answer::give(&mut self.buffer, command)?;
         let place = self.records.len() as u32;
-        let receipt = Receipt {
-            place,
-            caller,
-            command: told,
-            reply: answer::copy_in(&reply, spare),
-        };
         self.records.push_reserved(Record {
             place,
             caller,
@@ -49,6 +59,6 @@ impl Recorded {
             reply,
         });
         self.reserved = self.reserved.saturating_sub(1);
-        Ok(receipt)
+        Ok(())
     }
 }

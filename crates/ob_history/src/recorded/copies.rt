@@ -1,32 +1,48 @@
-ghost use Rattle.std.specs.Prelude.{◌≡◌, List, IsOk, IfOk};
+ghost use Rattle.std.specs.Prelude.{◌≡◌, ◌≤◌, List, length, IsOk, IfOk};
 ghost use Rattle.ob_types.specs.declared.command.Command.{Command};
+ghost use Rattle.ob_seq.specs.Settles.{settled_by};
 ghost use Rattle.ob_history.specs.Copies.{IsSmall, SettlesAtMost};
+ghost use Rattle.ob_history.specs.Receipt.{receipt_of};
 
+use crate::answer;
+use crate::receipt::Receipt;
+use crate::record::Record;
 use ob_seq::Buffer;
 use ob_types::{Command, Spare};
 use std::alloc::{AllocError, Global};
 
-/// What is made ready before a command is given: the command once more for the record and for the receipt, and memory
-/// for the settlements of one of the two replies. The buffer takes the memory for the other.
+/// What a receipt needs, made ready before the command is given: the command once more, and memory for the settlements
+/// of its reply.
 #[derive(Drop)]
 pub struct Copies {
-    pub asked: Command,
     pub told: Command,
     pub spare: Spare,
 }
 
 impl Copies {
-    /// The copies for a command to a buffer. It fails for want of memory alone.
+    /// What the receipt of a command to a buffer needs. It fails for want of memory alone.
     pub fn new(alloc: Global, buffer: &Buffer, command: &Command) -> Result<Copies, AllocError>
-        ensures asked { IfOk result (λ copies. copies.asked ≡ command.now) }
         ensures told { IfOk result (λ copies. copies.told ≡ command.now) }
         ensures spare { IfOk result (λ copies. SettlesAtMost buffer.now command.now copies.spare) }
         ensures succeeds { (commands : List Command) → IsSmall buffer.now command.now commands → IsOk result }
     {
         Ok(Copies {
             spare: Spare::new(alloc, buffer.settles(command))?,
-            asked: command.copy()?,
             told: command.copy()?,
         })
+    }
+
+    /// The receipt of a record of that command. It takes no memory.
+    pub fn receipt(self, one: &Record) -> Receipt
+        requires command { one.now.command ≡ self.told }
+        requires few { length (settled_by one.now.reply) ≤ self.spare }
+        ensures { result ≡ receipt_of one.now }
+    {
+        Receipt {
+            place: one.place,
+            caller: one.caller,
+            command: self.told,
+            reply: answer::copy_in(&one.reply, self.spare),
+        }
     }
 }

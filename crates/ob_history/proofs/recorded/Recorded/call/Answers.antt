@@ -1,106 +1,69 @@
-use Rattle.std.proofs.Common.{◌≡◌, false, [], ◌∷◌, ◌++◌, length, Result, Ok, sym, ap, ◌∙◌, subst, arith}
+use Rattle.std.proofs.Common.{◌≡◌, ◌≢◌, ◌<◌, ℕ, false, get_or, length, Result, Ok, sym, ap, ◌∙◌, arith}
 use Rattle.std.proofs.lemmas.Bool.{ne_eqb}
+use Rattle.std.specs.Vec.{vec_len}
+use Rattle.ob_types.specs.declared.command.Command.{Command}
 use Rattle.ob_types.specs.declared.refusal.Refusal.{Refusal}
-use Rattle.ob_seq.specs.Answer.{answer_to, commands_after, commands_with}
-use Rattle.ob_seq.specs.Pending.{StandsFor}
+use Rattle.ob_seq.specs.Settles.{settled_after, settled_by}
 use Rattle.ob_history.specs.Accepted.{accepted_commands}
-use Rattle.ob_history.specs.Call.{call_answer, history_after, is_full, with_record}
-use Rattle.ob_history.specs.Inside.{history_of, settings_of}
-use Rattle.ob_history.specs.Legal.{IsLegal}
+use Rattle.ob_history.specs.Call.{call_answer, history_after, is_full, next_record}
+use Rattle.ob_history.specs.History.{History}
+use Rattle.ob_history.specs.Inside.{history_of}
 use Rattle.ob_history.specs.Receipt.{receipt_of}
-use Rattle.ob_history.proofs.Calls.{answer_with_place, after_with_place}
-use Rattle.ob_history.proofs.Histories.{legal_with_next, accepted_with_next, same_record, same_history}
 use Rattle.ob_history.specs.declared.receipt.Receipt.{Receipt}
 use Rattle.ob_history.specs.declared.record.Record.{Record}
+use Rattle.ob_history.specs.declared.recorded.Recorded.TheInside.{Inside}
+use Rattle.ob_history.proofs.Calls.{answer_with_place, record_at_place}
 use Rattle.ob_history.proofs.recorded.Recorded.call.Goals as goal
 
-pub invariant_of-self : goal.invariant_of-self
-invariant_of-self c = record {
-  legal = rw c.reserve.ensures.items c.self.invariant.legal;
-  stands = rw c.reserve.ensures.items c.self.invariant.stands;
-  settings = c.self.invariant.settings;
-  places = rw c.reserve.ensures.len c.self.invariant.places;
-  memory = omega (arith, c.reserve.ensures.len, c.reserve.ensures.capacity, c.self.invariant.memory);
-  few_records = c.self.invariant.few_records;
-  small_overhead = c.self.invariant.small_overhead;
-  small_unknown = c.self.invariant.small_unknown;
-}
+-- the first free place of a history, and what stands there after the call
+record Placed (before after : Inside) (caller : ℕ) (command : Command) (place : ℕ) (other : Record) : Type 0 where
+  pub free : is_full (history_of before) ≡ false
+  pub within : place < vec_len after.records
+  pub found : get_or after.records.items place other ≡ next_record (history_of before) caller command
 
-pub invariant_of-self-in_err-asked : goal.invariant_of-self-in_err-asked
-invariant_of-self-in_err-asked c = record {
-  legal = rw c.reserve.ensures.items c.self.invariant.legal;
-  stands = rw c.reserve.ensures.items c.self.invariant.stands;
-  settings = c.self.invariant.settings;
-  places = rw c.reserve.ensures.len c.self.invariant.places;
-  memory = omega (arith, c.reserve.ensures.len, c.reserve.ensures.capacity, c.self.invariant.memory);
-  few_records = c.self.invariant.few_records;
-  small_overhead = c.self.invariant.small_overhead;
-  small_unknown = c.self.invariant.small_unknown;
-}
+placed : (before after : Inside) (old new : History) (caller : ℕ) (command : Command) (place : ℕ) (other : Record)
+    → place ≡ vec_len before.records → place ≢ before.limit → history_of before ≡ old → history_of after ≡ new
+    → new ≡ history_after old caller command → Placed before after caller command place other
+placed before after old new caller command place other is_place below was is called =
+    let first = is_place ∙ before.records.ok.0 in
+    let free = ne_eqb _ _ (λ same. below (first ∙ same)) in
+    let then = is ∙ called ∙ ap (λ history. history_after history caller command) (sym was) in
+    let at = record_at_place (history_of before) (history_of after) caller command place other free first then in
+    record { free = free; within = omega (arith, at.0, after.records.ok.0); found = at.1 }
 
-pub invariant_of-self-in_err-reply : goal.invariant_of-self-in_err-reply
-invariant_of-self-in_err-reply c = record {
-  legal = rw c.reserve.ensures.items c.self.invariant.legal;
-  stands = rw (c.reserve.ensures.items, c.in_err-reply.ensures.err) c.self.invariant.stands;
-  settings = rw c.in_err-reply.ensures.err c.self.invariant.settings;
-  places = rw c.reserve.ensures.len c.self.invariant.places;
-  memory = omega (arith, c.reserve.ensures.len, c.reserve.ensures.capacity, c.self.invariant.memory);
-  few_records = c.self.invariant.few_records;
-  small_overhead = c.self.invariant.small_overhead;
-  small_unknown = c.self.invariant.small_unknown;
-}
+pub index-requires : goal.index-requires
+index-requires c =
+    let one = next_record (history_of c.self.inside) c.args.caller c.args.command in
+    (placed c.self.inside c.self-2.inside _ _ c.args.caller c.args.command c.len-place.result one c.len-place.ensures
+    c.if-place-self.false c.self.view_is c.self-2.view_is (c.in_ok-record.ensures.after (λ wanted. absurd (cc)))).within
 
-pub invariant_of-self-2 : goal.invariant_of-self-2
-invariant_of-self-2 c =
-    let inside = c.self.inside in
-    let earlier = inside.records.items in
-    let one : Record = record { place = c.len-place.result; caller = c.args.caller; command = c.in_ok-asked.field-0.asked; reply = c.in_ok-reply.reply } in
-    let records : c.push_reserved.new.self.items ≡ earlier ++ one ∷ [] = c.push_reserved.ensures.items ∙ ap (λ before. before ++ one ∷ []) c.reserve.ensures.items in
-    let place : one.place ≡ length earlier = c.len-place.ensures ∙ c.reserve.ensures.len ∙ inside.records.ok.0 in
-    let reply : one.reply ≡ answer_to (settings_of inside) (accepted_commands earlier) one.command =
-    c.in_ok-reply.ensures.answer (accepted_commands earlier) c.self.invariant.stands
-    ∙ ap (λ settings. answer_to settings (accepted_commands earlier) c.args.command) c.self.invariant.settings
-    ∙ ap (answer_to (settings_of inside) (accepted_commands earlier)) (sym c.in_ok-asked.ensures.asked) in
-    record {
-      legal = subst (IsLegal (settings_of inside)) (sym records) (legal_with_next (settings_of inside) earlier one c.self.invariant.legal place reply);
-      stands = subst (StandsFor c.give.new.buffer)
-          (ap (commands_with (accepted_commands earlier) c.args.command) (c.in_ok-reply.ensures.answer (accepted_commands earlier) c.self.invariant.stands)
-          ∙ ap (λ settings. commands_after settings (accepted_commands earlier) c.args.command) c.self.invariant.settings
-          ∙ ap (commands_after (settings_of inside) (accepted_commands earlier)) (sym c.in_ok-asked.ensures.asked)
-          ∙ sym (accepted_with_next (settings_of inside) earlier one reply) ∙ ap accepted_commands (sym records))
-          (c.in_ok-reply.ensures.stands (accepted_commands earlier) c.self.invariant.stands);
-      settings = c.in_ok-reply.ensures.settings ∙ c.self.invariant.settings;
-      places = omega (arith, c.push_reserved.ensures.len, c.reserve.ensures.len, c.saturating_sub-self-inside.ensures, c.if-len-self.false, c.len.ensures, c.self.invariant.places);
-      memory = omega (arith, c.push_reserved.ensures.len, c.push_reserved.ensures.capacity, c.reserve.ensures.len, c.reserve.ensures.capacity, c.in_ok-reserve.ensures.ok, c.saturating_sub-self-inside.ensures, c.self.invariant.memory);
-      few_records = c.self.invariant.few_records;
-      small_overhead = c.self.invariant.small_overhead;
-      small_unknown = c.self.invariant.small_unknown;
-    }
+pub receipt-requires-clause-command : goal.receipt-requires-clause-command
+receipt-requires-clause-command c =
+    let at = placed c.self.inside c.self-2.inside _ _ c.args.caller c.args.command c.len-place.result c.index.result.now
+    c.len-place.ensures c.if-place-self.false c.self.view_is c.self-2.view_is
+    (c.in_ok-record.ensures.after (λ wanted. absurd (cc))) in
+    ap (λ (other : Record). other.command) (c.index.ensures ∙ at.found) ∙ sym c.in_ok-copies.ensures.told
+
+pub receipt-requires-clause-few : goal.receipt-requires-clause-few
+receipt-requires-clause-few c =
+    let at = placed c.self.inside c.self-2.inside _ _ c.args.caller c.args.command c.len-place.result c.index.result.now
+    c.len-place.ensures c.if-place-self.false c.self.view_is c.self-2.view_is
+    (c.in_ok-record.ensures.after (λ wanted. absurd (cc))) in
+    let commands = accepted_commands c.self.inside.records.items in
+    omega (
+      arith,
+      c.in_ok-copies.ensures.spare commands c.self.invariant.stands,
+      ap (λ settings. settled_after settings commands c.args.command) c.self.invariant.settings,
+      ap (λ (other : Record). length (settled_by other.reply)) (c.index.ensures ∙ at.found),
+    )
 
 pub returns-clause-answer : goal.returns-clause-answer
 returns-clause-answer c wanted =
-    let inside = c.self.inside in
-    let before = accepted_commands inside.records.items in
-    let free : is_full (history_of inside) ≡ false = ne_eqb _ _ (λ same. c.if-len-self.false (c.len.ensures ∙ inside.records.ok.0 ∙ same)) in
-    let place : c.len-place.result ≡ length inside.records.items = c.len-place.ensures ∙ c.reserve.ensures.len ∙ inside.records.ok.0 in
-    let reply : c.in_ok-reply.reply ≡ answer_to (settings_of inside) before c.args.command =
-    c.in_ok-reply.ensures.answer before c.self.invariant.stands ∙ ap (λ settings. answer_to settings before c.args.command) c.self.invariant.settings in
+    let at = placed c.self.inside c.self-2.inside _ _ c.args.caller c.args.command c.len-place.result c.index.result.now
+    c.len-place.ensures c.if-place-self.false c.self.view_is c.self-2.view_is
+    (c.in_ok-record.ensures.after (λ wanted. absurd (cc))) in
     let answer : Record → Result Receipt Refusal = λ one. Ok (receipt_of one) in
-    ap answer (same_record c.args.caller place c.in_ok-asked.ensures.told (c.copy_in.ensures ∙ reply))
-    ∙ sym (answer_with_place (history_of inside) c.args.caller c.args.command free)
-    ∙ ap (λ history. call_answer history c.args.caller c.args.command) c.self.view_is
-
-pub returns-clause-after : goal.returns-clause-after
-returns-clause-after c wanted =
-    let inside = c.self.inside in
-    let before = accepted_commands inside.records.items in
-    let free : is_full (history_of inside) ≡ false = ne_eqb _ _ (λ same. c.if-len-self.false (c.len.ensures ∙ inside.records.ok.0 ∙ same)) in
-    let one : Record = record { place = c.len-place.result; caller = c.args.caller; command = c.in_ok-asked.field-0.asked; reply = c.in_ok-reply.reply } in
-    let records : c.push_reserved.new.self.items ≡ inside.records.items ++ one ∷ [] = c.push_reserved.ensures.items ∙ ap (λ earlier. earlier ++ one ∷ []) c.reserve.ensures.items in
-    let place : one.place ≡ length inside.records.items = c.len-place.ensures ∙ c.reserve.ensures.len ∙ inside.records.ok.0 in
-    let reply : one.reply ≡ answer_to (settings_of inside) before c.args.command =
-    c.in_ok-reply.ensures.answer before c.self.invariant.stands ∙ ap (λ settings. answer_to settings before c.args.command) c.self.invariant.settings in
-    same_history (settings_of inside) inside.limit records c.saturating_sub-self-inside.ensures
-    ∙ ap (with_record (history_of inside)) (same_record c.args.caller place c.in_ok-asked.ensures.asked reply)
-    ∙ sym (after_with_place (history_of inside) c.args.caller c.args.command free)
-    ∙ ap (λ history. history_after history c.args.caller c.args.command) c.self.view_is
+    ap (λ (receipt : Receipt). let told : Result Receipt Refusal = Ok receipt in told) c.receipt.ensures
+    ∙ ap answer (c.index.ensures ∙ at.found)
+    ∙ sym (answer_with_place (history_of c.self.inside) c.args.caller c.args.command at.free)
+    ∙ ap (λ before. call_answer before c.args.caller c.args.command) c.self.view_is
