@@ -1,4 +1,5 @@
 ghost use Rattle.std.specs.Prelude.{◌≡◌, ◌++◌, OnOk, Ok, Err, string_bytes};
+ghost use Rattle.std.specs.Fmt.{decimal};
 ghost use Rattle.std.specs.List.{flat_map};
 ghost use Rattle.ob_tool.specs.Text.{answer_text, change_text, command_text, gathered_text, length_text, levels_text, look_text, outcome_text, settlement_text, words_text};
 
@@ -73,7 +74,16 @@ fn push_levels(text: &mut String, look: &Look) -> Result<(), AllocError>
 pub fn push_words(text: &mut String, total: u32, word: u32) -> Result<(), AllocError>
     ensures { OnOk result (string_bytes text.new ≡ string_bytes text.old ++ words_text total word) }
 {
-    write!(text, " t={total} w={word:08x}")
+    text.push_str(" t=")?;
+    push_number(text, u64::from(total))?;
+    write!(text, " w={word:08x}")
+}
+
+/// Adds a number in decimal digits.
+fn push_number(text: &mut String, number: u64) -> Result<(), AllocError>
+    ensures { OnOk result (string_bytes text.new ≡ string_bytes text.old ++ decimal number) }
+{
+    text.push_str(itoa::Buffer::new().format(number))
 }
 
 /// Adds the answer of a command.
@@ -81,8 +91,14 @@ fn push_answer(text: &mut String, answer: Answer) -> Result<(), AllocError>
     ensures { OnOk result (string_bytes text.new ≡ string_bytes text.old ++ answer_text answer) }
 {
     match answer {
-        Answer::Id(PromiseId(id)) => write!(text, "id {id}"),
-        Answer::Count(count) => write!(text, "n {count}"),
+        Answer::Id(PromiseId(id)) => {
+            text.push_str("id ")?;
+            push_number(text, u64::from(id))
+        }
+        Answer::Count(count) => {
+            text.push_str("n ")?;
+            push_number(text, u64::from(count))
+        }
         Answer::Yes(true) => text.push_str("yes"),
         Answer::Yes(false) => text.push_str("no"),
         Answer::Done => text.push_str("ok"),
@@ -115,7 +131,9 @@ fn push_settlement(text: &mut String, id: PromiseId, outcome: Outcome) -> Result
     ensures { OnOk result (string_bytes text.new ≡ string_bytes text.old ++ settlement_text (id, outcome)) }
 {
     let PromiseId(number) = id;
-    write!(text, " {number}:")?;
+    text.push(' ')?;
+    push_number(text, u64::from(number))?;
+    text.push(':')?;
     push_outcome(text, outcome)
 }
 
@@ -125,7 +143,10 @@ fn push_outcome(text: &mut String, outcome: Outcome) -> Result<(), AllocError>
 {
     match outcome {
         Outcome::Success => text.push_str("ok"),
-        Outcome::Failed(cause) => write!(text, "f{}", cause.0),
+        Outcome::Failed(cause) => {
+            text.push('f')?;
+            push_number(text, u64::from(cause.0))
+        }
         Outcome::Cancelled => text.push('x'),
     }
 }
