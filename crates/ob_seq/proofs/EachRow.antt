@@ -1,5 +1,5 @@
 -- What one more command does to each row, as one relation between the row before it and after.
-use Rattle.std.proofs.Common.{◌≡◌, ℕ, zero, suc, ◌+◌, Bool, true, false, ◌&&◌, List, [], ◌∷◌, ◌++◌, length, map, refl}
+use Rattle.std.proofs.Common.{◌≡◌, ℕ, zero, suc, ◌+◌, Bool, true, false, ◌&&◌, List, [], ◌∷◌, ◌++◌, length, map}
 use Rattle.std.proofs.Common.{arith, cond, ltb}
 use Rattle.std.specs.Prelude.{None, is_some}
 use Rattle.ob_types.specs.Write.{is_write}
@@ -54,19 +54,17 @@ module _ (R : Row → Row → Type 0) where
     -- where a change is made, by a test
     by_test : (change : Row → Row) (row : Row) (test : Bool) → (test ≡ true → R row (change row)) →
         R row (cond test (change row) row)
-    by_test change row true turn = turn refl
-    by_test change row false turn = same row
+    by_test change row test turn = grind (arith, same row)
 
     -- a change of the front
     pub front_row : (change : Row → Row) → ((row : Row) → is_in_line row ≡ true → R row (change row)) →
         (rows : List Row) → EachRow R rows (with_front change rows)
     front_row change turn [] = tt
-    front_row change turn (row ∷ rows) = by_line (is_in_line row) refl (front_row change turn rows)
+    front_row change turn (row ∷ rows) = step (with_front change rows) (turn row) (same_rows rows) (front_row change turn rows)
       where
-        by_line : (here : Bool) → is_in_line row ≡ here → EachRow R rows (with_front change rows) →
-            EachRow R (row ∷ rows) (cond here (change row ∷ rows) (row ∷ with_front change rows))
-        by_line true is rest = (turn row is, same_rows rows)
-        by_line false is rest = (same row, rest)
+        step : (others : List Row) → (is_in_line row ≡ true → R row (change row)) → EachRow R rows rows →
+            EachRow R rows others → EachRow R (row ∷ rows) (cond (is_in_line row) (change row ∷ rows) (row ∷ others))
+        step others turn stay rest = grind (arith, same row)
 
     -- and of the first in line
     first_rows : (change : Row → Row) → ((row : Row) → is_in_line row ≡ true → R row (change row)) →

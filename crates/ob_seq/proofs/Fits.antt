@@ -1,20 +1,18 @@
 -- The promise of each row fits its place, whatever command comes; and a promise that is settled stays so.
-use Rattle.std.proofs.Common.{◌≡◌, ℕ, zero, suc, true, false, List, [], ◌∷◌, ◌++◌, ◌⊎◌, inl, inr, refl}
+use Rattle.std.proofs.Common.{◌≡◌, ℕ, zero, suc, List, [], ◌∷◌, ◌++◌, ◌⊎◌, inl, inr, refl}
 use Rattle.std.specs.Prelude.{Option, Some, None, fold}
 use Rattle.std.specs.List.{AllByRecursion}
 use Rattle.ob_types.specs.declared.command.Command.{Command}
 use Rattle.ob_types.specs.declared.command.Command.TheVariants.{Write}
 use Rattle.ob_types.specs.declared.estimate.Estimate.{Estimate}
-use Rattle.ob_types.specs.declared.promise.Cause.{Cause}
 use Rattle.ob_types.specs.declared.promise.Outcome.{Outcome}
 use Rattle.ob_types.specs.declared.promise.Outcome.TheVariants.{Cancelled}
 use Rattle.ob_types.specs.declared.promise.PromiseState.{PromiseState}
 use Rattle.ob_types.specs.declared.promise.PromiseState.TheVariants.{Waiting, Fixed, Settled}
 use Rattle.ob_seq.specs.Answer.{outcome_of, promise_at, refusal_of}
-use Rattle.ob_seq.specs.Effect.{cancelled, closed_row, effect, reached_row, taken_row}
-use Rattle.ob_seq.specs.Row.{Row, Place, Unflushed, Flushed, Voided, Gone, is_unflushed, new_row}
-use Rattle.ob_seq.proofs.EachRow.{EachRow, IsKept, effect_keeps, taken_back}
-use Rattle.ob_seq.specs.Line.{is_in_line}
+use Rattle.ob_seq.specs.Effect.{cancelled, effect}
+use Rattle.ob_seq.specs.Row.{Row, Place, Unflushed, Flushed, Voided, Gone, new_row}
+use Rattle.ob_seq.proofs.EachRow.{EachRow, IsKept, effect_keeps}
 use Rattle.std.proofs.Common.{arith}
 
 -- the outcome with which a promise is settled, if there is such a promise and it is
@@ -27,17 +25,7 @@ outcome_at rows id = outcome_in (promise_at rows id)
 
 -- a promise that was settled stays so, with its outcome
 abbrev pub StaysSettled : Option Outcome → Option Outcome → Type 0
-StaysSettled None after = Unit {0}
-StaysSettled (Some outcome) after = after ≡ Some outcome
-
-pub same_stays : (outcome : Option Outcome) → StaysSettled outcome outcome
-same_stays None = tt
-same_stays (Some outcome) = refl
-
-both_stay : (was between after : Option Outcome) → StaysSettled was between → StaysSettled between after →
-    StaysSettled was after
-both_stay None between after first second = tt
-both_stay (Some outcome) between after first second = rw first at second
+StaysSettled was now = (outcome : Outcome) → was ≡ Some outcome → now ≡ Some outcome
 
 -- each promise of rows that was settled stays so
 abbrev pub StaySettled : List Row → List Row → Type 0
@@ -56,51 +44,36 @@ pub record IsEnding (Accepted : Type 0) (Ended : PromiseState → Type 0) : Type
   pub back : (state : PromiseState) → Ended state → Ended (cancelled state)
   pub left : Accepted ⊎ Ended Fixed
 
+-- the promise of a row fits its place
+abbrev pub Fits : (PromiseState → Type 0) → Row → Type 0
+Fits Ended row = MayBe Ended row.place row.promise
+
 module _ (Accepted : Type 0) (Ended : PromiseState → Type 0) (ending : IsEnding Accepted Ended) where
-  -- a row whose promise fits keeps one that fits, and what was settled stays so
-  abbrev Moves : Place → PromiseState → Place → PromiseState → Type 0
-  Moves place promise after now =
-      MayBe Ended place promise → MayBe Ended after now × StaysSettled (outcome_of promise) (outcome_of now)
-
-  abbrev pub Fits : Row → Type 0
-  Fits row = MayBe Ended row.place row.promise
-
+  -- where a row's promise fits, it does so after, and what was settled stays so
   abbrev StaysFit : Row → Row → Type 0
-  StaysFit was row = Moves was.place was.promise row.place row.promise
-
-  reached : (row : Row) → is_unflushed row.place ≡ true → StaysFit row (reached_row row)
-  reached row fresh fits = grind arith
-
-  taken : (outcome : Outcome) (row : Row) → is_in_line row ≡ true → StaysFit row (taken_row outcome row)
-  taken outcome row here fits = grind (arith, ending.settled)
-
-  back : (row : Row) → StaysFit row (taken_back row)
-  back row fits = grind (arith, ending.back)
-
-  closed : (cause : Cause) (row : Row) → (Accepted → is_in_line row ≡ false) → StaysFit row (closed_row cause row)
-  closed cause row away fits = grind (arith, ending.settled, ending.left, away)
+  StaysFit was row = Fits Ended was → Fits Ended row × StaysSettled (outcome_of was.promise) (outcome_of row.promise)
 
   staying : IsKept Accepted StaysFit
   staying = record {
-    same = λ row fits. (fits, same_stays (outcome_of row.promise));
+    same = λ row fits. (fits, λ outcome is. is);
     both = λ was between row first second fits.
         let one = first fits in
         let two = second one.0 in
-        (two.0, both_stay (outcome_of was.promise) (outcome_of between.promise) (outcome_of row.promise) one.1 two.1);
-    reached = reached;
-    taken = taken;
-    told = λ row skipped progress fits. (fits, same_stays (outcome_of row.promise));
-    back = back;
-    closed = closed;
+        (two.0, λ outcome is. two.1 outcome (one.1 outcome is));
+    reached = λ row fresh fits. grind arith;
+    taken = λ outcome row here fits. grind (arith, ending.settled);
+    told = λ row skipped progress fits. (fits, λ outcome is. is);
+    back = λ row fits. grind (arith, ending.back);
+    closed = λ cause row away fits. grind (arith, ending.settled, ending.left, away);
   }
 
   -- rows that stay so, one by one
   abbrev StayFit : List Row → List Row → Type 0
-  StayFit before after = AllByRecursion Fits after × StaySettled before after
+  StayFit before after = AllByRecursion (Fits Ended) after × StaySettled before after
 
-  each_stays : (before after : List Row) → EachRow StaysFit before after → AllByRecursion Fits before →
+  each_stays : (before after : List Row) → EachRow StaysFit before after → AllByRecursion (Fits Ended) before →
       StayFit before after
-  each_stays [] [] each fit = (tt, λ id. tt)
+  each_stays [] [] each fit = (tt, λ id outcome is. is)
   each_stays [] (row ∷ after) each fit = absurd each
   each_stays (was ∷ before) [] each fit = absurd each
   each_stays (was ∷ before) (row ∷ after) each fit =
@@ -114,19 +87,19 @@ module _ (Accepted : Type 0) (Ended : PromiseState → Type 0) (ending : IsEndin
       at first rest (suc id) = rest id
 
   -- a write adds a row that fits
-  written : (rows : List Row) (row : Row) → Fits row → AllByRecursion Fits rows → StayFit rows (rows ++ row ∷ [])
-  written [] row fits fit = ((fits, tt), λ id. tt)
+  written : (rows : List Row) (row : Row) → Fits Ended row → AllByRecursion (Fits Ended) rows → StayFit rows (rows ++ row ∷ [])
+  written [] row fits fit = ((fits, tt), λ id outcome is. absurd (cc))
   written (first ∷ rows) row fits fit =
       let rest = written rows row fits fit.1 in
       ((fit.0, rest.0), at rest.1)
     where
       at : StaySettled rows (rows ++ row ∷ []) → StaySettled (first ∷ rows) (first ∷ (rows ++ row ∷ []))
-      at rest zero = same_stays (outcome_of first.promise)
+      at rest zero = λ outcome is. is
       at rest (suc id) = rest id
 
   -- each command keeps all promises fitting, and settled where they are
   pub effect_fits : (estimate : Estimate) (rows : List Row) (command : Command) →
-      (Accepted → refusal_of estimate rows command ≡ None) → AllByRecursion Fits rows →
+      (Accepted → refusal_of estimate rows command ≡ None) → AllByRecursion (Fits Ended) rows →
       StayFit rows (effect estimate rows command)
   effect_fits estimate rows (Write message) accepted fit = written rows (new_row estimate message) (inl refl) fit
   effect_fits estimate rows command accepted fit =
@@ -134,16 +107,19 @@ module _ (Accepted : Type 0) (Ended : PromiseState → Type 0) (ending : IsEndin
       (effect_keeps Accepted StaysFit staying estimate rows command accepted refl) fit
 
 -- whatever commands came, each promise fits its place, but for those of messages that are gone
-pub loosely : IsEnding ⊥ (λ state. Unit {0})
+abbrev pub Loose : PromiseState → Type 0
+Loose state = Unit {0}
+
+loosely : IsEnding ⊥ Loose
 loosely = record { settled = λ outcome. tt; back = λ state ended. tt; left = inr tt }
 
 abbrev pub FitLoosely : List Row → Type 0
-FitLoosely rows = AllByRecursion (Fits ⊥ (λ state. Unit {0}) loosely) rows
+FitLoosely rows = AllByRecursion (Fits Loose) rows
 
 pub one_more : (estimate : Estimate) (rows : List Row) (command : Command) → FitLoosely rows →
     FitLoosely (effect estimate rows command) × StaySettled rows (effect estimate rows command)
 one_more estimate rows command fit =
-    effect_fits ⊥ (λ state. Unit {0}) loosely estimate rows command (λ never. absurd never) fit
+    effect_fits ⊥ Loose loosely estimate rows command (λ never. absurd never) fit
 
 pub fit_along : (estimate : Estimate) (rows : List Row) (commands : List Command) → FitLoosely rows →
     FitLoosely (fold (effect estimate) rows commands)

@@ -16,7 +16,7 @@ use Rattle.ob_seq.specs.Line.{is_in_line, line, unflushed}
 use Rattle.ob_seq.specs.Order.{gone, is_gone}
 use Rattle.ob_seq.specs.Row.{Row, Unflushed, Flushed, Voided, Gone, is_unflushed}
 use Rattle.ob_seq.proofs.Ordered.{first_in_line, rows_in_order}
-use Rattle.ob_seq.proofs.Fits.{FitLoosely, MayBe, fit_along}
+use Rattle.ob_seq.proofs.Fits.{FitLoosely, Fits, Loose, fit_along}
 
 -- the row is no longer in the buffer
 pub record IsGone (row : Row) : Type 0 where
@@ -141,7 +141,7 @@ skipped_stands n row standing = grind arith
 
 -- the rows that pass a test, each of the kind that it tells
 each_filter : (test : Row → Bool) (P : Row → Type 0) →
-    ((row : Row) → MayBe (λ state. Unit {0}) row.place row.promise → test row ≡ true → P row) →
+    ((row : Row) → Fits Loose row → test row ≡ true → P row) →
     (rows : List Row) → FitLoosely rows → AllByRecursion P (filter test rows)
 each_filter test P tells [] fit = tt
 each_filter test P tells (row ∷ rows) fit =
@@ -154,10 +154,10 @@ each_filter test P tells (row ∷ rows) fit =
 gone_by : (row : Row) → is_gone row.place ≡ true → IsGone row
 gone_by row here = record { place = grind arith }
 
-standing_by : (row : Row) → MayBe (λ state. Unit {0}) row.place row.promise → is_in_line row ≡ true → IsStanding row
+standing_by : (row : Row) → Fits Loose row → is_in_line row ≡ true → IsStanding row
 standing_by row fits here = grind arith
 
-fresh_by : (row : Row) → MayBe (λ state. Unit {0}) row.place row.promise → is_unflushed row.place ≡ true → IsFresh row
+fresh_by : (row : Row) → Fits Loose row → is_unflushed row.place ≡ true → IsFresh row
 fresh_by row fits here = grind arith
 
 -- the rows of each history are in order
