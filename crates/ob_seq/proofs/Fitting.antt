@@ -19,7 +19,7 @@ use Rattle.ob_seq.specs.Fitting.{FitsItsPlace, MayHave}
 use Rattle.ob_seq.specs.Row.{Row, Place}
 use Rattle.ob_seq.specs.Writes.{writes_in}
 use Rattle.ob_seq.proofs.Accepting.{kept_along_accepted, open_and_fit}
-use Rattle.ob_seq.proofs.Fits.{IsEnding, effect_fits}
+use Rattle.ob_seq.proofs.EachRow.{IsEnding, effect_fits}
 use Rattle.ob_seq.proofs.History.{closed_more, rows_after_more}
 use Rattle.ob_seq.proofs.Order.{IsGone, all_now_gone}
 use Rattle.ob_seq.proofs.Shrinking.{row_for_each_write}

@@ -11,7 +11,6 @@ mod Entries
 mod EntrySettlements
 mod Failing
 mod Failures
-mod Fits
 mod Fitting
 mod Flushing
 mod Fronts

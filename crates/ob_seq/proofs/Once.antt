@@ -15,8 +15,8 @@ use Rattle.ob_seq.specs.Effect.{effect, rows_after}
 use Rattle.ob_seq.specs.Answer.{answer_to, commands_after, first_refusal, outcome_of, settlement, settlements_from}
 use Rattle.ob_seq.specs.Looks.{promise_after}
 use Rattle.ob_seq.specs.Settles.{settled_along, settled_by, times_settled}
-use Rattle.ob_seq.proofs.Accepting.{refused_or_not}
-use Rattle.ob_seq.proofs.Fits.{StaySettled, StaysSettled, fit_along, one_more, outcome_at, outcome_in}
+use Rattle.ob_seq.proofs.Accepting.{none_or_some}
+use Rattle.ob_seq.proofs.EachRow.{StaySettled, StaysSettled, fit_along, one_more, outcome_at, outcome_in}
 use Rattle.ob_seq.proofs.History.{rows_after_more}
 
 -- a promise with an outcome is settled with it
@@ -111,7 +111,7 @@ module _ (settings : Settings) where
     one_counts : (id : ℕ) →
         times id (settled_by (answer_to settings earlier command)) + count_of (outcome_after earlier id)
         ≡ count_of (outcome_after (commands_after settings earlier command) id)
-    one_counts id = elim (refused_or_not (first_refusal settings.estimate earlier command)) [
+    one_counts id = elim (none_or_some (first_refusal settings.estimate earlier command)) [
       | inl none ↦
           rw (none, rows_after_more settings.estimate earlier command) (counted 0 id id (omega arith) _ _ rows_stay)
       | inr some ↦ rw some.1 (omega arith)
@@ -120,7 +120,7 @@ module _ (settings : Settings) where
     -- and a promise that was settled before it keeps its outcome
     pub outcome_stays : (id : ℕ) → StaysSettled (outcome_after earlier id)
         (outcome_after (commands_after settings earlier command) id)
-    outcome_stays id = elim (refused_or_not (first_refusal settings.estimate earlier command)) [
+    outcome_stays id = elim (none_or_some (first_refusal settings.estimate earlier command)) [
       | inl none ↦ rw (none, rows_after_more settings.estimate earlier command) (rows_stay id)
       | inr some ↦ rw some.1 (λ outcome is. is)
     ]

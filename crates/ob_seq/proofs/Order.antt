@@ -16,7 +16,7 @@ use Rattle.ob_seq.specs.Line.{is_in_line, line, unflushed}
 use Rattle.ob_seq.specs.Order.{gone, is_gone}
 use Rattle.ob_seq.specs.Row.{Row, Unflushed, Flushed, Voided, Gone, is_unflushed}
 use Rattle.ob_seq.proofs.Ordered.{first_in_line, rows_in_order}
-use Rattle.ob_seq.proofs.Fits.{FitLoosely, Fits, Loose, fit_along}
+use Rattle.ob_seq.proofs.EachRow.{FitLoosely, Fits, Loose, fit_along}
 
 -- the row is no longer in the buffer
 pub record IsGone (row : Row) : Type 0 where

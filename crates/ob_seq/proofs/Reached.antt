@@ -93,7 +93,8 @@ module _ (buffer : Pending) (gone standing : List Row) (row : Row) (fresh : List
       let sum = total ((gone ++ standing) ++ reached_row row ∷ fresh) in
       let all = total ((gone ++ standing) ++ row ∷ fresh) in
       let pending : pending_total buffer ≡ all =
-      pending_total_is buffer gone standing (row ∷ fresh) held ∙ ap total (sym (append_assoc gone standing (row ∷ fresh))) in
+      pending_total_is buffer gone standing (row ∷ fresh) held
+      ∙ ap total (sym (append_assoc gone standing (row ∷ fresh))) in
       rw (back_is, pending, ap first_size held.unflushed)
       (word_by (is_cancelled row.promise) buffer.marks buffer.word size after all sum
       (λ back. let none = nothing_counted row back in
@@ -129,7 +130,8 @@ all_reached (row ∷ fresh) buffer gone standing half moments held word =
     )
 
 -- a flush settles nothing
-settles_nothing : (id : ℕ) (row : Row) → settlement id (outcome_of row.promise) (outcome_of (reached_row row).promise) ≡ []
+settles_nothing : (id : ℕ) (row : Row) →
+    settlement id (outcome_of row.promise) (outcome_of (reached_row row).promise) ≡ []
 settles_nothing id row = grind arith
 
 pub settlements_of_reached : (id : ℕ) (fresh : List Row) → settlements_from id fresh (map reached_row fresh) ≡ []

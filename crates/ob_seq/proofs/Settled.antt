@@ -1,8 +1,9 @@
 -- How many promises each command settles.
 use Rattle.std.proofs.Common.{◌≡◌, ℕ, suc, ◌<◌, ◌≤◌, Bool, true, false, List, [], ◌∷◌, length, map, take}
 use Rattle.std.proofs.Common.{drop}
-use Rattle.std.proofs.Common.{refl, sym, ap, ◌∙◌, cond, ltb, arith}
-use Rattle.std.specs.Prelude.{count_by, not, Option, Some, None, take_while}
+use Rattle.std.proofs.Common.{refl, sym, ap, ◌∙◌, cond, ltb, arith, inl, inr}
+use Rattle.std.specs.Prelude.{count_by, not, option_map, Option, Some, None, take_while}
+use Rattle.std.proofs.lemmas.Bool.{cases_Bool}
 use Rattle.std.proofs.lemmas.Bool.Decides.{nat_tests}
 use Rattle.std.proofs.lemmas.List.{length-map}
 use Rattle.std.proofs.lemmas.List.Folds.{length-prefix_len}
@@ -33,7 +34,7 @@ use Rattle.ob_seq.specs.Pieces.{bytes_in, pieces_within}
 use Rattle.ob_seq.specs.Row.{Row}
 use Rattle.ob_seq.specs.Settles.{settled_after, settled_by}
 use Rattle.ob_seq.specs.Steps.{bytes_settled, closing_settled, cut_of, front_id, is_first_voided, removal_reply}
-use Rattle.ob_seq.specs.Steps.{settled_by_bytes, unflushed_id}
+use Rattle.ob_seq.specs.Steps.{unflushed_id}
 use Rattle.ob_seq.proofs.Acceptance.{settled_of_accepted, settled_of_refused}
 use Rattle.ob_seq.proofs.Along.{settlement_same, settlements_of_same}
 use Rattle.ob_seq.proofs.BytesRemoved.{bytes_refused, bytes_accepted, bytes_removed_stand, whole_cut}
@@ -144,19 +145,19 @@ module _ (buffer : Pending) (commands : List Command) (stands : StandsFor buffer
 
   pub bytes_settle : (n : ℕ) →
       bytes_settled n buffer.line ≡ settled_after buffer.settings commands (RemoveBytes n)
-  bytes_settle n = by_few (ltb (bytes_in (blocks_left buffer.line)) n) refl
-    where
-      by_few : (few : Bool) → ltb (bytes_in (blocks_left buffer.line)) n ≡ few →
-          cond few 0 (settled_by_bytes n buffer.line) ≡ settled_after buffer.settings commands (RemoveBytes n)
-      by_few true is =
-          refused (RemoveBytes n) TooManyBytes
-          (bytes_refused buffer commands n stands (nothing_found n (blocks_left buffer.line) is)) 0 refl
-      by_few false is =
-          let cut = whole_cut n (blocks_left buffer.line) in
-          let found = something_found n (blocks_left buffer.line) is in
-          sym (count_of_settlements Success (front_id buffer) (take cut.whole buffer.line))
-          ∙ accepted (RemoveBytes n) (bytes_accepted buffer commands n stands cut found) _
-          (bytes_removed_stand buffer commands n stands cut found unclosed (few_entries n buffer.line)).1
+  bytes_settle n = elim (cases_Bool (ltb (bytes_in (blocks_left buffer.line)) n)) [
+    | inl few ↦
+        let missing = bytes_refused buffer commands n stands (nothing_found n (blocks_left buffer.line) few) in
+        refused (RemoveBytes n) TooManyBytes missing (bytes_settled n buffer.line) (rw few)
+    | inr enough ↦
+        let cut = whole_cut n (blocks_left buffer.line) in
+        let found = something_found n (blocks_left buffer.line) enough in
+        let whole = few_entries n buffer.line in
+        let reply = (bytes_removed_stand buffer commands n stands cut found unclosed whole).1 in
+        counted (RemoveBytes n) (bytes_accepted buffer commands n stands cut found) (bytes_settled n buffer.line)
+        (rw enough (sym (count_of_settlements Success (front_id buffer) (take cut.whole buffer.line))
+        ∙ ap (λ (reply : Reply). length reply.settled) reply))
+  ]
 
   pub progress_settles : (n : ℕ) → 0 ≡ settled_after buffer.settings commands (Progress n)
   progress_settles n =
@@ -171,20 +172,19 @@ module _ (buffer : Pending) (commands : List Command) (stands : StandsFor buffer
 
   pub closing_settles : (cause : Cause) →
       closing_settled buffer ≡ settled_after buffer.settings commands (Close cause)
-  closing_settles cause = by_left (ltb 0 (length buffer.line)) refl
-    where
-      by_left : (left : Bool) → ltb 0 (length buffer.line) ≡ left →
-          cond left 0 (count_by (λ state. is_waiting state) (drop (unflushed_id buffer) buffer.promises))
-          ≡ settled_after buffer.settings commands (Close cause)
-      by_left true is =
-          let some : 0 < length buffer.line = grind (arith, nat_tests) in
-          let front = fronted buffer commands stands some in
-          refused (Close cause) FlushedLeft (left_refused buffer commands cause stands front) 0 refl
-      by_left false is =
-          let none : length buffer.line ≡ 0 = grind (arith, nat_tests) in
-          sym (count_of_failures cause (unflushed_id buffer) (drop (unflushed_id buffer) buffer.promises))
-          ∙ accepted (Close cause) (close_accepted buffer commands cause stands none) _
-          (closed_stands buffer commands cause stands unclosed none).1
+  closing_settles cause = elim (cases_Bool (ltb 0 (length buffer.line))) [
+    | inl some ↦
+        let front = fronted buffer commands stands (grind (arith, nat_tests)) in
+        let left = left_refused buffer commands cause stands front in
+        refused (Close cause) FlushedLeft left (closing_settled buffer) (rw some)
+    | inr empty ↦
+        let none : length buffer.line ≡ 0 = grind (arith, nat_tests) in
+        let reply = (closed_stands buffer commands cause stands unclosed none).1 in
+        let id = unflushed_id buffer in
+        counted (Close cause) (close_accepted buffer commands cause stands none) (closing_settled buffer)
+        (rw empty (sym (count_of_failures cause id (drop id buffer.promises))
+        ∙ ap (λ (reply : Reply). length reply.settled) reply))
+  ]
 
   pub bit_settles : (index : ℕ) (writable : Bool) →
       0 ≡ settled_after buffer.settings commands (UserBit index writable)
@@ -192,18 +192,15 @@ module _ (buffer : Pending) (commands : List Command) (stands : StandsFor buffer
 
   pub cancel_settles : (id : PromiseId) →
       cond (still_waits (promise_at rows id.0)) 1 0 ≡ settled_after buffer.settings commands (Cancel id)
-  cancel_settles id = by_known (ltb id.0 (length rows)) refl
-    where
-      by_known : (known : Bool) → ltb id.0 (length rows) ≡ known →
-          cond (still_waits (promise_at rows id.0)) 1 0 ≡ settled_after buffer.settings commands (Cancel id)
-      by_known true is =
-          let within : id.0 < length rows = grind (arith, nat_tests) in
-          counted (Cancel id) (rw is) (cond (still_waits (promise_at rows id.0)) 1 0)
-          (ap (λ found. cond (still_waits found) 1 0) (promise_found rows id.0 within)
-          ∙ settled_by_state id.0 (state_at rows id.0)
-          ∙ ap length (sym (settlements_of_back id.0 0 id.0 (omega arith) rows within)))
-      by_known false is =
-          let past : length rows ≤ id.0 = grind (arith, nat_tests) in
-          let none : promise_at rows id.0 ≡ None = rw (slice_get_past rows id.0 past) in
-          refused (Cancel id) UnknownPromise (rw is) (cond (still_waits (promise_at rows id.0)) 1 0)
-          (ap (λ found. cond (still_waits found) 1 0) none)
+  cancel_settles id = elim (cases_Bool (ltb id.0 (length rows))) [
+    | inl known ↦
+        let within : id.0 < length rows = grind (arith, nat_tests) in
+        counted (Cancel id) (rw known) (cond (still_waits (promise_at rows id.0)) 1 0)
+        (ap (λ found. cond (still_waits found) 1 0) (promise_found rows id.0 within)
+        ∙ settled_by_state id.0 (state_at rows id.0)
+        ∙ ap length (sym (settlements_of_back id.0 0 id.0 (omega arith) rows within)))
+    | inr unknown ↦
+        let none = slice_get_past rows id.0 (grind (arith, nat_tests)) in
+        refused (Cancel id) UnknownPromise (rw unknown) (cond (still_waits (promise_at rows id.0)) 1 0)
+        (ap (λ found. cond (still_waits (option_map (λ (row : Row). row.promise) found)) 1 0) none)
+  ]

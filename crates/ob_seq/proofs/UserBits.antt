@@ -49,7 +49,8 @@ pow_digit at i = grind (arith, nat_tests, bit_at-pow_same at, bit_at-pow_other a
 
 -- a number of 32 digits with one of them set, or clear
 changed_number : (writable : Bool) (bit after : ℕ → Bool) (at : ℕ) → at < 32 →
-    ((i : ℕ) → after i ≡ cond (eqb at i) (not writable) (bit i)) → with_user_bit at writable (word_of bit) ≡ word_of after
+    ((i : ℕ) → after i ≡ cond (eqb at i) (not writable) (bit i)) →
+    with_user_bit at writable (word_of bit) ≡ word_of after
 changed_number true bit after at within changes = same_from_bits _ _ (λ i.
     bit_at_and (word_of bit) (bit_not w32 (2 ^ at)) i ∙ rw (digit_of bit i, digit_of after i, changes i)
     (grind (arith, nat_tests, bit_at_not w32 (2 ^ at) i (pow-lt within), pow_digit at i)))
