@@ -1,7 +1,6 @@
 -- The accepted commands among those that are given.
 use Rattle.std.proofs.Common.{◌≡◌, Bool, true, false, ◌&&◌, List, [], ◌∷◌, ◌++◌, refl, sym, ap, ◌∙◌, cond, ◌⊎◌, inl}
-use Rattle.std.proofs.Common.{inr}
-use Rattle.std.proofs.Common.{append_assoc, append-nil, subst, arith}
+use Rattle.std.proofs.Common.{inr, append_assoc, append-nil, subst, arith}
 use Rattle.std.specs.Prelude.{Option, Some, None, is_ok, fold}
 use Rattle.ob_types.specs.declared.command.Command.{Command}
 use Rattle.ob_types.specs.declared.estimate.Estimate.{Estimate}
@@ -9,8 +8,7 @@ use Rattle.ob_types.specs.declared.refusal.Refusal.{Refusal}
 use Rattle.ob_types.specs.declared.refusal.Refusal.TheVariants.{Closed}
 use Rattle.ob_types.specs.declared.reply.Reply.{Reply}
 use Rattle.ob_seq.specs.Settings.{Settings}
-use Rattle.ob_seq.specs.Answer.{is_accepted, are_accepted, commands_after, first_refusal, refusal_of}
-use Rattle.ob_seq.specs.Answer.{reply_of}
+use Rattle.ob_seq.specs.Answer.{is_accepted, are_accepted, commands_after, first_refusal, refusal_of, reply_of}
 use Rattle.ob_seq.specs.Answer.{unless_refused}
 use Rattle.ob_seq.specs.Closed.{is_closed}
 use Rattle.ob_seq.specs.Effect.{rows_after}

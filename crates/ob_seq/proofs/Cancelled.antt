@@ -1,7 +1,6 @@
 -- A buffer with a promise taken back stands for the history with the cancellation.
 use Rattle.std.proofs.Common.{◌≡◌, ℕ, zero, suc, ◌+◌, ◌<◌, Bool, true, false, List, [], ◌∷◌, ◌++◌, length, map, get_or}
-use Rattle.std.proofs.Common.{refl}
-use Rattle.std.proofs.Common.{sym, ap, ◌∙◌, cond, append-nil, arith}
+use Rattle.std.proofs.Common.{refl, sym, ap, ◌∙◌, cond, append-nil, arith}
 use Rattle.std.specs.Prelude.{Some, None, filter, slice_set}
 use Rattle.std.proofs.lemmas.Bool.Decides.{nat_tests}
 use Rattle.std.proofs.lemmas.List.{length-map}

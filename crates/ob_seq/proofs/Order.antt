@@ -1,7 +1,5 @@
 -- The order of the rows: those that are gone, then those in line, then those that no flush has reached.
-use Rattle.std.proofs.Common.{◌≡◌, ℕ, zero, suc, Bool, true, false, List, [], ◌∷◌}
-use Rattle.std.proofs.Common.{◌++◌}
-use Rattle.std.proofs.Common.{map, refl, cond, arith, ◌⊎◌}
+use Rattle.std.proofs.Common.{◌≡◌, ℕ, zero, suc, Bool, true, false, List, [], ◌∷◌, ◌++◌, map, refl, cond, arith, ◌⊎◌}
 use Rattle.std.specs.Prelude.{filter}
 use Rattle.std.specs.List.{AllByRecursion}
 use Rattle.std.proofs.lemmas.List.{map-append}
@@ -10,8 +8,8 @@ use Rattle.ob_types.specs.declared.command.Command.{Command}
 use Rattle.ob_types.specs.declared.promise.Cause.{Cause}
 use Rattle.ob_types.specs.declared.promise.Outcome.TheVariants.{Failed, Cancelled}
 use Rattle.ob_types.specs.declared.promise.PromiseState.TheVariants.{Waiting, Fixed, Settled}
-use Rattle.ob_seq.specs.Effect.{failed_row, flushed_row, progressed_row, reached_row, rows_after}
-use Rattle.ob_seq.specs.Effect.{skipped_row, taken_row, with_front}
+use Rattle.ob_seq.specs.Effect.{failed_row, flushed_row, progressed_row, reached_row, rows_after, skipped_row}
+use Rattle.ob_seq.specs.Effect.{taken_row, with_front}
 use Rattle.ob_seq.specs.Line.{is_in_line, line, unflushed}
 use Rattle.ob_seq.specs.Order.{gone, is_gone}
 use Rattle.ob_seq.specs.Row.{Row, Unflushed, Flushed, Voided, Gone, is_unflushed}

@@ -1,25 +1,22 @@
 -- The rows stand in order: gone, in line, unflushed.
-use Rattle.std.proofs.Common.{◌≡◌, ℕ, zero, suc, ◌+◌, ◌-◌, ◌*◌, ◌/◌, ◌≤◌, Bool, false, ◌&&◌, List, [], ◌∷◌}
-use Rattle.std.proofs.Common.{◌++◌}
-use Rattle.std.proofs.Common.{map, length, min, refl, cond, ltb, length-append, arith, ◌⊎◌, inl, inr}
+use Rattle.std.proofs.Common.{◌≡◌, ℕ, zero, suc, ◌+◌, ◌-◌, ◌*◌, ◌/◌, ◌≤◌, Bool, false, ◌&&◌, List, [], ◌∷◌, ◌++◌, map}
+use Rattle.std.proofs.Common.{length, min, refl, cond, ltb, length-append, arith, ◌⊎◌, inl, inr}
 use Rattle.std.specs.Prelude.{filter, fold}
 use Rattle.std.proofs.lemmas.Bool.Decides.{nat_tests}
 use Rattle.std.proofs.lemmas.List.Elements.{filter-append}
 use Rattle.ob_types.specs.declared.estimate.Estimate.{Estimate}
 use Rattle.ob_types.specs.declared.command.Command.{Command}
-use Rattle.ob_types.specs.declared.command.Command.TheVariants.{Write, Flush, Remove, RemoveWith, RemoveBytes}
-use Rattle.ob_types.specs.declared.command.Command.TheVariants.{Progress, Cancel, FailFlushed, Close, UserBit}
+use Rattle.ob_types.specs.declared.command.Command.TheVariants.{Write, Flush, Remove, RemoveWith, RemoveBytes, Progress}
+use Rattle.ob_types.specs.declared.command.Command.TheVariants.{Cancel, FailFlushed, Close, UserBit}
 use Rattle.ob_types.specs.declared.promise.Cause.{Cause}
 use Rattle.ob_types.specs.declared.promise.Outcome.{Outcome}
 use Rattle.ob_types.specs.declared.promise.Outcome.TheVariants.{Success, Failed}
 use Rattle.ob_seq.specs.ByteRun.{whole_rows, bytes_left_over}
-use Rattle.ob_seq.specs.Effect.{closed_row, effect, failed_row, flushed_row, progressed_row, rows_after}
-use Rattle.ob_seq.specs.Effect.{taken_row, with_cancelled, with_first, with_first_behind, with_front}
-use Rattle.ob_seq.specs.Effect.{with_skipped}
+use Rattle.ob_seq.specs.Effect.{closed_row, effect, failed_row, flushed_row, progressed_row, rows_after, taken_row}
+use Rattle.ob_seq.specs.Effect.{with_cancelled, with_first, with_first_behind, with_front, with_skipped}
 use Rattle.ob_seq.specs.Line.{is_in_line, line}
 use Rattle.ob_seq.specs.Order.{StandInOrder, gone, is_gone}
-use Rattle.ob_seq.specs.Row.{Row, Place, Unflushed, Flushed, Voided, Gone}
-use Rattle.ob_seq.specs.Row.{new_row}
+use Rattle.ob_seq.specs.Row.{Row, Place, Unflushed, Flushed, Voided, Gone, new_row}
 use Rattle.ob_seq.proofs.EachRow.{EachRow, cancelled_row, front_row, map_rows, skipped_rows}
 
 module _ (change : Row → Row) where

@@ -15,8 +15,8 @@ use Rattle.ob_seq.specs.Effect.{reached_row}
 use Rattle.ob_seq.specs.Moment.{Moment, moment_of, moments_along}
 use Rattle.ob_seq.specs.Answer.{outcome_of, settlement, settlements_from}
 use Rattle.ob_seq.specs.Pending.{Pending}
-use Rattle.ob_seq.specs.Steps.{pending_total, first_size, reached_entry, is_next_cancelled, unflushed_id}
-use Rattle.ob_seq.specs.Steps.{next_flushed, times, word_after_fall}
+use Rattle.ob_seq.specs.Steps.{pending_total, first_size, reached_entry, is_next_cancelled, unflushed_id, next_flushed}
+use Rattle.ob_seq.specs.Steps.{times, word_after_fall}
 use Rattle.ob_seq.proofs.Held.{opening, Held, promise_of, unflushed_id_is, pending_total_is}
 use Rattle.ob_seq.proofs.Marks.{word_from, word_from_more, word_step}
 use Rattle.ob_seq.proofs.Order.{IsFresh, IsStanding, each_append, reached_stands}

@@ -1,7 +1,6 @@
 -- How many promises each command settles.
-use Rattle.std.proofs.Common.{◌≡◌, ℕ, suc, ◌<◌, ◌≤◌, Bool, true, false, List, [], ◌∷◌, length, map, take}
-use Rattle.std.proofs.Common.{drop}
-use Rattle.std.proofs.Common.{refl, sym, ap, ◌∙◌, cond, ltb, arith, inl, inr}
+use Rattle.std.proofs.Common.{◌≡◌, ℕ, suc, ◌<◌, ◌≤◌, Bool, true, false, List, [], ◌∷◌, length, map, take, drop, refl}
+use Rattle.std.proofs.Common.{sym, ap, ◌∙◌, cond, ltb, arith, inl, inr}
 use Rattle.std.specs.Prelude.{count_by, not, option_map, Option, Some, None, take_while}
 use Rattle.std.proofs.lemmas.Bool.{cases_Bool}
 use Rattle.std.proofs.lemmas.Bool.Decides.{nat_tests}
@@ -12,8 +11,8 @@ use Rattle.std.proofs.lemmas.Option.{slice_get_past}
 use Rattle.ob_types.specs.Block.{is_block}
 use Rattle.ob_types.specs.Waiting.{is_waiting}
 use Rattle.ob_types.specs.declared.command.Command.{Command}
-use Rattle.ob_types.specs.declared.command.Command.TheVariants.{Write, Flush, Remove, RemoveWith, RemoveBytes}
-use Rattle.ob_types.specs.declared.command.Command.TheVariants.{Progress, Cancel, FailFlushed, Close, UserBit}
+use Rattle.ob_types.specs.declared.command.Command.TheVariants.{Write, Flush, Remove, RemoveWith, RemoveBytes, Progress}
+use Rattle.ob_types.specs.declared.command.Command.TheVariants.{Cancel, FailFlushed, Close, UserBit}
 use Rattle.ob_types.specs.declared.message.Message.{Message}
 use Rattle.ob_types.specs.declared.promise.Cause.{Cause}
 use Rattle.ob_types.specs.declared.promise.Outcome.{Outcome}
@@ -24,10 +23,9 @@ use Rattle.ob_types.specs.declared.refusal.Refusal.{Refusal}
 use Rattle.ob_types.specs.declared.refusal.Refusal.TheVariants.{FlushedLeft, TooManyBytes, UnknownPromise}
 use Rattle.ob_types.specs.declared.reply.Reply.{Reply}
 use Rattle.ob_seq.specs.Answer.{first_refusal, outcome_of, promise_at, refusal_of, reply_of, settlement}
-use Rattle.ob_seq.specs.Answer.{settlements_from}
-use Rattle.ob_seq.specs.Answer.{still_waits, unless_refused}
+use Rattle.ob_seq.specs.Answer.{settlements_from, still_waits, unless_refused}
 use Rattle.ob_seq.specs.ByteRun.{block_bytes}
-use Rattle.ob_seq.specs.Effect.{cancelled, progressed_row, rows_after, with_front}
+use Rattle.ob_seq.specs.Effect.{progressed_row, rows_after, with_cancelled, with_front}
 use Rattle.ob_seq.specs.Entry.{PendingEntry, blocks_left}
 use Rattle.ob_seq.specs.Pending.{Pending, StandsFor}
 use Rattle.ob_seq.specs.Pieces.{bytes_in, pieces_within}
@@ -65,9 +63,10 @@ settlements_of_staying id (was ∷ before) (row ∷ after) each =
     rw (each.0, settlement_same, settlements_of_staying (suc id) before after each.1)
 
 -- taking a promise back settles it where it waits
-settled_by_state : (id : ℕ) (state : PromiseState) →
-    cond (is_waiting state) 1 0 ≡ length (settlement id (outcome_of state) (outcome_of (cancelled state)))
-settled_by_state id state = grind arith
+back_settles : (rows : List Row) (id : ℕ) → id < length rows →
+    cond (still_waits (promise_at rows id)) 1 0 ≡ length (settlements_from 0 rows (with_cancelled id rows))
+back_settles rows id known =
+    rw (promise_found rows id known, settlements_of_back id 0 id (omega arith) rows known) (grind arith)
 
 -- a removal settles as many promises whatever its outcome
 removals_settle_alike : (some voided : Bool) (one other : PromiseId × Outcome) →
@@ -195,10 +194,7 @@ module _ (buffer : Pending) (commands : List Command) (stands : StandsFor buffer
   cancel_settles id = elim (cases_Bool (ltb id.0 (length rows))) [
     | inl known ↦
         let within : id.0 < length rows = grind (arith, nat_tests) in
-        counted (Cancel id) (rw known) (cond (still_waits (promise_at rows id.0)) 1 0)
-        (ap (λ found. cond (still_waits found) 1 0) (promise_found rows id.0 within)
-        ∙ settled_by_state id.0 (state_at rows id.0)
-        ∙ ap length (sym (settlements_of_back id.0 0 id.0 (omega arith) rows within)))
+        counted (Cancel id) (rw known) (cond (still_waits (promise_at rows id.0)) 1 0) (back_settles rows id.0 within)
     | inr unknown ↦
         let none = slice_get_past rows id.0 (grind (arith, nat_tests)) in
         refused (Cancel id) UnknownPromise (rw unknown) (cond (still_waits (promise_at rows id.0)) 1 0)

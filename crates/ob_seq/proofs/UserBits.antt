@@ -1,6 +1,5 @@
 -- A user bit set or cleared in the word is the user bit after one more command.
-use Rattle.std.proofs.Common.{◌≡◌, ℕ, zero, suc, ◌^◌, ◌<◌, ◌≤◌, Bool, true, false, not, List, [], ◌∷◌, ◌++◌}
-use Rattle.std.proofs.Common.{reverse}
+use Rattle.std.proofs.Common.{◌≡◌, ℕ, zero, suc, ◌^◌, ◌<◌, ◌≤◌, Bool, true, false, not, List, [], ◌∷◌, ◌++◌, reverse}
 use Rattle.std.proofs.Common.{refl, sym, ap, ◌∙◌, cond, eqb, ltb, append-nil, arith}
 use Rattle.std.specs.Prelude.{Option, Some, None, filter_map, slice_get, unwrap_or}
 use Rattle.std.specs.Int.{bit_at, bit_not, w32}
