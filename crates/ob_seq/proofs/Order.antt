@@ -1,5 +1,5 @@
 -- The order of the rows: those that are gone, then those in line, then those that no flush has reached.
-use Rattle.std.proofs.Common.{◌≡◌, ℕ, zero, suc, Bool, true, false, List, [], ◌∷◌, ◌++◌, map, refl, cond, arith, ◌⊎◌}
+use Rattle.std.proofs.Common.{◌≡◌, ℕ, Bool, true, false, List, [], ◌∷◌, ◌++◌, map, refl, cond, arith, ◌⊎◌}
 use Rattle.std.specs.Prelude.{filter}
 use Rattle.std.specs.List.{AllByRecursion}
 use Rattle.std.proofs.lemmas.List.{map-append}
@@ -13,7 +13,7 @@ use Rattle.ob_seq.specs.Effect.{taken_row, with_front}
 use Rattle.ob_seq.specs.Line.{is_in_line, line, unflushed}
 use Rattle.ob_seq.specs.Order.{gone, is_gone}
 use Rattle.ob_seq.specs.Row.{Row, Unflushed, Flushed, Voided, Gone, is_unflushed}
-use Rattle.ob_seq.proofs.Ordered.{first_in_line, rows_in_order}
+use Rattle.ob_seq.proofs.Ordered.{rows_in_order}
 use Rattle.ob_seq.proofs.EachRow.{FitLoosely, Fits, Loose, fit_along}
 
 -- the row is no longer in the buffer
@@ -90,14 +90,6 @@ module _ (change : Row → Row) where
   pub with_front_standing : (row : Row) (rows : List Row) → IsStanding row →
       with_front change (row ∷ rows) ≡ change row ∷ rows
   with_front_standing row rows standing = rw (standing_in_line row standing)
-
-  -- behind the rows that are gone
-  pub first_gone : (count : ℕ) (gone rows : List Row) → AllByRecursion IsGone gone →
-      first_in_line change count (gone ++ rows) ≡ gone ++ first_in_line change count rows
-  first_gone zero gone rows all = refl
-  first_gone (suc count) [] rows all = refl
-  first_gone (suc count) (row ∷ gone) rows all =
-      rw (gone_not_in_line row all.0, first_gone (suc count) gone rows all.1)
 
 -- rows of one kind that a change takes to others
 map_by : (change to : Row → Row) (P : Row → Type 0) (turns : (row : Row) → P row → change row ≡ to row)

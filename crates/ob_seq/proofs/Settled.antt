@@ -9,7 +9,6 @@ use Rattle.std.proofs.lemmas.List.Folds.{length-prefix_len}
 use Rattle.std.proofs.lemmas.List.Sums.{prefix_len-le-length}
 use Rattle.std.proofs.lemmas.Option.{slice_get_past}
 use Rattle.ob_types.specs.Block.{is_block}
-use Rattle.ob_types.specs.Waiting.{is_waiting}
 use Rattle.ob_types.specs.declared.command.Command.{Command}
 use Rattle.ob_types.specs.declared.command.Command.TheVariants.{Write, Flush, Remove, RemoveWith, RemoveBytes, Progress}
 use Rattle.ob_types.specs.declared.command.Command.TheVariants.{Cancel, FailFlushed, Close, UserBit}
@@ -18,12 +17,11 @@ use Rattle.ob_types.specs.declared.promise.Cause.{Cause}
 use Rattle.ob_types.specs.declared.promise.Outcome.{Outcome}
 use Rattle.ob_types.specs.declared.promise.Outcome.TheVariants.{Success, Failed}
 use Rattle.ob_types.specs.declared.promise.PromiseId.{PromiseId}
-use Rattle.ob_types.specs.declared.promise.PromiseState.{PromiseState}
 use Rattle.ob_types.specs.declared.refusal.Refusal.{Refusal}
 use Rattle.ob_types.specs.declared.refusal.Refusal.TheVariants.{FlushedLeft, TooManyBytes, UnknownPromise}
 use Rattle.ob_types.specs.declared.reply.Reply.{Reply}
-use Rattle.ob_seq.specs.Answer.{first_refusal, outcome_of, promise_at, refusal_of, reply_of, settlement}
-use Rattle.ob_seq.specs.Answer.{settlements_from, still_waits, unless_refused}
+use Rattle.ob_seq.specs.Answer.{first_refusal, promise_at, refusal_of, reply_of, settlements_from, still_waits}
+use Rattle.ob_seq.specs.Answer.{unless_refused}
 use Rattle.ob_seq.specs.ByteRun.{block_bytes}
 use Rattle.ob_seq.specs.Effect.{progressed_row, rows_after, with_cancelled, with_front}
 use Rattle.ob_seq.specs.Entry.{PendingEntry, blocks_left}
@@ -36,7 +34,7 @@ use Rattle.ob_seq.specs.Steps.{unflushed_id}
 use Rattle.ob_seq.proofs.Acceptance.{settled_of_accepted, settled_of_refused}
 use Rattle.ob_seq.proofs.Along.{settlement_same, settlements_of_same}
 use Rattle.ob_seq.proofs.BytesRemoved.{bytes_refused, bytes_accepted, bytes_removed_stand, whole_cut}
-use Rattle.ob_seq.proofs.Cancelled.{promise_found, settlements_of_back, state_at}
+use Rattle.ob_seq.proofs.Cancelled.{promise_found, settlements_of_back}
 use Rattle.ob_seq.proofs.Closing.{close_accepted, closed_stands, left_refused}
 use Rattle.ob_seq.proofs.EachRow.{EachRow, front_row}
 use Rattle.ob_seq.proofs.EntrySettlements.{count_of_settlements}
