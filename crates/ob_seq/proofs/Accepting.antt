@@ -1,7 +1,6 @@
 -- The accepted commands among those that are given.
 use Rattle.std.proofs.Common.{◌≡◌, Bool, true, false, ◌&&◌, List, [], ◌∷◌, ◌++◌, refl, sym, ap, ◌∙◌, cond, ◌⊎◌, inl}
-use Rattle.std.proofs.Common.{inr}
-use Rattle.std.proofs.Common.{append_assoc, append-nil, subst, arith}
+use Rattle.std.proofs.Common.{inr, append_assoc, append-nil, subst, arith}
 use Rattle.std.specs.Prelude.{Option, Some, None, is_ok, fold}
 use Rattle.ob_types.specs.declared.command.Command.{Command}
 use Rattle.ob_types.specs.declared.estimate.Estimate.{Estimate}
@@ -9,8 +8,7 @@ use Rattle.ob_types.specs.declared.refusal.Refusal.{Refusal}
 use Rattle.ob_types.specs.declared.refusal.Refusal.TheVariants.{Closed}
 use Rattle.ob_types.specs.declared.reply.Reply.{Reply}
 use Rattle.ob_seq.specs.Settings.{Settings}
-use Rattle.ob_seq.specs.Answer.{is_accepted, are_accepted, commands_after, first_refusal, refusal_of}
-use Rattle.ob_seq.specs.Answer.{reply_of}
+use Rattle.ob_seq.specs.Answer.{is_accepted, are_accepted, commands_after, first_refusal, refusal_of, reply_of}
 use Rattle.ob_seq.specs.Answer.{unless_refused}
 use Rattle.ob_seq.specs.Closed.{is_closed}
 use Rattle.ob_seq.specs.Effect.{rows_after}
@@ -18,10 +16,10 @@ use Rattle.ob_seq.specs.Accepted.{accepted_among}
 use Rattle.ob_seq.specs.Settles.{settled_along}
 use Rattle.ob_seq.proofs.History.{accepted_by, accepted_from_more}
 
--- a first refusal is none, or there is one
-pub refused_or_not : (refusal : Option Refusal) → (refusal ≡ None) ⊎ ((first : Refusal) × (refusal ≡ Some first))
-refused_or_not None = inl refl
-refused_or_not (Some refusal) = inr (refusal, refl)
+-- there is none, or there is one
+pub none_or_some : {X : Type 0} (found : Option X) → (found ≡ None) ⊎ ((one : X) × (found ≡ Some one))
+none_or_some None = inl refl
+none_or_some (Some one) = inr (one, refl)
 
 -- the first command of accepted ones is accepted, and so are the others after it
 first_and_rest : (settings : Settings) (earlier : List Command) (command : Command) (commands : List Command) →
@@ -73,7 +71,7 @@ module _ (settings : Settings) where
   -- after accepted commands one more is either accepted too, or leaves them as they are
   still_accepted : (earlier : List Command) (command : Command) → are_accepted settings [] earlier ≡ true →
       are_accepted settings [] (commands_after settings earlier command) ≡ true
-  still_accepted earlier command all = elim (refused_or_not (first_refusal settings.estimate earlier command)) [
+  still_accepted earlier command all = elim (none_or_some (first_refusal settings.estimate earlier command)) [
     | inl none ↦
         rw none (accepted_from_more settings [] earlier command all (accepted_by settings earlier command none))
     | inr some ↦ rw some.1 all
@@ -110,7 +108,7 @@ module _ (settings : Settings) where
 
   goes_on : (earlier commands : List Command) → GoesOn earlier commands
   goes_on earlier [] = record { more = []; is = sym (append-nil earlier); settles = refl }
-  goes_on earlier (command ∷ commands) = elim (refused_or_not (first_refusal settings.estimate earlier command)) [
+  goes_on earlier (command ∷ commands) = elim (none_or_some (first_refusal settings.estimate earlier command)) [
     | inl none ↦ let rest = goes_on (earlier ++ command ∷ []) commands in record {
       more = command ∷ rest.more;
       is = rw none (rest.is ∙ append_assoc earlier (command ∷ []) rest.more);

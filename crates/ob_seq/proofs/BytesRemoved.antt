@@ -1,7 +1,6 @@
 -- A buffer after a removal of bytes stands for the history with the removal.
 use Rattle.std.proofs.Common.{arith, ◌≡◌, ℕ, ◌+◌, ◌-◌, ◌≤◌, Bool, true, false, List, [], ◌∷◌, ◌++◌, length, map, take}
-use Rattle.std.proofs.Common.{drop}
-use Rattle.std.proofs.Common.{refl, sym, ap, ◌∙◌, cond, append_assoc, ltb, zero-add}
+use Rattle.std.proofs.Common.{drop, refl, sym, ap, ◌∙◌, cond, append_assoc, ltb, zero-add}
 use Rattle.std.specs.Prelude.{Option, Some, None}
 use Rattle.std.specs.List.{AllByRecursion}
 use Rattle.std.proofs.lemmas.List.{length-take-le, take-append-drop, map-append, length-map}
@@ -25,8 +24,7 @@ use Rattle.ob_seq.specs.Word.{word_after}
 use Rattle.ob_seq.specs.Answer.{refusal_of, settlements_from, reply_of}
 use Rattle.ob_seq.specs.Entry.{blocks_left, entry_of}
 use Rattle.ob_seq.specs.Pending.{Pending, StandsFor}
-use Rattle.ob_seq.specs.Steps.{bytes_removed, bytes_reply, cut_of, front_id, front_taken}
-use Rattle.ob_seq.specs.Steps.{entry_settlements, times}
+use Rattle.ob_seq.specs.Steps.{bytes_removed, bytes_reply, cut_of, front_id, front_taken, entry_settlements, times}
 use Rattle.ob_seq.proofs.Acceptance.{open_history, same_reply}
 use Rattle.ob_seq.proofs.Along.{moments_along_same, settlements_from_same}
 use Rattle.ob_seq.proofs.Held.{opening, opening_of, word_at_end, Held, held_of, front_id_is, line_count, stands_by}
@@ -58,12 +56,6 @@ accepted_by false cut found some = (refl, cc)
 abbrev pub whole_cut : ℕ → List (List ℕ) → Cut
 whole_cut n pieces =
     record { whole = pieces_within n pieces; rest = n - bytes_in (take (pieces_within n pieces) pieces) }
-
--- how many entries are taken away whole
-pub whole_of_cut : (n : ℕ) (pieces : List (List ℕ)) (cut : Cut) → cut_of n pieces ≡ Some cut →
-    pieces_within n pieces ≡ cut.whole
-whole_of_cut n pieces cut is =
-    ap (λ (c : Cut). c.whole) (accepted_by (ltb (bytes_in pieces) n) (whole_cut n pieces) cut is).1
 
 module _ (buffer : Pending) (commands : List Command) (n : ℕ) (stands : StandsFor buffer commands) where
   abbrev rows : List Row

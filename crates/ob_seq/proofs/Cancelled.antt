@@ -1,8 +1,7 @@
 -- A buffer with a promise taken back stands for the history with the cancellation.
 use Rattle.std.proofs.Common.{◌≡◌, ℕ, zero, suc, ◌+◌, ◌<◌, Bool, true, false, List, [], ◌∷◌, ◌++◌, length, map, get_or}
-use Rattle.std.proofs.Common.{refl}
-use Rattle.std.proofs.Common.{sym, ap, ◌∙◌, cond, ltb, append-nil, arith}
-use Rattle.std.specs.Prelude.{Option, Some, None, filter, slice_set, if◌then◌else◌}
+use Rattle.std.proofs.Common.{refl, sym, ap, ◌∙◌, cond, append-nil, arith}
+use Rattle.std.specs.Prelude.{Some, None, filter, slice_set}
 use Rattle.std.proofs.lemmas.Bool.Decides.{nat_tests}
 use Rattle.std.proofs.lemmas.List.{length-map}
 use Rattle.std.proofs.lemmas.Option.{slice_get-map, slice_get-get_or}
@@ -12,8 +11,6 @@ use Rattle.ob_types.specs.declared.command.Command.TheVariants.{Cancel}
 use Rattle.ob_types.specs.declared.promise.PromiseId.{PromiseId}
 use Rattle.ob_types.specs.declared.promise.PromiseState.{PromiseState}
 use Rattle.ob_types.specs.declared.promise.PromiseState.TheVariants.{Waiting}
-use Rattle.ob_types.specs.declared.refusal.Refusal.{Refusal}
-use Rattle.ob_types.specs.declared.refusal.Refusal.TheVariants.{UnknownPromise}
 use Rattle.ob_types.specs.declared.reply.Reply.{Reply}
 use Rattle.ob_types.specs.declared.reply.Answer.TheVariants.{Yes}
 use Rattle.ob_types.specs.Waiting.{is_waiting}
@@ -60,19 +57,12 @@ promises_kept (suc id) (row ∷ rows) same = rw (promises_kept id rows same)
 entries_of_back : (test : Row → Bool) → ((row : Row) → test (taken_back row) ≡ test row) → (id : ℕ) (rows : List Row) →
     map entry_of (filter test (with_cancelled id rows)) ≡ map entry_of (filter test rows)
 entries_of_back test alike id [] = refl
-entries_of_back test alike zero (row ∷ rows) = rw (alike row) (by_test (test row))
+entries_of_back test alike zero (row ∷ rows) = rw (alike row) (step (test row))
   where
-    by_test : (here : Bool) → map entry_of (cond here (taken_back row ∷ filter test rows) (filter test rows))
+    step : (here : Bool) → map entry_of (cond here (taken_back row ∷ filter test rows) (filter test rows))
         ≡ map entry_of (cond here (row ∷ filter test rows) (filter test rows))
-    by_test true = refl
-    by_test false = refl
-entries_of_back test alike (suc id) (row ∷ rows) = by_test (test row) (entries_of_back test alike id rows)
-  where
-    by_test : (here : Bool) → map entry_of (filter test (with_cancelled id rows)) ≡ map entry_of (filter test rows) →
-        map entry_of (cond here (row ∷ filter test (with_cancelled id rows)) (filter test (with_cancelled id rows)))
-        ≡ map entry_of (cond here (row ∷ filter test rows) (filter test rows))
-    by_test true rest = rw rest
-    by_test false rest = rest
+    step here = grind arith
+entries_of_back test alike (suc id) (row ∷ rows) = let rest = entries_of_back test alike id rows in grind arith
 
 moments_of_back : (id : ℕ) (passed rows : List Row) → moments_along true passed rows (with_cancelled id rows) ≡ []
 moments_of_back id passed [] = refl
@@ -102,11 +92,7 @@ module _ (buffer : Pending) (commands : List Command) (id : PromiseId) (stands :
   within = omega (arith, ap length stands.promises, length-map rows promise_of, known)
 
   pub cancel_accepted : refusal_of buffer.settings.estimate rows (Cancel id) ≡ None
-  cancel_accepted = known_if id.0 (length rows) within
-    where
-      known_if : (i count : ℕ) → i < count →
-          (let refusal : Option Refusal = if ltb i count then None else Some UnknownPromise in refusal ≡ None)
-      known_if i count h = grind (arith, nat_tests)
+  cancel_accepted = let known = within in grind (arith, nat_tests)
 
   word_stays : buffer.word ≡ word_after buffer.settings (commands ++ Cancel id ∷ [])
   word_stays = stands.word

@@ -1,7 +1,6 @@
 -- The user bits as a number in binary.
 use Rattle.std.proofs.Common.{◌≡◌, ℕ, zero, suc, ◌+◌, ◌*◌, ◌^◌, ◌/◌, ◌%◌, ◌<◌, ◌≤◌, Bool, true, false, refl, sym, ap}
-use Rattle.std.proofs.Common.{◌∙◌, cond}
-use Rattle.std.proofs.Common.{arith, add-zero, add-one, ltb}
+use Rattle.std.proofs.Common.{◌∙◌, cond, arith, add-zero, add-one, ltb}
 use Rattle.std.specs.Prelude.{sum_by}
 use Rattle.std.proofs.lemmas.Bool.Decides.{nat_tests}
 use Rattle.std.specs.List.{range_with_len}

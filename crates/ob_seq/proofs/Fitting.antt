@@ -1,7 +1,6 @@
 -- The promise of each row fits the place of its message, after accepted commands.
 use Rattle.std.proofs.Common.{◌≡◌, ◌<◌, ℕ, zero, suc, true, List, [], ◌∷◌, ◌++◌, length, refl, sym, ap, ◌∙◌, subst}
-use Rattle.std.proofs.Common.{arith}
-use Rattle.std.proofs.Common.{inl}
+use Rattle.std.proofs.Common.{arith, inl}
 use Rattle.std.specs.Prelude.{Some, None}
 use Rattle.std.specs.List.{All, AllByRecursion}
 use Rattle.std.proofs.lemmas.List.Elements.{All-from_recursion}
@@ -19,7 +18,7 @@ use Rattle.ob_seq.specs.Fitting.{FitsItsPlace, MayHave}
 use Rattle.ob_seq.specs.Row.{Row, Place}
 use Rattle.ob_seq.specs.Writes.{writes_in}
 use Rattle.ob_seq.proofs.Accepting.{kept_along_accepted, open_and_fit}
-use Rattle.ob_seq.proofs.Fits.{IsEnding, effect_fits}
+use Rattle.ob_seq.proofs.EachRow.{IsEnding, effect_fits}
 use Rattle.ob_seq.proofs.History.{closed_more, rows_after_more}
 use Rattle.ob_seq.proofs.Order.{IsGone, all_now_gone}
 use Rattle.ob_seq.proofs.Shrinking.{row_for_each_write}

@@ -12,7 +12,6 @@ mod EntrySettlements
 mod Failing
 mod Failures
 mod Fields
-mod Fits
 mod Fitting
 mod Flushing
 mod Fronts

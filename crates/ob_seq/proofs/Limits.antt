@@ -1,6 +1,6 @@
 -- What accepted commands leave within the limits.
-use Rattle.std.proofs.Common.{◌≡◌, ◌≤◌, ◌<◌, ℕ, ◌+◌, Bool, true, false, ◌||◌, List, [], ◌∷◌, ◌++◌, length, map, refl}
-use Rattle.std.proofs.Common.{sym, ap, ◌∙◌, cond, ltb, leb, subst, arith, length-append, length-drop}
+use Rattle.std.proofs.Common.{◌≡◌, ◌≤◌, ◌<◌, ℕ, ◌+◌, Bool, true, ◌||◌, List, [], ◌∷◌, ◌++◌, length, map, refl, sym, ap}
+use Rattle.std.proofs.Common.{◌∙◌, cond, ltb, leb, subst, arith, length-append, length-drop}
 use Rattle.std.specs.Prelude.{Option, Some, None}
 use Rattle.std.specs.List.{AllByRecursion}
 use Rattle.std.proofs.lemmas.Bool.Decides.{nat_tests}
@@ -131,14 +131,16 @@ module _ (settings : Settings) where
   -- no more bytes stand in the byte run than the rows count
   run_le : (rows : List Row) → AllByRecursion IsCounted rows → bytes_in (byte_run rows) ≤ total rows
   run_le [] sizes = omega arith
-  run_le (row ∷ rows) sizes = by_line (is_in_line row) refl (run_le rows sizes.1)
+  run_le (row ∷ rows) sizes =
+      step (run_le rows sizes.1) (λ here. unread_le row here sizes.0)
+      (first_bytes (unread_part row) (map unread_part (line rows))) (sum_by-cons counted_size row rows)
     where
-      by_line : (here : Bool) → is_in_line row ≡ here → bytes_in (byte_run rows) ≤ total rows →
-          bytes_in (blocks_in_front (map unread_part (cond here (row ∷ line rows) (line rows)))) ≤ total (row ∷ rows)
-      by_line true is rest =
-          let first = first_bytes (unread_part row) (map unread_part (line rows)) in
-          omega (arith, first, unread_le row is sizes.0, rest, sum_by-cons counted_size row rows)
-      by_line false is rest = omega (arith, rest, sum_by-cons counted_size row rows)
+      step : bytes_in (byte_run rows) ≤ total rows →
+          (is_in_line row ≡ true → length (block_bytes (unread_part row)) ≤ counted_size row) →
+          bytes_in (blocks_in_front (unread_part row ∷ map unread_part (line rows)))
+          ≤ length (block_bytes (unread_part row)) + bytes_in (byte_run rows) →
+          total (row ∷ rows) ≡ counted_size row + total rows → bytes_in (byte_run (row ∷ rows)) ≤ total (row ∷ rows)
+      step rest one first sum = grind arith
 
   module _ (commands : List Command) (all : are_accepted settings [] commands ≡ true) where
     -- after accepted commands no more than 4294967295 bytes are pending

@@ -1,6 +1,6 @@
 -- No promise is settled twice, and each keeps its outcome.
-use Rattle.std.proofs.Common.{◌≡◌, ℕ, zero, suc, ◌+◌, ◌<◌, ◌≤◌, true, false, List, [], ◌∷◌, ◌++◌, drop, refl, ap}
-use Rattle.std.proofs.Common.{cond, eqb, arith, inl, inr}
+use Rattle.std.proofs.Common.{◌≡◌, ℕ, zero, suc, ◌+◌, ◌<◌, ◌≤◌, true, false, List, [], ◌∷◌, ◌++◌, drop, refl, ap, cond}
+use Rattle.std.proofs.Common.{eqb, arith, inl, inr}
 use Rattle.std.specs.Prelude.{Option, Some, None, fold}
 use Rattle.std.proofs.lemmas.Bool.Decides.{nat_tests}
 use Rattle.std.proofs.lemmas.List.Sums.{sum_by-append}
@@ -8,24 +8,21 @@ use Rattle.ob_types.specs.declared.command.Command.{Command}
 use Rattle.ob_types.specs.declared.promise.Outcome.{Outcome}
 use Rattle.ob_types.specs.declared.promise.PromiseId.{PromiseId}
 use Rattle.ob_types.specs.declared.promise.PromiseState.{PromiseState}
-use Rattle.ob_types.specs.declared.promise.PromiseState.TheVariants.{Waiting, Fixed, Settled}
+use Rattle.ob_types.specs.declared.promise.PromiseState.TheVariants.{Settled}
 use Rattle.ob_seq.specs.Settings.{Settings}
 use Rattle.ob_seq.specs.Row.{Row}
 use Rattle.ob_seq.specs.Effect.{effect, rows_after}
 use Rattle.ob_seq.specs.Answer.{answer_to, commands_after, first_refusal, outcome_of, settlement, settlements_from}
 use Rattle.ob_seq.specs.Looks.{promise_after}
 use Rattle.ob_seq.specs.Settles.{settled_along, settled_by, times_settled}
-use Rattle.ob_seq.proofs.Accepting.{refused_or_not}
-use Rattle.ob_seq.proofs.Fits.{StaySettled, StaysSettled, fit_along, one_more, outcome_at, outcome_in, same_stays}
+use Rattle.ob_seq.proofs.Accepting.{none_or_some}
+use Rattle.ob_seq.proofs.EachRow.{StaySettled, StaysSettled, fit_along, one_more, outcome_at, outcome_in}
 use Rattle.ob_seq.proofs.History.{rows_after_more}
 
 -- a promise with an outcome is settled with it
 pub settled_in : (state : Option PromiseState) (outcome : Outcome) → outcome_in state ≡ Some outcome →
     state ≡ Some (Settled outcome)
-settled_in None outcome is = absurd (cc)
-settled_in (Some Waiting) outcome is = absurd (cc)
-settled_in (Some Fixed) outcome is = absurd (cc)
-settled_in (Some (Settled earlier)) outcome is = cc
+settled_in state outcome is = grind arith
 
 -- 1 where a promise is settled, and else 0
 abbrev count_of : Option Outcome → ℕ
@@ -33,8 +30,7 @@ count_of None = 0
 count_of (Some outcome) = 1
 
 one_at_most : (outcome : Option Outcome) → count_of outcome ≤ 1
-one_at_most None = omega arith
-one_at_most (Some outcome) = omega arith
+one_at_most outcome = grind arith
 
 -- how often an id stands among settlements
 abbrev times : ℕ → List (PromiseId × Outcome) → ℕ
@@ -65,15 +61,11 @@ outcome_behind (was ∷ before) id = refl
 
 -- the settlement of one promise counts for it alone
 of_another : (at id : ℕ) → eqb at id ≡ false → (was now : Option Outcome) → times id (settlement at was now) ≡ 0
-of_another at id other None None = refl
-of_another at id other None (Some outcome) = rw other
-of_another at id other (Some outcome) now = refl
+of_another at id other was now = grind arith
 
 of_itself : (at id : ℕ) → eqb at id ≡ true → (was now : Option Outcome) → StaysSettled was now →
     times id (settlement at was now) + count_of was ≡ count_of now
-of_itself at id same None None stays = refl
-of_itself at id same None (Some outcome) stays = rw same
-of_itself at id same (Some outcome) now stays = rw stays
+of_itself at id same was now stays = grind (arith, stays)
 
 -- rows settle no promise before them
 none_before : (at id : ℕ) (before after : List Row) → id < at → times id (settlements_from at before after) ≡ 0
@@ -85,8 +77,7 @@ none_before at id before (row ∷ after) early =
     omega arith
 
 never_settled : (was : Option Outcome) → StaysSettled was None → 0 + count_of was ≡ 0
-never_settled None stays = refl
-never_settled (Some outcome) stays = absurd (cc)
+never_settled was stays = grind (arith, stays)
 
 -- where promises stay settled, the settlements tell how often each one came to be settled
 counted : (at more id : ℕ) → id ≡ at + more → (before after : List Row) → StaySettled before after →
@@ -120,7 +111,7 @@ module _ (settings : Settings) where
     one_counts : (id : ℕ) →
         times id (settled_by (answer_to settings earlier command)) + count_of (outcome_after earlier id)
         ≡ count_of (outcome_after (commands_after settings earlier command) id)
-    one_counts id = elim (refused_or_not (first_refusal settings.estimate earlier command)) [
+    one_counts id = elim (none_or_some (first_refusal settings.estimate earlier command)) [
       | inl none ↦
           rw (none, rows_after_more settings.estimate earlier command) (counted 0 id id (omega arith) _ _ rows_stay)
       | inr some ↦ rw some.1 (omega arith)
@@ -129,9 +120,9 @@ module _ (settings : Settings) where
     -- and a promise that was settled before it keeps its outcome
     pub outcome_stays : (id : ℕ) → StaysSettled (outcome_after earlier id)
         (outcome_after (commands_after settings earlier command) id)
-    outcome_stays id = elim (refused_or_not (first_refusal settings.estimate earlier command)) [
+    outcome_stays id = elim (none_or_some (first_refusal settings.estimate earlier command)) [
       | inl none ↦ rw (none, rows_after_more settings.estimate earlier command) (rows_stay id)
-      | inr some ↦ rw some.1 (same_stays (outcome_after earlier id))
+      | inr some ↦ rw some.1 (λ outcome is. is)
     ]
 
   -- and so along commands
@@ -141,7 +132,7 @@ module _ (settings : Settings) where
   outcome_along earlier [] id outcome is = is
   outcome_along earlier (command ∷ commands) id outcome is =
       outcome_along (commands_after settings earlier command) commands id outcome
-      (rw is at (outcome_stays earlier command id))
+      (outcome_stays earlier command id outcome is)
 
   once_along : (earlier commands : List Command) (id : ℕ) →
       times id (settled_along settings earlier commands) + count_of (outcome_after earlier id) ≤ 1
@@ -163,4 +154,4 @@ module _ (settings : Settings) where
       promise_after settings earlier id ≡ Some (Settled outcome) →
       promise_after settings (commands_after settings earlier command) id ≡ Some (Settled outcome)
   outcome_kept earlier command id outcome is =
-      settled_in _ outcome (rw (ap outcome_in is) at (outcome_stays earlier command id.0))
+      settled_in _ outcome (outcome_stays earlier command id.0 outcome (ap outcome_in is))

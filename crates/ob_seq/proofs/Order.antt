@@ -1,7 +1,5 @@
 -- The order of the rows: those that are gone, then those in line, then those that no flush has reached.
-use Rattle.std.proofs.Common.{◌≡◌, ℕ, zero, suc, Bool, true, false, List, [], ◌∷◌}
-use Rattle.std.proofs.Common.{◌++◌}
-use Rattle.std.proofs.Common.{map, refl, cond, arith, ◌⊎◌}
+use Rattle.std.proofs.Common.{◌≡◌, ℕ, Bool, true, false, List, [], ◌∷◌, ◌++◌, map, refl, cond, arith, ◌⊎◌}
 use Rattle.std.specs.Prelude.{filter}
 use Rattle.std.specs.List.{AllByRecursion}
 use Rattle.std.proofs.lemmas.List.{map-append}
@@ -10,13 +8,13 @@ use Rattle.ob_types.specs.declared.command.Command.{Command}
 use Rattle.ob_types.specs.declared.promise.Cause.{Cause}
 use Rattle.ob_types.specs.declared.promise.Outcome.TheVariants.{Failed, Cancelled}
 use Rattle.ob_types.specs.declared.promise.PromiseState.TheVariants.{Waiting, Fixed, Settled}
-use Rattle.ob_seq.specs.Effect.{failed_row, flushed_row, progressed_row, reached_row, rows_after}
-use Rattle.ob_seq.specs.Effect.{skipped_row, taken_row, with_front}
+use Rattle.ob_seq.specs.Effect.{failed_row, flushed_row, progressed_row, reached_row, rows_after, skipped_row}
+use Rattle.ob_seq.specs.Effect.{taken_row, with_front}
 use Rattle.ob_seq.specs.Line.{is_in_line, line, unflushed}
 use Rattle.ob_seq.specs.Order.{gone, is_gone}
 use Rattle.ob_seq.specs.Row.{Row, Unflushed, Flushed, Voided, Gone, is_unflushed}
-use Rattle.ob_seq.proofs.Ordered.{first_in_line, rows_in_order}
-use Rattle.ob_seq.proofs.Fits.{FitLoosely, MayBe, fit_along}
+use Rattle.ob_seq.proofs.Ordered.{rows_in_order}
+use Rattle.ob_seq.proofs.EachRow.{FitLoosely, Fits, Loose, fit_along}
 
 -- the row is no longer in the buffer
 pub record IsGone (row : Row) : Type 0 where
@@ -93,14 +91,6 @@ module _ (change : Row → Row) where
       with_front change (row ∷ rows) ≡ change row ∷ rows
   with_front_standing row rows standing = rw (standing_in_line row standing)
 
-  -- behind the rows that are gone
-  pub first_gone : (count : ℕ) (gone rows : List Row) → AllByRecursion IsGone gone →
-      first_in_line change count (gone ++ rows) ≡ gone ++ first_in_line change count rows
-  first_gone zero gone rows all = refl
-  first_gone (suc count) [] rows all = refl
-  first_gone (suc count) (row ∷ gone) rows all =
-      rw (gone_not_in_line row all.0, first_gone (suc count) gone rows all.1)
-
 -- rows of one kind that a change takes to others
 map_by : (change to : Row → Row) (P : Row → Type 0) (turns : (row : Row) → P row → change row ≡ to row)
     (rows : List Row) → AllByRecursion P rows → map change rows ≡ map to rows
@@ -141,7 +131,7 @@ skipped_stands n row standing = grind arith
 
 -- the rows that pass a test, each of the kind that it tells
 each_filter : (test : Row → Bool) (P : Row → Type 0) →
-    ((row : Row) → MayBe (λ state. Unit {0}) row.place row.promise → test row ≡ true → P row) →
+    ((row : Row) → Fits Loose row → test row ≡ true → P row) →
     (rows : List Row) → FitLoosely rows → AllByRecursion P (filter test rows)
 each_filter test P tells [] fit = tt
 each_filter test P tells (row ∷ rows) fit =
@@ -154,10 +144,10 @@ each_filter test P tells (row ∷ rows) fit =
 gone_by : (row : Row) → is_gone row.place ≡ true → IsGone row
 gone_by row here = record { place = grind arith }
 
-standing_by : (row : Row) → MayBe (λ state. Unit {0}) row.place row.promise → is_in_line row ≡ true → IsStanding row
+standing_by : (row : Row) → Fits Loose row → is_in_line row ≡ true → IsStanding row
 standing_by row fits here = grind arith
 
-fresh_by : (row : Row) → MayBe (λ state. Unit {0}) row.place row.promise → is_unflushed row.place ≡ true → IsFresh row
+fresh_by : (row : Row) → Fits Loose row → is_unflushed row.place ≡ true → IsFresh row
 fresh_by row fits here = grind arith
 
 -- the rows of each history are in order

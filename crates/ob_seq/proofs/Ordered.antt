@@ -1,67 +1,28 @@
 -- The rows stand in order: gone, in line, unflushed.
-use Rattle.std.proofs.Common.{◌≡◌, ℕ, zero, suc, ◌+◌, ◌-◌, ◌*◌, ◌/◌, ◌≤◌, Bool, false, ◌&&◌, List, [], ◌∷◌}
-use Rattle.std.proofs.Common.{◌++◌}
-use Rattle.std.proofs.Common.{map, length, min, refl, cond, ltb, length-append, arith, ◌⊎◌, inl, inr}
+use Rattle.std.proofs.Common.{◌<◌, ◌≡◌, ℕ, ◌+◌, ◌*◌, ◌/◌, ◌≤◌, Bool, false, ◌&&◌, List, [], ◌∷◌, ◌++◌, map, length, min}
+use Rattle.std.proofs.Common.{refl, cond, ltb, length-append, arith, ◌⊎◌, inl, inr}
 use Rattle.std.specs.Prelude.{filter, fold}
 use Rattle.std.proofs.lemmas.Bool.Decides.{nat_tests}
 use Rattle.std.proofs.lemmas.List.Elements.{filter-append}
 use Rattle.ob_types.specs.declared.estimate.Estimate.{Estimate}
 use Rattle.ob_types.specs.declared.command.Command.{Command}
-use Rattle.ob_types.specs.declared.command.Command.TheVariants.{Write, Flush, Remove, RemoveWith, RemoveBytes}
-use Rattle.ob_types.specs.declared.command.Command.TheVariants.{Progress, Cancel, FailFlushed, Close, UserBit}
+use Rattle.ob_types.specs.declared.command.Command.TheVariants.{Write, Flush, Remove, RemoveWith, RemoveBytes, Progress}
+use Rattle.ob_types.specs.declared.command.Command.TheVariants.{Cancel, FailFlushed, Close, UserBit}
 use Rattle.ob_types.specs.declared.promise.Cause.{Cause}
 use Rattle.ob_types.specs.declared.promise.Outcome.{Outcome}
 use Rattle.ob_types.specs.declared.promise.Outcome.TheVariants.{Success, Failed}
 use Rattle.ob_seq.specs.ByteRun.{whole_rows, bytes_left_over}
-use Rattle.ob_seq.specs.Effect.{closed_row, effect, failed_row, flushed_row, progressed_row, rows_after}
-use Rattle.ob_seq.specs.Effect.{taken_row, with_cancelled, with_first, with_first_behind, with_front}
-use Rattle.ob_seq.specs.Effect.{with_skipped}
+use Rattle.ob_seq.specs.Effect.{closed_row, effect, failed_row, flushed_row, progressed_row, rows_after, taken_row}
+use Rattle.ob_seq.specs.Effect.{with_cancelled, with_first, with_first_behind, with_front, with_skipped}
 use Rattle.ob_seq.specs.Line.{is_in_line, line}
 use Rattle.ob_seq.specs.Order.{StandInOrder, gone, is_gone}
-use Rattle.ob_seq.specs.Row.{Row, Place, Unflushed, Flushed, Voided, Gone}
-use Rattle.ob_seq.specs.Row.{new_row}
+use Rattle.ob_seq.specs.Row.{Row, Place, Unflushed, Flushed, Voided, Gone, new_row}
 use Rattle.ob_seq.proofs.EachRow.{EachRow, cancelled_row, front_row, map_rows, skipped_rows}
 
-module _ (change : Row → Row) where
-  -- the first so many in line changed, counted one after another
-  abbrev pub first_in_line : ℕ → List Row → List Row
-  first_in_line zero rows = rows
-  first_in_line (suc count) [] = []
-  first_in_line (suc count) (row ∷ rows) =
-      cond (is_in_line row) (change row ∷ first_in_line count rows) (row ∷ first_in_line (suc count) rows)
-
-  line_count : (before : List Row) (row : Row) →
-      length (line (before ++ row ∷ [])) ≡ length (line before) + cond (is_in_line row) 1 0
-  line_count before row = rw (filter-append is_in_line before (row ∷ []), length-append) (grind arith)
-
-  -- those before which fewer stand in line are the first so many
-  first_behind : (count left : ℕ) (before rows : List Row) → count - length (line before) ≡ left →
-      with_first_behind count change before rows ≡ first_in_line left rows
-  first_behind count zero before [] is = refl
-  first_behind count (suc left) before [] is = refl
-  first_behind count zero before (row ∷ rows) is =
-      let more = line_count before row in
-      let none = late (is_in_line row) (length (line before)) count is in
-      rw (none, first_behind count zero (before ++ row ∷ []) rows (omega arith))
-    where
-      late : (here : Bool) (early count : ℕ) → count - early ≡ 0 → (here && ltb early count) ≡ false
-      late here early count is = grind (arith, nat_tests)
-  first_behind count (suc left) before (row ∷ rows) is =
-      step (is_in_line row) (length (line before)) _ _ (line_count before row)
-      (λ left. first_behind count left (before ++ row ∷ []) rows) is
-    where
-      step : (here : Bool) (early more : ℕ) (others : List Row) → more ≡ early + cond here 1 0 →
-          ((left : ℕ) → count - more ≡ left → others ≡ first_in_line left rows) → count - early ≡ suc left →
-          cond (here && ltb early count) (change row) row ∷ others
-          ≡ cond here (change row ∷ first_in_line left rows) (row ∷ first_in_line (suc left) rows)
-      step here early more others sum rest is = grind (arith, nat_tests, rest left, rest (suc left))
-
-  pub with_first_is : (count : ℕ) (rows : List Row) → with_first count change rows ≡ first_in_line count rows
-  with_first_is count rows = first_behind count count [] rows (omega arith)
-
-  with_front_is : (rows : List Row) → with_front change rows ≡ first_in_line 1 rows
-  with_front_is [] = refl
-  with_front_is (row ∷ rows) = rw (with_front_is rows)
+-- one more row before others counts where it stands in line
+pub line_count : (before : List Row) (row : Row) →
+    length (line (before ++ row ∷ [])) ≡ length (line before) + cond (is_in_line row) 1 0
+line_count before row = rw (filter-append is_in_line before (row ∷ []), length-append) (grind arith)
 
 -- where a row comes in the order
 abbrev rank : Place → ℕ
@@ -114,23 +75,35 @@ failed_rank : (cause : Cause) (row : Row) → rank (failed_row cause row).place 
 failed_rank cause row = grind arith
 
 -- the first of the line gone: they still stand before all others
-first_order : (outcome : Outcome) (count least now : ℕ) (rows : List Row) → now ≤ least →
-    (now ≡ 0) ⊎ (least ≡ 2) → InOrder least rows → InOrder now (first_in_line (taken_row outcome) count rows)
-first_order outcome zero least now rows lower when order = in_order_from least now rows lower order
-first_order outcome (suc count) least now [] lower when order = tt
-first_order outcome (suc count) least now (row ∷ rows) lower when order =
-    step _ _ (first_order outcome count 1 0 rows (omega arith) (inl refl))
-    (first_order outcome (suc count) 0 0 rows (omega arith) (inl refl))
-    (first_order outcome (suc count) 2 2 rows (omega arith) (inr refl)) order.0 order.1
+first_order : (outcome : Outcome) (count least now : ℕ) (before rows : List Row) → now ≤ least →
+    (length (line before) < count → (now ≡ 0) ⊎ (least ≡ 2)) → InOrder least rows →
+    InOrder now (with_first_behind count (taken_row outcome) before rows)
+first_order outcome count least now before [] lower when order = tt
+first_order outcome count least now before (row ∷ rows) lower when order =
+    step _ _ (line_count before row) (λ least now. first_order outcome count least now (before ++ row ∷ []) rows)
+    order.0 order.1
   where
-    step : (taken kept : List Row) → (InOrder 1 rows → InOrder 0 taken) → (InOrder 0 rows → InOrder 0 kept) →
-        (InOrder 2 rows → InOrder 2 kept) → least ≤ rank row.place → InOrder (rank row.place) rows →
-        InOrder now (cond (is_in_line row) (taken_row outcome row ∷ taken) (row ∷ kept))
-    step taken kept one none two low order = grind arith
+    step : (more : ℕ) (others : List Row) → more ≡ length (line before) + cond (is_in_line row) 1 0 →
+        ((least now : ℕ) → now ≤ least → (more < count → (now ≡ 0) ⊎ (least ≡ 2)) → InOrder least rows →
+        InOrder now others) → least ≤ rank row.place → InOrder (rank row.place) rows →
+        InOrder now (cond (is_in_line row && ltb (length (line before)) count) (taken_row outcome row) row ∷ others)
+    step more others sum rest low order = grind (arith, nat_tests, rest 0 0, rest 1 0, rest 1 1, rest 2 2)
+
+front_order : (outcome : Outcome) (least now : ℕ) (rows : List Row) → now ≤ least → (now ≡ 0) ⊎ (least ≡ 2) →
+    InOrder least rows → InOrder now (with_front (taken_row outcome) rows)
+front_order outcome least now [] lower when order = tt
+front_order outcome least now (row ∷ rows) lower when order =
+    step (with_front (taken_row outcome) rows) (in_order_from 1 0 rows (omega arith))
+    (front_order outcome 0 0 rows (omega arith) (inl refl)) (front_order outcome 2 2 rows (omega arith) (inr refl))
+    order.0 order.1
+  where
+    step : (others : List Row) → (InOrder 1 rows → InOrder 0 rows) → (InOrder 0 rows → InOrder 0 others) →
+        (InOrder 2 rows → InOrder 2 others) → least ≤ rank row.place → InOrder (rank row.place) rows →
+        InOrder now (cond (is_in_line row) (taken_row outcome row ∷ rows) (row ∷ others))
+    step others taken none two low order = grind arith
 
 removed_order : (outcome : Outcome) (rows : List Row) → InOrder 0 rows → InOrder 0 (with_front (taken_row outcome) rows)
-removed_order outcome rows order =
-    rw with_front_is (first_order outcome 1 0 0 rows (omega arith) (inl refl) order)
+removed_order outcome rows order = front_order outcome 0 0 rows (omega arith) (inl refl) order
 
 -- each command keeps the order
 effect_order : (estimate : Estimate) (rows : List Row) (command : Command) → InOrder 0 rows →
@@ -146,7 +119,7 @@ effect_order estimate rows (RemoveBytes n) order =
     let sent = with_first (whole_rows n rows) (taken_row Success) rows in
     same_order sent (with_skipped (bytes_left_over n rows) sent)
     (skipped_rows _ (λ row. refl) (bytes_left_over n rows) (λ row. refl) sent (ltb 0 (bytes_left_over n rows)))
-    (rw with_first_is (first_order Success (whole_rows n rows) 0 0 rows (omega arith) (inl refl) order))
+    (first_order Success (whole_rows n rows) 0 0 [] rows (omega arith) (λ few. inl refl) order)
 effect_order estimate rows (Progress n) order =
     same_order rows (with_front (progressed_row n) rows)
     (front_row _ (λ row. refl) (progressed_row n) (λ row is. refl) rows) order

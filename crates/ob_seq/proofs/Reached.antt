@@ -15,8 +15,8 @@ use Rattle.ob_seq.specs.Effect.{reached_row}
 use Rattle.ob_seq.specs.Moment.{Moment, moment_of, moments_along}
 use Rattle.ob_seq.specs.Answer.{outcome_of, settlement, settlements_from}
 use Rattle.ob_seq.specs.Pending.{Pending}
-use Rattle.ob_seq.specs.Steps.{pending_total, first_size, reached_entry, is_next_cancelled, unflushed_id}
-use Rattle.ob_seq.specs.Steps.{next_flushed, times, word_after_fall}
+use Rattle.ob_seq.specs.Steps.{pending_total, first_size, reached_entry, is_next_cancelled, unflushed_id, next_flushed}
+use Rattle.ob_seq.specs.Steps.{times, word_after_fall}
 use Rattle.ob_seq.proofs.Held.{opening, Held, promise_of, unflushed_id_is, pending_total_is}
 use Rattle.ob_seq.proofs.Marks.{word_from, word_from_more, word_step}
 use Rattle.ob_seq.proofs.Order.{IsFresh, IsStanding, each_append, reached_stands}
@@ -93,7 +93,8 @@ module _ (buffer : Pending) (gone standing : List Row) (row : Row) (fresh : List
       let sum = total ((gone ++ standing) ++ reached_row row ∷ fresh) in
       let all = total ((gone ++ standing) ++ row ∷ fresh) in
       let pending : pending_total buffer ≡ all =
-      pending_total_is buffer gone standing (row ∷ fresh) held ∙ ap total (sym (append_assoc gone standing (row ∷ fresh))) in
+      pending_total_is buffer gone standing (row ∷ fresh) held
+      ∙ ap total (sym (append_assoc gone standing (row ∷ fresh))) in
       rw (back_is, pending, ap first_size held.unflushed)
       (word_by (is_cancelled row.promise) buffer.marks buffer.word size after all sum
       (λ back. let none = nothing_counted row back in
@@ -129,7 +130,8 @@ all_reached (row ∷ fresh) buffer gone standing half moments held word =
     )
 
 -- a flush settles nothing
-settles_nothing : (id : ℕ) (row : Row) → settlement id (outcome_of row.promise) (outcome_of (reached_row row).promise) ≡ []
+settles_nothing : (id : ℕ) (row : Row) →
+    settlement id (outcome_of row.promise) (outcome_of (reached_row row).promise) ≡ []
 settles_nothing id row = grind arith
 
 pub settlements_of_reached : (id : ℕ) (fresh : List Row) → settlements_from id fresh (map reached_row fresh) ≡ []

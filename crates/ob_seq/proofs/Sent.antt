@@ -1,13 +1,14 @@
 -- The first rows in line taken away, one after another.
-use Rattle.std.proofs.Common.{add-zero, ◌≡◌, ℕ, suc, ◌+◌, Bool, true, List, [], ◌∷◌, ◌++◌, length, map, refl, sym, ap}
-use Rattle.std.proofs.Common.{◌∙◌}
-use Rattle.std.proofs.Common.{append_assoc, append-nil, subst, arith}
+use Rattle.std.proofs.lemmas.Bool.Decides.{nat_tests}
+use Rattle.ob_seq.specs.Line.{is_in_line, line}
+use Rattle.std.proofs.Common.{◌&&◌, ltb, Bool, true, cond, ◌≤◌, arith, add-zero, ◌≡◌, ℕ, suc, ◌+◌, List, [], ◌∷◌, ◌++◌}
+use Rattle.std.proofs.Common.{length, map, refl, sym, ap, ◌∙◌, append_assoc, append-nil, subst}
 use Rattle.std.specs.List.{AllByRecursion}
 use Rattle.ob_types.specs.declared.promise.Outcome.{Outcome}
 use Rattle.ob_types.specs.declared.promise.Outcome.TheVariants.{Success}
 use Rattle.ob_seq.specs.Row.{Row}
 use Rattle.ob_seq.specs.Total.{counted_size, total}
-use Rattle.ob_seq.specs.Effect.{taken_row, with_first}
+use Rattle.ob_seq.specs.Effect.{taken_row, with_first, with_first_behind}
 use Rattle.ob_seq.specs.Moment.{Moment, moment_of, moments_along}
 use Rattle.ob_seq.specs.Answer.{outcome_of, settlement, settlements_from}
 use Rattle.ob_seq.specs.Entry.{entry_of}
@@ -16,8 +17,8 @@ use Rattle.ob_seq.specs.Steps.{front_taken, entry_settlement, entry_settlements,
 use Rattle.ob_seq.proofs.Along.{moments_behind}
 use Rattle.ob_seq.proofs.Held.{opening, Held}
 use Rattle.ob_seq.proofs.Marks.{word_from}
-use Rattle.ob_seq.proofs.Order.{IsGone, IsStanding, first_gone, standing_in_line}
-use Rattle.ob_seq.proofs.Ordered.{first_in_line, with_first_is}
+use Rattle.ob_seq.proofs.Order.{IsGone, IsStanding, gone_not_in_line, standing_in_line}
+use Rattle.ob_seq.proofs.Ordered.{line_count}
 use Rattle.ob_seq.proofs.Taken.{taken_held, taken_word}
 use Rattle.ob_seq.proofs.Times.{times_first}
 
@@ -25,17 +26,42 @@ use Rattle.ob_seq.proofs.Times.{times_first}
 abbrev pub sent : Row → Row
 sent row = taken_row Success row
 
-first_sent : (first behind : List Row) → AllByRecursion IsStanding first →
-    first_in_line sent (length first) (first ++ behind) ≡ map sent first ++ behind
-first_sent [] behind all = refl
-first_sent (row ∷ first) behind all = rw (standing_in_line row all.0, first_sent first behind all.1)
+-- behind the first so many none goes
+past_first : (count : ℕ) (before rows : List Row) → count ≤ length (line before) →
+    with_first_behind count sent before rows ≡ rows
+past_first count before [] past = refl
+past_first count before (row ∷ rows) past =
+    let more = line_count before row in
+    let rest = past_first count (before ++ row ∷ []) rows (omega arith) in
+    rw rest (late (is_in_line row) (length (line before)) past)
+  where
+    late : (here : Bool) (early : ℕ) → count ≤ early → cond (here && ltb early count) (sent row) row ∷ rows ≡ row ∷ rows
+    late here early past = grind (arith, nat_tests)
+
+first_standing : (before first behind : List Row) (count : ℕ) → AllByRecursion IsStanding first →
+    length (line before) + length first ≡ count →
+    with_first_behind count sent before (first ++ behind) ≡ map sent first ++ behind
+first_standing before [] behind count all size = past_first count before behind (omega arith)
+first_standing before (row ∷ first) behind count all size =
+    let here = standing_in_line row all.0 in
+    let early : ltb (length (line before)) count ≡ true = grind (arith, nat_tests) in
+    let more = rw here at (line_count before row) in
+    rw (here, early, first_standing (before ++ row ∷ []) first behind count all.1 (omega arith))
+
+first_gone : (before gone first behind : List Row) (count : ℕ) → AllByRecursion IsGone gone →
+    AllByRecursion IsStanding first → length (line before) + length first ≡ count →
+    with_first_behind count sent before (gone ++ (first ++ behind)) ≡ gone ++ (map sent first ++ behind)
+first_gone before [] first behind count all_gone all size = first_standing before first behind count all size
+first_gone before (row ∷ gone) first behind count all_gone all size =
+    let away = gone_not_in_line row all_gone.0 in
+    let more = rw away at (line_count before row) in
+    rw (away, first_gone (before ++ row ∷ []) gone first behind count all_gone.1 all (omega arith))
 
 -- the rows when those are gone
 pub with_first_sent : (first gone behind : List Row) → AllByRecursion IsGone gone → AllByRecursion IsStanding first →
     with_first (length first) sent (gone ++ (first ++ behind)) ≡ gone ++ (map sent first ++ behind)
-with_first_sent first gone behind all_gone all_standing =
-    with_first_is sent (length first) (gone ++ (first ++ behind))
-    ∙ rw (first_gone sent (length first) gone (first ++ behind) all_gone, first_sent first behind all_standing)
+with_first_sent first gone behind all_gone all =
+    first_gone [] gone first behind (length first) all_gone all (omega arith)
 
 -- each of them is gone
 pub all_taken_gone : (outcome : Outcome) (rows : List Row) → AllByRecursion IsGone (map (taken_row outcome) rows)

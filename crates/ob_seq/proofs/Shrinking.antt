@@ -1,5 +1,5 @@
 -- A command that is no write brings no row, and makes no row count more.
-use Rattle.std.proofs.Common.{◌≡◌, ◌≤◌, suc, ◌+◌, Bool, true, false, List, [], ◌∷◌, length, refl, ap, ◌∙◌, cond, arith}
+use Rattle.std.proofs.Common.{◌≡◌, ◌≤◌, suc, ◌+◌, false, List, [], ◌∷◌, length, refl, ap, ◌∙◌, cond, arith}
 use Rattle.std.proofs.Common.{length-append}
 use Rattle.std.specs.Prelude.{fold}
 use Rattle.std.proofs.lemmas.List.Sums.{sum_by-cons}
@@ -7,9 +7,8 @@ use Rattle.ob_types.specs.Write.{is_write}
 use Rattle.ob_types.specs.declared.command.Command.{Command}
 use Rattle.ob_types.specs.declared.command.Command.TheVariants.{Write}
 use Rattle.ob_types.specs.declared.estimate.Estimate.{Estimate}
-use Rattle.ob_types.specs.declared.promise.PromiseState.TheVariants.{Fixed}
-use Rattle.ob_seq.specs.Effect.{effect, reached_row}
-use Rattle.ob_seq.specs.Row.{Row, Place, Unflushed, Flushed, Voided, Gone, is_cancelled, is_unflushed, new_row}
+use Rattle.ob_seq.specs.Effect.{effect}
+use Rattle.ob_seq.specs.Row.{Row, new_row}
 use Rattle.ob_seq.specs.Total.{counted_size, total}
 use Rattle.ob_seq.specs.Writes.{writes_in}
 use Rattle.ob_seq.proofs.EachRow.{EachRow, IsKept, effect_keeps}
@@ -24,19 +23,6 @@ pub record Shrinks (was row : Row) : Type 0 where
 abbrev pub Shrink : List Row → List Row → Type 0
 Shrink before after = EachRow Shrinks before after
 
--- a row that a flush reaches counts what it did, or nothing
-reached_shrinks : (row : Row) → is_unflushed row.place ≡ true → Shrinks row (reached_row row)
-reached_shrinks row fresh = by_place row.place (is_cancelled row.promise) fresh
-  where
-    by_place : (place : Place) (back : Bool) → is_unflushed place ≡ true →
-        Shrinks (record row { place = place })
-        (cond back (record row { place = Voided }) (record row { place = Flushed; promise = Fixed }))
-    by_place Unflushed true fresh = record { message = refl; size = refl; counts = omega arith }
-    by_place Unflushed false fresh = record { message = refl; size = refl; counts = omega arith }
-    by_place Flushed back fresh = absurd (cc)
-    by_place Voided back fresh = absurd (cc)
-    by_place Gone back fresh = absurd (cc)
-
 shrinking : IsKept ⊥ Shrinks
 shrinking = record {
   same = λ row. record { message = refl; size = refl; counts = omega arith };
@@ -45,7 +31,7 @@ shrinking = record {
     size = second.size ∙ first.size;
     counts = omega (arith, first.counts, second.counts);
   };
-  reached = reached_shrinks;
+  reached = λ row fresh. record { message = grind arith; size = grind arith; counts = grind arith };
   taken = λ outcome row here. record { message = refl; size = refl; counts = omega arith };
   told = λ row skipped progress. record { message = refl; size = refl; counts = omega arith };
   back = λ row. record { message = refl; size = refl; counts = omega arith };

@@ -1,6 +1,6 @@
 -- A promise is settled with an outcome exactly where the two stand among the settlements.
-use Rattle.std.proofs.Common.{◌≡◌, ℕ, zero, suc, ◌+◌, true, List, [], ◌∷◌, drop, inl, inr, refl, sym, ap, ◌∙◌}
-use Rattle.std.proofs.Common.{arith, add-zero}
+use Rattle.std.proofs.Common.{◌≡◌, ℕ, zero, suc, ◌+◌, true, List, [], ◌∷◌, drop, inl, inr, refl, sym, ap, ◌∙◌, arith}
+use Rattle.std.proofs.Common.{add-zero}
 use Rattle.std.specs.Prelude.{◌↔◌, Option, Some, None, fold}
 use Rattle.std.specs.List.{Contains}
 use Rattle.std.proofs.lemmas.List.Elements.{Contains-append_left, Contains-append_right, Contains-append_cases}
@@ -16,8 +16,8 @@ use Rattle.ob_seq.specs.Looks.{promise_after}
 use Rattle.ob_seq.specs.Row.{Row}
 use Rattle.ob_seq.specs.Settings.{Settings}
 use Rattle.ob_seq.specs.Settles.{settled_along, settled_by}
-use Rattle.ob_seq.proofs.Accepting.{all_among, refused_or_not}
-use Rattle.ob_seq.proofs.Fits.{outcome_at, outcome_in}
+use Rattle.ob_seq.proofs.Accepting.{all_among, none_or_some}
+use Rattle.ob_seq.proofs.EachRow.{outcome_at, outcome_in}
 use Rattle.ob_seq.proofs.History.{rows_after_more}
 use Rattle.ob_seq.proofs.Once.{outcome_after, outcome_along, outcome_behind, settled_first, settled_in}
 
@@ -25,13 +25,9 @@ use Rattle.ob_seq.proofs.Once.{outcome_after, outcome_along, outcome_behind, set
 abbrev settled_as : ℕ → Outcome → PromiseId × Outcome
 settled_as id outcome = (record { 0 = id }, outcome)
 
--- nothing stands in an empty list, and one thing alone in a list of one
+-- nothing stands in an empty list
 not_in_none : {one : PromiseId × Outcome} → Contains [] one → ⊥
 not_in_none there = absurd (omega (arith, there.1))
-
-only_one : (one other : PromiseId × Outcome) → Contains (one ∷ []) other → one ≡ other
-only_one one other (zero, within, is) = is
-only_one one other (suc place, within, is) = absurd (omega (arith, within))
 
 module _ (outcome : Outcome) where
   -- the promise stands with the outcome among settlements
@@ -53,13 +49,7 @@ module _ (outcome : Outcome) where
 
   -- the settlement of one promise names it, and its outcome after
   of_one : (at id : ℕ) (was now : Option Outcome) → IsTold id (settlement at was now) → (id ≡ at) × (now ≡ Some outcome)
-  of_one at id None None there = absurd (not_in_none there)
-  of_one at id None (Some other) there =
-      let same = only_one (settled_as at other) (settled_as id outcome) there in (
-        sym (ap (λ (one : PromiseId × Outcome). one.0.0) same),
-        ap (λ (one : PromiseId × Outcome). Some one.1) same,
-      )
-  of_one at id (Some earlier) now there = absurd (not_in_none there)
+  of_one at id was now there = (grind arith, grind arith)
 
   -- a promise that has a settlement is settled after
   told_is_settled : (at id : ℕ) (before after : List Row) → IsTold id (settlements_from at before after) →
@@ -86,7 +76,7 @@ module _ (settings : Settings) (id : PromiseId) (outcome : Outcome) where
     -- one more command tells what it settles
     told_by_one : outcome_after settings earlier id.0 ≡ None → IsSettled (commands_after settings earlier command) →
         IsAmong (settled_by (answer_to settings earlier command))
-    told_by_one was is = elim (refused_or_not (first_refusal settings.estimate earlier command)) [
+    told_by_one was is = elim (none_or_some (first_refusal settings.estimate earlier command)) [
       | inl none ↦ rw none (newly_told outcome 0 id.0 id.0 (omega arith) _ _ was
           (rw (none, rows_after_more settings.estimate earlier command) at is))
       | inr some ↦ absurd (let same = rw some.1 at is in cc)
@@ -95,7 +85,7 @@ module _ (settings : Settings) (id : PromiseId) (outcome : Outcome) where
     -- and settles what it tells
     settled_by_one : IsAmong (settled_by (answer_to settings earlier command)) →
         IsSettled (commands_after settings earlier command)
-    settled_by_one there = elim (refused_or_not (first_refusal settings.estimate earlier command)) [
+    settled_by_one there = elim (none_or_some (first_refusal settings.estimate earlier command)) [
       | inl none ↦
           let rows = rows_after settings.estimate earlier in
           let from = told_is_settled outcome 0 id.0 rows (effect settings.estimate rows command) (rw none at there) in
@@ -109,19 +99,14 @@ module _ (settings : Settings) (id : PromiseId) (outcome : Outcome) where
       IsSettled (fold (commands_after settings) earlier commands) → IsAmong (settled_along settings earlier commands)
   told_along earlier [] was is = absurd (cc)
   told_along earlier (command ∷ commands) was is =
-      by_next (outcome_after settings (commands_after settings earlier command) id.0) refl
-      (told_along (commands_after settings earlier command) commands)
-    where
-      by_next : (now : Option Outcome) → outcome_after settings (commands_after settings earlier command) id.0 ≡ now →
-          (outcome_after settings (commands_after settings earlier command) id.0 ≡ None →
-          IsSettled (fold (commands_after settings) (commands_after settings earlier command) commands) →
-          IsAmong (settled_along settings (commands_after settings earlier command) commands)) →
-          IsAmong (settled_along settings earlier (command ∷ commands))
-      by_next None now rest = Contains-append_right _ _ _ (rest now is)
-      by_next (Some other) now rest =
-          let kept = outcome_along settings (commands_after settings earlier command) commands id.0 other now in
-          let same : other ≡ outcome = cc in
-          Contains-append_left _ _ _ (told_by_one earlier command was (now ∙ ap Some same))
+      let next = commands_after settings earlier command in
+      elim (none_or_some (outcome_after settings next id.0)) [
+        | inl none ↦ Contains-append_right _ _ _ (told_along next commands none is)
+        | inr some ↦
+            let kept = outcome_along settings next commands id.0 some.0 some.1 in
+            let same : some.0 ≡ outcome = cc in
+            Contains-append_left _ _ _ (told_by_one earlier command was (some.1 ∙ ap Some same))
+      ]
 
   -- and what is told along commands is settled after them
   settled_after_told : (earlier commands : List Command) → IsAmong (settled_along settings earlier commands) →

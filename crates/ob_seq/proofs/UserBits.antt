@@ -1,8 +1,7 @@
 -- A user bit set or cleared in the word is the user bit after one more command.
-use Rattle.std.proofs.Common.{◌≡◌, ℕ, zero, suc, ◌-◌, ◌^◌, ◌<◌, ◌≤◌, Bool, true, false, not, List, [], ◌∷◌, ◌++◌}
-use Rattle.std.proofs.Common.{reverse}
-use Rattle.std.proofs.Common.{refl, sym, ap, ◌∙◌, cond, eqb, ltb, bit_and, bit_or, append-nil, min, max, arith}
-use Rattle.std.specs.Prelude.{Option, Some, None, filter_map, slice_get, unwrap_or, if◌then◌else◌}
+use Rattle.std.proofs.Common.{◌≡◌, ℕ, zero, suc, ◌^◌, ◌<◌, ◌≤◌, Bool, true, false, not, List, [], ◌∷◌, ◌++◌, reverse}
+use Rattle.std.proofs.Common.{refl, sym, ap, ◌∙◌, cond, eqb, ltb, append-nil, arith}
+use Rattle.std.specs.Prelude.{Option, Some, None, filter_map, slice_get, unwrap_or}
 use Rattle.std.specs.Int.{bit_at, bit_not, w32}
 use Rattle.std.specs.List.{cons_option}
 use Rattle.std.proofs.lemmas.Bool.Decides.{nat_tests}
@@ -14,20 +13,18 @@ use Rattle.std.proofs.Math.Pow.{pow-lt}
 use Rattle.ob_types.specs.Change.{change_between}
 use Rattle.ob_types.specs.declared.command.Command.{Command}
 use Rattle.ob_types.specs.declared.command.Command.TheVariants.{UserBit}
-use Rattle.ob_types.specs.declared.refusal.Refusal.{Refusal}
-use Rattle.ob_types.specs.declared.refusal.Refusal.TheVariants.{BadIndex}
 use Rattle.ob_types.specs.declared.reply.Reply.{Reply}
 use Rattle.ob_types.specs.declared.reply.Answer.TheVariants.{Done}
 use Rattle.ob_seq.specs.Settings.{Settings}
 use Rattle.ob_seq.specs.Effect.{rows_after}
-use Rattle.ob_seq.specs.UserBit.{bit_request, is_user_index, user_bit}
+use Rattle.ob_seq.specs.UserBit.{bit_request, user_bit}
 use Rattle.ob_seq.specs.Word.{word_after}
 use Rattle.ob_seq.specs.Answer.{refusal_of, reply_of}
 use Rattle.ob_seq.specs.Pending.{Pending, StandsFor}
 use Rattle.ob_seq.specs.Steps.{bit_changed, with_user_bit}
 use Rattle.ob_seq.proofs.Acceptance.{open_history, same_reply}
 use Rattle.ob_seq.proofs.Along.{moments_of_same, settlements_of_same}
-use Rattle.ob_seq.proofs.Digits.{digit, digit_of, word_digits, word_of, word_of_digits}
+use Rattle.ob_seq.proofs.Digits.{digit_of, word_digits, word_of, word_of_digits}
 use Rattle.ob_seq.proofs.History.{moments_after, moments_after_more, rows_after_more, accepted_more, closed_more}
 use Rattle.ob_seq.proofs.Marks.{mark_of, word_is_from}
 
@@ -45,41 +42,20 @@ user_bit_changes commands at writable index =
     rw (filter_map-append (bit_request index) commands (UserBit at writable ∷ []))
     (bit_by (filter_map (bit_request index) commands) (eqb at index) (not writable))
 
--- one digit set, and one clear
-set_digit : (within here bit : Bool) → (here ≡ true → within ≡ true) →
-    max (cond within (digit bit) 0) (cond here 1 0) ≡ cond within (digit (cond here true bit)) 0
-set_digit within here bit inside = grind arith
-
-clear_digit : (here bit : Bool) → min (digit bit) (1 - cond here 1 0) ≡ digit (cond here false bit)
-clear_digit here bit = grind arith
-
+-- the digit of a power of 2
 pow_digit : (at i : ℕ) → bit_at (2 ^ at) i ≡ cond (eqb at i) 1 0
-pow_digit at i = by_place (eqb at i) refl
-  where
-    by_place : (here : Bool) → eqb at i ≡ here → bit_at (2 ^ at) i ≡ cond here 1 0
-    by_place true is = let same : i ≡ at = grind (arith, nat_tests) in rw same (bit_at-pow_same at)
-    by_place false is = bit_at-pow_other at i (λ same. grind (arith, nat_tests))
+pow_digit at i = grind (arith, nat_tests, bit_at-pow_same at, bit_at-pow_other at i)
 
-module _ (bit after : ℕ → Bool) (at : ℕ) (within : at < 32) (now : Bool)
-    (changes : (i : ℕ) → after i ≡ cond (eqb at i) now (bit i)) where
-  -- a number of 32 digits with one of them set
-  set_number : now ≡ true → bit_or (word_of bit) (2 ^ at) ≡ word_of after
-  set_number set = same_from_bits _ _ (λ i. bit_at_or (word_of bit) (2 ^ at) i
-      ∙ rw (digit_of bit i, digit_of after i, pow_digit at i, changes i, set)
-      (set_digit (ltb i 32) (eqb at i) (bit i) (λ here. grind (arith, nat_tests))))
-
-  -- and with one clear
-  clear_number : now ≡ false → bit_and (word_of bit) (bit_not w32 (2 ^ at)) ≡ word_of after
-  clear_number clear = same_from_bits _ _ (λ i. bit_at_and (word_of bit) (bit_not w32 (2 ^ at)) i
-      ∙ rw (digit_of bit i, digit_of after i, changes i, clear) (by_place i (ltb i 32) refl))
-    where
-      by_place : (i : ℕ) (inside : Bool) → ltb i 32 ≡ inside →
-          min (cond inside (digit (bit i)) 0) (bit_at (bit_not w32 (2 ^ at)) i)
-          ≡ cond inside (digit (cond (eqb at i) false (bit i))) 0
-      by_place i true is =
-          rw (bit_at_not w32 (2 ^ at) i (pow-lt within) (grind (arith, nat_tests)), pow_digit at i)
-          (clear_digit (eqb at i) (bit i))
-      by_place i false is = omega arith
+-- a number of 32 digits with one of them set, or clear
+changed_number : (writable : Bool) (bit after : ℕ → Bool) (at : ℕ) → at < 32 →
+    ((i : ℕ) → after i ≡ cond (eqb at i) (not writable) (bit i)) →
+    with_user_bit at writable (word_of bit) ≡ word_of after
+changed_number true bit after at within changes = same_from_bits _ _ (λ i.
+    bit_at_and (word_of bit) (bit_not w32 (2 ^ at)) i ∙ rw (digit_of bit i, digit_of after i, changes i)
+    (grind (arith, nat_tests, bit_at_not w32 (2 ^ at) i (pow-lt within), pow_digit at i)))
+changed_number false bit after at within changes = same_from_bits _ _ (λ i.
+    bit_at_or (word_of bit) (2 ^ at) i ∙ rw (digit_of bit i, digit_of after i, pow_digit at i, changes i)
+    (grind (arith, nat_tests)))
 
 -- the word of a history, by its 32 digits
 abbrev digits_after : Settings → List Command → ℕ → Bool
@@ -105,15 +81,9 @@ module _ (settings : Settings) (commands : List Command) (at : ℕ) (writable : 
   bit_changed_word : at ≤ 31 → with_user_bit at writable (word_after settings commands)
       ≡ word_after settings (commands ++ UserBit at writable ∷ [])
   bit_changed_word few =
-      ap (with_user_bit at writable) (word_is settings commands) ∙ by_kind writable digits_change
+      ap (with_user_bit at writable) (word_is settings commands)
+      ∙ changed_number writable _ _ at (omega arith) digits_change
       ∙ sym (word_is settings (commands ++ UserBit at writable ∷ []))
-    where
-      by_kind : (asked : Bool) → ((i : ℕ) → digits_after settings (commands ++ UserBit at writable ∷ []) i
-          ≡ cond (eqb at i) (not asked) (digits_after settings commands i)) →
-          with_user_bit at asked (word_of (digits_after settings commands))
-          ≡ word_of (digits_after settings (commands ++ UserBit at writable ∷ []))
-      by_kind true changes = clear_number _ _ at (omega arith) false changes refl
-      by_kind false changes = set_number _ _ at (omega arith) true changes refl
 
 -- the word has the digit 1 at the index of a user bit where that is set
 pub user_bit_shows : (settings : Settings) (commands : List Command) (index : ℕ) → 0 < index → index ≤ 31 →
@@ -122,22 +92,14 @@ user_bit_shows settings commands zero some few = absurd (omega arith)
 user_bit_shows settings commands (suc i) some few =
     let within : ltb (suc i) 32 ≡ true = grind (arith, nat_tests) in
     rw (word_is settings commands, digit_of (digits_after settings commands) (suc i), within)
-    (shown (user_bit commands (suc i)))
-  where
-    shown : (bit : Bool) → eqb (digit bit) 1 ≡ bit
-    shown true = refl
-    shown false = refl
+    (grind arith)
 
 module _ (buffer : Pending) (commands : List Command) (at : ℕ) (writable : Bool) (stands : StandsFor buffer commands)
     (unclosed : buffer.closed ≡ false) (some : 1 ≤ at) (few : at ≤ 31) where
   -- a user bit with such an index is accepted
   pub bit_accepted : refusal_of buffer.settings.estimate (rows_after buffer.settings.estimate commands)
       (UserBit at writable) ≡ None
-  bit_accepted = by_range at some few
-    where
-      by_range : (n : ℕ) → 1 ≤ n → n ≤ 31 →
-          (let refusal : Option Refusal = if is_user_index n then None else Some BadIndex in refusal ≡ None)
-      by_range n some few = grind (arith, nat_tests)
+  bit_accepted = grind (arith, nat_tests)
 
   changed_word : (bit_changed at writable buffer).word
       ≡ word_after buffer.settings (commands ++ UserBit at writable ∷ [])

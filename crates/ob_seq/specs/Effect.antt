@@ -15,9 +15,11 @@ use Rattle.ob_seq.specs.Line.{is_in_line, line}
 use Rattle.ob_seq.specs.ByteRun.{whole_rows, bytes_left_over}
 use Rattle.ob_types.specs.declared.promise.PromiseState.{PromiseState}
 
--- a row that a flush reaches: it stands in line, voided where its promise was cancelled, and else with its promise fixed
+-- a row that a flush reaches: it stands in line, voided where its promise was cancelled, and else with its promise
+-- fixed
 abbrev pub reached_row : Row → Row
-reached_row row = if is_cancelled row.promise then record row { place = Voided } else record row { place = Flushed; promise = Fixed }
+reached_row row =
+    if is_cancelled row.promise then record row { place = Voided } else record row { place = Flushed; promise = Fixed }
 
 -- a row after a flush, which reaches the unflushed rows
 abbrev pub flushed_row : Row → Row
@@ -25,7 +27,8 @@ flushed_row row = if is_unflushed row.place then reached_row row else row
 
 -- a row taken away, its promise settled if it was flushed and not voided
 abbrev pub taken_row : Outcome → Row → Row
-taken_row outcome row = record row { place = Gone; promise = if is_flushed row.place then Settled outcome else row.promise }
+taken_row outcome row =
+    record row { place = Gone; promise = if is_flushed row.place then Settled outcome else row.promise }
 
 -- a row after all in line are taken away as failed for this cause
 abbrev pub failed_row : Cause → Row → Row
@@ -39,25 +42,27 @@ failed cause (Settled outcome) = Settled outcome
 
 -- a row after a close: it is gone, and its promise has failed if no flush had reached it and it still waited
 abbrev pub closed_row : Cause → Row → Row
-closed_row cause row = record row { place = Gone; promise = if is_unflushed row.place then failed cause row.promise else row.promise }
+closed_row cause row =
+    record row { place = Gone; promise = if is_unflushed row.place then failed cause row.promise else row.promise }
 
 -- the rows with the front changed
 abbrev pub with_front : (Row → Row) → List Row → List Row
 with_front change [] = []
 with_front change (row ∷ rows) = if is_in_line row then change row ∷ rows else row ∷ with_front change rows
 
--- whether a row stands in line with fewer than so many in line among the rows before it
+-- whether a row stands in line, and fewer than so many rows in line stand before it
 abbrev pub is_among_first : ℕ → List Row → Row → Bool
 is_among_first count before row = is_in_line row && nat_lt (length (line before)) count
 
--- rows with each of those changed, where these rows stand before them
+-- rows behind these others, with each such row changed
 abbrev pub with_first_behind : ℕ → (Row → Row) → List Row → List Row → List Row
 with_first_behind count change before [] = []
 with_first_behind count change before (row ∷ rows) =
     (if is_among_first count before row then change row else row)
     ∷ with_first_behind count change (before ++ row ∷ []) rows
 
--- the rows with so many in line changed, the first ones: each before which fewer than so many stand in line
+-- the rows with so many of the line changed: a row changes where it is in line and fewer than so many rows in line
+-- stand before it
 abbrev pub with_first : ℕ → (Row → Row) → List Row → List Row
 with_first count change rows = with_first_behind count change [] rows
 
