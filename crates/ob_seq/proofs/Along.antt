@@ -64,3 +64,19 @@ moments_of_same notice rows = moments_behind notice [] rows
 
 pub settlements_of_same : (rows : List Row) → settlements_from 0 rows rows ≡ []
 settlements_of_same rows = settlements_behind 0 rows
+
+-- what changes behind rows that stay
+module _ (rows after same was now : List Row) (rows_are : rows ≡ same ++ was) (after_is : after ≡ same ++ now) where
+  pub moments_past : (notice : Bool) → moments_along notice [] rows after ≡ moments_along notice same was now
+  moments_past notice = rw (rows_are, after_is) (moments_along_same notice [] same was now)
+
+  pub settlements_past : settlements_from 0 rows after ≡ settlements_from (length same) was now
+  settlements_past = rw (rows_are, after_is) (settlements_from_same 0 same was now ∙ ap (λ id. settlements_from id was now) (zero-add (length same)))
+
+-- what changes in one row
+module _ (rows after before : List Row) (was row : Row) (behind : List Row) (rows_are : rows ≡ before ++ was ∷ behind) (after_is : after ≡ before ++ row ∷ behind) where
+  pub moments_in_one : (notice : Bool) → moments_along notice [] rows after ≡ moment_of notice (counted_size was) (counted_size row) (total (before ++ row ∷ behind))
+  moments_in_one notice = rw (rows_are, after_is) (moments_of_one notice before was row behind)
+
+  pub settlements_in_one : settlements_from 0 rows after ≡ settlement (length before) (outcome_of was.promise) (outcome_of row.promise)
+  settlements_in_one = rw (rows_are, after_is) (settlements_of_one before was row behind)

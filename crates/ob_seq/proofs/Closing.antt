@@ -1,5 +1,5 @@
 -- A buffer after its close stands for the history with the close.
-use Rattle.std.proofs.Common.{◌≡◌, ℕ, zero, suc, Bool, true, false, ltb, List, [], ◌∷◌, ◌++◌, length, map, take, drop, refl, sym, ap, ◌∙◌, cond, append_assoc, append-nil, zero-add, arith}
+use Rattle.std.proofs.Common.{◌≡◌, ℕ, zero, suc, Bool, true, false, ltb, List, [], ◌∷◌, ◌++◌, length, map, take, drop, refl, sym, ap, ◌∙◌, cond, append_assoc, append-nil, arith}
 use Rattle.std.specs.Prelude.{Option, Some, None, is_some, if◌then◌else◌}
 use Rattle.std.specs.List.{AllByRecursion}
 use Rattle.std.proofs.lemmas.Bool.Decides.{nat_tests}
@@ -26,7 +26,7 @@ use Rattle.ob_seq.specs.Entry.{entry_of}
 use Rattle.ob_seq.specs.Pending.{Pending, StandsFor}
 use Rattle.ob_seq.specs.Steps.{closed_pending, closing_reply, closing_step, failures, unflushed_id}
 use Rattle.ob_seq.proofs.Acceptance.{open_history, same_reply}
-use Rattle.ob_seq.proofs.Along.{moments_along_same, settlements_from_same}
+use Rattle.ob_seq.proofs.Along.{moments_past, settlements_past}
 use Rattle.ob_seq.proofs.Failures.{failure}
 use Rattle.ob_seq.proofs.Fronts.{Fronted, fronted, front_is, no_front}
 use Rattle.ob_seq.proofs.Simulation.{Simulates}
@@ -106,23 +106,22 @@ module _ (buffer : Pending) (commands : List Command) (cause : Cause) (stands : 
     promises_are = held.promises ∙ map-append promise_of gone fresh
 
     left_is : drop (unflushed_id buffer) buffer.promises ≡ map promise_of fresh
-    left_is = ap (drop (unflushed_id buffer)) promises_are ∙ ap (λ n. drop n (map promise_of gone ++ map promise_of fresh)) id_is ∙ drop-append_seam (map promise_of gone) (map promise_of fresh)
+    left_is = rw (id_is, promises_are) (drop-append_seam (map promise_of gone) (map promise_of fresh))
 
     first_is : take (unflushed_id buffer) buffer.promises ≡ map promise_of gone
-    first_is = ap (take (unflushed_id buffer)) promises_are ∙ ap (λ n. take n (map promise_of gone ++ map promise_of fresh)) id_is ∙ take-append_seam (map promise_of gone) (map promise_of fresh)
+    first_is = rw (id_is, promises_are) (take-append_seam (map promise_of gone) (map promise_of fresh))
 
     effect_of_close : effect buffer.settings.estimate rows (Close cause) ≡ gone ++ closed
     effect_of_close = ap (map (closed_row cause)) rows_are ∙ map-append (closed_row cause) gone fresh ∙ ap (λ first. first ++ closed) (stay_by (closed_row cause) IsGone (closed_gone cause) gone held.all_gone)
 
     moments_of_close : moments_of buffer.settings.estimate rows (Close cause) ≡ moments_along false gone fresh closed
     moments_of_close =
-        ap (moments_along false [] rows) effect_of_close ∙ ap (λ before. moments_along false [] before (gone ++ closed)) rows_are ∙ moments_along_same false [] gone fresh closed
+        moments_past rows (effect buffer.settings.estimate rows (Close cause)) gone fresh closed rows_are effect_of_close false
 
     settlements_of_close : settlements_of buffer.settings.estimate rows (Close cause) ≡ failures cause (unflushed_id buffer) (drop (unflushed_id buffer) buffer.promises)
     settlements_of_close =
-        ap (settlements_from 0 rows) effect_of_close ∙ ap (λ before. settlements_from 0 before (gone ++ closed)) rows_are
-        ∙ settlements_from_same 0 gone fresh closed
-        ∙ ap (λ id. settlements_from id fresh closed) (zero-add (length gone) ∙ sym (length-map gone promise_of) ∙ sym id_is)
+        settlements_past rows (effect buffer.settings.estimate rows (Close cause)) gone fresh closed rows_are effect_of_close
+        ∙ ap (λ id. settlements_from id fresh closed) (sym (length-map gone promise_of) ∙ sym id_is)
         ∙ settlements_of_closed cause (unflushed_id buffer) fresh held.all_fresh
         ∙ ap (failures cause (unflushed_id buffer)) (sym left_is)
 
@@ -136,10 +135,7 @@ module _ (buffer : Pending) (commands : List Command) (cause : Cause) (stands : 
     closed_held = record {
       line = held.line;
       unflushed = refl;
-      promises = ap (λ first. first ++ map (failed cause) (drop (unflushed_id buffer) buffer.promises)) first_is
-          ∙ ap (λ left. map promise_of gone ++ map (failed cause) left) left_is
-          ∙ ap (λ left. map promise_of gone ++ left) (sym (closed_promises cause fresh held.all_fresh))
-          ∙ sym (ap (map promise_of) (append-nil (gone ++ closed)) ∙ map-append promise_of gone closed);
+      promises = rw (first_is, left_is, append-nil (gone ++ closed), map-append promise_of gone closed, closed_promises cause fresh held.all_fresh) refl;
       all_gone = each_append IsGone gone closed held.all_gone (all_now_gone (closed_row cause) (λ row. refl) fresh);
       all_standing = tt;
       all_fresh = tt;

@@ -1,12 +1,11 @@
 -- Entries, as the code keeps them and as contracts see them.
-use Rattle.std.proofs.Common.{◌≡◌, ℕ, ◌+◌, ◌-◌, ◌<◌, ◌≤◌, min, List, [], ◌∷◌, ◌++◌, length, take, drop, get_or, refl, sym, ap, ◌∙◌, cond, subst}
+use Rattle.std.proofs.Common.{◌≡◌, ℕ, ◌+◌, ◌-◌, ◌<◌, min, List, [], ◌∷◌, ◌++◌, length, take, drop, get_or, refl, sym, ap, ◌∙◌, cond}
 use Rattle.std.specs.Prelude.{count_by, not, sum_by}
-use Rattle.std.proofs.lemmas.List.{get_or-map, length-drop, length-map, length-take, length-take-le, map-append, take-append-drop, take-map}
+use Rattle.std.proofs.lemmas.List.{get_or-map, length-drop, length-map, length-take, map-append, take-append-drop}
 use Rattle.std.proofs.lemmas.List.Sums.{sum_by-append, sum_by-cons}
 use Rattle.ob_seq.specs.declared.entry.Entry.{Entry}
 use Rattle.ob_seq.specs.Entry.{PendingEntry}
 use Rattle.ob_seq.specs.Inside.{pending_entry, pending_entries}
-use Rattle.ob_seq.specs.Pending.{Pending}
 use Rattle.ob_seq.specs.Steps.{sum_of}
 
 -- two parts of a list count together what the list counts
@@ -19,14 +18,6 @@ line_size flushed items = length-take flushed (pending_entries items) ∙ ap (mi
 
 pub rest_size : (flushed : ℕ) (items : List Entry) → length (drop flushed (pending_entries items)) ≡ length items - flushed
 rest_size flushed items = length-drop flushed (pending_entries items) ∙ ap (λ count. count - flushed) (length-map items pending_entry)
-
--- the entries that are looked at are those in line
-pub seen : (held : Pending) (read items : List Entry) (flushed : ℕ) → read ≡ items → held.line ≡ take flushed (pending_entries items) → pending_entries (take flushed read) ≡ held.line
-seen held read items flushed same line = sym (take-map pending_entry flushed read) ∙ ap (λ all. take flushed (pending_entries all)) same ∙ sym line
-
--- as many stand in line as are flushed
-pub line_length : (held : Pending) (items : List Entry) (flushed : ℕ) → held.line ≡ take flushed (pending_entries items) → flushed ≤ length items → length held.line ≡ flushed
-line_length held items flushed line within = ap length line ∙ length-take-le flushed (pending_entries items) (subst (λ (count : ℕ). flushed ≤ count) (sym (length-map items pending_entry)) within)
 
 -- what they count, one by one
 pub sum_of_entries : (items : List Entry) → sum_of (pending_entries items) ≡ sum_by (λ entry. entry.size) items

@@ -18,10 +18,8 @@ settlements_append outcome id (x ∷ xs) ys =
 pub settlements_more : (outcome : Outcome) (id : ℕ) (entries : List PendingEntry) (i : ℕ) (entry : PendingEntry) → i < length entries → entry ≡ get_or entries i entry →
     entry_settlements outcome id (take (i + 1) entries) ≡ entry_settlements outcome id (take i entries) ++ entry_settlement outcome (id + i) entry
 settlements_more outcome id entries i entry inside is =
-    ap (entry_settlements outcome id) (take_more entries i entry inside) ∙ settlements_append outcome id (take i entries) (get_or entries i entry ∷ [])
-    ∙ ap (λ at. entry_settlements outcome id (take i entries) ++ entry_settlements outcome at (get_or entries i entry ∷ [])) (ap (λ n. id + n) (length-take-le i entries (omega arith)))
-    ∙ ap (λ e. entry_settlements outcome id (take i entries) ++ entry_settlements outcome (id + i) (e ∷ [])) (sym is)
-    ∙ ap (λ one. entry_settlements outcome id (take i entries) ++ one) (append-nil (entry_settlement outcome (id + i) entry))
+    rw (take_more entries i entry inside, settlements_append outcome id (take i entries) (get_or entries i entry ∷ []), length-take-le i entries (omega arith), ← is)
+    (ap (λ one. entry_settlements outcome id (take i entries) ++ one) (append-nil (entry_settlement outcome (id + i) entry)))
 
 -- fewer entries settle no more
 pub settlements_few : (outcome : Outcome) (id n m : ℕ) (entries : List PendingEntry) → n ≤ m → length (entry_settlements outcome id (take n entries)) ≤ length (entry_settlements outcome id (take m entries))

@@ -1,5 +1,5 @@
 -- A buffer whose line was taken away as failed stands for the history with the failing.
-use Rattle.std.proofs.Common.{◌≡◌, ◌+◌, Bool, false, List, [], ◌∷◌, ◌++◌, length, map, refl, sym, ap, ◌∙◌, append_assoc, append-nil, subst, zero-add}
+use Rattle.std.proofs.Common.{◌≡◌, ◌+◌, Bool, false, List, [], ◌∷◌, ◌++◌, length, map, refl, sym, ap, ◌∙◌, append_assoc, append-nil, subst}
 use Rattle.std.proofs.lemmas.List.{length-map}
 use Rattle.ob_types.specs.Change.{change_between}
 use Rattle.ob_types.specs.declared.command.Command.{Command}
@@ -13,12 +13,12 @@ use Rattle.ob_seq.specs.Line.{line}
 use Rattle.ob_seq.specs.Effect.{effect, rows_after, taken_row, failed_row}
 use Rattle.ob_seq.specs.Moment.{moments_along, moments_of}
 use Rattle.ob_seq.specs.Word.{word_after}
-use Rattle.ob_seq.specs.Answer.{settlements_from, settlements_of, reply_of}
+use Rattle.ob_seq.specs.Answer.{settlements_of, reply_of}
 use Rattle.ob_seq.specs.Entry.{entry_of}
 use Rattle.ob_seq.specs.Pending.{Pending, StandsFor}
 use Rattle.ob_seq.specs.Steps.{entry_settlements, failing_reply, failing_step, front_id, front_taken, line_failed, times}
 use Rattle.ob_seq.proofs.Acceptance.{open_history, same_reply}
-use Rattle.ob_seq.proofs.Along.{moments_along_same, settlements_from_same, settlements_behind}
+use Rattle.ob_seq.proofs.Along.{moments_past, settlements_behind, settlements_past}
 use Rattle.ob_seq.proofs.Held.{opening, opening_of, word_at_end, Held, held_of, front_id_is, line_count, stands_by, word_by_moments}
 use Rattle.ob_seq.proofs.History.{moments_after, rows_after_more, accepted_more}
 use Rattle.ob_seq.proofs.Marks.{half_after}
@@ -54,16 +54,11 @@ module _ (buffer : Pending) (commands : List Command) (cause : Cause) (notice : 
 
   moments_of_failing : moments_of buffer.settings.estimate rows failing ≡ moments_along notice layout.gone (layout.standing ++ layout.fresh) (now ++ layout.fresh)
   moments_of_failing =
-      ap (moments_along notice [] rows) effect_of_failing
-      ∙ ap (λ before. moments_along notice [] before (layout.gone ++ (now ++ layout.fresh))) layout.is
-      ∙ moments_along_same notice [] layout.gone (layout.standing ++ layout.fresh) (now ++ layout.fresh)
+      moments_past rows (effect buffer.settings.estimate rows failing) layout.gone (layout.standing ++ layout.fresh) (now ++ layout.fresh) layout.is effect_of_failing notice
 
   settlements_of_failing : settlements_of buffer.settings.estimate rows failing ≡ entry_settlements outcome (front_id buffer) buffer.line
   settlements_of_failing =
-      ap (settlements_from 0 rows) effect_of_failing
-      ∙ ap (λ before. settlements_from 0 before (layout.gone ++ (now ++ layout.fresh))) layout.is
-      ∙ settlements_from_same 0 layout.gone (layout.standing ++ layout.fresh) (now ++ layout.fresh)
-      ∙ ap (λ id. settlements_from id (layout.standing ++ layout.fresh) (now ++ layout.fresh)) (zero-add (length layout.gone))
+      settlements_past rows (effect buffer.settings.estimate rows failing) layout.gone (layout.standing ++ layout.fresh) (now ++ layout.fresh) layout.is effect_of_failing
       ∙ settlements_of_taken outcome (length layout.gone) layout.standing layout.fresh layout.fresh layout.all_standing (settlements_behind (length layout.gone + length layout.standing) layout.fresh)
       ∙ ap (λ id. entry_settlements outcome id (map entry_of layout.standing)) (sym (front_id_is buffer layout.gone layout.standing layout.fresh held))
       ∙ ap (entry_settlements outcome (front_id buffer)) (sym held.line)

@@ -25,13 +25,11 @@ failures_append cause id (x ∷ xs) ys =
     ∙ sym (append_assoc (failure cause id x) (failures cause (suc id) xs) (failures cause (id + suc (length xs)) ys))
 
 -- with one promise more
-pub failures_more : (cause : Cause) (id : ℕ) (states : List PromiseState) (i : ℕ) (state : PromiseState) → i < length states → state ≡ get_or states i state →
-    failures cause id (take (i + 1) states) ≡ failures cause id (take i states) ++ failure cause (id + i) state
-failures_more cause id states i state inside is =
-    ap (failures cause id) (take_more states i state inside) ∙ failures_append cause id (take i states) (get_or states i state ∷ [])
-    ∙ ap (λ at. failures cause id (take i states) ++ failures cause at (get_or states i state ∷ [])) (ap (λ n. id + n) (length-take-le i states (omega arith)))
-    ∙ ap (λ one. failures cause id (take i states) ++ failures cause (id + i) (one ∷ [])) (sym is)
-    ∙ ap (λ one. failures cause id (take i states) ++ one) (append-nil (failure cause (id + i) state))
+pub failures_more : (cause : Cause) (id : ℕ) (states : List PromiseState) (i : ℕ) → i < length states →
+    failures cause id (take (i + 1) states) ≡ failures cause id (take i states) ++ failure cause (id + i) (get_or states i Waiting)
+failures_more cause id states i inside =
+    rw (take_more states i Waiting inside, failures_append cause id (take i states) (get_or states i Waiting ∷ []), length-take-le i states (omega arith))
+    (ap (λ one. failures cause id (take i states) ++ one) (append-nil (failure cause (id + i) (get_or states i Waiting))))
 
 -- fewer promises settle no more
 pub failures_few : (cause : Cause) (id n : ℕ) (states : List PromiseState) → length (failures cause id (take n states)) ≤ length (failures cause id states)
@@ -88,27 +86,20 @@ module _ (first count id : ℕ) (cause : Cause) (promises : List PromiseState) (
       ∙ ap (λ n. first + n) (length-map (take count rest) (failed cause) ∙ length-take-le count rest (omega arith)) ∙ place
 
   before : failed_up_to first count cause promises ≡ passed ++ next ∷ drop (count + 1) rest
-  before =
-      ap (λ behind. take first promises ++ (map (failed cause) (take count rest) ++ behind)) (drop_here rest count inside)
-      ∙ sym (append_assoc (take first promises) (map (failed cause) (take count rest)) (next ∷ drop (count + 1) rest))
+  before = rw (drop_here rest count inside, append_assoc (take first promises) (map (failed cause) (take count rest)) (next ∷ drop (count + 1) rest)) refl
 
   after : failed_up_to first (count + 1) cause promises ≡ passed ++ failed cause next ∷ drop (count + 1) rest
   after =
-      ap (λ taken. take first promises ++ (map (failed cause) taken ++ drop (count + 1) rest)) (take_more rest count Waiting inside)
-      ∙ ap (λ taken. take first promises ++ (taken ++ drop (count + 1) rest)) (map-append (failed cause) (take count rest) (next ∷ []))
-      ∙ ap (λ all. take first promises ++ all) (append_assoc (map (failed cause) (take count rest)) (failed cause next ∷ []) (drop (count + 1) rest))
-      ∙ sym (append_assoc (take first promises) (map (failed cause) (take count rest)) (failed cause next ∷ drop (count + 1) rest))
+      rw (take_more rest count Waiting inside, map-append (failed cause) (take count rest) (next ∷ []))
+      (ap (λ all. take first promises ++ all) (append_assoc (map (failed cause) (take count rest)) (failed cause next ∷ []) (drop (count + 1) rest))
+      ∙ sym (append_assoc (take first promises) (map (failed cause) (take count rest)) (failed cause next ∷ drop (count + 1) rest)))
 
   pub next_is : (d : PromiseState) → get_or (failed_up_to first count cause promises) id d ≡ next
-  next_is d = ap (λ all. get_or all id d) before ∙ ap (λ at. get_or (passed ++ next ∷ drop (count + 1) rest) at d) (sym passed_count)
-      ∙ get_or-append_seam passed next (drop (count + 1) rest) d
+  next_is d = rw (before, ← passed_count) (get_or-append_seam passed next (drop (count + 1) rest) d)
 
   -- one more fails
   pub one_more_failed : slice_set (failed_up_to first count cause promises) id (failed cause next) ≡ failed_up_to first (count + 1) cause promises
-  one_more_failed =
-      ap (λ all. slice_set all id (failed cause next)) before
-      ∙ ap (λ at. slice_set (passed ++ next ∷ drop (count + 1) rest) at (failed cause next)) (sym passed_count)
-      ∙ set-append_seam passed next (drop (count + 1) rest) (failed cause next) ∙ sym after
+  one_more_failed = rw (before, after, ← passed_count) (set-append_seam passed next (drop (count + 1) rest) (failed cause next))
 
   -- or stays
   pub one_more_stayed : failed cause next ≡ next → failed_up_to first count cause promises ≡ failed_up_to first (count + 1) cause promises

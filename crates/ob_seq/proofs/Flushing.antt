@@ -1,5 +1,5 @@
 -- A buffer whose unflushed entries are all in line stands for the history with the flush.
-use Rattle.std.proofs.Common.{◌≡◌, ◌+◌, true, false, List, [], ◌∷◌, ◌++◌, length, map, refl, sym, ap, ◌∙◌, append_assoc, append-nil, subst}
+use Rattle.std.proofs.Common.{◌≡◌, true, false, List, [], ◌∷◌, ◌++◌, length, map, refl, sym, ap, ◌∙◌, append_assoc, append-nil, subst}
 use Rattle.std.proofs.lemmas.List.{length-map}
 use Rattle.ob_types.specs.Change.{change_between}
 use Rattle.ob_types.specs.declared.command.Command.{Command}
@@ -11,12 +11,12 @@ use Rattle.ob_seq.specs.Line.{unflushed}
 use Rattle.ob_seq.specs.Effect.{flushed_row, reached_row, rows_after}
 use Rattle.ob_seq.specs.Moment.{moments_along, moments_of}
 use Rattle.ob_seq.specs.Word.{word_after}
-use Rattle.ob_seq.specs.Answer.{settlements_from, settlements_of, reply_of}
+use Rattle.ob_seq.specs.Answer.{settlements_of, reply_of}
 use Rattle.ob_seq.specs.Entry.{entry_of}
 use Rattle.ob_seq.specs.Pending.{Pending, StandsFor}
 use Rattle.ob_seq.specs.Steps.{flush_step, next_flushed, times}
 use Rattle.ob_seq.proofs.Acceptance.{open_history, same_reply}
-use Rattle.ob_seq.proofs.Along.{moments_along_same, settlements_from_same}
+use Rattle.ob_seq.proofs.Along.{moments_past, settlements_past}
 use Rattle.ob_seq.proofs.Held.{opening, opening_of, word_at_end, Held, held_of, fresh_count, stands_by, word_by_moments}
 use Rattle.ob_seq.proofs.History.{moments_after, rows_after_more, accepted_more}
 use Rattle.ob_seq.proofs.Marks.{half_after}
@@ -44,18 +44,20 @@ module _ (buffer : Pending) (commands : List Command) (stands : StandsFor buffer
   effect_of_flush : map flushed_row rows ≡ layout.gone ++ (layout.standing ++ map reached_row layout.fresh)
   effect_of_flush = ap (map flushed_row) layout.is ∙ flush_parts layout.gone layout.standing layout.fresh layout.all_gone layout.all_standing layout.all_fresh
 
+  rows_split : rows ≡ passed ++ layout.fresh
+  rows_split = layout.is ∙ sym (append_assoc layout.gone layout.standing layout.fresh)
+
+  effect_split : map flushed_row rows ≡ passed ++ map reached_row layout.fresh
+  effect_split = effect_of_flush ∙ sym (append_assoc layout.gone layout.standing (map reached_row layout.fresh))
+
   moments_of_flush : moments_of buffer.settings.estimate rows Flush ≡ moments_along true passed layout.fresh (map reached_row layout.fresh)
   moments_of_flush =
-      ap (moments_along true [] rows) (effect_of_flush ∙ sym (append_assoc layout.gone layout.standing (map reached_row layout.fresh)))
-      ∙ ap (λ before. moments_along true [] before (passed ++ map reached_row layout.fresh)) (layout.is ∙ sym (append_assoc layout.gone layout.standing layout.fresh))
-      ∙ moments_along_same true [] passed layout.fresh (map reached_row layout.fresh)
+      moments_past rows (map flushed_row rows) passed layout.fresh (map reached_row layout.fresh) rows_split effect_split true
 
   settlements_of_flush : settlements_of buffer.settings.estimate rows Flush ≡ []
   settlements_of_flush =
-      ap (settlements_from 0 rows) (effect_of_flush ∙ sym (append_assoc layout.gone layout.standing (map reached_row layout.fresh)))
-      ∙ ap (λ before. settlements_from 0 before (passed ++ map reached_row layout.fresh)) (layout.is ∙ sym (append_assoc layout.gone layout.standing layout.fresh))
-      ∙ settlements_from_same 0 passed layout.fresh (map reached_row layout.fresh)
-      ∙ settlements_of_reached (0 + length passed) layout.fresh
+      settlements_past rows (map flushed_row rows) passed layout.fresh (map reached_row layout.fresh) rows_split effect_split
+      ∙ settlements_of_reached (length passed) layout.fresh
 
   -- the flush of as many entries as there are rows
   reached : Held after layout.gone (layout.standing ++ map reached_row layout.fresh) [] × (after.word ≡ word_after buffer.settings (commands ++ Flush ∷ [])) × (opening after ≡ opening buffer) × (after.closed ≡ buffer.closed)

@@ -71,9 +71,9 @@ stands_by buffer settings commands command gone standing fresh opened unclosed c
       accepted = ap (λ (s : Settings). are_accepted s [] (commands ++ command ∷ [])) same ∙ accepted;
       closed = closed ∙ sym (closed_more commands command unclosed);
       marks = ap (λ (parts : Settings × Marks). parts.1) opened ∙ ap (λ (s : Settings). s.marks) (sym same);
-      line = held.line ∙ sym (ap (λ all. map entry_of (line all)) more ∙ ap (map entry_of) (line_of_parts gone standing fresh held.all_gone held.all_standing held.all_fresh));
-      unflushed = held.unflushed ∙ sym (ap (λ all. map entry_of (unflushed all)) more ∙ ap (map entry_of) (unflushed_of_parts gone standing fresh held.all_gone held.all_standing held.all_fresh));
-      promises = held.promises ∙ sym (ap (map promise_of) more);
+      line = rw (more, line_of_parts gone standing fresh held.all_gone held.all_standing held.all_fresh) held.line;
+      unflushed = rw (more, unflushed_of_parts gone standing fresh held.all_gone held.all_standing held.all_fresh) held.unflushed;
+      promises = rw more held.promises;
       word = word ∙ ap (λ (s : Settings). word_after s (commands ++ command ∷ [])) (sym same);
     }
 
@@ -86,9 +86,9 @@ stands_same buffer commands command stands unclosed no_close accepted more word 
   accepted = accepted_more buffer.settings commands command (open_history buffer.settings commands command buffer stands unclosed) stands.accepted accepted;
   closed = unclosed ∙ sym (closed_more commands command (open_history buffer.settings commands command buffer stands unclosed) ∙ no_close);
   marks = stands.marks;
-  line = stands.line ∙ sym (ap (λ all. map entry_of (line all)) more);
-  unflushed = stands.unflushed ∙ sym (ap (λ all. map entry_of (unflushed all)) more);
-  promises = stands.promises ∙ sym (ap (map promise_of) more);
+  line = rw more stands.line;
+  unflushed = rw more stands.unflushed;
+  promises = rw more stands.promises;
   word = word;
 }
 

@@ -126,20 +126,14 @@ pub word_after_more : (settings : Settings) (commands : List Command) (command :
     moments_of settings.estimate (rows_after settings.estimate commands) command ≡ moment_of notice before after sum →
     word_after settings (commands ++ command ∷ []) ≡ word_step notice settings.marks (word_after settings commands) before after sum
 word_after_more settings commands command notice before after sum quiet moments =
-    let marks = settings.marks in
-    let earlier = moments_after settings.estimate commands in
     word_is_from_more settings commands command quiet
-    ∙ ap (λ more. word_from marks (half_after commands) (earlier ++ more)) moments
-    ∙ word_from_more notice marks (half_after commands) earlier before after sum
-    ∙ ap (λ word. word_step notice marks word before after sum) (sym (word_is_from settings commands))
+    ∙ rw (moments, word_is_from settings commands) (word_from_more notice settings.marks (half_after commands) (moments_after settings.estimate commands) before after sum)
 
 -- the word after one more command that has no moment
 pub word_after_same : (settings : Settings) (commands : List Command) (command : Command) → IsQuiet command →
     moments_of settings.estimate (rows_after settings.estimate commands) command ≡ [] → word_after settings (commands ++ command ∷ []) ≡ word_after settings commands
 word_after_same settings commands command quiet none =
-    word_is_from_more settings commands command quiet
-    ∙ ap (word_from settings.marks (half_after commands)) (ap (λ more. moments_after settings.estimate commands ++ more) none ∙ append-nil (moments_after settings.estimate commands))
-    ∙ sym (word_is_from settings commands)
+    word_is_from_more settings commands command quiet ∙ rw (none, append-nil (moments_after settings.estimate commands)) (sym (word_is_from settings commands))
 
 -- the word after one more command, by its moments
 pub word_with_moments : (settings : Settings) (commands : List Command) (command : Command) (moments : List Moment) → IsQuiet command →

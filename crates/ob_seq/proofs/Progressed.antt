@@ -13,13 +13,13 @@ use Rattle.ob_types.specs.declared.reply.Answer.TheVariants.{Done}
 use Rattle.ob_seq.specs.Row.{Row}
 use Rattle.ob_seq.specs.Total.{counted_size, total}
 use Rattle.ob_seq.specs.Effect.{rows_after, progressed_row, with_front}
-use Rattle.ob_seq.specs.Moment.{moments_along, moments_of}
+use Rattle.ob_seq.specs.Moment.{moments_of}
 use Rattle.ob_seq.specs.Word.{word_after}
-use Rattle.ob_seq.specs.Answer.{refusal_of, refusal_of_progress, outcome_of, settlements_from, reply_of}
+use Rattle.ob_seq.specs.Answer.{refusal_of, refusal_of_progress, outcome_of, reply_of}
 use Rattle.ob_seq.specs.Pending.{Pending, StandsFor}
 use Rattle.ob_seq.specs.Steps.{first_progress, first_changed, front_changed, progress_step, progressed_entry}
 use Rattle.ob_seq.proofs.Acceptance.{open_history, same_reply}
-use Rattle.ob_seq.proofs.Along.{moment_of_same, moments_of_one, settlement_same, settlements_of_one}
+use Rattle.ob_seq.proofs.Along.{moment_of_same, moments_in_one, settlement_same, settlements_in_one}
 use Rattle.ob_seq.proofs.Fronts.{Fronted, fronted, front_is, no_front}
 use Rattle.ob_seq.proofs.Held.{opening_of, Held, promise_of, stands_by}
 use Rattle.ob_seq.proofs.History.{rows_after_more, accepted_more}
@@ -38,6 +38,12 @@ module _ (buffer : Pending) (commands : List Command) (n : ℕ) (stands : Stands
       ∙ ap (λ sum. let refusal : Option Refusal = if ltb 9223372036854775807 (sum + n) then Some TooFar else None in refusal) (sym (ap first_progress f.held.line))
 
   module _ (f : Fronted buffer commands) (unclosed : buffer.closed ≡ false) (accepted : refusal_of buffer.settings.estimate (rows_after buffer.settings.estimate commands) (Progress n) ≡ None) where
+    abbrev rows : List Row
+    rows = rows_after buffer.settings.estimate commands
+
+    abbrev after : List Row
+    after = with_front (progressed_row n) rows
+
     abbrev changed : Row
     changed = progressed_row n f.row
 
@@ -47,9 +53,7 @@ module _ (buffer : Pending) (commands : List Command) (n : ℕ) (stands : Stands
 
     moments_of_progress : moments_of buffer.settings.estimate (rows_after buffer.settings.estimate commands) (Progress n) ≡ []
     moments_of_progress =
-        ap (moments_along true [] (rows_after buffer.settings.estimate commands)) effect_of_progress
-        ∙ ap (λ before. moments_along true [] before (f.gone ++ changed ∷ (f.standing ++ f.fresh))) f.rows_are
-        ∙ moments_of_one true f.gone f.row changed (f.standing ++ f.fresh)
+        moments_in_one rows after f.gone f.row changed (f.standing ++ f.fresh) f.rows_are effect_of_progress true
         ∙ moment_of_same true (counted_size f.row) (total (f.gone ++ changed ∷ (f.standing ++ f.fresh)))
 
     word_of_progress : buffer.word ≡ word_after buffer.settings (commands ++ Progress n ∷ [])
@@ -76,9 +80,7 @@ module _ (buffer : Pending) (commands : List Command) (n : ℕ) (stands : Stands
     pub reply_of_progress : (let reply : Reply = record { answer = Done; settled = []; change = change_between buffer.word buffer.word } in reply ≡ reply_of buffer.settings commands (Progress n))
     reply_of_progress =
         same_reply refl
-        (sym (ap (settlements_from 0 (rows_after buffer.settings.estimate commands)) effect_of_progress
-        ∙ ap (λ before. settlements_from 0 before (f.gone ++ changed ∷ (f.standing ++ f.fresh))) f.rows_are
-        ∙ settlements_of_one f.gone f.row changed (f.standing ++ f.fresh) ∙ settlement_same (length f.gone) (outcome_of f.row.promise)))
+        (sym (settlements_in_one rows after f.gone f.row changed (f.standing ++ f.fresh) f.rows_are effect_of_progress ∙ settlement_same (length f.gone) (outcome_of f.row.promise)))
         (ap (change_between buffer.word) word_of_progress ∙ ap (λ before. change_between before (word_after buffer.settings (commands ++ Progress n ∷ []))) stands.word)
 
 -- progress simulates the command

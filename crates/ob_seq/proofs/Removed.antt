@@ -23,7 +23,7 @@ use Rattle.ob_seq.specs.Answer.{answer_of, refusal_of, settlements_from, reply_o
 use Rattle.ob_seq.specs.Pending.{Pending, StandsFor}
 use Rattle.ob_seq.specs.Steps.{front_taken, front_removed, front_settlement, removal_reply, removal_step}
 use Rattle.ob_seq.proofs.Acceptance.{open_history, same_reply}
-use Rattle.ob_seq.proofs.Along.{moments_of_one, moments_of_same, settlements_of_one, settlements_of_same}
+use Rattle.ob_seq.proofs.Along.{moments_in_one, moments_of_same, settlements_in_one, settlements_of_same}
 use Rattle.ob_seq.proofs.Held.{opening_of, word_at_end, Held, held_of, line_count, stands_by, stands_same, word_by_moments}
 use Rattle.ob_seq.proofs.History.{moments_after, rows_after_more, accepted_more}
 use Rattle.ob_seq.proofs.Marks.{IsQuiet, half_after, word_after_same}
@@ -63,10 +63,7 @@ module _ (command : Command) (outcome : Outcome) (is : IsRemoval command outcome
 
     moments_of_removal : moments_of buffer.settings.estimate rows command ≡ moment_of true (counted_size row) 0 (total (gone ++ taken ∷ (standing ++ fresh)))
     moments_of_removal =
-        ap (λ notice. moments_along notice [] rows (effect buffer.settings.estimate rows command)) is.notice
-        ∙ ap (moments_along true [] rows) effect_of_removal
-        ∙ ap (λ before. moments_along true [] before (gone ++ taken ∷ (standing ++ fresh))) rows_are
-        ∙ moments_of_one true gone row taken (standing ++ fresh)
+        rw is.notice (moments_in_one rows (effect buffer.settings.estimate rows command) gone row taken (standing ++ fresh) rows_are effect_of_removal true)
 
     word_of_removal : (front_taken true outcome buffer).word ≡ word_after buffer.settings (commands ++ command ∷ [])
     word_of_removal =
@@ -87,7 +84,7 @@ module _ (command : Command) (outcome : Outcome) (is : IsRemoval command outcome
         same_reply
         (sym (is.answer rows ∙ ap (λ all. Yes (is_some (front all))) rows_are ∙ ap (λ found. Yes (is_some found)) (front_of_parts gone row (standing ++ fresh) held.all_gone held.all_standing.0)))
         (taken_settlement true outcome buffer gone row standing fresh held
-        ∙ sym (ap (settlements_from 0 rows) effect_of_removal ∙ ap (λ before. settlements_from 0 before (gone ++ taken ∷ (standing ++ fresh))) rows_are ∙ settlements_of_one gone row taken (standing ++ fresh)))
+        ∙ sym (settlements_in_one rows (effect buffer.settings.estimate rows command) gone row taken (standing ++ fresh) rows_are effect_of_removal))
         (ap (change_between buffer.word) word_of_removal ∙ ap (λ before. change_between before (word_after buffer.settings (commands ++ command ∷ []))) stands.word)
 
   -- with nothing in line

@@ -1,21 +1,20 @@
 -- A buffer whose front is taken away.
 use Rattle.std.proofs.Common.{◌≡◌, ℕ, ◌+◌, ◌-◌, Bool, true, false, inl, inr, List, [], ◌∷◌, ◌++◌, length, map, drop, refl, sym, ap, ◌∙◌, cond, append_assoc, arith}
-use Rattle.std.specs.Prelude.{None, slice_set, if◌then◌else◌}
+use Rattle.std.specs.Prelude.{slice_set, if◌then◌else◌}
 use Rattle.std.proofs.lemmas.Bool.Decides.{nat_tests}
 use Rattle.std.proofs.lemmas.List.{map-append, length-map}
 use Rattle.std.proofs.lemmas.List.Sums.{sum_by-append, sum_by-cons}
 use Rattle.std.proofs.Math.Seq.{set-append_seam}
 use Rattle.ob_types.specs.WaterMark.{Marks}
-use Rattle.ob_types.specs.declared.promise.PromiseId.{PromiseId}
 use Rattle.ob_types.specs.declared.promise.PromiseState.TheVariants.{Settled}
 use Rattle.ob_types.specs.declared.promise.Outcome.{Outcome}
-use Rattle.ob_seq.specs.Row.{Row, is_flushed, is_voided}
+use Rattle.ob_seq.specs.Row.{Row, is_voided}
 use Rattle.ob_seq.specs.Total.{counted_size, total}
 use Rattle.ob_seq.specs.Effect.{taken_row}
 use Rattle.ob_seq.specs.Moment.{Moment, moment_of}
 use Rattle.ob_seq.specs.Answer.{outcome_of, settlement}
 use Rattle.ob_seq.specs.Pending.{Pending}
-use Rattle.ob_seq.specs.Steps.{pending_total, first_size, is_first_voided, front_id, front_settlement, front_taken, word_after_fall}
+use Rattle.ob_seq.specs.Steps.{first_size, is_first_voided, front_id, front_settlement, front_taken, word_after_fall}
 use Rattle.ob_seq.proofs.Held.{Held, promise_of, front_id_is, pending_total_is}
 use Rattle.ob_seq.proofs.Marks.{word_step, word_from, word_from_more}
 use Rattle.ob_seq.proofs.Order.{IsGone, IsStanding, each_append}
@@ -54,17 +53,9 @@ module _ (notice : Bool) (outcome : Outcome) (buffer : Pending) (gone : List Row
 
   promises_taken : IsStanding row → (if is_first_voided buffer.line then buffer.promises else slice_set buffer.promises (front_id buffer) (Settled outcome)) ≡ map promise_of ((gone ++ taken ∷ []) ++ (standing ++ fresh))
   promises_taken (inl sent) =
-      ap (λ voided. cond voided buffer.promises (slice_set buffer.promises (front_id buffer) (Settled outcome))) (first_voided_is ∙ ap is_voided sent.place)
-      ∙ ap (λ id. slice_set buffer.promises id (Settled outcome)) (front_id_is buffer gone (row ∷ standing) fresh held ∙ sym (length-map gone promise_of))
-      ∙ ap (λ all. slice_set all (length (map promise_of gone)) (Settled outcome)) promises_is
-      ∙ set-append_seam (map promise_of gone) row.promise (map promise_of (standing ++ fresh)) (Settled outcome)
-      ∙ ap (λ promise. map promise_of gone ++ promise ∷ map promise_of (standing ++ fresh)) (sym (ap (λ place. cond (is_flushed place) (Settled outcome) row.promise) sent.place))
-      ∙ sym promises_of_taken
-  promises_taken (inr void) =
-      ap (λ voided. cond voided buffer.promises (slice_set buffer.promises (front_id buffer) (Settled outcome))) (first_voided_is ∙ ap is_voided void.place)
-      ∙ promises_is
-      ∙ ap (λ promise. map promise_of gone ++ promise ∷ map promise_of (standing ++ fresh)) (sym (ap (λ place. cond (is_flushed place) (Settled outcome) row.promise) void.place))
-      ∙ sym promises_of_taken
+      rw (front_id_is buffer gone (row ∷ standing) fresh held, first_voided_is, promises_of_taken, sent.place, promises_is, ← length-map gone promise_of)
+      (set-append_seam (map promise_of gone) row.promise (map promise_of (standing ++ fresh)) (Settled outcome))
+  promises_taken (inr void) = rw (first_voided_is, promises_of_taken, void.place) promises_is
 
   -- what the buffer holds without its front
   pub taken_held : Held (front_taken notice outcome buffer) (gone ++ taken ∷ []) standing fresh
@@ -84,23 +75,13 @@ module _ (notice : Bool) (outcome : Outcome) (buffer : Pending) (gone : List Row
       let marks = buffer.marks in
       let size = counted_size row in
       let sum = total (gone ++ taken ∷ (standing ++ fresh)) in
-      ap (λ first. cond notice (word_after_fall marks buffer.word first (pending_total buffer - first)) buffer.word) (ap first_size held.line)
-      ∙ ap (λ all. cond notice (word_after_fall marks buffer.word size (all - size)) buffer.word) (pending_total_is buffer gone (row ∷ standing) fresh held)
-      ∙ ap (λ after. cond notice (word_after_fall marks buffer.word size after) buffer.word) (sym (total_without gone row taken (standing ++ fresh) refl))
-      ∙ ap (λ word. cond notice (word_after_fall marks word size sum) word) was
-      ∙ fall_step notice marks (word_from marks half moments) size sum
-      ∙ sym (word_from_more notice marks half moments size 0 sum)
+      rw (pending_total_is buffer gone (row ∷ standing) fresh held, ap first_size held.line, ← total_without gone row taken (standing ++ fresh) refl, was)
+      (fall_step notice marks (word_from marks half moments) size sum ∙ sym (word_from_more notice marks half moments size 0 sum))
 
   -- what the removal settles
   pub taken_settlement : front_settlement buffer outcome ≡ settlement (length gone) (outcome_of row.promise) (outcome_of taken.promise)
   taken_settlement = by_kind held.all_standing.0
     where
       by_kind : IsStanding row → front_settlement buffer outcome ≡ settlement (length gone) (outcome_of row.promise) (outcome_of taken.promise)
-      by_kind (inl sent) =
-          ap (λ (voided : Bool). let settled : List (PromiseId × Outcome) = cond voided [] ((record { 0 = front_id buffer }, outcome) ∷ []) in settled) (first_voided_is ∙ ap is_voided sent.place)
-          ∙ ap (λ id. (let promise : PromiseId = record { 0 = id } in promise, outcome) ∷ []) (front_id_is buffer gone (row ∷ standing) fresh held)
-          ∙ sym (ap (λ promise. settlement (length gone) (outcome_of promise) (outcome_of taken.promise)) sent.promise
-          ∙ ap (λ place. settlement (length gone) None (outcome_of (cond (is_flushed place) (Settled outcome) row.promise))) sent.place)
-      by_kind (inr void) =
-          ap (λ (voided : Bool). let settled : List (PromiseId × Outcome) = cond voided [] ((record { 0 = front_id buffer }, outcome) ∷ []) in settled) (first_voided_is ∙ ap is_voided void.place)
-          ∙ sym (ap (λ promise. settlement (length gone) (outcome_of promise) (outcome_of taken.promise)) void.promise)
+      by_kind (inl sent) = rw (first_voided_is, sent.place, front_id_is buffer gone (row ∷ standing) fresh held, sent.promise) refl
+      by_kind (inr void) = rw (first_voided_is, void.place, void.promise) refl

@@ -1,5 +1,5 @@
 -- A buffer with one more message stands for the history with the write.
-use Rattle.std.proofs.Common.{◌≡◌, ℕ, ◌+◌, Bool, true, not, cond, leb, ltb, ◌&&◌, ◌||◌, List, [], ◌∷◌, ◌++◌, length, map, refl, sym, ap, ◌∙◌, append-nil, arith, false}
+use Rattle.std.proofs.Common.{◌≡◌, ℕ, ◌+◌, Bool, true, not, cond, leb, ltb, ◌&&◌, ◌||◌, List, [], ◌∷◌, ◌++◌, length, refl, sym, ap, ◌∙◌, append-nil, arith, false}
 use Rattle.std.proofs.lemmas.Bool.Decides.{nat_tests}
 use Rattle.std.proofs.lemmas.List.{map-append, length-map}
 use Rattle.std.proofs.lemmas.List.Elements.{filter-append}
@@ -16,21 +16,20 @@ use Rattle.ob_types.specs.declared.command.Command.{Command}
 use Rattle.ob_types.specs.declared.command.Command.TheVariants.{Write}
 use Rattle.ob_types.specs.declared.reply.Reply.{Reply}
 use Rattle.ob_types.specs.declared.reply.Answer.TheVariants.{Id}
-use Rattle.ob_types.specs.declared.promise.PromiseState.TheVariants.{Waiting}
 use Rattle.ob_seq.specs.Entry.{PendingEntry, entry_of}
 use Rattle.ob_seq.specs.Row.{Row, new_row, without_skipped, is_unflushed}
 use Rattle.ob_seq.specs.Line.{is_in_line, line, unflushed}
 use Rattle.ob_seq.specs.Total.{counted_size, total}
 use Rattle.ob_seq.specs.Effect.{rows_after}
-use Rattle.ob_seq.specs.Moment.{moment_of, moments_along, moments_of}
+use Rattle.ob_seq.specs.Moment.{moment_of, moments_of}
 use Rattle.ob_seq.specs.Word.{word_after}
-use Rattle.ob_seq.specs.Answer.{is_too_much, settlements_from, settlements_of, reply_of, refusal_of}
+use Rattle.ob_seq.specs.Answer.{is_too_much, settlements_of, reply_of, refusal_of}
 use Rattle.ob_seq.specs.Pending.{Pending, StandsFor}
-use Rattle.ob_seq.specs.Steps.{has_room, sum_of, pending_total, written, word_after_rise, write_step}
+use Rattle.ob_seq.specs.Steps.{has_room, pending_total, written, word_after_rise, write_step}
 use Rattle.ob_seq.proofs.Acceptance.{open_history, same_reply}
 use Rattle.ob_seq.proofs.Simulation.{Simulates}
 use Rattle.ob_seq.proofs.Rows.{sum_of_rows}
-use Rattle.ob_seq.proofs.Along.{moments_along_same, settlements_from_same}
+use Rattle.ob_seq.proofs.Along.{moments_past, settlements_past}
 use Rattle.ob_seq.proofs.History.{rows_after_more, accepted_more, closed_more}
 use Rattle.ob_seq.proofs.Marks.{word_step, word_after_more}
 use Rattle.std.specs.Prelude.{Option, Some, None}
@@ -39,7 +38,7 @@ use Rattle.std.specs.Prelude.{Option, Some, None}
 pub pending_total_stands : (buffer : Pending) (commands : List Command) → StandsFor buffer commands → pending_total buffer ≡ total (rows_after buffer.settings.estimate commands)
 pending_total_stands buffer commands stands =
     let rows = rows_after buffer.settings.estimate commands in
-    ap (λ entries. sum_of entries + sum_of buffer.unflushed) stands.line ∙ ap (λ entries. sum_of (map entry_of (line rows)) + sum_of entries) stands.unflushed ∙ sum_of_rows rows
+    rw (stands.line, stands.unflushed) (sum_of_rows rows)
 
 -- nothing skipped leaves a message whole
 without_skipped_none : (message : Message) → without_skipped 0 message ≡ message
@@ -56,16 +55,14 @@ moments_of_write : (estimate : Estimate) (rows : List Row) (message : Message) �
     moments_of estimate rows (Write message) ≡ moment_of true 0 (counted_bytes estimate message) (total rows + counted_bytes estimate message)
 moments_of_write estimate rows message =
     let row = new_row estimate message in
-    ap (λ before. moments_along true [] before (rows ++ row ∷ [])) (sym (append-nil rows))
-    ∙ moments_along_same true [] rows [] (row ∷ [])
+    moments_past rows (rows ++ row ∷ []) rows [] (row ∷ []) (sym (append-nil rows)) refl true
     ∙ append-nil (moment_of true 0 (counted_size row) (total (rows ++ row ∷ [])))
     ∙ ap (moment_of true 0 (counted_size row)) (sum_by_push counted_size rows row)
 
 -- a write settles nothing
 settlements_of_write : (estimate : Estimate) (rows : List Row) (message : Message) → settlements_of estimate rows (Write message) ≡ []
 settlements_of_write estimate rows message =
-    ap (λ before. settlements_from 0 before (rows ++ new_row estimate message ∷ [])) (sym (append-nil rows))
-    ∙ settlements_from_same 0 rows [] (new_row estimate message ∷ [])
+    settlements_past rows (rows ++ new_row estimate message ∷ []) rows [] (new_row estimate message ∷ []) (sym (append-nil rows)) refl
 
 -- a rise, seen as the step of the word
 rise_step : (marks : Marks) (word size sum : ℕ) → word_after_rise marks word size sum ≡ word_step true marks word 0 size sum
@@ -79,10 +76,7 @@ word_of_write buffer commands message stands =
     let size = counted_bytes buffer.settings.estimate message in
     let rows = rows_after buffer.settings.estimate commands in
     rise_step buffer.marks buffer.word size (pending_total buffer + size)
-    ∙ ap (λ sum. word_step true buffer.marks buffer.word 0 size (sum + size)) (pending_total_stands buffer commands stands)
-    ∙ ap (λ word. word_step true buffer.marks word 0 size (total rows + size)) stands.word
-    ∙ ap (λ marks. word_step true marks (word_after buffer.settings commands) 0 size (total rows + size)) stands.marks
-    ∙ sym (word_after_more buffer.settings commands (Write message) true 0 size (total rows + size) (λ index. refl) (moments_of_write buffer.settings.estimate rows message))
+    ∙ rw (pending_total_stands buffer commands stands, stands.word, stands.marks) (sym (word_after_more buffer.settings commands (Write message) true 0 size (total rows + size) (λ index. refl) (moments_of_write buffer.settings.estimate rows message)))
 
 -- a buffer with one more message stands for the history with the write
 pub written_stands : (buffer : Pending) (commands : List Command) (message : Message) → StandsFor buffer commands → buffer.closed ≡ false →
@@ -97,13 +91,9 @@ written_stands buffer commands message stands unclosed room =
       accepted = accepted_more buffer.settings commands (Write message) (open_history buffer.settings commands (Write message) buffer stands unclosed) stands.accepted room;
       closed = unclosed ∙ sym (closed_more commands (Write message) (open_history buffer.settings commands (Write message) buffer stands unclosed));
       marks = stands.marks;
-      line = stands.line ∙ sym (ap (λ all. map entry_of (line all)) more ∙ ap (map entry_of) (filter-append is_in_line rows (row ∷ []) ∙ append-nil (line rows)));
-      unflushed = ap (λ first. first ++ record { message = message; size = counted_bytes estimate message; progress = 0; voided = false } ∷ []) stands.unflushed
-          ∙ sym (ap (λ all. map entry_of (unflushed all)) more
-          ∙ ap (map entry_of) (filter-append (λ (row : Row). is_unflushed row.place) rows (row ∷ []))
-          ∙ map-append entry_of (unflushed rows) (row ∷ [])
-          ∙ ap (λ last. map entry_of (unflushed rows) ++ last ∷ []) (entry_of_new estimate message));
-      promises = ap (λ first. first ++ Waiting ∷ []) stands.promises ∙ sym (ap (map (λ (row : Row). row.promise)) more ∙ map-append (λ (row : Row). row.promise) rows (row ∷ []));
+      line = rw (more, filter-append is_in_line rows (row ∷ []), append-nil (line rows)) stands.line;
+      unflushed = rw (more, filter-append (λ (row : Row). is_unflushed row.place) rows (row ∷ []), map-append entry_of (unflushed rows) (row ∷ []), entry_of_new estimate message, stands.unflushed) refl;
+      promises = rw (more, map-append (λ (row : Row). row.promise) rows (row ∷ []), stands.promises) refl;
       word = word_of_write buffer commands message stands;
     }
 
@@ -126,9 +116,8 @@ too_much_is : (buffer : Pending) (commands : List Command) (size : ℕ) → Stan
     is_too_much buffer.settings.estimate (rows_after buffer.settings.estimate commands) size ≡ not (has_room size buffer)
 too_much_is buffer commands size stands =
     let rows = rows_after buffer.settings.estimate commands in
-    ap (λ sum. ltb 4294967295 (sum + size) || leb 1048576 (length rows)) (sym (pending_total_stands buffer commands stands))
-    ∙ ap (λ count. ltb 4294967295 (pending_total buffer + size) || leb 1048576 count) (sym (ap length stands.promises ∙ length-map rows (λ row. row.promise)))
-    ∙ too_much_or_room (pending_total buffer + size) (length buffer.promises)
+    rw (← pending_total_stands buffer commands stands, ← length-map rows (λ row. row.promise), ← stands.promises)
+    (too_much_or_room (pending_total buffer + size) (length buffer.promises))
   where
     too_much_or_room : (sum count : ℕ) → (ltb 4294967295 sum || leb 1048576 count) ≡ not (leb sum 4294967295 && ltb count 1048576)
     too_much_or_room sum count = grind (arith, nat_tests)

@@ -1,5 +1,5 @@
-ghost use Rattle.std.specs.Prelude.{◌≡◌, ◌<◌, ◌≤◌, length, drop, None, IsErrOf, IsOk, IfOk};
-ghost use Rattle.ob_types.specs.Limits.{inline_settlements};
+ghost use Rattle.std.specs.Prelude.{◌≡◌, ◌+◌, ◌<◌, ◌≤◌, [], length, drop, None, IsErrOf, IsOk, IfOk};
+ghost use Rattle.ob_types.specs.Limits.{inline_settlements, most_writes};
 ghost use Rattle.ob_seq.specs.Steps.{answer_by, closed_pending, closing_step, failed_from, failures, first_of_step, held_by, unflushed_id};
 
 use crate::contents::Contents;
@@ -43,13 +43,8 @@ impl Contents {
         ensures value { IfOk result (λ settled. settled ≡ failures cause (unflushed_id self.now) (drop (unflushed_id self.now) self.now.promises)) }
         ensures frugal { length (failures cause (unflushed_id self.now) (drop (unflushed_id self.now) self.now.promises)) ≤ inline_settlements → IsOk result }
     {
-        let mut settled = self.no_settlements();
-        for id in self.first_unflushed()..self.promises.len() {
-            if self.promises[id].is_waiting() {
-                settled.push(PromiseId(id as u32), Outcome::Failed(cause))?;
-            }
-        }
-        Ok(settled)
+        let first = self.first_unflushed();
+        failures_of(&self.promises[first..], first, cause, self.no_settlements())
     }
 
     /// The id of the first promise of an unflushed message, or of the next one where there is none.
@@ -58,6 +53,26 @@ impl Contents {
     {
         self.promises.len() - self.unflushed_count()
     }
+}
+
+/// Adds what these promises settle when they fail, where their ids go on from `first`.
+fn failures_of(
+    promises: &[PromiseState],
+    first: usize,
+    cause: Cause,
+    mut settled: Settlements,
+) -> Result<Settlements, AllocError>
+    requires none { settled ≡ [] }
+    requires few { first + length promises.now ≤ most_writes }
+    ensures value { IfOk result (λ settled. settled ≡ failures cause first promises.now) }
+    ensures frugal { length (failures cause first promises.now) ≤ inline_settlements → IsOk result }
+{
+    for place in 0..promises.len() {
+        if promises[place].is_waiting() {
+            settled.push(PromiseId((first + place) as u32), Outcome::Failed(cause))?;
+        }
+    }
+    Ok(settled)
 }
 
 /// Fails the promises from this id on that still wait.

@@ -35,9 +35,6 @@ impl Contents {
             whole += 1;
             rest -= left;
         }
-        if rest > 0 {
-            return None;
-        }
-        Some(Cut { whole, rest })
+        (rest == 0).then_some(Cut { whole, rest })
     }
 }

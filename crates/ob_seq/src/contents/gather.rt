@@ -1,4 +1,4 @@
-ghost use Rattle.std.specs.Prelude.{◌≡◌, [], List, nat_le, nat_lt, ◌||◌, ◌&&◌, IfOk, IfErr, IsOk};
+ghost use Rattle.std.specs.Prelude.{◌≡◌, ◌++◌, ◌∷◌, [], List, nat_le, nat_lt, ◌||◌, ◌&&◌, IfOk, IfErr, IsOk, OnOk};
 ghost use Rattle.ob_types.specs.declared.command.Command.{Command};
 ghost use Rattle.ob_seq.specs.Gathering.{gathered_after};
 ghost use Rattle.ob_seq.specs.Pending.{AreGathered, StandsFor};
@@ -6,6 +6,7 @@ ghost use Rattle.ob_seq.specs.Pending.{AreGathered, StandsFor};
 use crate::contents::Contents;
 use bytes::Bytes;
 use ob_types::{Message, Refusal};
+use std::alloc::AllocError;
 
 impl Contents {
     /// As `Buffer::gather`.
@@ -26,12 +27,19 @@ impl Contents {
                 if !has_room(gathered.len(), max_count, length, room) {
                     break;
                 }
-                gathered.push(bytes.clone()?)?;
+                push_copy(&mut gathered, bytes)?;
                 room = room.saturating_sub(length);
             }
         }
         Ok(gathered)
     }
+}
+
+/// Adds a block that shares its memory with this one.
+fn push_copy(gathered: &mut Vec<Bytes>, bytes: &Bytes) -> Result<(), AllocError>
+    ensures { OnOk result (gathered.new.items ≡ gathered.old.items ++ bytes.now ∷ []) }
+{
+    Ok(gathered.push(bytes.clone()?)?)
 }
 
 /// Whether one more block goes along with so many others, which left this much room: the first does in any case.

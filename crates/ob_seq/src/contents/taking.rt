@@ -51,9 +51,7 @@ impl Contents {
         let entry = self.entries.pop_front()?;
         self.flushed -= 1;
         self.total -= entry.size;
-        if notice {
-            self.word = word::after_fall(self.marks, self.word, entry.size, self.total);
-        }
+        self.word = word::after_removal(self.marks, self.word, entry.size, self.total, notice);
         if entry.voided {
             return None;
         }

@@ -1,4 +1,4 @@
-ghost use Rattle.std.specs.Prelude.{◌≡◌, ◌≤◌, ◌==◌};
+ghost use Rattle.std.specs.Prelude.{◌≡◌, ◌≤◌, ◌==◌, if◌then◌else◌};
 ghost use Rattle.std.specs.Int.{bit_at};
 ghost use Rattle.ob_seq.specs.Steps.{with_user_bit, word_after_rise, word_after_fall};
 
@@ -28,6 +28,16 @@ pub fn after_fall(marks: WaterMark, word: u32, size: u32, total: u32) -> u32
     } else {
         word
     }
+}
+
+/// The word after a removal let the pending bytes fall by `size` to `total`. Without notice it stays.
+pub fn after_removal(marks: WaterMark, word: u32, size: u32, total: u32, notice: bool) -> u32
+    ensures { result ≡ (if notice then word_after_fall marks word size total else word) }
+{
+    if notice {
+        return after_fall(marks, word, size, total);
+    }
+    word
 }
 
 /// Whether the bit of this index is set.

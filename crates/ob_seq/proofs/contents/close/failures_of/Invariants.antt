@@ -1,0 +1,6 @@
+use Rattle.std.proofs.Common.{◌≡◌, take}
+use Rattle.ob_seq.specs.Steps.{failures}
+use Rattle.ob_seq.proofs.contents.close.failures_of.Given as goal
+
+abbrev pub invariant-loop-place : goal.invariant-loop-place
+invariant-loop-place l = l.settled ≡ failures l.cause l.first (take l.place l.promises)
