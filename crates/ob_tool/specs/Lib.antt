@@ -4,6 +4,9 @@ pub mod CoreScript
 pub mod CoreSession
 pub mod CoreTable
 pub mod CoreText
+pub mod DriveScript
+pub mod DriveSession
+pub mod DriveTable
 pub mod Ending
 pub mod Entry
 pub mod Fault
