@@ -1,0 +1,4 @@
+pub mod Counting
+pub mod Ending
+pub mod Passing
+pub mod Settled
