@@ -1,4 +1,4 @@
-pub mod Counting
+pub mod AcceptedCounts
 pub mod Ending
 pub mod Passing
 pub mod Settled
