@@ -1,6 +1,8 @@
-ghost use Rattle.std.specs.Prelude.{[]};
-ghost use Rattle.ob_tool.specs.DriveScript.{drive_language};
+ghost use Rattle.std.specs.Prelude.{◌≡◌, List, []};
+ghost use Rattle.ob_transport.specs.Script.{new_script};
+ghost use Rattle.ob_tool.specs.DriveScript.{drive_language, most_after, most_turns, steps_of};
 ghost use Rattle.ob_tool.specs.DriveSession.{HasKept};
+ghost use Rattle.ob_tool.specs.declared.drive_line.DriveLine.{DriveLine};
 
 use crate::drive_line::DriveLine;
 use crate::drive_word::DriveWord;
@@ -8,8 +10,14 @@ use crate::interpreter::Interpreter;
 use crate::line::read_line;
 use crate::line_fault::LineFault;
 use crate::writer_line::WriterLine;
-use ob_transport::SinkStep;
+use ob_transport::{ScriptSink, SinkStep};
 use std::alloc::{AllocError, Global};
+
+/// How much a call of the sink takes where no line tells it: all that can be offered.
+const ALL: u64 = u64::MAX;
+
+/// How many passes the transport makes at most where no line tells it.
+const MOST_TURNS: u32 = 1000000;
 
 /// What is kept of the lines of a drive script, while they are read.
 #[derive(Drop)]
@@ -35,6 +43,20 @@ impl DriveSession {
             after: None,
             turns: None,
         }
+    }
+
+    /// How many passes the transport makes at most.
+    pub fn most_turns(&self) -> u32
+        ensures { (lines : List DriveLine) → HasKept self.now lines → result ≡ most_turns lines }
+    {
+        self.turns.unwrap_or(MOST_TURNS)
+    }
+
+    /// The sink of the script, before its first call.
+    pub fn into_sink(self) -> ScriptSink
+        ensures { (lines : List DriveLine) → HasKept self lines → result ≡ new_script (steps_of lines) (most_after lines) }
+    {
+        ScriptSink::new(self.steps, self.after.unwrap_or(ALL))
     }
 }
 

@@ -1,4 +1,5 @@
-//! Runs scripts of buffer commands, or of the turns of lanes, and writes a line of trace for each.
+//! Runs scripts of buffer commands, or of the turns of lanes, and writes a line of trace for each; or drives the
+//! writers of a script, and writes the report.
 #![tactic(auto)]
 
 mod block;
@@ -11,6 +12,7 @@ mod core_word;
 mod drive_line;
 mod drive_run;
 mod drive_session;
+mod drive_text;
 mod drive_word;
 mod entry;
 mod entry_fault;

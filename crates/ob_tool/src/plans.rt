@@ -1,14 +1,15 @@
-ghost use Rattle.std.specs.Prelude.{◌≡◌, ◌++◌, map, replicate, IfOk, OnOk};
+ghost use Rattle.std.specs.Prelude.{◌≡◌, ◌++◌, replicate, IfOk, OnOk};
 ghost use Rattle.ob_tool.specs.DriveScript.{commands_asked, plan_of, plans_in, writer_block, writers_in};
 
 use crate::writer_line::{Asked, WriterLine};
 use bytes::Bytes;
+use ob_pool::Plan;
 use ob_types::{Command, Message};
 use std::alloc::{AllocError, Global};
 
 /// The plans of the writers, each at its number.
-pub fn plans(alloc: Global, lines: &[WriterLine]) -> Result<Vec<Vec<Command>>, AllocError>
-    ensures { IfOk result (λ plans. map (λ plan. plan.items) plans.items ≡ plans_in lines.now) }
+pub fn plans(alloc: Global, lines: &[WriterLine]) -> Result<Vec<Plan>, AllocError>
+    ensures { IfOk result (λ plans. plans.items ≡ plans_in lines.now) }
 {
     let mut plans = Vec::new(alloc);
     for writer in 0..count_writers(lines) {
@@ -29,16 +30,16 @@ fn count_writers(lines: &[WriterLine]) -> u32
 }
 
 /// The plan of a writer.
-fn plan(alloc: Global, lines: &[WriterLine], writer: u32) -> Result<Vec<Command>, AllocError>
-    ensures { IfOk result (λ plan. plan.items ≡ plan_of lines.now writer) }
+fn plan(alloc: Global, lines: &[WriterLine], writer: u32) -> Result<Plan, AllocError>
+    ensures { IfOk result (λ plan. plan ≡ plan_of lines.now writer) }
 {
-    let mut plan = Vec::new(alloc);
+    let mut commands = Vec::new(alloc);
     for line in lines {
         if u32::from(line.writer) == writer {
-            push_asked(alloc, &mut plan, line)?;
+            push_asked(alloc, &mut commands, line)?;
         }
     }
-    Ok(plan)
+    Ok(Plan { commands })
 }
 
 /// Adds the commands that a line asks of its writer. The blocks of one line share their memory.

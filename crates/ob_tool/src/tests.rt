@@ -2,6 +2,7 @@ mod core_faults;
 mod core_rows;
 mod doubles;
 mod drive_reading;
+mod drive_rows;
 mod faults;
 mod rows;
 mod statuses;

@@ -20,9 +20,9 @@ fn reads_each_line(rt: HostRuntime) -> Result<(), Fail> {
     let shown = format!(in rt.alloc(); "{plans:?}")?;
     assert_eq!(rt;
         shown.as_str(),
-        "[[Write(Other(4294967295)), UserBit(255, true), UserBit(1, false)], \
-        [Flush, Write(Region(18446744073709551615))], [], \
-        [Write(Block(b\"\\x03\\x03\")), Write(Block(b\"\\x03\\x03\")), Cancel(PromiseId(7))]]"
+        "[Plan { commands: [Write(Other(4294967295)), UserBit(255, true), UserBit(1, false)] }, \
+        Plan { commands: [Flush, Write(Region(18446744073709551615))] }, Plan { commands: [] }, \
+        Plan { commands: [Write(Block(b\"\\x03\\x03\")), Write(Block(b\"\\x03\\x03\")), Cancel(PromiseId(7))] }]"
     );
     Ok(())
 }

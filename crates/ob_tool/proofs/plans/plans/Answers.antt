@@ -1,5 +1,4 @@
 use Rattle.std.proofs.Common.{arith, refl}
-use Rattle.std.proofs.lemmas.List.{map-append}
 use Rattle.std.proofs.lemmas.List.FromFn.{map-range_with_len_more}
 use Rattle.ob_tool.specs.DriveScript.{plan_of}
 use Rattle.ob_tool.proofs.plans.plans.Goals as goal
@@ -8,4 +7,5 @@ pub loop-writer-preserved : goal.loop-writer-preserved
 loop-writer-preserved c =
     let lines = c.args.lines.now in
     let writer = c.loop-writer.writer in
-    rw (c.in_ok-push.ensures.items, map-append, c.loop-writer.invariant, c.in_ok-plan.ensures, map-range_with_len_more (plan_of lines) 0 writer writer (omega arith)) refl
+    let longer = map-range_with_len_more (plan_of lines) 0 writer writer (omega arith) in
+    rw (c.in_ok-push.ensures.items, c.loop-writer.invariant, c.in_ok-plan.ensures, longer) refl

@@ -4,4 +4,4 @@ use Rattle.ob_tool.specs.DriveScript.{plan_of}
 use Rattle.ob_tool.proofs.plans.plans.Given as goal
 
 abbrev pub invariant-loop-writer : goal.invariant-loop-writer
-invariant-loop-writer l = map (λ plan. plan.items) l.plans.items ≡ map (plan_of l.lines) (range_with_len 0 l.writer)
+invariant-loop-writer l = l.plans.items ≡ map (plan_of l.lines) (range_with_len 0 l.writer)
