@@ -2,33 +2,34 @@
 use Rattle.std.proofs.Common.{◌≡◌, ℕ, List, Option, None, Some, Err, IfSome, append-nil, refl, sym}
 use Rattle.std.specs.Prelude.{IsErrOf}
 use Rattle.std.specs.Io.KnownBytes.{Appends}
-use Rattle.ob_tool.specs.Entry.{WritesTrace, WritesTraceOfFirst}
+use Rattle.ob_tool.specs.Entry.{WritesTraceOfFirst, WritesWhole}
 use Rattle.ob_tool.specs.Outcome.{WentThrough, fault_told, status_of}
-use Rattle.ob_tool.specs.Request.{requested_fault, requested_trace, requested_trace_of_first}
+use Rattle.ob_tool.specs.Request.{WritesRequested, requested_fault, requested_trace_of_first}
 use Rattle.ob_tool.specs.declared.line_fault.LineFault.{LineFault}
 use Rattle.ob_tool.specs.declared.request.Request.{Request}
 use Rattle.ob_tool.specs.declared.request.Request.TheVariants.{Core}
 use Rattle.ob_tool.specs.declared.run_fault.RunFault.{RunFault}
-use Rattle.ob_tool.specs.declared.run_fault.RunFault.TheVariants.{Line, Read, TooLong, Write, NoMemory}
+use Rattle.ob_tool.specs.declared.run_fault.RunFault.TheVariants.{Line, Read, TooLong, Write, NoMemory, Drive}
 
--- the status 2 comes of a faulty line alone, up to which the trace is written
+-- the status 2 comes of a faulty line alone, up to which all is written
 cut_short_at : (request : Request) (fault : RunFault) (script : List ℕ) (old new : Option (List ℕ)) → status_of fault ≡ 2
-    → (WentThrough {T = Unit {0}} (Err fault) → Appends old new (requested_trace request script))
+    → (WentThrough {T = Unit {0}} (Err fault) → WritesRequested request script (fault_told {T = Unit {0}} (Err fault)) old new)
     → (WentThrough {T = Unit {0}} (Err fault) → fault_told {T = Unit {0}} (Err fault) ≡ requested_fault request script)
-    → (told : ℕ × LineFault) × WritesTrace script (Some told) old new
-cut_short_at request (Line number fault) script old new status traced told = ((number, fault), (request, traced tt, sym (told tt)))
-cut_short_at request Read script old new status traced told = absurd cc
-cut_short_at request TooLong script old new status traced told = absurd cc
-cut_short_at request Write script old new status traced told = absurd cc
-cut_short_at request NoMemory script old new status traced told = absurd cc
+    → (told : ℕ × LineFault) × WritesWhole script (Some told) old new
+cut_short_at request (Line number fault) script old new status written told = ((number, fault), (request, written tt, sym (told tt)))
+cut_short_at request Read script old new status written told = absurd cc
+cut_short_at request TooLong script old new status written told = absurd cc
+cut_short_at request Write script old new status written told = absurd cc
+cut_short_at request NoMemory script old new status written told = absurd cc
+cut_short_at request (Drive fault) script old new status written told = absurd cc
 
 -- and so where the script is known
 pub cut_short : (request : Request) (fault : RunFault) (read : Option (List ℕ)) (old new : Option (List ℕ)) → status_of fault ≡ 2
-    → (WentThrough {T = Unit {0}} (Err fault) → IfSome read (λ script. Appends old new (requested_trace request script)))
+    → (WentThrough {T = Unit {0}} (Err fault) → IfSome read (λ script. WritesRequested request script (fault_told {T = Unit {0}} (Err fault)) old new))
     → (WentThrough {T = Unit {0}} (Err fault) → IfSome read (λ script. fault_told {T = Unit {0}} (Err fault) ≡ requested_fault request script))
-    → IfSome read (λ script. (told : ℕ × LineFault) × WritesTrace script (Some told) old new)
-cut_short request fault None old new status traced told = tt
-cut_short request fault (Some script) old new status traced told = cut_short_at request fault script old new status traced told
+    → IfSome read (λ script. (told : ℕ × LineFault) × WritesWhole script (Some told) old new)
+cut_short request fault None old new status written told = tt
+cut_short request fault (Some script) old new status written told = cut_short_at request fault script old new status written told
 
 -- where no script was read, nothing was written, and that is the trace of no lines
 untraced_at : (script : List ℕ) (held : Option (List ℕ)) → WritesTraceOfFirst script held held
@@ -48,6 +49,7 @@ out_of_memory_at request (Line number fault) script old new status traced = absu
 out_of_memory_at request Read script old new status traced = absurd cc
 out_of_memory_at request TooLong script old new status traced = absurd cc
 out_of_memory_at request Write script old new status traced = absurd cc
+out_of_memory_at request (Drive fault) script old new status traced = absurd cc
 
 -- and so where the script is known
 pub out_of_memory : (request : Request) (fault : RunFault) (read : Option (List ℕ)) (old new : Option (List ℕ)) → status_of fault ≡ 4

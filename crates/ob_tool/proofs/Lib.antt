@@ -7,5 +7,6 @@ pub mod CoreSessionLemmas
 pub mod SessionLemmas
 pub mod TraceLemmas
 pub mod EntryLemmas
+pub mod DriveScriptLemmas
 mod CoreRows
 mod Rows

@@ -5,7 +5,7 @@ use Rattle.ob_tool.specs.Script.{script_fault}
 use Rattle.ob_tool.specs.Trace.{trace_of, trace_of_first, trace_of_lines}
 use Rattle.ob_tool.specs.declared.line_fault.LineFault.{LineFault}
 use Rattle.ob_tool.specs.declared.run_fault.RunFault.{RunFault}
-use Rattle.ob_tool.specs.declared.run_fault.RunFault.TheVariants.{Line, Read, TooLong, Write, NoMemory}
+use Rattle.ob_tool.specs.declared.run_fault.RunFault.TheVariants.{Line, Read, TooLong, Write, NoMemory, Drive}
 
 -- the work on a script, where Shows says of a text that it came out: the whole trace and the script's fault, or, where
 -- memory ran out, the trace of some first lines; after a failed write nothing is said, and reading is over
@@ -17,6 +17,7 @@ EndsWith whole of_first fault Shows (Err NoMemory) = (count : ℕ) × Shows (of_
 EndsWith whole of_first fault Shows (Err Write) = Unit {0}
 EndsWith whole of_first fault Shows (Err Read) = ⊥
 EndsWith whole of_first fault Shows (Err TooLong) = ⊥
+EndsWith whole of_first fault Shows (Err (Drive other)) = ⊥
 
 -- the work on a script
 abbrev pub Ends : {T L : Type 0} → Language L → List ℕ → (List ℕ → Type 0) → Result T RunFault → Type 0

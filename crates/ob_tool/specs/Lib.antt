@@ -4,6 +4,11 @@ pub mod CoreScript
 pub mod CoreSession
 pub mod CoreTable
 pub mod CoreText
+pub mod DriveReport
+pub mod DriveScript
+pub mod DriveSession
+pub mod DriveTable
+pub mod DriveText
 pub mod Ending
 pub mod Entry
 pub mod Fault

@@ -2,7 +2,7 @@
 use Rattle.std.specs.Prelude.{ℕ, Option, None, Some, Result, Ok, Err}
 use Rattle.ob_tool.specs.declared.line_fault.LineFault.{LineFault}
 use Rattle.ob_tool.specs.declared.run_fault.RunFault.{RunFault}
-use Rattle.ob_tool.specs.declared.run_fault.RunFault.TheVariants.{Line, Read, TooLong, Write, NoMemory}
+use Rattle.ob_tool.specs.declared.run_fault.RunFault.TheVariants.{Line, Read, TooLong, Write, NoMemory, Drive}
 
 -- the fault of a line that a run tells, with the line's number
 abbrev pub fault_told : {T : Type 0} → Result T RunFault → Option (ℕ × LineFault)
@@ -12,6 +12,7 @@ fault_told (Err Read) = None
 fault_told (Err TooLong) = None
 fault_told (Err Write) = None
 fault_told (Err NoMemory) = None
+fault_told (Err (Drive fault)) = None
 
 -- a run went through the script to its end, or to its first faulty line
 abbrev pub WentThrough : {T : Type 0} → Result T RunFault → Type 0
@@ -21,6 +22,7 @@ WentThrough (Err Read) = ⊥
 WentThrough (Err TooLong) = ⊥
 WentThrough (Err Write) = ⊥
 WentThrough (Err NoMemory) = ⊥
+WentThrough (Err (Drive fault)) = ⊥
 
 -- a fault of reading a script
 abbrev pub IsReadingFault : RunFault → Type 0
@@ -29,6 +31,25 @@ IsReadingFault Read = Unit {0}
 IsReadingFault TooLong = Unit {0}
 IsReadingFault Write = ⊥
 IsReadingFault NoMemory = Unit {0}
+IsReadingFault (Drive fault) = ⊥
+
+-- a fault of driving what was read
+abbrev pub IsFaultOfDrive : RunFault → Type 0
+IsFaultOfDrive (Line number fault) = ⊥
+IsFaultOfDrive Read = ⊥
+IsFaultOfDrive TooLong = ⊥
+IsFaultOfDrive Write = ⊥
+IsFaultOfDrive NoMemory = Unit {0}
+IsFaultOfDrive (Drive fault) = Unit {0}
+
+-- a fault of writing a text
+abbrev pub IsWritingFault : RunFault → Type 0
+IsWritingFault (Line number fault) = ⊥
+IsWritingFault Read = ⊥
+IsWritingFault TooLong = ⊥
+IsWritingFault Write = Unit {0}
+IsWritingFault NoMemory = Unit {0}
+IsWritingFault (Drive fault) = ⊥
 
 -- the status with which the program ends after a fault of a run
 abbrev pub status_of : RunFault → ℕ
@@ -37,3 +58,4 @@ status_of Read = 3
 status_of TooLong = 3
 status_of Write = 3
 status_of NoMemory = 4
+status_of (Drive fault) = 5

@@ -30,6 +30,9 @@ const OVERHEAD: u16 = 96;
 /// The bytes of a message of unknown size where no number is given.
 const UNKNOWN: u16 = 8;
 
+/// The bytes that a hand-off adds to a message where no number is given.
+const TASK: u16 = 32;
+
 /// The most records of a history, which is also its limit where none is given.
 const MAX_RECORDS: u32 = 1048576;
 
@@ -42,15 +45,19 @@ pub fn request_of<'a, S: AsStr>(alloc: Global, words: &'a [S]) -> Result<Request
 {
     let matches = command(alloc)?.try_get_matches_from(words)?;
     match matches.subcommand() {
-        Some(("run", given)) => Ok(Request::Run(run_options(given)?)),
+        Some(("run", given)) => Ok(Request::Run(options_of(given, TASK)?)),
         Some(("core", given)) => Ok(Request::Core(given_marks(given)?)),
+        Some(("drive", given)) => {
+            let task = given.get_one("task").unwrap_or(TASK);
+            Ok(Request::Drive(options_of(given, task)?))
+        }
         // `clap` lets no other command line through, but none of its clauses says so.
         _ => Err(EntryFault::NoSubcommand),
     }
 }
 
-/// The options that were given to `run`.
-fn run_options(given: &ArgMatches<'_>) -> Result<Options, EntryFault>
+/// The options that were given to `run` or to `drive`, with what a hand-off adds.
+fn options_of(given: &ArgMatches<'_>, task: u16) -> Result<Options, EntryFault>
     ensures err { IfErr result (λ fault. exit_status_of fault ≡ 1) }
 {
     let marks = given_marks(given)?;
@@ -59,6 +66,7 @@ fn run_options(given: &ArgMatches<'_>) -> Result<Options, EntryFault>
         given.get_one("overhead").unwrap_or(OVERHEAD),
         given.get_one("unknown").unwrap_or(UNKNOWN),
         limit_of(given.get_one("limit")),
+        task,
     ))
 }
 
@@ -83,11 +91,12 @@ fn limit_of(given: Option<u32>) -> u32
     given.unwrap_or(MAX_RECORDS).clamp(1, MAX_RECORDS)
 }
 
-/// The options of these marks, of these numbers in bytes, and of this limit.
-fn options(marks: WaterMark, overhead: u16, unknown: u16, limit: u32) -> Options
+/// The options of these marks, of these numbers in bytes, of this limit, and of what a hand-off adds.
+fn options(marks: WaterMark, overhead: u16, unknown: u16, limit: u32, task: u16) -> Options
     requires some_record { 0 < limit }
     requires few_records { limit ≤ 1048576 }
-    ensures { first_history result ≡ new_history (record {
+    ensures task { result.task ≡ task }
+    ensures history { first_history result ≡ new_history (record {
       marks = marks;
       estimate = record { overhead = overhead; unknown = unknown };
     }) limit }
@@ -100,6 +109,7 @@ fn options(marks: WaterMark, overhead: u16, unknown: u16, limit: u32) -> Options
         marks,
         estimate,
         limit,
+        task: u32::from(task),
     }
 }
 
@@ -124,16 +134,23 @@ fn command<'a>(alloc: Global) -> Result<Command<'a>, AllocError> {
         )
         .subcommand_required(true)
         .subcommand(run_command(alloc)?)?
-        .subcommand(core_command(alloc)?)
+        .subcommand(core_command(alloc)?)?
+        .subcommand(drive_command(alloc)?)
 }
 
 /// The subcommand `run`.
 fn run_command<'a>(alloc: Global) -> Result<Command<'a>, AllocError> {
-    Command::new(alloc, "run")
+    let command = Command::new(alloc, "run")
         .about(
             "Reads a script from standard input, and writes one line for each of its lines to standard output",
         )
-        .after_help(help::RUN)
+        .after_help(help::RUN);
+    with_options(alloc, command)
+}
+
+/// A subcommand with the options of a buffer and of its history.
+fn with_options<'a>(alloc: Global, command: Command<'a>) -> Result<Command<'a>, AllocError> {
+    command
         .arg(low_mark(alloc))?
         .arg(high_mark(alloc))?
         .arg(size(
@@ -158,6 +175,20 @@ fn core_command<'a>(alloc: Global) -> Result<Command<'a>, AllocError> {
         .after_help(help::CORE)
         .arg(low_mark(alloc))?
         .arg(high_mark(alloc))
+}
+
+/// The subcommand `drive`.
+fn drive_command<'a>(alloc: Global) -> Result<Command<'a>, AllocError> {
+    let command = Command::new(alloc, "drive")
+        .about(
+            "Reads a script of writers from standard input, runs them in threads, and counts what came of it",
+        )
+        .after_help(help::DRIVE);
+    with_options(alloc, command)?.arg(size(
+        alloc,
+        "task",
+        "Bytes that a message counts beside its own while it is handed over (32 where it is not given)",
+    ))
 }
 
 /// The option `--low`.

@@ -1,7 +1,7 @@
-ghost use Rattle.std.specs.Prelude.{◌≡◌, ◌≤◌, ◌<◌, ℕ, IfSome, IsErrOf, length};
+ghost use Rattle.std.specs.Prelude.{◌≡◌, ◌≤◌, ◌<◌, ℕ, IfErr, IfSome, IsErrOf, length};
 ghost use Rattle.std.specs.Io.KnownBytes.{Appends, IsAtEnd, Keeps};
 ghost use Rattle.ob_tool.specs.CoreScript.{core_language};
-ghost use Rattle.ob_tool.specs.Outcome.{WentThrough, fault_told};
+ghost use Rattle.ob_tool.specs.Outcome.{WentThrough, fault_told, status_of};
 ghost use Rattle.ob_tool.specs.Script.{script_fault};
 ghost use Rattle.ob_tool.specs.Trace.{trace_of, trace_of_first};
 
@@ -39,6 +39,9 @@ pub fn core<R: Read, W: Write>(
     ensures unread { IsErrOf result RunFault.Read → Keeps (W.contents writer.old) (W.contents writer.new) }
     ensures too_long { IsErrOf result RunFault.TooLong → IfSome (R.remaining reader.old) (λ script. 16777216 < length script) }
     ensures too_long_unwritten { IsErrOf result RunFault.TooLong → Keeps (W.contents writer.old) (W.contents writer.new) }
+
+    // Nothing is driven.
+    ensures undriven { IfErr result (λ fault. status_of fault ≤ 4) }
 {
     interpret(alloc, reader, writer, CoreSession::new(alloc, marks))
 }

@@ -1,46 +1,52 @@
 ghost use Rattle.std.specs.Prelude.{◌≡◌, ◌≤◌, ℕ, None, Some, IfSome, IfErr, IsErrOf, OnOk};
 ghost use Rattle.std.specs.Io.KnownBytes.{Appends, Keeps};
 ghost use Rattle.ob_tool.specs.declared.line_fault.LineFault.{LineFault};
-ghost use Rattle.ob_tool.specs.Outcome.{WentThrough, fault_told};
-ghost use Rattle.ob_tool.specs.Request.{requested_fault, requested_trace, requested_trace_of_first};
-ghost use Rattle.ob_tool.specs.Entry.{WritesTrace, WritesTraceOfFirst, exit_status_of};
+ghost use Rattle.ob_tool.specs.Outcome.{WentThrough, fault_told, status_of};
+ghost use Rattle.ob_tool.specs.Request.{WritesRequested, requested_fault, requested_trace_of_first};
+ghost use Rattle.ob_tool.specs.Entry.{WritesWhole, WritesTraceOfFirst, exit_status_of};
 
 use crate::command_line::request_of;
 use crate::core_run::core;
+use crate::drive_run::drive_script;
 use crate::entry_fault::EntryFault;
 use crate::request::Request;
 use crate::run::run;
 use crate::run_fault::RunFault;
-use std::alloc::Global;
 use std::convert::AsStr;
 use std::io::{Read, Write};
+use std::sync::Wait;
+use std::thread::Threads;
+use std::time::Clock;
 
-/// Does all that the program does: reads its words, runs the script that the reader has, writes the trace, and tells
-/// a fault on `errors`. The answer is the status with which the program ends.
-pub fn entry<H: AllocGlobal, S: AsStr, R: Read, W: Write, E: Write>(
+/// Does all that the program does: reads its words, runs the script that the reader has, writes the trace or the
+/// report, and tells a fault on `errors`. The answer is the status with which the program ends.
+pub fn entry<H: AllocGlobal + Threads + Wait + Clock + Sync, S: AsStr, R: Read, W: Write, E: Write>(
     rt: &H,
     words: &[S],
     reader: &mut R,
     writer: &mut W,
     errors: &mut E,
 ) -> u8
-    // Status 0: the trace of a script without a fault, and nothing on `errors`.
+    // Status 0: the trace of a script without a fault, or the report of its drive, and nothing on `errors`.
     ensures traced { result ≡ 0 → IfSome (R.remaining reader.old) (λ script.
-        WritesTrace script None (W.contents writer.old) (W.contents writer.new)) }
+        WritesWhole script None (W.contents writer.old) (W.contents writer.new)) }
     ensures quiet { result ≡ 0 → Keeps (E.contents errors.old) (E.contents errors.new) }
 
     // Status 1: the command line is refused, and nothing of the script is read.
     ensures refused { result ≡ 1 → Keeps (W.contents writer.old) (W.contents writer.new) }
     ensures unread { result ≡ 1 → reader.new ≡ reader.old }
 
-    // Status 2: the trace up to the faulty line.
+    // Status 2: the trace up to the faulty line, and nothing of a drive.
     ensures cut_short { result ≡ 2 → IfSome (R.remaining reader.old) (λ script.
-        (fault : ℕ × LineFault) × WritesTrace script (Some fault) (W.contents writer.old) (W.contents writer.new)) }
+        (fault : ℕ × LineFault) × WritesWhole script (Some fault) (W.contents writer.old) (W.contents writer.new)) }
 
     // Status 4: the trace of some first lines.
     ensures no_memory { result ≡ 4 → IfSome (R.remaining reader.old) (λ script.
         WritesTraceOfFirst script (W.contents writer.old) (W.contents writer.new)) }
-    ensures within { result ≤ 4 }
+
+    // Status 5: a drive came to no report, and nothing is written.
+    ensures undriven { result ≡ 5 → Keeps (W.contents writer.old) (W.contents writer.new) }
+    ensures within { result ≤ 5 }
 {
     match start(rt, words, reader, writer) {
         Ok(()) => 0,
@@ -52,47 +58,52 @@ pub fn entry<H: AllocGlobal, S: AsStr, R: Read, W: Write, E: Write>(
 }
 
 /// Reads the words, and runs the script.
-fn start<H: AllocGlobal, S: AsStr, R: Read, W: Write>(
+fn start<H: AllocGlobal + Threads + Wait + Clock + Sync, S: AsStr, R: Read, W: Write>(
     rt: &H,
     words: &[S],
     reader: &mut R,
     writer: &mut W,
 ) -> Result<(), EntryFault>
     ensures traced { OnOk result (IfSome (R.remaining reader.old) (λ script.
-        WritesTrace script None (W.contents writer.old) (W.contents writer.new))) }
+        WritesWhole script None (W.contents writer.old) (W.contents writer.new))) }
     ensures refused { IfErr result (λ fault. exit_status_of fault ≡ 1 → Keeps (W.contents writer.old) (W.contents writer.new)) }
     ensures unread { IfErr result (λ fault. exit_status_of fault ≡ 1 → reader.new ≡ reader.old) }
     ensures cut_short { IfErr result (λ fault. exit_status_of fault ≡ 2 → IfSome (R.remaining reader.old) (λ script.
-        (fault : ℕ × LineFault) × WritesTrace script (Some fault) (W.contents writer.old) (W.contents writer.new))) }
+        (fault : ℕ × LineFault) × WritesWhole script (Some fault) (W.contents writer.old) (W.contents writer.new))) }
     ensures no_memory { IfErr result (λ fault. exit_status_of fault ≡ 4 → IfSome (R.remaining reader.old) (λ script.
         WritesTraceOfFirst script (W.contents writer.old) (W.contents writer.new))) }
+    ensures undriven { IfErr result (λ fault. exit_status_of fault ≡ 5
+        → Keeps (W.contents writer.old) (W.contents writer.new)) }
 {
     let request = match request_of(rt.alloc(), words) {
         Ok(request) => request,
         Err(fault) => return Err(fault),
     };
-    match carry_out(rt.alloc(), reader, writer, request) {
+    match carry_out(rt, reader, writer, request) {
         Ok(()) => Ok(()),
         Err(fault) => Err(EntryFault::Run(fault)),
     }
 }
 
 /// Does what was asked for, at the end of the script or at its first faulty line with the trace of what was read.
-fn carry_out<R: Read, W: Write>(
-    alloc: Global,
+fn carry_out<H: AllocGlobal + Threads + Wait + Clock + Sync, R: Read, W: Write>(
+    rt: &H,
     reader: &mut R,
     writer: &mut W,
     request: Request,
 ) -> Result<(), RunFault>
-    ensures trace { WentThrough result → IfSome (R.remaining reader.old) (λ script.
-        Appends (W.contents writer.old) (W.contents writer.new) (requested_trace request script)) }
+    ensures written { WentThrough result → IfSome (R.remaining reader.old) (λ script.
+        WritesRequested request script (fault_told result) (W.contents writer.old) (W.contents writer.new)) }
     ensures fault { WentThrough result → IfSome (R.remaining reader.old) (λ script. fault_told result ≡ requested_fault request script) }
     ensures no_memory { IsErrOf result RunFault.NoMemory → IfSome (R.remaining reader.old) (λ script.
         (count : ℕ) × Appends (W.contents writer.old) (W.contents writer.new) (requested_trace_of_first count request script)) }
+    ensures undriven { IfErr result (λ fault. status_of fault ≡ 5
+        → Keeps (W.contents writer.old) (W.contents writer.new)) }
 {
     match request {
-        Request::Run(options) => run(alloc, reader, writer, options),
-        Request::Core(marks) => core(alloc, reader, writer, marks),
+        Request::Run(options) => run(rt.alloc(), reader, writer, options),
+        Request::Core(marks) => core(rt.alloc(), reader, writer, marks),
+        Request::Drive(options) => drive_script(rt, reader, writer, options),
     }
 }
 

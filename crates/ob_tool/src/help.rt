@@ -3,7 +3,7 @@
 /// How a script is given, what its lines ask and what is written for them, the faults that a line may have (those of
 /// any script, and then those of this one), and what goes to which stream.
 macro_rules! help_on_scripts {
-    ($lines:literal, $own_faults:literal) => {
+    ($lines:literal, $own_faults:literal, $own_status:literal) => {
         concat!(
             "The script comes on standard input. Its lines end with the byte 10 alone, one space parts two words:\n",
             $lines,
@@ -19,7 +19,8 @@ Faults of a line, told as `line N: fault F`:
             $own_faults,
             "
 Faults, and help and the version where they are asked for, go to standard error.
-Status: 0 done, 1 the command line (help and the version too), 2 a line, 3 reading or writing, 4 memory"
+Status: 0 done, 1 the command line (help and the version too), 2 a line, 3 reading or writing, 4 memory",
+            $own_status
         )
     };
 }
@@ -61,6 +62,7 @@ A refused command changes nothing. The numbers R of `!R`:
   8 no user bit (1 to 31)          9 flushed messages are left            10 no such promise
   11 as many commands as --limit says are recorded
 ",
+    "",
     ""
 );
 
@@ -92,5 +94,41 @@ The numbers F of `!F`:
 ",
     "  7  a lane behind a turn, a turn before the first lane, a 65th lane, a lane with bit 0 or with a bit that
      another holds, or one whose room brings the rooms above 4294967295
-"
+",
+    ""
+);
+
+/// What stands behind the options of `drive`.
+pub const DRIVE: &str = help_on_scripts!(
+    "  ob_tool drive < FILE
+
+It loads one buffer as a server does, to see that nothing is lost: each writer of the script gives its commands from a
+thread of its own, and beside them one transport hands what is flushed to a sink.
+
+Lines of a script; W is a writer, 0 to 63, and there is one writer more than the greatest W:
+  b W N K  writer W writes K blocks, 1 to 1024, of N bytes, at most 1048576
+  r W N    writer W writes a region of N bytes
+  o W N    writer W writes another message, whose number is N
+  f W      writer W flushes
+  x W ID   writer W cancels the promise ID
+  u W I V  writer W sets the user bit I where V is 0, clears it where V is 1
+  take N   the next call of the sink takes at most N bytes
+  fail C   the next call of the sink fails with the number C, and so does all that is flushed
+  then N   each call of the sink behind these takes at most N bytes; all where no line says it
+  turns N  the transport makes at most N passes, 1 to 16777216; 1000000 where no line says it
+The N of r goes up to 18446744073709551615, I up to 255, and all else up to 4294967295.
+
+All lines are read first. When all threads have ended, standard output gets these lines, each with a number:
+  writes, flushes, cancels, bits   commands of writers that the buffer accepted; `refused` those that it refused
+  taken                            bytes of blocks that the sink took
+  success, failed, cancelled, left promises of writes that were settled so, and not at all: together as many as `writes`
+  hand                             the bytes that are still handed over, and a word: 0 00000000 where all is well
+
+Faults of a drive, told as `drive: fault N`; standard output stays empty:
+  1 there is no writer             3 the writers hand over too much       4 no memory, or no thread
+  6 as many commands as --limit says were recorded                        7 so it was as the transport went on
+",
+    "  7  a second `then`, or a second `turns`
+",
+    ", 5 the drive"
 );

@@ -1,4 +1,5 @@
-//! Runs scripts of buffer commands, or of the turns of lanes, and writes a line of trace for each.
+//! Runs scripts of buffer commands, or of the turns of lanes, and writes a line of trace for each; or drives the
+//! writers of a script, and writes the report.
 #![tactic(auto)]
 
 mod block;
@@ -8,6 +9,11 @@ mod core_run;
 mod core_session;
 mod core_text;
 mod core_word;
+mod drive_line;
+mod drive_run;
+mod drive_session;
+mod drive_text;
+mod drive_word;
 mod entry;
 mod entry_fault;
 mod first_word;
@@ -20,6 +26,7 @@ mod line_words;
 mod numbers;
 mod options;
 mod pipeline;
+mod plans;
 mod range;
 mod request;
 mod run;
@@ -31,6 +38,7 @@ mod session;
 mod tests;
 mod text;
 mod trace;
+mod writer_line;
 
 use entry::entry;
 use std::process::ExitCode;

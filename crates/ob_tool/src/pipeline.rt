@@ -1,7 +1,7 @@
-ghost use Rattle.std.specs.Prelude.{◌≡◌, ◌≤◌, ◌<◌, [], ℕ, IfSome, IsErrOf, length};
+ghost use Rattle.std.specs.Prelude.{◌≡◌, ◌≤◌, ◌<◌, [], ℕ, IfErr, IfSome, IsErrOf, length};
 ghost use Rattle.std.specs.Io.KnownBytes.{Appends, IsAtEnd, Keeps};
 ghost use Rattle.ob_tool.specs.Ending.{Ends};
-ghost use Rattle.ob_tool.specs.Outcome.{WentThrough, fault_told};
+ghost use Rattle.ob_tool.specs.Outcome.{WentThrough, fault_told, status_of};
 ghost use Rattle.ob_tool.specs.Script.{script_fault};
 ghost use Rattle.ob_tool.specs.Trace.{trace_of, trace_of_first};
 
@@ -13,7 +13,7 @@ use std::alloc::Global;
 use std::io::{Read, Write};
 
 /// The most reads of a script. Our own limit.
-const MAX_READS: u32 = 33554432;
+pub const MAX_READS: u32 = 33554432;
 
 /// Reads a script to its end, has its lines carried out up to the first faulty one, and writes the trace.
 pub fn interpret<I: Interpreter, R: Read, W: Write>(
@@ -33,6 +33,7 @@ pub fn interpret<I: Interpreter, R: Read, W: Write>(
     ensures unread { IsErrOf result RunFault.Read → Keeps (W.contents writer.old) (W.contents writer.new) }
     ensures too_long { IsErrOf result RunFault.TooLong → IfSome (R.remaining reader.old) (λ script. 16777216 < length script) }
     ensures too_long_unwritten { IsErrOf result RunFault.TooLong → Keeps (W.contents writer.old) (W.contents writer.new) }
+    ensures undriven { IfErr result (λ fault. status_of fault ≤ 4) }
 {
     let script = read_script(alloc, reader, MAX_READS)?;
     write_trace(alloc, &script, writer, interpreter)

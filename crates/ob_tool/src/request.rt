@@ -8,4 +8,6 @@ pub enum Request {
     Run(Options),
     /// A core script, with these marks.
     Core(WaterMark),
+    /// A drive of the writers of a script.
+    Drive(Options),
 }

@@ -1,11 +1,12 @@
 use crate::line_fault::LineFault;
+use ob_pool::DriveFault;
 use std::alloc::AllocError;
 use thiserror::Error;
 
 /// Why a run ended before the end of its script.
 #[derive(Clone, Copy, Debug, PartialEq, Eq, Error)]
 pub enum RunFault {
-    /// A line is faulty. The lines before it were carried out, and their trace was written.
+    /// A line is faulty. The lines before it were carried out, and their trace was written; a drive did nothing.
     #[error("line {line}: fault {}", .fault.number())]
     Line {
         /// The number of the line, from 1 on.
@@ -19,12 +20,15 @@ pub enum RunFault {
     /// The script has more than 16777216 bytes. Nothing was written.
     #[error("script too long")]
     TooLong,
-    /// The writer failed. It is not known how much of the trace it took.
+    /// The writer failed. It is not known how much of the trace or of the report it took.
     #[error("write fault")]
     Write,
-    /// The allocator refused memory. The trace of the lines before was written.
+    /// The allocator refused memory. The trace of the lines before was written, and of a drive nothing.
     #[error("no memory")]
     NoMemory,
+    /// The drive came to no report. Nothing was written.
+    #[error("drive: fault {}", .0.number())]
+    Drive(DriveFault),
 }
 
 impl RunFault {
@@ -39,6 +43,7 @@ impl RunFault {
             RunFault::Line { .. } => 2,
             RunFault::Read | RunFault::TooLong | RunFault::Write => 3,
             RunFault::NoMemory => 4,
+            RunFault::Drive(_) => 5,
         }
     }
 }

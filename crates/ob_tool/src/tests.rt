@@ -1,6 +1,8 @@
 mod core_faults;
 mod core_rows;
 mod doubles;
+mod drive_reading;
+mod drive_rows;
 mod faults;
 mod rows;
 mod statuses;

@@ -37,7 +37,7 @@ pub fn trace_script<I: Interpreter, W: io::Write>(
 }
 
 /// Carries out the lines of a script up to the first faulty one, and traces them.
-fn trace_lines<I: Interpreter, W: io::Write>(
+pub fn trace_lines<I: Interpreter, W: io::Write>(
     alloc: Global,
     interpreter: &mut I,
     script: &[u8],

@@ -2,10 +2,18 @@
 
 use crate::entry::entry;
 use std::process::Abort;
+use std::sync::Wait;
 use std::test::Fail;
+use std::thread::Threads;
+use std::time::Clock;
 
 /// Runs the program on a core script with a faulty line, and compares all that it leaves.
-fn ends_at_fault<H: Abort + AllocGlobal>(rt: &H, script: &str, trace: &str, told: &str) {
+fn ends_at_fault<H: Abort + AllocGlobal + Threads + Wait + Clock + Sync>(
+    rt: &H,
+    script: &str,
+    trace: &str,
+    told: &str,
+) {
     let mut reader = script.as_bytes();
     let mut written: Vec<u8> = Vec::new(rt.alloc());
     let mut errors: Vec<u8> = Vec::new(rt.alloc());

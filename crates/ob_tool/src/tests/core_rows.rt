@@ -2,13 +2,22 @@
 
 use crate::entry::entry;
 use std::process::Abort;
+use std::sync::Wait;
 use std::test::Fail;
+use std::thread::Threads;
+use std::time::Clock;
 
 /// The options of the rows.
 static LOW_50_HIGH_100: [&str; 6] = ["ob_tool", "core", "--low", "50", "--high", "100"];
 
 /// Runs the program on a script, and compares all that it leaves.
-fn holds<H: Abort + AllocGlobal>(rt: &H, script: &str, trace: &str, told: &str, status: u8) {
+fn holds<H: Abort + AllocGlobal + Threads + Wait + Clock + Sync>(
+    rt: &H,
+    script: &str,
+    trace: &str,
+    told: &str,
+    status: u8,
+) {
     let mut reader = script.as_bytes();
     let mut written: Vec<u8> = Vec::new(rt.alloc());
     let mut errors: Vec<u8> = Vec::new(rt.alloc());

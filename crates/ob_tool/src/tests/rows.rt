@@ -2,7 +2,10 @@
 
 use crate::entry::entry;
 use std::process::Abort;
+use std::sync::Wait;
 use std::test::Fail;
+use std::thread::Threads;
+use std::time::Clock;
 
 /// What the program is given, and what it must leave.
 #[derive(Drop)]
@@ -35,7 +38,7 @@ static NO_OPTIONS: [&str; 2] = ["ob_tool", "run"];
 static LIMIT_3: [&str; 4] = ["ob_tool", "run", "--limit", "3"];
 
 /// Runs the program on a row, and compares all that it leaves.
-fn holds<H: Abort + AllocGlobal>(rt: &H, row: Row<'_>) {
+fn holds<H: Abort + AllocGlobal + Threads + Wait + Clock + Sync>(rt: &H, row: Row<'_>) {
     let mut reader = row.script.as_bytes();
     let mut written: Vec<u8> = Vec::new(rt.alloc());
     let mut told: Vec<u8> = Vec::new(rt.alloc());
@@ -46,7 +49,12 @@ fn holds<H: Abort + AllocGlobal>(rt: &H, row: Row<'_>) {
 }
 
 /// Runs the program on a script without a fault.
-fn traces<H: Abort + AllocGlobal>(rt: &H, words: &[&str], script: &str, trace: &str) {
+fn traces<H: Abort + AllocGlobal + Threads + Wait + Clock + Sync>(
+    rt: &H,
+    words: &[&str],
+    script: &str,
+    trace: &str,
+) {
     holds(
         rt,
         Row {

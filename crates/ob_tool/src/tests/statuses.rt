@@ -65,7 +65,7 @@ fn takes_the_least_limit(rt: HostRuntime) {
 /// Nothing is read.
 #[test]
 fn refuses_command_lines(rt: HostRuntime) -> Result<(), Fail> {
-    let cases: [&[&str]; 21] = [
+    let cases: [&[&str]; 26] = [
         &["ob_tool"],
         &[],
         &["ob_tool", "--low", "1"],
@@ -82,8 +82,13 @@ fn refuses_command_lines(rt: HostRuntime) -> Result<(), Fail> {
         &["ob_tool", "run", "--limit", "1048577"],
         &["ob_tool", "core", "--limit", "3"],
         &["ob_tool", "run", "--task", "1"],
+        &["ob_tool", "core", "--task", "1"],
+        &["ob_tool", "drive", "--task", "65536"],
+        &["ob_tool", "drive", "--limit", "0"],
+        &["ob_tool", "drive", "--low", "5", "--high", "4"],
         &["ob_tool", "--help"],
         &["ob_tool", "run", "--help"],
+        &["ob_tool", "drive", "--help"],
         &["ob_tool", "help"],
         &["ob_tool", "help", "core"],
         &["ob_tool", "--version"],

@@ -4,7 +4,10 @@ use crate::entry::entry;
 use crate::entry_fault::EntryFault;
 use ob_core::{AskFault, WorldFault};
 use std::process::Abort;
+use std::sync::Wait;
 use std::test::Fail;
+use std::thread::Threads;
+use std::time::Clock;
 
 /// What `ob_tool run --help` tells.
 static HELP_OF_RUN: &str = "\
@@ -69,7 +72,7 @@ Status: 0 done, 1 the command line (help and the version too), 2 a line, 3 readi
 ";
 
 /// Gives the program these words, which end it before it reads, and answers what it tells.
-fn told<H: Abort + AllocGlobal>(rt: &H, words: &[&str]) -> Vec<u8> {
+fn told<H: Abort + AllocGlobal + Threads + Wait + Clock + Sync>(rt: &H, words: &[&str]) -> Vec<u8> {
     let mut reader: &[u8] = b"f\n";
     let mut written: Vec<u8> = Vec::new(rt.alloc());
     let mut told: Vec<u8> = Vec::new(rt.alloc());
@@ -104,6 +107,37 @@ fn help_of_core(rt: HostRuntime) -> Result<(), Fail> {
         "\nEach line gives one line on standard output; `lane K` for a lane, EVENT t=T w=W CHANGE for a turn:\n  EVENT  ",
         "\nThe numbers F of `!F`:\n  1 no such lane ",
         "\n  6  it has more than 200 bytes\n  7  a lane behind a turn, a turn before the first lane, ",
+    ];
+    for part in parts {
+        assert!(rt; help.contains(part), "{part}");
+    }
+    Ok(())
+}
+
+/// What a drive is for, the lines of its script and of its report, and the faults and the status that it alone has.
+#[test]
+fn help_of_drive(rt: HostRuntime) -> Result<(), Fail> {
+    let help = String::from_utf8(told(&rt, &["ob_tool", "drive", "--help"]))?;
+    let parts = [
+        "Usage: ob_tool drive [OPTIONS]\n",
+        "\n      --task <BYTES>      Bytes that a message counts beside its own while it is handed over (32 where ",
+        "\nIt loads one buffer as a server does, to see that nothing is lost: ",
+        "\n  b W N K  writer W writes K blocks, 1 to 1024, of N bytes, at most 1048576\n  r W N  ",
+        "\n  o W N  ",
+        "\n  f W  ",
+        "\n  x W ID  ",
+        "\n  u W I V  ",
+        "\n  take N  ",
+        "\n  fail C  ",
+        "\n  then N  ",
+        "\n  turns N  ",
+        "\n  writes, flushes, cancels, bits  ",
+        "\n  taken  ",
+        "\n  success, failed, cancelled, left ",
+        "\n  hand  ",
+        "\nFaults of a drive, told as `drive: fault N`; ",
+        "\n  6  it has more than 200 bytes\n  7  a second `then`, or a second `turns`\n",
+        ", 4 memory, 5 the drive\n",
     ];
     for part in parts {
         assert!(rt; help.contains(part), "{part}");

@@ -1,0 +1,77 @@
+-- Counts of accepted commands, taken record by record.
+use Rattle.std.proofs.Common.{◌≡◌, ℕ, ◌+◌, ◌*◌, ◌<◌, ◌≤◌, ◌^◌, Bool, true, false, List, [], ◌∷◌, ◌++◌, length, map, cond, refl, sym, ap, ◌∙◌, arith}
+use Rattle.std.specs.Prelude.{◌&&◌, filter, count_by, sum_by}
+use Rattle.std.specs.List.{All, Contains}
+use Rattle.std.proofs.lemmas.List.{map-append, length-map}
+use Rattle.std.proofs.lemmas.List.Elements.{All-cons, All-nil, filter-append}
+use Rattle.std.proofs.lemmas.List.Sums.{sum_by-append, sum_by-cons, sum_by-le, length-filter, count_by-le-length}
+use Rattle.ob_types.specs.declared.command.Command.{Command}
+use Rattle.ob_history.specs.Accepted.{accepted_commands, is_accepted}
+use Rattle.ob_history.specs.declared.record.Record.{Record}
+use Rattle.ob_pool.specs.Counts.{removed_by, taken_of}
+
+-- what a record asked
+abbrev command_of : Record → Command
+command_of one = one.command
+
+-- the accepted commands of a kind are the accepted records of that kind
+pub accepted_count : (kind : Command → Bool) (records : List Record) →
+    count_by (λ one. is_accepted one && kind one.command) records ≡ count_by kind (accepted_commands records)
+accepted_count kind [] = refl
+accepted_count kind (one ∷ records) =
+    sum_by-cons (λ (one : Record). cond (is_accepted one && kind one.command) 1 0) one records
+    ∙ ap (λ rest. cond (is_accepted one && kind one.command) 1 0 + rest) (accepted_count kind records)
+    ∙ by_reply (is_accepted one)
+  where
+    by_reply : (accepted : Bool) →
+        cond (accepted && kind one.command) 1 0 + count_by kind (accepted_commands records)
+        ≡ count_by kind (map command_of (cond accepted (one ∷ filter is_accepted records) (filter is_accepted records)))
+    by_reply true = sym (sum_by-cons (λ command. cond (kind command) 1 0) one.command (accepted_commands records))
+    by_reply false = refl
+
+-- the accepted commands of two lists of records
+pub accepted_of_both : (records more : List Record) →
+    accepted_commands (records ++ more) ≡ accepted_commands records ++ accepted_commands more
+accepted_of_both records more =
+    ap (map command_of) (filter-append is_accepted records more)
+    ∙ map-append command_of (filter is_accepted records) (filter is_accepted more)
+
+-- the bytes that two lists of records tell were taken
+pub taken_of_both : (records more : List Record) → taken_of (records ++ more) ≡ taken_of records + taken_of more
+taken_of_both records more =
+    ap (sum_by removed_by) (accepted_of_both records more)
+    ∙ sum_by-append removed_by (accepted_commands records) (accepted_commands more)
+
+-- no more commands are accepted than there are records
+pub accepted_at_most : (records : List Record) → length (accepted_commands records) ≤ length records
+accepted_at_most records =
+    omega (
+      arith,
+      length-map (filter is_accepted records) command_of,
+      length-filter is_accepted records,
+      count_by-le-length is_accepted records,
+    )
+
+-- what each accepted record keeps to, each accepted command does
+accepted_all : (P : Command → Type 0) (records : List Record) →
+    All (λ one. is_accepted one ≡ true → P one.command) records → All P (accepted_commands records)
+accepted_all P [] each = All-nil P
+accepted_all P (one ∷ records) each =
+    by_reply (is_accepted one) refl (accepted_all P records (λ k d within. each (1 + k) d (omega (arith, within))))
+  where
+    by_reply : (accepted : Bool) → is_accepted one ≡ accepted → All P (accepted_commands records) →
+        All P (map command_of (cond accepted (one ∷ filter is_accepted records) (filter is_accepted records)))
+    by_reply true is rest = All-cons P one.command (accepted_commands records) (each 0 one (omega arith) is) rest
+    by_reply false is rest = rest
+
+-- the bytes of some records fit, where each removal does
+pub taken_fits : (most : ℕ) (records : List Record) →
+    All (λ one. is_accepted one ≡ true → removed_by one.command ≤ most) records →
+    taken_of records ≤ length records * most
+taken_fits most records each =
+    let sum = sum_by-le removed_by most (accepted_commands records)
+    (accepted_all (λ command. removed_by command ≤ most) records each) in
+    by_count (length (accepted_commands records)) (length records) sum (accepted_at_most records)
+  where
+    by_count : (few many : ℕ) → taken_of records ≤ few * most → few ≤ many → taken_of records ≤ many * most
+    by_count few many sum at_most = grind (arith, sum, at_most)

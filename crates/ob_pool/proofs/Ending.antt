@@ -1,0 +1,170 @@
+-- A finished history in which each caller has handed in what it has done.
+use Rattle.std.proofs.Common.{◌≡◌, ℕ, zero, suc, ◌+◌, ◌<◌, ◌≤◌, Bool, true, false, List, [], ◌∷◌, ◌++◌, length, map, cond, eqb, ltb, refl, sym, ap, ◌∙◌, subst, arith}
+use Rattle.std.specs.Prelude.{◌&&◌, nat_lt, count_by, filter, slice_get, sum_by, Some}
+use Rattle.std.specs.List.{All}
+use Rattle.std.proofs.lemmas.Bool.Decides.{nat_tests}
+use Rattle.std.proofs.lemmas.List.Elements.{All-head, All-tail}
+use Rattle.std.proofs.lemmas.List.Sums.{count_by-le-length, sum_by-cons}
+use Rattle.ob_types.specs.declared.command.Command.{Command}
+use Rattle.ob_history.specs.Own.{records_of}
+use Rattle.ob_history.specs.Receipt.{record_of}
+use Rattle.ob_history.specs.declared.receipt.Receipt.{Receipt}
+use Rattle.ob_history.specs.declared.record.Record.{Record}
+use Rattle.ob_shared.specs.Finished.{HandsInAll}
+use Rattle.ob_shared.specs.Handed.{Handed}
+use Rattle.ob_pool.specs.CarriedOut.{AreCarriedOut, commands_of}
+use Rattle.ob_pool.specs.Counts.{failings_of, is_failing}
+use Rattle.ob_pool.specs.Errand.{Deed, commands_in, deeds_from, done_by}
+
+-- what a record asked
+abbrev command_of : Record → Command
+command_of one = one.command
+
+commands_of_records : (receipts : List Receipt) → map command_of (map record_of receipts) ≡ commands_in receipts
+commands_of_records [] = refl
+commands_of_records (receipt ∷ receipts) = ap (λ rest. receipt.command ∷ rest) (commands_of_records receipts)
+
+module _ (records : List Record) where
+  -- a caller's records carry the commands of its deed
+  abbrev pub Stands : Deed → Type 0
+  Stands deed = commands_of deed.caller records ≡ deed.commands
+
+  -- who hands in all its records has a deed that stands
+  pub deed_stands : (one : Handed) → HandsInAll records one → Stands (done_by one)
+  deed_stands one all = ap (map command_of) (sym all) ∙ commands_of_records one.receipts
+
+  carried_from : (caller : ℕ) (plans : List (List Command)) → All Stands (deeds_from caller plans) →
+      (writer : ℕ) (plan : List Command) → slice_get plans writer ≡ Some plan →
+      commands_of (caller + writer) records ≡ plan
+  carried_from caller [] all writer plan is = absurd (cc)
+  carried_from caller (first ∷ plans) all zero plan is =
+      ap (λ k. commands_of k records) (omega arith) ∙ All-head Stands _ (deeds_from (suc caller) plans) all ∙ cc
+  carried_from caller (first ∷ plans) all (suc writer) plan is =
+      ap (λ k. commands_of k records) (omega arith)
+      ∙ carried_from (suc caller) plans (All-tail Stands _ (deeds_from (suc caller) plans) all) writer plan is
+
+  -- plans whose deeds stand are carried out
+  pub plans_carried : (plans : List (List Command)) → All Stands (deeds_from 0 plans) → AreCarriedOut records plans
+  plans_carried plans all writer plan is = carried_from 0 plans all writer plan is
+
+-- how many commands of a kind are of callers below this one
+abbrev below : (Command → Bool) → ℕ → List Record → ℕ
+below kind caller records = count_by (λ one. kind one.command && nat_lt one.caller caller) records
+
+one_caller : (is : Bool) (a n : ℕ) →
+    cond (is && ltb a (suc n)) 1 0 ≡ cond (is && ltb a n) 1 0 + cond (eqb a n && is) 1 0
+one_caller true a n = grind (arith, nat_tests)
+one_caller false a n = grind (arith, nat_tests)
+
+below_next : (kind : Command → Bool) (caller : ℕ) (records : List Record) →
+    below kind (suc caller) records ≡ below kind caller records + count_by kind (commands_of caller records)
+below_next kind caller [] = refl
+below_next kind caller (one ∷ records) =
+    omega (
+      arith,
+      sum_by-cons (λ (one : Record). cond (kind one.command && nat_lt one.caller (suc caller)) 1 0) one records,
+      sum_by-cons (λ (one : Record). cond (kind one.command && nat_lt one.caller caller) 1 0) one records,
+      below_next kind caller records,
+      one_caller (kind one.command) one.caller caller,
+      by_caller (eqb one.caller caller),
+    )
+  where
+    by_caller : (its : Bool) →
+        count_by kind (map command_of (cond its (one ∷ records_of caller records) (records_of caller records)))
+        ≡ cond (its && kind one.command) 1 0 + count_by kind (commands_of caller records)
+    by_caller true = sum_by-cons (λ command. cond (kind command) 1 0) one.command (commands_of caller records)
+    by_caller false = refl
+
+-- the commands of a kind among those of callers from one on, where their deeds stand
+below_all : (kind : Command → Bool) (records : List Record) (caller : ℕ) (plans : List (List Command)) →
+    All (Stands records) (deeds_from caller plans) →
+    below kind (caller + length plans) records ≡ below kind caller records + sum_by (count_by kind) plans
+below_all kind records caller [] all = ap (λ k. below kind k records) (omega arith) ∙ omega arith
+below_all kind records caller (plan ∷ plans) all =
+    let rest = below_all kind records (suc caller) plans (All-tail (Stands records) _ (deeds_from (suc caller) plans) all) in
+    let first : commands_of caller records ≡ plan = All-head (Stands records) _ (deeds_from (suc caller) plans) all in
+    ap (λ k. below kind k records) (omega arith) ∙ rest
+    ∙ omega (arith, below_next kind caller records, ap (count_by kind) first, sum_by-cons (count_by kind) plan plans)
+
+none_below : (kind : Command → Bool) (records : List Record) → below kind 0 records ≡ 0
+none_below kind [] = refl
+none_below kind (one ∷ records) =
+    omega (
+      arith,
+      sum_by-cons (λ (one : Record). cond (kind one.command && nat_lt one.caller 0) 1 0) one records,
+      none_below kind records,
+      no_caller (kind one.command),
+    )
+  where
+    no_caller : (is : Bool) → cond (is && ltb one.caller 0) 1 0 ≡ 0
+    no_caller true = refl
+    no_caller false = refl
+
+-- any command
+abbrev any_kind : Command → Bool
+any_kind command = true
+
+all_counted : {X : Type 0} (xs : List X) → count_by (λ x. true) xs ≡ length xs
+all_counted [] = refl
+all_counted (x ∷ xs) = sum_by-cons (λ x. 1) x xs ∙ ap suc (all_counted xs)
+
+-- where all records are of callers below one, all commands of a kind are
+below_full : (kind : Command → Bool) (caller : ℕ) (records : List Record) →
+    length records ≤ below any_kind caller records →
+    below kind caller records ≡ count_by (λ one. kind one.command) records
+below_full kind caller [] full = refl
+below_full kind caller (one ∷ records) full =
+    by_caller (nat_lt one.caller caller) refl
+  where
+    most = count_by-le-length (λ (one : Record). any_kind one.command && nat_lt one.caller caller) records
+    here = sum_by-cons (λ (one : Record). cond (any_kind one.command && nat_lt one.caller caller) 1 0) one records
+
+    of_kind : (is : Bool) → cond (is && true) 1 0 ≡ cond is 1 0
+    of_kind true = refl
+    of_kind false = refl
+
+    by_caller : (its : Bool) → nat_lt one.caller caller ≡ its →
+        below kind caller (one ∷ records) ≡ count_by (λ one. kind one.command) (one ∷ records)
+    by_caller true is =
+        omega (
+          arith,
+          sum_by-cons (λ (one : Record). cond (kind one.command && nat_lt one.caller caller) 1 0) one records,
+          ap (λ its. cond (kind one.command && its) 1 0) is,
+          of_kind (kind one.command),
+          sum_by-cons (λ (one : Record). cond (kind one.command) 1 0) one records,
+          below_full kind caller records (omega (arith, full, here, ap (λ its. cond its 1 0) is)),
+        )
+    by_caller false is = absurd (omega (arith, full, here, most, ap (λ its. cond its 1 0) is))
+
+-- the records that fail what is flushed are the transport's, where as many were made as there are records
+pub failings_are_last : (records : List Record) (plans : List (List Command)) (mine : List Command) →
+    All (Stands records) (deeds_from 0 plans) → commands_of (length plans) records ≡ mine →
+    sum_by length plans + length mine ≡ length records →
+    sum_by (count_by is_failing) plans ≡ 0 →
+    failings_of records ≡ count_by is_failing mine
+failings_are_last records plans mine all last counted none =
+    let writers = λ (kind : Command → Bool). below_all kind records 0 plans all in
+    let full : length records ≤ below any_kind (suc (length plans)) records = omega (
+      arith,
+      counted,
+      below_next any_kind (length plans) records,
+      writers any_kind,
+      none_below any_kind records,
+      ap (count_by any_kind) last,
+      all_counted mine,
+      lengths plans,
+    ) in
+    omega (
+      arith,
+      below_full is_failing (suc (length plans)) records full,
+      below_next is_failing (length plans) records,
+      writers is_failing,
+      none_below is_failing records,
+      ap (count_by is_failing) last,
+      none,
+    )
+  where
+    lengths : (plans : List (List Command)) → sum_by (count_by any_kind) plans ≡ sum_by length plans
+    lengths [] = refl
+    lengths (plan ∷ plans) =
+        omega (arith, sum_by-cons (count_by any_kind) plan plans, sum_by-cons length plan plans, all_counted plan, lengths plans)

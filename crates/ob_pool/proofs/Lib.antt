@@ -1,0 +1,4 @@
+pub mod AcceptedCounts
+pub mod Ending
+pub mod Passing
+pub mod Settled

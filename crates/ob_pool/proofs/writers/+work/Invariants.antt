@@ -1,0 +1,14 @@
+use Rattle.std.proofs.Common.{◌+◌, ◌-◌, ◌*◌, length}
+use Rattle.ob_pool.proofs.writers.+work.Given as goal
+
+abbrev pub decreases-work_all : goal.decreases-work_all
+decreases-work_all g l = 3 * length l.writers.items
+
+abbrev pub decreases-both_halves : goal.decreases-both_halves
+decreases-both_halves g l = 3 * (length l.writers.items + length l.others.items) - 1
+
+abbrev pub decreases-first : goal.decreases-first
+decreases-first g l = 3 * length l.writers.items + 1
+
+abbrev pub decreases-second : goal.decreases-second
+decreases-second g l = 3 * length l.others.items + 1

@@ -1,0 +1,16 @@
+-- Which numbers a drive may be given.
+use Rattle.std.specs.Prelude.{◌<◌, ◌≤◌}
+use Rattle.ob_types.specs.Limits.{greatest_overhead, greatest_unknown}
+use Rattle.ob_history.specs.History.{most_records}
+use Rattle.ob_pool.specs.declared.config.Config.{Config}
+
+-- the numbers of a drive are within their limits: overhead, unknown size and what a hand-off adds are at most 65535
+-- bytes, the history may have 1 to 1048576 records, and a pass may offer something
+pub record AreWithin (config : Config) : Type 0 where
+  pub overhead : config.estimate.overhead ≤ greatest_overhead
+  pub unknown : config.estimate.unknown ≤ greatest_unknown
+  pub task : config.task ≤ greatest_overhead
+  pub some_record : 0 < config.limit
+  pub few_records : config.limit ≤ most_records
+  pub some_block : 1 ≤ config.limits.max_count
+  pub some_byte : 1 ≤ config.limits.max_bytes

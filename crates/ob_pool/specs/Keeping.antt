@@ -1,0 +1,41 @@
+-- What a transport keeps of its calls. No public clause cites this module.
+use Rattle.std.specs.Prelude.{◌≡◌, ◌+◌, ℕ, Bool, List, [], ◌++◌, count_by, length, map}
+use Rattle.ob_history.specs.History.{History}
+use Rattle.ob_history.specs.Receipt.{receipt_of}
+use Rattle.ob_history.specs.declared.receipt.Receipt.{Receipt}
+use Rattle.ob_history.specs.declared.record.Record.{Record}
+use Rattle.ob_shared.specs.Held.{Held}
+use Rattle.ob_pool.specs.Counts.{is_failing}
+use Rattle.ob_pool.specs.Errand.{commands_in}
+
+-- the records, the number of its own records and the receipts with which a keeper began
+pub record Beginning : Type 0 where
+  pub records : List Record
+  pub made : ℕ
+  pub receipts : List Receipt
+
+-- what a keeper stands for that nobody picked a beginning for
+abbrev pub no_beginning : Beginning
+no_beginning = record { records = []; made = 0; receipts = [] }
+
+-- a keeper: its desk, the receipts that it keeps, whether one of them was lost, and how many more calls are reserved
+pub record Keeping : Type 0 where
+  pub held : Held
+  pub receipts : List Receipt
+  pub lost : Bool
+  pub reserved : ℕ
+
+-- the history at the desk, with the keeper's own number of reserved calls
+abbrev pub history_kept : Keeping → History
+history_kept keeping = record keeping.held.history { reserved = keeping.reserved }
+
+-- the records since the beginning are the keeper's own, and are those whose receipts were added since
+pub record KeptSince (beginning : Beginning) (held : Held) (receipts : List Receipt) : Type 0 where
+  pub more : List Record
+  pub records : held.history.records ≡ beginning.records ++ more
+  pub made : held.maker.made ≡ beginning.made + length more
+  pub kept : receipts ≡ beginning.receipts ++ map receipt_of more
+
+-- how many receipts are of records that fail what is flushed
+abbrev pub failings_in : List Receipt → ℕ
+failings_in receipts = count_by is_failing (commands_in receipts)

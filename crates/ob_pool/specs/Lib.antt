@@ -1,0 +1,10 @@
+pub mod CarriedOut
+pub mod Config
+pub mod Counts
+pub mod DriveFault
+pub mod Errand
+pub mod HandOff
+pub mod Keeping
+pub mod Kind
+pub mod Plan
+pub mod PlansFault

@@ -1,0 +1,36 @@
+-- What is wrong with plans before any of them is begun.
+use Rattle.std.specs.Prelude.{ℕ, suc, Bool, ◌||◌, ◌==◌, nat_lt, List, [], ◌∷◌, length, Option, Some, None, if◌then◌else◌}
+use Rattle.ob_types.specs.declared.command.Command.{Command}
+use Rattle.ob_types.specs.declared.estimate.Estimate.{Estimate}
+use Rattle.ob_pool.specs.HandOff.{rooms_of}
+use Rattle.ob_pool.specs.Plan.{bad_step}
+use Rattle.ob_pool.specs.declared.fault.DriveFault.{DriveFault}
+use Rattle.ob_pool.specs.declared.fault.DriveFault.TheVariants.{BadCount, BadPlan, TooMuchRoom}
+
+-- there are 1 to 64 writers
+abbrev pub is_bad_count : List (List Command) → Bool
+is_bad_count plans = (length plans == 0) || nat_lt 64 (length plans)
+
+-- the writer's fault where its plan has a bad step, and else another
+abbrev pub fault_at : ℕ → Option ℕ → Option DriveFault → Option DriveFault
+fault_at writer (Some step) other = Some (BadPlan writer step)
+fault_at writer None other = other
+
+-- the first bad step of plans, whose writers are numbered from this number on
+abbrev pub bad_plan_from : ℕ → List (List Command) → Option DriveFault
+bad_plan_from writer [] = None
+bad_plan_from writer (plan ∷ plans) = fault_at writer (bad_step plan) (bad_plan_from (suc writer) plans)
+
+-- the fault of plans that need more room together than a word of 32 bits counts
+abbrev pub room_fault : Estimate → ℕ → List (List Command) → Option DriveFault
+room_fault estimate task plans = if nat_lt 4294967295 (rooms_of estimate task plans) then Some TooMuchRoom else None
+
+-- the first of two faults
+abbrev pub first_of : Option DriveFault → Option DriveFault → Option DriveFault
+first_of (Some fault) other = Some fault
+first_of None other = other
+
+-- the first fault of plans, or none: a bad number of them, then the first bad step, then too much room
+abbrev pub plans_fault : Estimate → ℕ → List (List Command) → Option DriveFault
+plans_fault estimate task plans =
+    if is_bad_count plans then Some BadCount else first_of (bad_plan_from 0 plans) (room_fault estimate task plans)

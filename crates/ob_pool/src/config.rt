@@ -1,0 +1,24 @@
+use ob_transport::Limits;
+use ob_types::{Estimate, WaterMark};
+
+/// The bytes that a hand-off adds to the estimate of a message, unless a drive is told otherwise (Netty's
+/// `DEFAULT_WRITE_TASK_SIZE_OVERHEAD`).
+pub const TASK_OVERHEAD: u32 = 32;
+
+/// What a drive is given beside its plans and its sink.
+#[derive(Clone, Copy, Debug, PartialEq, Eq)]
+pub struct Config {
+    /// The water marks, in bytes: of the buffer, and of the bytes that are handed off.
+    pub marks: WaterMark,
+    /// How messages are counted. Each of its two numbers is at most 65535 bytes.
+    pub estimate: Estimate,
+    /// The bytes that a hand-off adds to the estimate of a message, at most 65535 (Netty's write task size overhead,
+    /// `TASK_OVERHEAD` by default).
+    pub task: u32,
+    /// The most records of the history, 1 to 1048576. Our own.
+    pub limit: u32,
+    /// How much a pass of the transport offers to the sink at once, both at least 1.
+    pub limits: Limits,
+    /// The most passes that the transport makes. Our own.
+    pub turns: u64,
+}

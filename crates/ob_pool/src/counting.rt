@@ -1,0 +1,165 @@
+//! The numbers of a finished history.
+
+ghost use Rattle.std.specs.Prelude.{◌≡◌, ◌≤◌, count_by, length};
+ghost use Rattle.ob_history.specs.Accepted.{accepted_commands};
+ghost use Rattle.ob_history.specs.Legal.{IsLegal};
+ghost use Rattle.ob_history.specs.Settlements.{settlements_in};
+ghost use Rattle.ob_seq.specs.Settings.{Settings};
+ghost use Rattle.ob_seq.specs.Settles.{settled_by};
+ghost use Rattle.ob_pool.specs.Counts.{bits_of, cancels_of, flushes_of, is_cancelled, is_failed, is_success};
+ghost use Rattle.ob_pool.specs.Counts.{left_of, refused_of, settled_as, taken_of, writes_of};
+ghost use Rattle.ob_pool.specs.Kind.{ends_as, is_of};
+
+use crate::report::Report;
+use ob_history::{Record, Recorded};
+use ob_types::{Command, Outcome, Refusal, Reply};
+
+/// The commands that the report counts.
+#[derive(Clone, Copy, Debug, PartialEq, Eq)]
+pub enum Kind {
+    Write,
+    Flush,
+    Cancel,
+    UserBit,
+}
+
+/// The outcomes that the report counts.
+#[derive(Clone, Copy, Debug, PartialEq, Eq)]
+pub enum Ending {
+    Success,
+    Failed,
+    Cancelled,
+}
+
+/// The report of a finished history of so many writers, with what is left of the words of the hand-off.
+pub fn report_of(recorded: Recorded, writers: u32, hand: (u64, u32)) -> Report
+    ensures recorded { result.recorded ≡ recorded }
+    ensures writes { result.writes ≡ writes_of recorded.records }
+    ensures flushes { result.flushes ≡ flushes_of recorded.records }
+    ensures cancels { result.cancels ≡ cancels_of recorded.records }
+    ensures bits { result.bits ≡ bits_of recorded.records }
+    ensures refused { result.refused ≡ refused_of writers recorded.records }
+    ensures taken { result.taken ≡ taken_of recorded.records }
+    ensures success { result.success ≡ settled_as is_success recorded.records }
+    ensures failed { result.failed ≡ settled_as is_failed recorded.records }
+    ensures cancelled { result.cancelled ≡ settled_as is_cancelled recorded.records }
+    ensures left { result.left ≡ left_of recorded.records }
+    ensures hand { result.hand ≡ hand }
+{
+    let records = recorded.records();
+    let writes = accepted(records, Kind::Write);
+    let flushes = accepted(records, Kind::Flush);
+    let cancels = accepted(records, Kind::Cancel);
+    let bits = accepted(records, Kind::UserBit);
+    let refused = refused(records, writers);
+    let taken = taken(records);
+    let success = settled(records, Ending::Success);
+    let failed = settled(records, Ending::Failed);
+    let cancelled = settled(records, Ending::Cancelled);
+    Report {
+        recorded,
+        writes,
+        flushes,
+        cancels,
+        bits,
+        refused,
+        taken,
+        success,
+        failed,
+        cancelled,
+        left: writes - (success + failed + cancelled),
+        hand,
+    }
+}
+
+/// Whether a command is of a kind.
+fn is_of(command: &Command, kind: Kind) -> bool
+    ensures { result ≡ is_of kind command.now }
+{
+    match kind {
+        Kind::Write => matches!(command, Command::Write(_)),
+        Kind::Flush => matches!(command, Command::Flush),
+        Kind::Cancel => matches!(command, Command::Cancel(_)),
+        Kind::UserBit => matches!(command, Command::UserBit(..)),
+    }
+}
+
+/// How many accepted commands are of a kind.
+fn accepted(records: &[Record], kind: Kind) -> u64
+    ensures { result ≡ count_by (is_of kind) (accepted_commands records.now) }
+{
+    records
+        .iter()
+        .filter(|one| one.reply.is_ok() && is_of(&one.command, kind))
+        .count() as u64
+}
+
+/// How many records of so many writers have a refusal.
+fn refused(records: &[Record], writers: u32) -> u64
+    ensures { result ≡ refused_of writers records.now }
+{
+    records
+        .iter()
+        .filter(|one| one.caller < writers && one.reply.is_err())
+        .count() as u64
+}
+
+/// The bytes that accepted removals took.
+fn taken(records: &[Record]) -> u64
+    requires fits { taken_of records.now < 2 ^ 64 }
+    ensures { result ≡ taken_of records.now }
+{
+    let mut taken = 0;
+    for one in records {
+        taken += taken_by(one);
+    }
+    taken
+}
+
+/// The bytes that a record tells were taken.
+fn taken_by(one: &Record) -> u64
+    ensures { result ≡ taken_of (one.now ∷ []) }
+{
+    match (&one.command, &one.reply) {
+        (Command::RemoveBytes(n), Ok(_)) => *n,
+        _ => 0,
+    }
+}
+
+/// How many promises some records settle with such an outcome.
+fn settled(records: &[Record], ending: Ending) -> u64
+    requires fits { length (settlements_in records.now) < 2 ^ 64 }
+    ensures { result ≡ settled_as (ends_as ending) records.now }
+{
+    let mut count = 0;
+    for one in records {
+        count += settled_in(&one.reply, ending);
+    }
+    count
+}
+
+/// How many promises an answer settles with such an outcome.
+fn settled_in(answer: &Result<Reply, Refusal>, ending: Ending) -> u64
+    ensures { result ≡ count_by (λ settlement. ends_as ending settlement.1) (settled_by answer.now) }
+{
+    match answer {
+        Ok(reply) => reply
+            .settled
+            .as_slice()
+            .iter()
+            .filter(|(_, outcome)| ends_as(outcome, ending))
+            .count() as u64,
+        Err(_) => 0,
+    }
+}
+
+/// Whether an outcome is of a kind.
+fn ends_as(outcome: &Outcome, ending: Ending) -> bool
+    ensures { result ≡ ends_as ending outcome.now }
+{
+    match ending {
+        Ending::Success => matches!(outcome, Outcome::Success),
+        Ending::Failed => matches!(outcome, Outcome::Failed(_)),
+        Ending::Cancelled => matches!(outcome, Outcome::Cancelled),
+    }
+}

@@ -1,0 +1,214 @@
+//! A drive from its plans to its report.
+
+ghost use Rattle.std.specs.Prelude.{◌≡◌, ◌<◌, ◌≤◌, ◌+◌, ℕ, None, length, IfErr, IfOk, IfSome, IsErrOf};
+ghost use Rattle.std.specs.Int.{bit_at};
+ghost use Rattle.ob_core.specs.Bits.{is_set};
+ghost use Rattle.ob_history.specs.Legal.{IsLegal};
+ghost use Rattle.ob_shared.specs.Opened.{IsNameOf};
+ghost use Rattle.ob_pool.specs.CarriedOut.{AreCarriedOut};
+ghost use Rattle.ob_pool.specs.Config.{AreWithin};
+ghost use Rattle.ob_pool.specs.Counts.{bits_of, cancels_of, failings_of, flushes_of, is_cancelled, is_failed, is_success};
+ghost use Rattle.ob_pool.specs.Counts.{left_of, refused_of, settled_as, taken_of, writes_of};
+ghost use Rattle.ob_pool.specs.DriveFault.{number_of};
+ghost use Rattle.ob_pool.specs.PlansFault.{plans_fault};
+
+use crate::bench::Bench;
+use crate::config::Config;
+use crate::counting::report_of;
+use crate::fault::DriveFault;
+use crate::gate::Gate;
+use crate::plan::Plan;
+use crate::planning::{plans_fault, room_of, rooms_of};
+use crate::report::Report;
+use crate::transport::transport;
+use crate::writer::Writer;
+use crate::writers::{Worked, work_all};
+use ob_history::Recorded;
+use ob_lanes::{Lane, lanes};
+use ob_shared::{Done, Named, Opening, Share, SharedBuffer};
+use ob_transport::Sink;
+use ob_types::Estimate;
+use std::alloc::Global;
+use std::marker::Brand;
+use std::sync::Wait;
+use std::sync::atomic::{AtomicBool, Ordering};
+use std::thread::{Threads, join_mut};
+use std::time::Clock;
+
+/// Carries plans out, each by a writer in a thread of its own, and beside them lets a sink take what is flushed. It
+/// answers when all threads have ended.
+///
+/// Writer w is caller w of one shared buffer, and the transport is the last caller. A write charges its writer's lane
+/// with the estimate of the message and the bytes of a hand-off, calls the buffer, and discharges. A command that the
+/// buffer refuses is recorded, and no fault. The transport makes one pass at a desk. Where the sink fails, it fails all
+/// that is flushed, for the fault's number, and goes on. It ends when all writers have ended and nothing is flushed or
+/// the sink takes nothing, or after `turns` passes. With nothing to do while a writer runs it sleeps a millisecond.
+///
+/// `BadCount` comes where there is no plan, or more than 64; then `BadPlan` names the first step that is no write,
+/// flush, cancellation or user bit; then `TooMuchRoom` comes where the greatest charges of all plans add up to more than
+/// 4294967295 bytes. These three come before a thread starts. `NoMemory` comes where the allocator refused, or a block
+/// has more owners than can be counted; `Stuck` where the gate held a writer too long; `Refused` where the history was
+/// full; `Transport` where a pass came to no end; `Finish` where the buffer could not be finished. The least writer's
+/// fault comes first, and writers' before the transport's. What the sink took before a fault stands.
+pub fn drive<R: Threads + Wait + Clock + Sync, G: Gate + Sync, S: Sink + Send>(
+    rt: &R,
+    alloc: Global,
+    gate: &G,
+    plans: Vec<Plan>,
+    sink: &mut S,
+    config: Config,
+) -> Result<Report, DriveFault>
+    requires { AreWithin config }
+    ensures refused { IfSome (plans_fault config.estimate config.task plans.items) (λ fault. IsErrOf result fault) }
+    ensures planned { plans_fault config.estimate config.task plans.items ≡ None
+        → IfErr result (λ fault. 3 < number_of fault) }
+
+    // The history is one of a single thread, in which each writer has carried its plan out.
+    ensures legal { IfOk result (λ report. IsLegal report.recorded.settings report.recorded.records) }
+    ensures settings { IfOk result (λ report.
+        report.recorded.settings ≡ record { marks = config.marks; estimate = config.estimate }) }
+    ensures limit { IfOk result (λ report. report.recorded.limit ≡ config.limit) }
+    ensures plans { IfOk result (λ report. AreCarriedOut report.recorded.records plans.items) }
+    ensures failings { IfOk result (λ report.
+        failings_of report.recorded.records + (S.content sink.old).failures ≤ (S.content sink.new).failures) }
+
+    // Each number is the count of its line.
+    ensures writes { IfOk result (λ report. report.writes ≡ writes_of report.recorded.records) }
+    ensures flushes { IfOk result (λ report. report.flushes ≡ flushes_of report.recorded.records) }
+    ensures cancels { IfOk result (λ report. report.cancels ≡ cancels_of report.recorded.records) }
+    ensures bits { IfOk result (λ report. report.bits ≡ bits_of report.recorded.records) }
+    ensures refusals { IfOk result (λ report.
+        report.refused ≡ refused_of (length plans.items) report.recorded.records) }
+    ensures taken { IfOk result (λ report. report.taken ≡ taken_of report.recorded.records) }
+    ensures success { IfOk result (λ report. report.success ≡ settled_as is_success report.recorded.records) }
+    ensures failed { IfOk result (λ report. report.failed ≡ settled_as is_failed report.recorded.records) }
+    ensures cancelled { IfOk result (λ report. report.cancelled ≡ settled_as is_cancelled report.recorded.records) }
+    ensures left { IfOk result (λ report. report.left ≡ left_of report.recorded.records) }
+
+    // The words of the hand-off come to rest.
+    ensures total { IfOk result (λ report. report.hand.0 ≡ 0) }
+    ensures clear { IfOk result (λ report. (index : ℕ) → 0 < index → bit_at report.hand.1 index ≡ 0) }
+    ensures mark { 0 < config.marks.low → IfOk result (λ report. is_set report.hand.1 0 ≡ false) }
+{
+    if let Some(fault) = plans_fault(config.estimate, config.task, &plans) {
+        return Err(fault);
+    }
+    let callers = plans.len() as u32 + 1;
+    match Opening::new(alloc, config.marks, config.estimate, config.limit, callers) {
+        Ok(opening) => driven::<Brand, R, G, S>(rt, alloc, gate, plans, sink, config, opening),
+        Err(_) => Err(DriveFault::NoMemory),
+    }
+}
+
+/// A drive over a shared buffer of this name. Its plans have no fault.
+fn driven<L: Named + Send + Sync, R: Threads + Wait + Clock + Sync, G: Gate + Sync, S: Sink + Send>(
+    rt: &R,
+    alloc: Global,
+    gate: &G,
+    plans: Vec<Plan>,
+    sink: &mut S,
+    config: Config,
+    opening: Opening,
+) -> Result<Report, DriveFault>
+    requires name { IsNameOf opening L.opened L.name L.parts }
+    requires config { AreWithin config }
+{
+    let count = plans.len() as u32;
+    let Some(room) = rooms_of(config.estimate, config.task, &plans) else {
+        unreachable!()
+    };
+    let Ok((shared, mut shares)) = opening.begin::<L>() else {
+        return Err(DriveFault::NoMemory);
+    };
+    let Some(share) = shares.pop() else {
+        unreachable!()
+    };
+    let writers = writers_of(alloc, config.estimate, config.task, plans, shares)?;
+    let Ok((words, lane)) = lanes(alloc, config.marks, room, 0) else {
+        return Err(DriveFault::NoMemory);
+    };
+    let bench = Bench {
+        alloc,
+        gate,
+        shared: &shared,
+        words: &words,
+        estimate: config.estimate,
+        task: config.task,
+    };
+    let ((lane, dones), carried) = run(rt, &bench, lane, writers, share, sink, config);
+    let recorded = finished(shared, dones?, carried?)?;
+    let Ok(hand) = lane.finish(words) else {
+        unreachable!()
+    };
+    Ok(report_of(recorded, count, hand))
+}
+
+/// Each plan with a share, and the room that it needs.
+fn writers_of<L: Named>(
+    alloc: Global,
+    estimate: Estimate,
+    task: u32,
+    plans: Vec<Plan>,
+    mut shares: Vec<Share<L>>,
+) -> Result<Vec<Writer<L>>, DriveFault> {
+    let mut writers = Vec::new(alloc);
+    if writers.reserve(plans.len()).is_err() {
+        return Err(DriveFault::NoMemory);
+    }
+    let mut shares = shares.into_iter();
+    for plan in plans {
+        let Some(share) = shares.next() else {
+            unreachable!()
+        };
+        let room = room_of(estimate, task, &plan) as u32;
+        writers.push_reserved(Writer { share, plan, room });
+    }
+    Ok(writers)
+}
+
+/// Lets all writers work, and the transport beside them, until all have ended.
+fn run<L: Named + Send + Sync, R: Threads + Wait + Clock + Sync, G: Gate + Sync, S: Sink + Send>(
+    rt: &R,
+    bench: &Bench<'_, L, G>,
+    lane: Lane,
+    writers: Vec<Writer<L>>,
+    share: Share<L>,
+    sink: &mut S,
+    config: Config,
+) -> (Worked<L>, Result<Done<L>, DriveFault>) {
+    let ended = AtomicBool::new(false);
+    let flag = &ended;
+    let mut start = Some((lane, writers));
+    let mut mine = Some(share);
+    let mut carry = || -> Result<Done<L>, DriveFault> {
+        let Some(share) = mine.take() else {
+            unreachable!()
+        };
+        transport(rt, bench.alloc, bench.shared, share, sink, config, flag)
+    };
+    let mut work = || -> Worked<L> {
+        let Some((lane, writers)) = start.take() else {
+            unreachable!()
+        };
+        let worked = work_all(rt, bench, lane, writers);
+        flag.store(true, Ordering::SeqCst);
+        worked
+    };
+    let (carried, worked) = join_mut(rt, &mut carry, &mut work);
+    (worked, carried)
+}
+
+/// The history of a shared buffer at its end, with what its writers and its transport hand in.
+fn finished<L: Named>(
+    shared: SharedBuffer<L>,
+    mut dones: Vec<Done<L>>,
+    done: Done<L>,
+) -> Result<Recorded, DriveFault> {
+    if dones.push(done).is_err() {
+        return Err(DriveFault::NoMemory);
+    }
+    match shared.finish(dones) {
+        Ok(end) => Ok(end.recorded),
+        Err(unfinished) => Err(DriveFault::Finish(unfinished.fault)),
+    }
+}

@@ -1,0 +1,4 @@
+mod drives;
+mod faults;
+mod gates;
+mod plans;

@@ -1,0 +1,124 @@
+//! The transport, which takes the desk for one pass at a time.
+
+ghost use Rattle.std.specs.Prelude.{◌≡◌, ◌+◌, ◌≤◌, length, IfOk, IfSome};
+ghost use Rattle.ob_pool.specs.Counts.{failings_of};
+ghost use Rattle.ob_pool.specs.Keeping.{failings_in};
+
+use crate::config::Config;
+use crate::fault::DriveFault;
+use crate::keeper::{Begun, Keeper};
+use ob_history::{Booked, Receipt};
+use ob_shared::{Desk, Done, Named, Share, SharedBuffer};
+use ob_transport::{Limits, Pass, PassFault, Sink, pass};
+use ob_types::{Cause, Command};
+use std::alloc::Global;
+use std::marker::Brand;
+use std::sync::Wait;
+use std::sync::atomic::{AtomicBool, Ordering};
+use std::thread::sleep;
+use std::time::{Clock, Duration};
+
+/// How many milliseconds the transport sleeps where there is nothing to do and a writer still runs.
+const NAP: u64 = 1;
+
+/// What comes after a pass.
+#[derive(Clone, Copy, Debug, PartialEq, Eq)]
+pub enum Next {
+    /// There may be more to send.
+    More,
+    /// Nothing is flushed, or the sink takes nothing now.
+    Rest,
+}
+
+/// Lets a sink take what is flushed, pass by pass, until all writers have ended and nothing more is taken, or the turns
+/// are used. It hands in the receipts of its calls.
+pub fn transport<L: Named, S: Sink, R: Wait + Clock>(
+    rt: &R,
+    alloc: Global,
+    shared: &SharedBuffer<L>,
+    share: Share<L>,
+    sink: &mut S,
+    config: Config,
+    ended: &AtomicBool,
+) -> Result<Done<L>, DriveFault>
+    requires some_block { 1 ≤ config.limits.max_count }
+    requires some_byte { 1 ≤ config.limits.max_bytes }
+    ensures caller { IfOk result (λ done. done.maker.caller ≡ share.caller) }
+    ensures made { IfOk result (λ done. done.maker.made ≡ share.made + length done.receipts) }
+    ensures failings { IfOk result (λ done.
+        failings_in done.receipts + (S.content sink.old).failures ≤ (S.content sink.new).failures) }
+{
+    let mut share = share;
+    let mut receipts = Vec::new(alloc);
+    'turns: for _ in 0..config.turns {
+        // Asked before the pass: what was flushed before all writers ended is then found by it.
+        let last = ended.load(Ordering::SeqCst);
+        let desk = shared.desk(rt, share);
+        let (same, kept, end) = one_pass::<L, Brand, S>(desk, receipts, sink, config.limits);
+        let next = end?;
+        share = same;
+        receipts = kept.ok_or(DriveFault::NoMemory)?;
+        if next == Next::Rest {
+            if last {
+                break;
+            }
+            sleep(rt, Duration::from_millis(NAP));
+        }
+    }
+    Ok(Done {
+        share,
+        receipts,
+        told: Vec::new(alloc),
+        seen: Vec::new(alloc),
+    })
+}
+
+/// One pass at a desk. It gives back the share and the receipts, with those of its own calls, or no receipts where one
+/// was lost.
+fn one_pass<L: Named, K: Begun, S: Sink>(
+    desk: Desk<'_, L>,
+    receipts: Vec<Receipt>,
+    sink: &mut S,
+    limits: Limits,
+) -> (Share<L>, Option<Vec<Receipt>>, Result<Next, DriveFault>)
+    requires records { K.beginning.records ≡ desk.history.records }
+    requires begun_made { K.beginning.made ≡ desk.maker.made }
+    requires begun_receipts { K.beginning.receipts ≡ receipts.items }
+    requires some_block { 1 ≤ limits.max_count }
+    requires some_byte { 1 ≤ limits.max_bytes }
+    ensures caller { result.0.caller ≡ desk.entry.maker.caller }
+    ensures made { IfSome result.1 (λ kept.
+        result.0.made + length receipts.items ≡ desk.entry.maker.made + length kept.items) }
+    ensures failings { IfSome result.1 (λ kept. failings_in kept.items + (S.content sink.old).failures
+        ≤ failings_in receipts.items + (S.content sink.new).failures) }
+{
+    let mut keeper = Keeper::<L, K>::new(desk, receipts);
+    let end = pass_or_fail(&mut keeper, sink, limits);
+    let (share, receipts) = keeper.leave();
+    (share, receipts, end)
+}
+
+/// One pass. Where the sink fails, all that is flushed fails with its number as the cause, and with notice.
+fn pass_or_fail<B: Booked, S: Sink>(
+    booked: &mut B,
+    sink: &mut S,
+    limits: Limits,
+) -> Result<Next, DriveFault>
+    requires some_block { 1 ≤ limits.max_count }
+    requires some_byte { 1 ≤ limits.max_bytes }
+    ensures caller { B.caller booked.new ≡ B.caller booked.old }
+    ensures failings { failings_of (B.history booked.new).records + (S.content sink.old).failures
+        ≤ failings_of (B.history booked.old).records + (S.content sink.new).failures }
+{
+    match pass(booked, sink, limits) {
+        Ok(Pass::Idle | Pass::Stalled) => Ok(Next::Rest),
+        Ok(Pass::Cleared | Pass::Took(_)) => Ok(Next::More),
+        Err(PassFault::Sink(fault)) => {
+            match booked.call(Command::FailFlushed(Cause(fault.0), true)) {
+                Ok(_) => Ok(Next::More),
+                Err(refusal) => Err(DriveFault::Transport(PassFault::from(refusal))),
+            }
+        }
+        Err(fault) => Err(DriveFault::Transport(fault)),
+    }
+}

@@ -1,0 +1,183 @@
+//! One writer, who carries its plan out, command by command.
+
+ghost use Rattle.std.specs.Prelude.{◌≡◌, ◌≤◌, ◌⊎◌, IfOk, IfErr};
+ghost use Rattle.ob_pool.specs.Errand.{asked, done_by, IsRoomy};
+ghost use Rattle.ob_pool.specs.HandOff.{charge_for, charge_of};
+ghost use Rattle.ob_shared.specs.Maker.{one_more};
+ghost use Rattle.ob_types.specs.declared.command.Command.TheVariants.{Write};
+
+use crate::bench::Bench;
+use crate::fault::DriveFault;
+use crate::gate::{Gate, Stuck};
+use crate::plan::Plan;
+use crate::planning::charge_of;
+use ob_history::{Booked, Receipt};
+use ob_lanes::Lane;
+use ob_shared::{Done, Named, Share, SharedBuffer};
+use ob_types::{Command, Message, Refusal};
+use std::marker::Model;
+use std::sync::Wait;
+use std::time::Clock;
+
+/// A writer that has not begun: its share, its plan, and the room that it needs.
+#[derive(Drop)]
+pub struct Writer<L: Named> {
+    pub share: Share<L>,
+    pub plan: Plan,
+    pub room: u32,
+}
+
+impl<L: Named> Model for Writer<L> {
+    ghost use Rattle.ob_pool.specs.Errand.{Errand};
+
+    ghost Value = { Errand };
+
+    ghost view = { λ writer. record { maker = writer.share; plan = writer.plan; room = writer.room } };
+}
+
+/// Why a writer ended before its plan did.
+#[derive(Clone, Copy, Debug, PartialEq, Eq)]
+pub enum Halt {
+    /// The gate held it for too long.
+    Stuck,
+    /// The shared buffer took no record of a command: the history is full, or memory was refused.
+    Refused(Refusal),
+}
+
+impl<L: Named> Writer<L> {
+    /// Carries the plan out with a lane that has room for it, and gives the lane back. What it hands in has a receipt
+    /// of each command, in order.
+    pub fn work<R: Wait + Clock, G: Gate>(
+        self,
+        rt: &R,
+        bench: &Bench<'_, L, G>,
+        lane: Lane,
+    ) -> (Lane, Result<Done<L>, DriveFault>)
+        requires words { lane.words ≡ bench.now.words.now }
+        requires roomy { IsRoomy bench.now.estimate bench.now.task self }
+        requires room { self.room ≤ lane.lane.room }
+        ensures words { result.0.words ≡ lane.words }
+        ensures room { result.0.lane.room ≡ lane.lane.room }
+        ensures done { IfOk result.1 (λ done. done_by done ≡ asked self) }
+    {
+        let Writer {
+            share,
+            plan,
+            room: _,
+        } = self;
+        let writer = share.caller();
+        let mut receipts = Vec::new(bench.alloc);
+        if receipts.reserve(plan.commands.len()).is_err() {
+            return (lane, Err(DriveFault::NoMemory));
+        }
+        let mut done = Done {
+            share,
+            receipts,
+            told: Vec::new(bench.alloc),
+            seen: Vec::new(bench.alloc),
+        };
+        let mut lane = lane;
+        let mut step = 0;
+        'steps: for command in plan.commands {
+            let (same, end) = one_step(rt, bench, lane, done.share, step, command);
+            lane = same;
+            match end {
+                Ok((share, receipt)) => {
+                    done.share = share;
+                    done.receipts.push_reserved(receipt);
+                }
+                Err(halt) => return (lane, Err(fault_of(writer, halt))),
+            }
+            step += 1;
+        }
+        (lane, Ok(done))
+    }
+}
+
+/// One step of a writer, with its gate before and after it.
+fn one_step<L: Named, R: Wait + Clock, G: Gate>(
+    rt: &R,
+    bench: &Bench<'_, L, G>,
+    lane: Lane,
+    share: Share<L>,
+    step: usize,
+    command: Command,
+) -> (Lane, Result<(Share<L>, Receipt), Halt>)
+    requires words { lane.words ≡ bench.now.words.now }
+    requires room { charge_for bench.now.estimate bench.now.task command ≤ lane.lane.room }
+    ensures words { result.0.words ≡ lane.words }
+    ensures room { result.0.lane.room ≡ lane.lane.room }
+    ensures made { IfOk result.1 (λ made. made.0 ≡ one_more share) }
+    ensures command { IfOk result.1 (λ made. made.1.command ≡ command) }
+{
+    let writer = share.caller();
+    if bench.gate.before(rt, writer, step).is_err() {
+        return (lane, Err(Halt::Stuck));
+    }
+    let (lane, end) = match command {
+        Command::Write(message) => write(rt, bench, lane, share, step, message),
+        other => (lane, one_call(rt, bench.shared, share, other)),
+    };
+    if end.is_ok() {
+        bench.gate.after(rt, writer, step);
+    }
+    (lane, end)
+}
+
+/// Hands a message to the buffer, with its charge in the lane meanwhile.
+fn write<L: Named, R: Wait + Clock, G: Gate>(
+    rt: &R,
+    bench: &Bench<'_, L, G>,
+    lane: Lane,
+    share: Share<L>,
+    step: usize,
+    message: Message,
+) -> (Lane, Result<(Share<L>, Receipt), Halt>)
+    requires words { lane.words ≡ bench.now.words.now }
+    requires room { charge_of bench.now.estimate bench.now.task message ≤ lane.lane.room }
+    ensures words { result.0.words ≡ lane.words }
+    ensures room { result.0.lane.room ≡ lane.lane.room }
+    ensures made { IfOk result.1 (λ made. made.0 ≡ one_more share) }
+    ensures command { IfOk result.1 (λ made. made.1.command ≡ Write message) }
+{
+    let writer = share.caller();
+    let charge = charge_of(bench.estimate, bench.task, &message) as u32;
+    let Ok((mut charged, _change)) = lane.charge(bench.words, charge) else {
+        unreachable!()
+    };
+    let total = charged.total(bench.words);
+    let end = match bench.gate.during(rt, writer, step, total) {
+        Ok(()) => one_call(rt, bench.shared, share, Command::Write(message)),
+        Err(Stuck) => Err(Halt::Stuck),
+    };
+    let (lane, _change) = charged.discharge(bench.words);
+    (lane, end)
+}
+
+/// One call of the shared buffer, from a desk of its own.
+fn one_call<L: Named, R: Wait>(
+    rt: &R,
+    shared: &SharedBuffer<L>,
+    share: Share<L>,
+    command: Command,
+) -> Result<(Share<L>, Receipt), Halt>
+    ensures made { IfOk result (λ made. made.0 ≡ one_more share) }
+    ensures command { IfOk result (λ made. made.1.command ≡ command) }
+{
+    let mut desk = shared.desk(rt, share);
+    let answer = desk.call(command);
+    let share = desk.leave();
+    match answer {
+        Ok(receipt) => Ok((share, receipt)),
+        Err(refusal) => Err(Halt::Refused(refusal)),
+    }
+}
+
+/// The fault of a drive whose writer ended so.
+fn fault_of(writer: u32, halt: Halt) -> DriveFault {
+    match halt {
+        Halt::Stuck => DriveFault::Stuck { writer },
+        Halt::Refused(Refusal::NoMemory) => DriveFault::NoMemory,
+        Halt::Refused(refusal) => DriveFault::Refused { writer, refusal },
+    }
+}

@@ -1,0 +1,155 @@
+//! All writers, in threads of their own.
+
+ghost use Rattle.std.specs.Prelude.{◌≡◌, ◌+◌, ◌<◌, ◌≤◌, ◌^◌, ◌++◌, IfOk, IsOkAnd, vec_len};
+ghost use Rattle.std.specs.List.{All};
+ghost use Rattle.std.specs.Thread.{IsSync};
+ghost use Rattle.ob_pool.specs.Errand.{AreDone, IsRoomy, room_for};
+
+use crate::bench::Bench;
+use crate::fault::DriveFault;
+use crate::gate::Gate;
+use crate::writer::Writer;
+use ob_lanes::Lane;
+use ob_shared::{Done, Named};
+use std::sync::Wait;
+use std::thread::{Threads, join};
+use std::time::Clock;
+
+/// What writers come to: their lane, with all its room, and what they hand in, or the fault of the first of them.
+pub type Worked<L> = (Lane, Result<Vec<Done<L>>, DriveFault>);
+
+/// Lets writers work, each in a thread of its own where one can be made. The list is halved down to one writer, with
+/// the lane split before and joined after.
+#[cycle(work)]
+pub fn work_all<L: Named + Send + Sync, R: Threads + Wait + Clock + Sync, G: Gate + Sync>(
+    rt: &R,
+    bench: &Bench<'_, L, G>,
+    lane: Lane,
+    mut writers: Vec<Writer<L>>,
+) -> Worked<L>
+    requires words { lane.words ≡ bench.now.words.now }
+    requires roomy { All (IsRoomy bench.now.estimate bench.now.task) writers.items }
+    requires room { room_for writers.items ≤ lane.lane.room }
+    requires whole { lane.lane.room ≤ lane.words.opening.room }
+    ensures words { result.0.words ≡ lane.words }
+    ensures room { result.0.lane.room ≡ lane.lane.room }
+    ensures done { IfOk result.1 (λ dones. AreDone writers.items dones.items) }
+{
+    if writers.len() < 2 {
+        return at_most_one(rt, bench, lane, writers);
+    }
+    let Ok(others) = writers.split_off(writers.len() / 2) else {
+        return (lane, Err(DriveFault::NoMemory));
+    };
+    let Ok((lane, other)) = lane.split(bench.words, room_for(&others), 0) else {
+        unreachable!()
+    };
+    both_halves(rt, bench, lane, writers, other, others)
+}
+
+/// Lets two lists of writers work at the same time.
+#[cycle(work)]
+fn both_halves<L: Named + Send + Sync, R: Threads + Wait + Clock + Sync, G: Gate + Sync>(
+    rt: &R,
+    bench: &Bench<'_, L, G>,
+    lane: Lane,
+    writers: Vec<Writer<L>>,
+    other: Lane,
+    others: Vec<Writer<L>>,
+) -> Worked<L>
+    requires some { 0 < vec_len writers }
+    requires some_other { 0 < vec_len others }
+    requires words { lane.words ≡ bench.now.words.now }
+    requires other_words { other.words ≡ bench.now.words.now }
+    requires roomy { All (IsRoomy bench.now.estimate bench.now.task) writers.items }
+    requires others_roomy { All (IsRoomy bench.now.estimate bench.now.task) others.items }
+    requires room { room_for writers.items ≤ lane.lane.room }
+    requires other_room { room_for others.items ≤ other.lane.room }
+    requires whole { lane.lane.room + other.lane.room ≤ lane.words.opening.room }
+    ensures words { result.0.words ≡ lane.words }
+    ensures room { result.0.lane.room ≡ lane.lane.room + other.lane.room }
+    ensures done { IfOk result.1 (λ dones. AreDone (writers.items ++ others.items) dones.items) }
+{
+    let first = move || -> Worked<L>
+        requires row { IsSync R.row }
+        requires words { lane.words ≡ bench.now.words.now }
+        requires roomy { All (IsRoomy bench.now.estimate bench.now.task) writers.items }
+        requires room { room_for writers.items ≤ lane.lane.room }
+        requires whole { lane.lane.room ≤ lane.words.opening.room }
+        ensures words { result.0.words ≡ lane.words }
+        ensures room { result.0.lane.room ≡ lane.lane.room }
+        ensures done { IfOk result.1 (λ dones. AreDone writers.items dones.items) }
+    { work_all(rt, bench, lane, writers) };
+    let second = move || -> Worked<L>
+        requires row { IsSync R.row }
+        requires words { other.words ≡ bench.now.words.now }
+        requires roomy { All (IsRoomy bench.now.estimate bench.now.task) others.items }
+        requires room { room_for others.items ≤ other.lane.room }
+        requires whole { other.lane.room ≤ other.words.opening.room }
+        ensures words { result.0.words ≡ other.words }
+        ensures room { result.0.lane.room ≡ other.lane.room }
+        ensures done { IfOk result.1 (λ dones. AreDone others.items dones.items) }
+    { work_all(rt, bench, other, others) };
+    let ((lane, dones), (other, more)) = join(rt, first, second);
+    (lane.join(bench.words, other), both_handed(dones, more))
+}
+
+/// What two lists of writers hand in together.
+fn both_handed<L: Named>(
+    dones: Result<Vec<Done<L>>, DriveFault>,
+    more: Result<Vec<Done<L>>, DriveFault>,
+) -> Result<Vec<Done<L>>, DriveFault>
+    ensures first { IfOk result (λ all. IsOkAnd dones (λ one. IsOkAnd more (λ other.
+        all.items ≡ one.items ++ other.items))) }
+{
+    let mut dones = dones?;
+    let mut more = more?;
+    match dones.append(&mut more) {
+        Ok(()) => Ok(dones),
+        Err(_) => Err(DriveFault::NoMemory),
+    }
+}
+
+/// Lets one writer work, or none.
+fn at_most_one<L: Named, R: Wait + Clock, G: Gate>(
+    rt: &R,
+    bench: &Bench<'_, L, G>,
+    lane: Lane,
+    mut writers: Vec<Writer<L>>,
+) -> Worked<L>
+    requires few { vec_len writers < 2 }
+    requires words { lane.words ≡ bench.now.words.now }
+    requires roomy { All (IsRoomy bench.now.estimate bench.now.task) writers.items }
+    requires room { room_for writers.items ≤ lane.lane.room }
+    ensures words { result.0.words ≡ lane.words }
+    ensures room { result.0.lane.room ≡ lane.lane.room }
+    ensures done { IfOk result.1 (λ dones. AreDone writers.items dones.items) }
+{
+    let mut dones = Vec::new(bench.alloc);
+    let Some(writer) = writers.pop() else {
+        return (lane, Ok(dones));
+    };
+    if dones.reserve(1).is_err() {
+        return (lane, Err(DriveFault::NoMemory));
+    }
+    let (lane, end) = writer.work(rt, bench, lane);
+    match end {
+        Ok(done) => {
+            dones.push_reserved(done);
+            (lane, Ok(dones))
+        }
+        Err(fault) => (lane, Err(fault)),
+    }
+}
+
+/// The room that writers need together.
+fn room_for<L: Named>(writers: &[Writer<L>]) -> u32
+    requires { room_for writers.now < 2 ^ 32 }
+    ensures { result ≡ room_for writers.now }
+{
+    let mut room = 0;
+    for writer in writers {
+        room += writer.room;
+    }
+    room
+}

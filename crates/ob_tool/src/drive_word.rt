@@ -1,0 +1,168 @@
+ghost use Rattle.std.specs.Prelude.{◌≡◌};
+ghost use Rattle.ob_tool.specs.DriveTable.{drive_table};
+
+use crate::drive_line::DriveLine;
+use crate::first_word::FirstWord;
+use crate::range::Range;
+use crate::writer_line::{Asked, WriterLine};
+use ob_transport::SinkStep;
+use ob_types::{Command, Message, PromiseId};
+
+/// The first word of a line of `drive`.
+#[derive(Clone, Copy, Debug, PartialEq, Eq)]
+pub enum DriveWord {
+    /// `b W N K`: writer W writes K blocks of N bytes.
+    Blocks,
+    /// `r W N`: writer W writes a region of N bytes.
+    Region,
+    /// `o W N`: writer W writes another message, with the number N.
+    Other,
+    /// `f W`: writer W flushes.
+    Flush,
+    /// `x W ID`: writer W cancels the promise ID.
+    Cancel,
+    /// `u W I V`: writer W sets the user bit I, or clears it where V is 1.
+    UserBit,
+    /// `take N`: the next call of the sink takes at most N.
+    Take,
+    /// `fail C`: the next call of the sink fails with C.
+    Fail,
+    /// `then N`: each call of the sink behind these takes at most N.
+    Then,
+    /// `turns N`: the transport makes at most N passes.
+    Turns,
+}
+
+/// The first words that there are.
+static DRIVE_WORDS: [DriveWord; 10] = [
+    DriveWord::Blocks,
+    DriveWord::Region,
+    DriveWord::Other,
+    DriveWord::Flush,
+    DriveWord::Cancel,
+    DriveWord::UserBit,
+    DriveWord::Take,
+    DriveWord::Fail,
+    DriveWord::Then,
+    DriveWord::Turns,
+];
+
+/// The number of a writer.
+const WRITER: Range = Range {
+    least: 0,
+    greatest: 63,
+};
+
+/// Any number of 32 bits.
+const ANY_32: Range = Range {
+    least: 0,
+    greatest: 4294967295,
+};
+
+/// A writer, the bytes of a block, and how many blocks.
+static BLOCKS_NUMBERS: [Range; 3] = [
+    WRITER,
+    Range {
+        least: 0,
+        greatest: 1048576,
+    },
+    Range {
+        least: 1,
+        greatest: 1024,
+    },
+];
+
+/// A writer, and the bytes of a region.
+static REGION_NUMBERS: [Range; 2] = [
+    WRITER,
+    Range {
+        least: 0,
+        greatest: 18446744073709551615,
+    },
+];
+
+/// A writer, and what another message means, or an id.
+static WRITER_AND_NUMBER: [Range; 2] = [WRITER, ANY_32];
+
+/// A writer.
+static WRITER_ALONE: [Range; 1] = [WRITER];
+
+/// A writer, the index of a bit, and a flag.
+static BIT_NUMBERS: [Range; 3] = [
+    WRITER,
+    Range {
+        least: 0,
+        greatest: 255,
+    },
+    Range {
+        least: 0,
+        greatest: 1,
+    },
+];
+
+/// How much the sink takes, or the number with which it fails.
+static SINK_NUMBER: [Range; 1] = [ANY_32];
+
+/// How many passes the transport makes.
+static TURNS_NUMBER: [Range; 1] = [Range {
+    least: 1,
+    greatest: 16777216,
+}];
+
+impl FirstWord for DriveWord {
+    type Line = DriveLine;
+
+    ghost table = { drive_table };
+
+    fn all() -> &'static [DriveWord] {
+        &DRIVE_WORDS
+    }
+
+    fn text(self) -> &'static [u8] {
+        match self {
+            DriveWord::Blocks => b"b",
+            DriveWord::Region => b"r",
+            DriveWord::Other => b"o",
+            DriveWord::Flush => b"f",
+            DriveWord::Cancel => b"x",
+            DriveWord::UserBit => b"u",
+            DriveWord::Take => b"take",
+            DriveWord::Fail => b"fail",
+            DriveWord::Then => b"then",
+            DriveWord::Turns => b"turns",
+        }
+    }
+
+    fn ranges(self) -> &'static [Range] {
+        match self {
+            DriveWord::Blocks => &BLOCKS_NUMBERS,
+            DriveWord::Region => &REGION_NUMBERS,
+            DriveWord::Other | DriveWord::Cancel => &WRITER_AND_NUMBER,
+            DriveWord::Flush => &WRITER_ALONE,
+            DriveWord::UserBit => &BIT_NUMBERS,
+            DriveWord::Take | DriveWord::Fail | DriveWord::Then => &SINK_NUMBER,
+            DriveWord::Turns => &TURNS_NUMBER,
+        }
+    }
+
+    fn line(self, numbers: [u64; 3]) -> DriveLine {
+        let asked = match self {
+            DriveWord::Blocks => Asked::Blocks(numbers[1], numbers[2] as u32),
+            DriveWord::Region => Asked::Command(Command::Write(Message::Region(numbers[1]))),
+            DriveWord::Other => Asked::Command(Command::Write(Message::Other(numbers[1] as u32))),
+            DriveWord::Flush => Asked::Command(Command::Flush),
+            DriveWord::Cancel => Asked::Command(Command::Cancel(PromiseId(numbers[1] as u32))),
+            DriveWord::UserBit => {
+                Asked::Command(Command::UserBit(numbers[1] as u32, numbers[2] == 1))
+            }
+            DriveWord::Take => return DriveLine::Sink(SinkStep::Take(numbers[0])),
+            DriveWord::Fail => return DriveLine::Sink(SinkStep::Fail(numbers[0] as u32)),
+            DriveWord::Then => return DriveLine::Then(numbers[0]),
+            DriveWord::Turns => return DriveLine::Turns(numbers[0] as u32),
+        };
+        DriveLine::Writer(WriterLine {
+            writer: numbers[0] as u8,
+            asked,
+        })
+    }
+}

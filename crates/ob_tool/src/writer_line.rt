@@ -1,0 +1,19 @@
+use ob_types::Command;
+
+/// What a line of a drive script asks of a writer.
+#[derive(Debug, Drop)]
+pub struct WriterLine {
+    /// The number of the writer, from 0 on.
+    pub writer: u8,
+    /// What it is to do.
+    pub asked: Asked,
+}
+
+/// What a writer is to do.
+#[derive(Debug, Drop)]
+pub enum Asked {
+    /// To write blocks: of how many bytes each, and how many. They are made up where the plan is.
+    Blocks(u64, u32),
+    /// To give a command.
+    Command(Command),
+}
