@@ -62,7 +62,7 @@ impl<'b, L: Named, K: Begun> Keeper<'b, L, K> {
         requires records { K.beginning.records ≡ desk.history.records }
         requires made { K.beginning.made ≡ desk.maker.made }
         requires receipts { K.beginning.receipts ≡ receipts.items }
-        ensures { result ≡ record { held = desk; receipts = receipts.items; lost = false; reserved = 0 } }
+        ensures { result ≡ record { held = desk.entry; receipts = receipts.items; lost = false; reserved = 0 } }
     {
         Keeper {
             desk,

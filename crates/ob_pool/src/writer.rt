@@ -1,6 +1,7 @@
 //! One writer, who carries its plan out, command by command.
 
-ghost use Rattle.std.specs.Prelude.{◌≡◌, ◌≤◌, ◌⊎◌, IfOk, IfErr};
+ghost use Rattle.std.specs.Prelude.{◌≡◌, ◌<◌, ◌≤◌, IfOk, IfErr};
+ghost use Rattle.ob_pool.specs.DriveFault.{number_of};
 ghost use Rattle.ob_pool.specs.Errand.{asked, done_by, IsRoomy};
 ghost use Rattle.ob_pool.specs.HandOff.{charge_for, charge_of};
 ghost use Rattle.ob_shared.specs.Maker.{one_more};
@@ -59,6 +60,7 @@ impl<L: Named> Writer<L> {
         ensures words { result.0.words ≡ lane.words }
         ensures room { result.0.lane.room ≡ lane.lane.room }
         ensures done { IfOk result.1 (λ done. done_by done ≡ asked self) }
+        ensures fault { IfErr result.1 (λ fault. 3 < number_of fault) }
     {
         let Writer {
             share,
@@ -174,7 +176,9 @@ fn one_call<L: Named, R: Wait>(
 }
 
 /// The fault of a drive whose writer ended so.
-fn fault_of(writer: u32, halt: Halt) -> DriveFault {
+fn fault_of(writer: u32, halt: Halt) -> DriveFault
+    ensures { 3 < number_of result }
+{
     match halt {
         Halt::Stuck => DriveFault::Stuck { writer },
         Halt::Refused(Refusal::NoMemory) => DriveFault::NoMemory,

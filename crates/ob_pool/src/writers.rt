@@ -1,8 +1,9 @@
 //! All writers, in threads of their own.
 
-ghost use Rattle.std.specs.Prelude.{◌≡◌, ◌+◌, ◌<◌, ◌≤◌, ◌^◌, ◌++◌, IfOk, IsOkAnd, vec_len};
+ghost use Rattle.std.specs.Prelude.{◌≡◌, ◌+◌, ◌<◌, ◌≤◌, ◌^◌, ◌++◌, IfErr, IfOk, IsOkAnd, vec_len};
 ghost use Rattle.std.specs.List.{All};
 ghost use Rattle.std.specs.Thread.{IsSync};
+ghost use Rattle.ob_pool.specs.DriveFault.{number_of};
 ghost use Rattle.ob_pool.specs.Errand.{AreDone, IsRoomy, room_for};
 
 use crate::bench::Bench;
@@ -34,6 +35,7 @@ pub fn work_all<L: Named + Send + Sync, R: Threads + Wait + Clock + Sync, G: Gat
     ensures words { result.0.words ≡ lane.words }
     ensures room { result.0.lane.room ≡ lane.lane.room }
     ensures done { IfOk result.1 (λ dones. AreDone writers.items dones.items) }
+    ensures fault { IfErr result.1 (λ fault. 3 < number_of fault) }
 {
     if writers.len() < 2 {
         return at_most_one(rt, bench, lane, writers);
@@ -69,6 +71,7 @@ fn both_halves<L: Named + Send + Sync, R: Threads + Wait + Clock + Sync, G: Gate
     ensures words { result.0.words ≡ lane.words }
     ensures room { result.0.lane.room ≡ lane.lane.room + other.lane.room }
     ensures done { IfOk result.1 (λ dones. AreDone (writers.items ++ others.items) dones.items) }
+    ensures fault { IfErr result.1 (λ fault. 3 < number_of fault) }
 {
     let first = move || -> Worked<L>
         requires row { IsSync R.row }
@@ -79,6 +82,7 @@ fn both_halves<L: Named + Send + Sync, R: Threads + Wait + Clock + Sync, G: Gate
         ensures words { result.0.words ≡ lane.words }
         ensures room { result.0.lane.room ≡ lane.lane.room }
         ensures done { IfOk result.1 (λ dones. AreDone writers.items dones.items) }
+        ensures fault { IfErr result.1 (λ fault. 3 < number_of fault) }
     { work_all(rt, bench, lane, writers) };
     let second = move || -> Worked<L>
         requires row { IsSync R.row }
@@ -89,6 +93,7 @@ fn both_halves<L: Named + Send + Sync, R: Threads + Wait + Clock + Sync, G: Gate
         ensures words { result.0.words ≡ other.words }
         ensures room { result.0.lane.room ≡ other.lane.room }
         ensures done { IfOk result.1 (λ dones. AreDone others.items dones.items) }
+        ensures fault { IfErr result.1 (λ fault. 3 < number_of fault) }
     { work_all(rt, bench, other, others) };
     let ((lane, dones), (other, more)) = join(rt, first, second);
     (lane.join(bench.words, other), both_handed(dones, more))
@@ -101,6 +106,8 @@ fn both_handed<L: Named>(
 ) -> Result<Vec<Done<L>>, DriveFault>
     ensures first { IfOk result (λ all. IsOkAnd dones (λ one. IsOkAnd more (λ other.
         all.items ≡ one.items ++ other.items))) }
+    ensures fault { IfErr dones (λ fault. 3 < number_of fault) → IfErr more (λ fault. 3 < number_of fault)
+        → IfErr result (λ fault. 3 < number_of fault) }
 {
     let mut dones = dones?;
     let mut more = more?;
@@ -124,6 +131,7 @@ fn at_most_one<L: Named, R: Wait + Clock, G: Gate>(
     ensures words { result.0.words ≡ lane.words }
     ensures room { result.0.lane.room ≡ lane.lane.room }
     ensures done { IfOk result.1 (λ dones. AreDone writers.items dones.items) }
+    ensures fault { IfErr result.1 (λ fault. 3 < number_of fault) }
 {
     let mut dones = Vec::new(bench.alloc);
     let Some(writer) = writers.pop() else {
