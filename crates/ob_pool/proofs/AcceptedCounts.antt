@@ -1,5 +1,5 @@
 -- Counts of accepted commands, taken record by record.
-use Rattle.std.proofs.Common.{◌≡◌, ℕ, ◌+◌, ◌*◌, ◌<◌, ◌≤◌, ◌^◌, Bool, true, false, List, [], ◌∷◌, ◌++◌, length, map, take, drop, cond, refl, sym, ap, ◌∙◌, arith}
+use Rattle.std.proofs.Common.{◌≡◌, ℕ, suc, ◌+◌, ◌*◌, ◌<◌, ◌≤◌, ◌^◌, Bool, true, false, List, [], ◌∷◌, ◌++◌, length, map, take, drop, cond, refl, sym, ap, ◌∙◌, arith}
 use Rattle.std.specs.Prelude.{◌&&◌, filter, count_by, slice_index_or, sum_by}
 use Rattle.std.specs.List.{All, Contains}
 use Rattle.std.proofs.lemmas.List.{drop_more, length-map, map-append, take-append-drop}
@@ -27,7 +27,7 @@ accepted_count kind (one ∷ records) =
         cond (accepted && kind one.command) 1 0 + count_by kind (accepted_commands records)
         ≡ count_by kind (map command_of (cond accepted (one ∷ filter is_accepted records) (filter is_accepted records)))
     by_reply true = sym (sum_by-cons (λ command. cond (kind command) 1 0) one.command (accepted_commands records))
-    by_reply false = refl
+    by_reply false = omega arith
 
 -- the accepted commands of two lists of records
 pub accepted_of_both : (records more : List Record) →
@@ -57,7 +57,7 @@ accepted_all : (P : Command → Type 0) (records : List Record) →
     All (λ one. is_accepted one ≡ true → P one.command) records → All P (accepted_commands records)
 accepted_all P [] each = All-nil P
 accepted_all P (one ∷ records) each =
-    by_reply (is_accepted one) refl (accepted_all P records (λ k d within. each (1 + k) d (omega (arith, within))))
+    by_reply (is_accepted one) refl (accepted_all P records (λ k d within. each (suc k) d (omega (arith, within))))
   where
     by_reply : (accepted : Bool) → is_accepted one ≡ accepted → All P (accepted_commands records) →
         All P (map command_of (cond accepted (one ∷ filter is_accepted records) (filter is_accepted records)))

@@ -38,21 +38,26 @@ module _ (records : List Record) where
       commands_of (caller + writer) records ≡ plan
   carried_from caller [] all writer plan is = absurd (cc)
   carried_from caller (first ∷ plans) all zero plan is =
-      ap (λ k. commands_of k records) (omega arith) ∙ All-head Stands _ (deeds_from (suc caller) plans) all ∙ cc
+      let here : caller + 0 ≡ caller = omega arith in
+      let same : first ≡ plan = cc in
+      ap (λ k. commands_of k records) here ∙ All-head Stands _ (deeds_from (suc caller) plans) all ∙ same
   carried_from caller (first ∷ plans) all (suc writer) plan is =
-      ap (λ k. commands_of k records) (omega arith)
+      let there : caller + suc writer ≡ suc caller + writer = omega arith in
+      ap (λ k. commands_of k records) there
       ∙ carried_from (suc caller) plans (All-tail Stands _ (deeds_from (suc caller) plans) all) writer plan is
 
   -- plans whose deeds stand are carried out
   pub plans_carried : (plans : List (List Command)) → All Stands (deeds_from 0 plans) → AreCarriedOut records plans
-  plans_carried plans all writer plan is = carried_from 0 plans all writer plan is
+  plans_carried plans all writer plan is =
+      let same : writer ≡ 0 + writer = omega arith in
+      ap (λ k. commands_of k records) same ∙ carried_from 0 plans all writer plan is
 
 -- how many commands of a kind are of callers below this one
 abbrev below : (Command → Bool) → ℕ → List Record → ℕ
 below kind caller records = count_by (λ one. kind one.command && nat_lt one.caller caller) records
 
 one_caller : (is : Bool) (a n : ℕ) →
-    cond (is && ltb a (suc n)) 1 0 ≡ cond (is && ltb a n) 1 0 + cond (eqb a n && is) 1 0
+    cond {A = ℕ} (is && ltb a (suc n)) 1 0 ≡ cond (is && ltb a n) 1 0 + cond (eqb a n && is) 1 0
 one_caller true a n = grind (arith, nat_tests)
 one_caller false a n = grind (arith, nat_tests)
 
@@ -73,18 +78,7 @@ below_next kind caller (one ∷ records) =
         count_by kind (map command_of (cond its (one ∷ records_of caller records) (records_of caller records)))
         ≡ cond (its && kind one.command) 1 0 + count_by kind (commands_of caller records)
     by_caller true = sum_by-cons (λ command. cond (kind command) 1 0) one.command (commands_of caller records)
-    by_caller false = refl
-
--- the commands of a kind among those of callers from one on, where their deeds stand
-below_all : (kind : Command → Bool) (records : List Record) (caller : ℕ) (plans : List (List Command)) →
-    All (Stands records) (deeds_from caller plans) →
-    below kind (caller + length plans) records ≡ below kind caller records + sum_by (count_by kind) plans
-below_all kind records caller [] all = ap (λ k. below kind k records) (omega arith) ∙ omega arith
-below_all kind records caller (plan ∷ plans) all =
-    let rest = below_all kind records (suc caller) plans (All-tail (Stands records) _ (deeds_from (suc caller) plans) all) in
-    let first : commands_of caller records ≡ plan = All-head (Stands records) _ (deeds_from (suc caller) plans) all in
-    ap (λ k. below kind k records) (omega arith) ∙ rest
-    ∙ omega (arith, below_next kind caller records, ap (count_by kind) first, sum_by-cons (count_by kind) plan plans)
+    by_caller false = omega arith
 
 none_below : (kind : Command → Bool) (records : List Record) → below kind 0 records ≡ 0
 none_below kind [] = refl
@@ -96,9 +90,35 @@ none_below kind (one ∷ records) =
       no_caller (kind one.command),
     )
   where
-    no_caller : (is : Bool) → cond (is && ltb one.caller 0) 1 0 ≡ 0
+    no_caller : (is : Bool) → cond {A = ℕ} (is && ltb one.caller 0) 1 0 ≡ 0
     no_caller true = refl
     no_caller false = refl
+
+-- the commands of a kind among those of callers from one on, where their deeds stand
+below_all : (kind : Command → Bool) (records : List Record) (caller : ℕ) (plans : List (List Command)) →
+    All (Stands records) (deeds_from caller plans) →
+    below kind (caller + length plans) records ≡ below kind caller records + sum_by (count_by kind) plans
+below_all kind records caller [] all =
+    let here : caller + 0 ≡ caller = omega arith in omega (arith, ap (λ k. below kind k records) here)
+below_all kind records caller (plan ∷ plans) all =
+    let rest = below_all kind records (suc caller) plans (All-tail (Stands records) _ (deeds_from (suc caller) plans) all) in
+    let first : commands_of caller records ≡ plan = All-head (Stands records) _ (deeds_from (suc caller) plans) all in
+    let there : caller + suc (length plans) ≡ suc caller + length plans = omega arith in
+    omega (
+      arith,
+      ap (λ k. below kind k records) there,
+      rest,
+      below_next kind caller records,
+      ap (count_by kind) first,
+      sum_by-cons (count_by kind) plan plans,
+    )
+
+-- the commands of a kind among those of all writers
+below_writers : (kind : Command → Bool) (records : List Record) (plans : List (List Command)) →
+    All (Stands records) (deeds_from 0 plans) → below kind (length plans) records ≡ sum_by (count_by kind) plans
+below_writers kind records plans all =
+    let here : length plans ≡ 0 + length plans = omega arith in
+    omega (arith, ap (λ k. below kind k records) here, below_all kind records 0 plans all, none_below kind records)
 
 -- any command
 abbrev any_kind : Command → Bool
@@ -106,22 +126,25 @@ any_kind command = true
 
 all_counted : {X : Type 0} (xs : List X) → count_by (λ x. true) xs ≡ length xs
 all_counted [] = refl
-all_counted (x ∷ xs) = sum_by-cons (λ x. 1) x xs ∙ ap suc (all_counted xs)
+all_counted (x ∷ xs) = omega (arith, sum_by-cons (λ x. 1) x xs, all_counted xs)
 
 -- where all records are of callers below one, all commands of a kind are
 below_full : (kind : Command → Bool) (caller : ℕ) (records : List Record) →
     length records ≤ below any_kind caller records →
     below kind caller records ≡ count_by (λ one. kind one.command) records
 below_full kind caller [] full = refl
-below_full kind caller (one ∷ records) full =
-    by_caller (nat_lt one.caller caller) refl
+below_full kind caller (one ∷ records) full = by_caller (nat_lt one.caller caller) refl
   where
-    most = count_by-le-length (λ (one : Record). any_kind one.command && nat_lt one.caller caller) records
-    here = sum_by-cons (λ (one : Record). cond (any_kind one.command && nat_lt one.caller caller) 1 0) one records
-
-    of_kind : (is : Bool) → cond (is && true) 1 0 ≡ cond is 1 0
+    of_kind : (is : Bool) → cond {A = ℕ} (is && true) 1 0 ≡ cond is 1 0
     of_kind true = refl
     of_kind false = refl
+
+    most : below any_kind caller records ≤ length records
+    most = count_by-le-length (λ (one : Record). any_kind one.command && nat_lt one.caller caller) records
+
+    here : below any_kind caller (one ∷ records)
+    ≡ cond (any_kind one.command && nat_lt one.caller caller) 1 0 + below any_kind caller records
+    here = sum_by-cons (λ (one : Record). cond (any_kind one.command && nat_lt one.caller caller) 1 0) one records
 
     by_caller : (its : Bool) → nat_lt one.caller caller ≡ its →
         below kind caller (one ∷ records) ≡ count_by (λ one. kind one.command) (one ∷ records)
@@ -129,12 +152,12 @@ below_full kind caller (one ∷ records) full =
         omega (
           arith,
           sum_by-cons (λ (one : Record). cond (kind one.command && nat_lt one.caller caller) 1 0) one records,
-          ap (λ its. cond (kind one.command && its) 1 0) is,
+          ap (λ its. cond {A = ℕ} (kind one.command && its) 1 0) is,
           of_kind (kind one.command),
           sum_by-cons (λ (one : Record). cond (kind one.command) 1 0) one records,
-          below_full kind caller records (omega (arith, full, here, ap (λ its. cond its 1 0) is)),
+          below_full kind caller records (omega (arith, full, here, ap (λ its. cond {A = ℕ} its 1 0) is)),
         )
-    by_caller false is = absurd (omega (arith, full, here, most, ap (λ its. cond its 1 0) is))
+    by_caller false is = absurd (omega (arith, full, here, most, ap (λ its. cond {A = ℕ} its 1 0) is))
 
 -- the records that fail what is flushed are the transport's, where as many were made as there are records
 pub failings_are_last : (records : List Record) (plans : List (List Command)) (mine : List Command) →
@@ -143,13 +166,12 @@ pub failings_are_last : (records : List Record) (plans : List (List Command)) (m
     sum_by (count_by is_failing) plans ≡ 0 →
     failings_of records ≡ count_by is_failing mine
 failings_are_last records plans mine all last counted none =
-    let writers = λ (kind : Command → Bool). below_all kind records 0 plans all in
+    let writers = λ (kind : Command → Bool). below_writers kind records plans all in
     let full : length records ≤ below any_kind (suc (length plans)) records = omega (
       arith,
       counted,
       below_next any_kind (length plans) records,
       writers any_kind,
-      none_below any_kind records,
       ap (count_by any_kind) last,
       all_counted mine,
       lengths plans,
@@ -159,7 +181,6 @@ failings_are_last records plans mine all last counted none =
       below_full is_failing (suc (length plans)) records full,
       below_next is_failing (length plans) records,
       writers is_failing,
-      none_below is_failing records,
       ap (count_by is_failing) last,
       none,
     )

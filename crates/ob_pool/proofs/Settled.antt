@@ -1,6 +1,6 @@
 -- Which promises of a history are settled, and how many.
 use Rattle.std.proofs.Common.{◌≡◌, ℕ, zero, suc, ◌+◌, ◌<◌, ◌≤◌, ◌↔◌, inl, inr, Bool, true, false, List, [], ◌∷◌, ◌++◌, length, take, drop, length-append, ◌^◌, cond, eqb, ltb, refl, sym, ap, ◌∙◌, arith}
-use Rattle.std.specs.Prelude.{◌==◌, nat_lt, count_by, slice_index_or, sum_by, Some, None}
+use Rattle.std.specs.Prelude.{◌==◌, nat_lt, count_by, slice_index_or, sum_by, Option, Some, None}
 use Rattle.std.specs.List.{All, Contains, range_with_len, flat_map}
 use Rattle.std.proofs.lemmas.Bool.{cases_lt}
 use Rattle.std.proofs.lemmas.Bool.Decides.{nat_tests}
@@ -11,6 +11,7 @@ use Rattle.std.proofs.lemmas.List.Sums.{count_by-le-length, sum_by-cons, sum_by_
 use Rattle.ob_types.specs.declared.promise.Outcome.{Outcome}
 use Rattle.ob_types.specs.declared.promise.Outcome.TheVariants.{Success, Failed, Cancelled}
 use Rattle.ob_types.specs.declared.promise.PromiseId.{PromiseId}
+use Rattle.ob_types.specs.declared.promise.PromiseState.{PromiseState}
 use Rattle.ob_types.specs.declared.promise.PromiseState.TheVariants.{Settled}
 use Rattle.ob_seq.specs.Looks.{promise_after}
 use Rattle.ob_seq.specs.Settings.{Settings}
@@ -29,7 +30,7 @@ below id settlements = count_by (λ settlement. nat_lt settlement.0.0 id) settle
 abbrev pub open_below : ℕ → List (PromiseId × Outcome) → ℕ
 open_below id settlements = count_by (λ k. times_settled (record { 0 = k }) settlements == 0) (range_with_len 0 id)
 
-next_id : (a n : ℕ) → cond (ltb a (suc n)) 1 0 ≡ cond (ltb a n) 1 0 + cond (eqb a n) 1 0
+next_id : (a n : ℕ) → cond {A = ℕ} (ltb a (suc n)) 1 0 ≡ cond (ltb a n) 1 0 + cond (eqb a n) 1 0
 next_id a n = grind (arith, nat_tests)
 
 below_next : (id : ℕ) (settlements : List (PromiseId × Outcome)) →
@@ -50,7 +51,7 @@ one_more_number a zero = ap (λ k. k ∷ []) (omega arith)
 one_more_number a (suc n) =
     ap (λ rest. a ∷ rest) (one_more_number (a + 1) n ∙ ap (λ k. range_with_len (a + 1) n ++ k ∷ []) (omega arith))
 
-once_or_never : (times : ℕ) → times ≤ 1 → cond (eqb times 0) 1 0 + times ≡ 1
+once_or_never : (times : ℕ) → times ≤ 1 → cond {A = ℕ} (eqb times 0) 1 0 + times ≡ 1
 once_or_never times few = grind (arith, nat_tests, few)
 
 -- each promise below an id is open, or one of the settlements is its
@@ -61,8 +62,11 @@ open_or_settled zero settlements once = none_below settlements
     none_below : (settlements : List (PromiseId × Outcome)) → below 0 settlements ≡ 0
     none_below [] = refl
     none_below (one ∷ settlements) =
-        sum_by-cons (λ (settlement : PromiseId × Outcome). cond (nat_lt settlement.0.0 0) 1 0) one settlements
-        ∙ none_below settlements
+        omega (
+          arith,
+          sum_by-cons (λ (settlement : PromiseId × Outcome). cond (nat_lt settlement.0.0 0) 1 0) one settlements,
+          none_below settlements,
+        )
 open_or_settled (suc id) settlements once =
     let is_open = λ k. times_settled (record { 0 = k }) settlements == 0 in
     omega (
@@ -88,7 +92,7 @@ all_below id (one ∷ settlements) each =
       counts one.0.0 first,
     )
   where
-    counts : (a : ℕ) → a < id → cond (ltb a id) 1 0 ≡ 1
+    counts : (a : ℕ) → a < id → cond {A = ℕ} (ltb a id) 1 0 ≡ 1
     counts a within = grind (arith, nat_tests, within)
 
 -- each settlement has one of three outcomes
@@ -107,7 +111,7 @@ by_outcome (one ∷ settlements) =
     )
   where
     one_of_three : (outcome : Outcome) →
-        cond (is_success outcome) 1 0 + cond (is_failed outcome) 1 0 + cond (is_cancelled outcome) 1 0 ≡ 1
+        cond {A = ℕ} (is_success outcome) 1 0 + cond (is_failed outcome) 1 0 + cond (is_cancelled outcome) 1 0 ≡ 1
     one_of_three Success = refl
     one_of_three (Failed cause) = refl
     one_of_three Cancelled = refl
@@ -125,12 +129,16 @@ pub settled_within : (settings : Settings) (records : List Record) →
     ↔ writes_in (accepted_commands records) ≤ id.0) →
     All (λ one. one.0.0 < writes_of records) (settlements_in records)
 settled_within settings records told unknown k d within =
-    let one = slice_index_or (settlements_in records) k d in
-    let is_settled = (told one.0 one.1).1 (Contains-get_or (settlements_in records) k d within) in
-    elim (cases_lt one.0.0 (writes_of records)) [
-      | inl known ↦ known
-      | inr past ↦ absurd (cc is_settled ((unknown one.0).1 past))
-    ]
+    elim (cases_lt one.0.0 (writes_of records)) [ inl known ↦ known | inr past ↦ absurd (not_both is_settled ((unknown one.0).1 past)) ]
+  where
+    one : PromiseId × Outcome
+    one = slice_index_or (settlements_in records) k d
+
+    is_settled : promise_after settings (accepted_commands records) one.0 ≡ Some (Settled one.1)
+    is_settled = (told one.0 one.1).1 (Contains-get_or (settlements_in records) k d within)
+
+    not_both : {state : Option PromiseState} {settled : PromiseState} → state ≡ Some settled → state ≡ None → ⊥
+    not_both some none = absurd (cc)
 
 -- the writes of a history are those whose promise is open, and those whose promise is settled
 pub left_and_settled : (records : List Record) →

@@ -152,13 +152,13 @@ fn driven<L: Named + Send + Sync, R: Threads + Wait + Clock + Sync, G: Gate + Sy
     };
     let bench = Bench {
         alloc,
-        gate,
-        shared: &shared,
-        words: &words,
+        shared,
+        words,
         estimate: config.estimate,
         task: config.task,
     };
-    let ((lane, dones), carried) = run(rt, &bench, lane, writers, share, sink, config);
+    let ((lane, dones), carried) = run(rt, gate, &bench, lane, writers, share, sink, config);
+    let Bench { shared, words, .. } = bench;
     let recorded = finished(shared, dones?, carried?)?;
     let Ok(hand) = lane.finish(words) else {
         unreachable!()
@@ -199,14 +199,15 @@ fn writers_of<L: Named>(
 /// Lets all writers work, and the transport beside them, until all have ended.
 fn run<L: Named + Send + Sync, R: Threads + Wait + Clock + Sync, G: Gate + Sync, S: Sink + Send>(
     rt: &R,
-    bench: &Bench<'_, L, G>,
+    gate: &G,
+    bench: &Bench<L>,
     lane: Lane,
     writers: Vec<Writer<L>>,
     share: Share<L>,
     sink: &mut S,
     config: Config,
 ) -> (Worked<L>, Result<Done<L>, DriveFault>)
-    requires words { lane.words ≡ bench.now.words.now }
+    requires words { lane.words ≡ bench.now.words }
     requires roomy { All (IsRoomy bench.now.estimate bench.now.task) writers.items }
     requires room { room_for writers.items ≤ lane.lane.room }
     requires whole { lane.lane.room ≤ lane.words.opening.room }
@@ -225,7 +226,7 @@ fn run<L: Named + Send + Sync, R: Threads + Wait + Clock + Sync, G: Gate + Sync,
     let ended = AtomicBool::new(false);
     let mut start = Some((lane, writers));
     let mut mine = Some(share);
-    side_by_side(rt, bench, config, &ended, &mut start, &mut mine, sink)
+    side_by_side(rt, gate, bench, config, &ended, &mut start, &mut mine, sink)
 }
 
 /// Lets writers and the transport begin with what was made ready for each of them.
@@ -236,14 +237,15 @@ fn side_by_side<
     S: Sink + Send,
 >(
     rt: &R,
-    bench: &Bench<'_, L, G>,
+    gate: &G,
+    bench: &Bench<L>,
     config: Config,
     ended: &AtomicBool,
     start: &mut Option<(Lane, Vec<Writer<L>>)>,
     mine: &mut Option<Share<L>>,
     sink: &mut S,
 ) -> (Worked<L>, Result<Done<L>, DriveFault>)
-    requires words { IsSomeAnd start.old (λ s. s.0.words ≡ bench.now.words.now) }
+    requires words { IsSomeAnd start.old (λ s. s.0.words ≡ bench.now.words) }
     requires roomy { IfSome start.old (λ s. All (IsRoomy bench.now.estimate bench.now.task) s.1.items) }
     requires room { IfSome start.old (λ s. room_for s.1.items ≤ s.0.lane.room) }
     requires whole { IfSome start.old (λ s. s.0.lane.room ≤ s.0.words.opening.room) }
@@ -274,7 +276,7 @@ fn side_by_side<
     { carry(rt, bench, config, ended, mine, sink) };
     let mut work = || -> Worked<L>
         requires row { IsSync R.row }
-        requires words { IsSomeAnd start.now (λ s. s.0.words ≡ bench.now.words.now) }
+        requires words { IsSomeAnd start.now (λ s. s.0.words ≡ bench.now.words) }
         requires roomy { IfSome start.now (λ s. All (IsRoomy bench.now.estimate bench.now.task) s.1.items) }
         requires room { IfSome start.now (λ s. room_for s.1.items ≤ s.0.lane.room) }
         requires whole { IfSome start.now (λ s. s.0.lane.room ≤ s.0.words.opening.room) }
@@ -282,15 +284,15 @@ fn side_by_side<
         ensures lane_room { IfSome start.entry.now (λ s. result.0.lane.room ≡ s.0.lane.room) }
         ensures done { IfSome start.entry.now (λ s. IfOk result.1 (λ dones. AreDone s.1.items dones.items)) }
         ensures fault { IfErr result.1 (λ fault. 3 < number_of fault) }
-    { work(rt, bench, ended, start) };
+    { work(rt, gate, bench, ended, start) };
     let (carried, worked) = join_mut(rt, &mut carry, &mut work);
     (worked, carried)
 }
 
 /// The transport, with the share that was made ready for it.
-fn carry<L: Named, R: Wait + Clock, G, S: Sink>(
+fn carry<L: Named, R: Wait + Clock, S: Sink>(
     rt: &R,
-    bench: &Bench<'_, L, G>,
+    bench: &Bench<L>,
     config: Config,
     ended: &AtomicBool,
     mine: &mut Option<Share<L>>,
@@ -309,17 +311,18 @@ fn carry<L: Named, R: Wait + Clock, G, S: Sink>(
     let Some(share) = mine.take() else {
         unreachable!()
     };
-    transport(rt, bench.alloc, bench.shared, share, sink, config, ended)
+    transport(rt, bench.alloc, &bench.shared, share, sink, config, ended)
 }
 
 /// All writers, with the lane that was made ready for them. It tells when they have ended.
 fn work<L: Named + Send + Sync, R: Threads + Wait + Clock + Sync, G: Gate + Sync>(
     rt: &R,
-    bench: &Bench<'_, L, G>,
+    gate: &G,
+    bench: &Bench<L>,
     ended: &AtomicBool,
     start: &mut Option<(Lane, Vec<Writer<L>>)>,
 ) -> Worked<L>
-    requires words { IsSomeAnd start.old (λ s. s.0.words ≡ bench.now.words.now) }
+    requires words { IsSomeAnd start.old (λ s. s.0.words ≡ bench.now.words) }
     requires roomy { IfSome start.old (λ s. All (IsRoomy bench.now.estimate bench.now.task) s.1.items) }
     requires room { IfSome start.old (λ s. room_for s.1.items ≤ s.0.lane.room) }
     requires whole { IfSome start.old (λ s. s.0.lane.room ≤ s.0.words.opening.room) }
@@ -331,7 +334,7 @@ fn work<L: Named + Send + Sync, R: Threads + Wait + Clock + Sync, G: Gate + Sync
     let Some((lane, writers)) = start.take() else {
         unreachable!()
     };
-    let worked = work_all(rt, bench, lane, writers);
+    let worked = work_all(rt, gate, bench, lane, writers);
     ended.store(true, Ordering::SeqCst);
     worked
 }

@@ -108,8 +108,12 @@ impl<'b, L: Named, K: Begun> Booked for Keeper<'b, L, K> {
             reserved,
             begun: _,
         } = self;
-        desk.reserve(1)?;
-        receipts.reserve(1)?;
+        if receipts.reserve(1).is_err() {
+            // A full history is refused first. How many records it has is told with the buffer.
+            let _ = desk.buffer();
+            desk.reserve(1)?;
+            return Err(Refusal::NoMemory);
+        }
         let receipt = desk.call(command)?;
         *reserved = reserved.saturating_sub(1);
         match receipt.copy() {

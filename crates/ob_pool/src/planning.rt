@@ -35,7 +35,6 @@ fn charge_for(estimate: Estimate, task: u32, command: &Command) -> u64
 }
 
 /// The room that a plan needs.
-#[tactic(auto, using(crate::proofs::Rooms::room_more))]
 pub fn room_of(estimate: Estimate, task: u32, plan: &Plan) -> u64
     ensures { result ≡ room_of estimate task plan.now }
 {

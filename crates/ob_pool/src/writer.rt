@@ -51,10 +51,11 @@ impl<L: Named> Writer<L> {
     pub fn work<R: Wait + Clock, G: Gate>(
         self,
         rt: &R,
-        bench: &Bench<'_, L, G>,
+        gate: &G,
+    bench: &Bench<L>,
         lane: Lane,
     ) -> (Lane, Result<Done<L>, DriveFault>)
-        requires words { lane.words ≡ bench.now.words.now }
+        requires words { lane.words ≡ bench.now.words }
         requires roomy { IsRoomy bench.now.estimate bench.now.task self }
         requires room { self.room ≤ lane.lane.room }
         ensures words { result.0.words ≡ lane.words }
@@ -81,7 +82,7 @@ impl<L: Named> Writer<L> {
         let mut lane = lane;
         let mut step = 0;
         'steps: for command in plan.commands {
-            let (same, end) = one_step(rt, bench, lane, done.share, step, command);
+            let (same, end) = one_step(rt, gate, bench, lane, done.share, step, command);
             lane = same;
             match end {
                 Ok((share, receipt)) => {
@@ -99,13 +100,14 @@ impl<L: Named> Writer<L> {
 /// One step of a writer, with its gate before and after it.
 fn one_step<L: Named, R: Wait + Clock, G: Gate>(
     rt: &R,
-    bench: &Bench<'_, L, G>,
+    gate: &G,
+    bench: &Bench<L>,
     lane: Lane,
     share: Share<L>,
     step: usize,
     command: Command,
 ) -> (Lane, Result<(Share<L>, Receipt), Halt>)
-    requires words { lane.words ≡ bench.now.words.now }
+    requires words { lane.words ≡ bench.now.words }
     requires room { charge_for bench.now.estimate bench.now.task command ≤ lane.lane.room }
     ensures words { result.0.words ≡ lane.words }
     ensures room { result.0.lane.room ≡ lane.lane.room }
@@ -113,15 +115,15 @@ fn one_step<L: Named, R: Wait + Clock, G: Gate>(
     ensures command { IfOk result.1 (λ made. made.1.command ≡ command) }
 {
     let writer = share.caller();
-    if bench.gate.before(rt, writer, step).is_err() {
+    if gate.before(rt, writer, step).is_err() {
         return (lane, Err(Halt::Stuck));
     }
     let (lane, end) = match command {
-        Command::Write(message) => write(rt, bench, lane, share, step, message),
-        other => (lane, one_call(rt, bench.shared, share, other)),
+        Command::Write(message) => write(rt, gate, bench, lane, share, step, message),
+        other => (lane, one_call(rt, &bench.shared, share, other)),
     };
     if end.is_ok() {
-        bench.gate.after(rt, writer, step);
+        gate.after(rt, writer, step);
     }
     (lane, end)
 }
@@ -129,13 +131,14 @@ fn one_step<L: Named, R: Wait + Clock, G: Gate>(
 /// Hands a message to the buffer, with its charge in the lane meanwhile.
 fn write<L: Named, R: Wait + Clock, G: Gate>(
     rt: &R,
-    bench: &Bench<'_, L, G>,
+    gate: &G,
+    bench: &Bench<L>,
     lane: Lane,
     share: Share<L>,
     step: usize,
     message: Message,
 ) -> (Lane, Result<(Share<L>, Receipt), Halt>)
-    requires words { lane.words ≡ bench.now.words.now }
+    requires words { lane.words ≡ bench.now.words }
     requires room { charge_of bench.now.estimate bench.now.task message ≤ lane.lane.room }
     ensures words { result.0.words ≡ lane.words }
     ensures room { result.0.lane.room ≡ lane.lane.room }
@@ -144,15 +147,15 @@ fn write<L: Named, R: Wait + Clock, G: Gate>(
 {
     let writer = share.caller();
     let charge = charge_of(bench.estimate, bench.task, &message) as u32;
-    let Ok((mut charged, _change)) = lane.charge(bench.words, charge) else {
+    let Ok((mut charged, _change)) = lane.charge(&bench.words, charge) else {
         unreachable!()
     };
-    let total = charged.total(bench.words);
-    let end = match bench.gate.during(rt, writer, step, total) {
-        Ok(()) => one_call(rt, bench.shared, share, Command::Write(message)),
+    let total = charged.total(&bench.words);
+    let end = match gate.during(rt, writer, step, total) {
+        Ok(()) => one_call(rt, &bench.shared, share, Command::Write(message)),
         Err(Stuck) => Err(Halt::Stuck),
     };
-    let (lane, _change) = charged.discharge(bench.words);
+    let (lane, _change) = charged.discharge(&bench.words);
     (lane, end)
 }
 

@@ -4,4 +4,4 @@ use Rattle.ob_pool.proofs.counting.taken.Goals as goal
 pub overflow_add-taken : goal.overflow_add-taken
 overflow_add-taken c =
     taken_within c.args.records.now c.loop-one.one-index c.one-item.result _ _
-    c.loop-one.invariant c.taken_by.ensures c.loop-one-test.true c.one-item.is c.requires
+    c.loop-one.invariant c.taken_by-taken.ensures c.loop-one-test.true c.one-item.is c.requires
