@@ -3,9 +3,11 @@ use Rattle.std.proofs.Common.{◌≡◌, ℕ, suc, ◌+◌, ◌*◌, ◌<◌, �
 use Rattle.std.specs.Prelude.{◌&&◌, filter, count_by, slice_index_or, sum_by}
 use Rattle.std.specs.List.{All, Contains}
 use Rattle.std.proofs.lemmas.List.{drop_more, length-map, map-append, take-append-drop}
-use Rattle.std.proofs.lemmas.List.Elements.{All-cons, All-nil, filter-append}
+use Rattle.std.proofs.lemmas.List.Elements.{All-cons, All-nil, Contains-get_or, filter-append}
 use Rattle.std.proofs.lemmas.List.Sums.{sum_by-append, sum_by-cons, sum_by-le, length-filter, count_by-le-length}
+use Rattle.ob_types.specs.Limits.{greatest_total}
 use Rattle.ob_types.specs.declared.command.Command.{Command}
+use Rattle.ob_types.specs.declared.command.Command.TheVariants.{Write, Flush, Remove, RemoveWith, RemoveBytes, Progress, Cancel, FailFlushed, Close, UserBit}
 use Rattle.ob_history.specs.Accepted.{accepted_commands, is_accepted}
 use Rattle.ob_history.specs.declared.record.Record.{Record}
 use Rattle.ob_pool.specs.Counts.{removed_by, taken_of}
@@ -92,3 +94,24 @@ taken_within records index one taken more so_far here within is fits =
     ∙ ap (λ first. first ∷ drop (index + 1) records) (sym is)) in
     let first = taken_of_both (one ∷ []) (drop (index + 1) records) in
     omega (arith, so_far, here, fits, whole, both, rest, first)
+
+removal_within : (most : ℕ) (command : Command) → ((n : ℕ) → command ≡ RemoveBytes n → n ≤ most) → removed_by command ≤ most
+removal_within most (Write message) law = omega arith
+removal_within most Flush law = omega arith
+removal_within most Remove law = omega arith
+removal_within most (RemoveWith cause) law = omega arith
+removal_within most (RemoveBytes n) law = law n refl
+removal_within most (Progress n) law = omega arith
+removal_within most (Cancel id) law = omega arith
+removal_within most (FailFlushed cause notify) law = omega arith
+removal_within most (Close cause) law = omega arith
+removal_within most (UserBit index writable) law = omega arith
+
+-- where each accepted removal keeps to the greatest total, all of them fit 64 bits
+pub taken_fits_word : (records : List Record) →
+    ((one : Record) (n : ℕ) → Contains records one → is_accepted one ≡ true → one.command ≡ RemoveBytes n → n ≤ greatest_total) →
+    length records ≤ 1048576 → taken_of records < 2 ^ 64
+taken_fits_word records law few =
+    let fits = taken_fits greatest_total records (λ k d within accepted. removal_within greatest_total _
+    (λ n is. law _ n (Contains-get_or records k d within) accepted is)) in
+    omega (arith, fits, few)

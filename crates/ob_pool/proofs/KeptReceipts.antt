@@ -1,10 +1,13 @@
 -- One more call whose receipt is kept.
 use Rattle.std.proofs.Common.{◌≡◌, ℕ, ◌+◌, ◌≤◌, Bool, true, false, List, [], ◌∷◌, ◌++◌, length, map, cond, refl, sym, ap, ◌∙◌, append_assoc, arith}
-use Rattle.std.specs.Prelude.{count_by}
+use Rattle.std.specs.Prelude.{count_by, if◌then◌else◌, Ok, Err}
 use Rattle.std.proofs.lemmas.List.{length_push, map-append}
 use Rattle.std.proofs.lemmas.List.Sums.{sum_by-append, sum_by-cons}
 use Rattle.ob_types.specs.declared.command.Command.{Command}
-use Rattle.ob_history.specs.Call.{next_record}
+use Rattle.ob_types.specs.declared.refusal.Refusal.TheVariants.{HistoryFull}
+use Rattle.ob_history.proofs.Calls.{after_with_place}
+use Rattle.ob_history.specs.Call.{call_answer, history_after, is_full, next_record, with_record}
+use Rattle.ob_history.specs.History.{History}
 use Rattle.ob_history.specs.Receipt.{receipt_of}
 use Rattle.ob_history.specs.declared.receipt.Receipt.{Receipt}
 use Rattle.ob_history.specs.declared.record.Record.{Record}
@@ -47,3 +50,17 @@ failings_since beginning held receipts kept =
     let of_records = ap failings_of kept.records
     ∙ sum_by-append (λ (one : Record). cond (is_failing one.command) 1 0) beginning.records kept.more in
     omega (arith, of_receipts, of_records, failings_of_receipts kept.more)
+
+-- a call that answers a receipt has made the record of which that is
+pub receipt_given : (history : History) (caller : ℕ) (command : Command) (receipt : Receipt) →
+    Ok receipt ≡ call_answer history caller command →
+    (receipt ≡ receipt_of (next_record history caller command))
+    × (history_after history caller command ≡ with_record history (next_record history caller command))
+receipt_given history caller command receipt given = by_full (is_full history) refl given
+  where
+    by_full : (full : Bool) → is_full history ≡ full →
+        Ok receipt ≡ (if full then Err HistoryFull else Ok (receipt_of (next_record history caller command))) →
+        (receipt ≡ receipt_of (next_record history caller command))
+        × (history_after history caller command ≡ with_record history (next_record history caller command))
+    by_full true is got = absurd (cc)
+    by_full false is got = (cc, after_with_place history caller command is)

@@ -4,5 +4,7 @@ pub mod Ending
 pub mod Halves
 pub mod KeptReceipts
 pub mod Passing
+pub mod PlannedSteps
 pub mod Rooms
 pub mod Settled
+pub mod Shares

@@ -1,6 +1,9 @@
 -- The room that plans need, plan by plan and command by command.
 use Rattle.std.proofs.Common.{◌≡◌, ℕ, zero, suc, ◌+◌, ◌<◌, ◌≤◌, max, List, [], ◌∷◌, ◌++◌, length, take, drop, refl, sym, ap, ◌∙◌, arith}
+use Rattle.std.proofs.Common.{nat_cmp}
+use Rattle.std.specs.Ordering.{ord_max}
 use Rattle.std.specs.Prelude.{slice_index_or}
+use Rattle.std.proofs.lemmas.Bool.Decides.{nat_tests}
 use Rattle.std.proofs.lemmas.List.{take_more}
 use Rattle.ob_types.specs.declared.command.Command.{Command}
 use Rattle.ob_types.specs.declared.estimate.Estimate.{Estimate}
@@ -21,3 +24,7 @@ module _ (estimate : Estimate) (task : ℕ) where
       ap (room_of estimate task) (take_more plan step command within)
       ∙ room_push (take step plan) (slice_index_or plan step command)
       ∙ ap (λ other. max (room_of estimate task (take step plan)) (charge_for estimate task other)) (sym is)
+
+-- the greater of two numbers by their order
+pub greater : (a b : ℕ) → ord_max nat_cmp a b ≡ max a b
+greater a b = grind (arith, nat_tests)

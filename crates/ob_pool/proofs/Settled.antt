@@ -18,7 +18,11 @@ use Rattle.ob_seq.specs.Settings.{Settings}
 use Rattle.ob_seq.specs.Settles.{settled_by, times_settled}
 use Rattle.ob_seq.specs.Writes.{writes_in}
 use Rattle.ob_history.specs.Accepted.{accepted_commands}
+use Rattle.ob_history.specs.History.{History, IsBounded}
+use Rattle.ob_history.specs.Legal.{IsLegal}
 use Rattle.ob_history.specs.Settlements.{settlements_in}
+use Rattle.ob_types.specs.Write.{is_write}
+use Rattle.ob_pool.proofs.AcceptedCounts.{accepted_at_most}
 use Rattle.ob_history.specs.declared.record.Record.{Record}
 use Rattle.ob_pool.specs.Counts.{is_cancelled, is_failed, is_success, left_of, settled_as, writes_of}
 
@@ -54,10 +58,13 @@ one_more_number a (suc n) =
 once_or_never : (times : ℕ) → times ≤ 1 → cond {A = ℕ} (eqb times 0) 1 0 + times ≡ 1
 once_or_never times few = grind (arith, nat_tests, few)
 
+never : (a : ℕ) → cond {A = ℕ} (ltb a 0) 1 0 ≡ 0
+never a = grind (arith, nat_tests)
+
 -- each promise below an id is open, or one of the settlements is its
 pub open_or_settled : (id : ℕ) (settlements : List (PromiseId × Outcome)) →
     ((k : PromiseId) → times_settled k settlements ≤ 1) → open_below id settlements + below id settlements ≡ id
-open_or_settled zero settlements once = none_below settlements
+open_or_settled zero settlements once = omega (arith, none_below settlements)
   where
     none_below : (settlements : List (PromiseId × Outcome)) → below 0 settlements ≡ 0
     none_below [] = refl
@@ -66,13 +73,17 @@ open_or_settled zero settlements once = none_below settlements
           arith,
           sum_by-cons (λ (settlement : PromiseId × Outcome). cond (nat_lt settlement.0.0 0) 1 0) one settlements,
           none_below settlements,
+          never one.0.0,
         )
 open_or_settled (suc id) settlements once =
-    let is_open = λ k. times_settled (record { 0 = k }) settlements == 0 in
+    let is_open : ℕ → Bool = λ k. times_settled (record { 0 = k }) settlements == 0 in
+    let same : 0 + id ≡ id = omega arith in
+    let pushed : open_below (suc id) settlements ≡ open_below id settlements + cond (is_open id) 1 0 =
+    ap (count_by is_open) (one_more_number 0 id) ∙ sum_by_push (λ k. cond (is_open k) 1 0) (range_with_len 0 id) (0 + id)
+    ∙ ap (λ k. open_below id settlements + cond (is_open k) 1 0) same in
     omega (
       arith,
-      ap (count_by is_open) (one_more_number 0 id),
-      sum_by_push (λ k. cond (is_open k) 1 0) (range_with_len 0 id) (0 + id),
+      pushed,
       below_next id settlements,
       open_or_settled id settlements once,
       once_or_never (times_settled (record { 0 = id }) settlements) (once (record { 0 = id })),
@@ -176,3 +187,35 @@ settled_fits kind records index one count more so_far here within is fits =
       count_by-le-length is_kind (settlements_in (take index records)),
       count_by-le-length is_kind (settled_by one.reply),
     )
+
+-- what the numbers of a history come to
+pub record Tally (records : List Record) : Type 0 where
+  pub sum : settled_as is_success records + settled_as is_failed records + settled_as is_cancelled records
+      ≡ length (settlements_in records)
+  pub left : left_of records + length (settlements_in records) ≡ writes_of records
+  pub few : writes_of records ≤ 1048576
+
+-- by the laws of legal histories
+pub tallied : (settings : Settings) (history : History) →
+    ((settings : Settings) (records : List Record) (id : PromiseId) → IsLegal settings records →
+    times_settled id (settlements_in records) ≤ 1) →
+    ((settings : Settings) (records : List Record) (id : PromiseId) (outcome : Outcome) → IsLegal settings records →
+    promise_after settings (accepted_commands records) id ≡ Some (Settled outcome)
+    ↔ Contains (settlements_in records) (id, outcome)) →
+    ((settings : Settings) (records : List Record) (id : PromiseId) →
+    promise_after settings (accepted_commands records) id ≡ None ↔ writes_in (accepted_commands records) ≤ id.0) →
+    IsLegal settings history.records → IsBounded history → Tally history.records
+tallied settings history once told unknown legal bounded =
+    let records = history.records in
+    record {
+      sum = by_outcome (settlements_in records);
+      left = left_and_settled records (λ id. once settings records id legal)
+          (settled_within settings records (λ id outcome. told settings records id outcome legal) (unknown settings records));
+      few = omega (
+        arith,
+        count_by-le-length is_write (accepted_commands records),
+        accepted_at_most records,
+        bounded.places,
+        bounded.limit,
+      );
+    }

@@ -2,6 +2,7 @@ use ob_lanes::Words;
 use ob_shared::{Named, SharedBuffer};
 use ob_types::Estimate;
 use std::alloc::Global;
+use std::sync::atomic::AtomicBool;
 
 /// What all writers of a drive use together, and its transport.
 #[derive(Drop)]
@@ -12,4 +13,6 @@ pub struct Bench<L: Named> {
     pub estimate: Estimate,
     /// The bytes that a hand-off adds to the estimate of a message.
     pub task: u32,
+    /// Whether all writers have ended.
+    pub ended: AtomicBool,
 }

@@ -156,6 +156,7 @@ fn driven<L: Named + Send + Sync, R: Threads + Wait + Clock + Sync, G: Gate + Sy
         words,
         estimate: config.estimate,
         task: config.task,
+        ended: AtomicBool::new(false),
     };
     let ((lane, dones), carried) = run(rt, gate, &bench, lane, writers, share, sink, config);
     let Bench { shared, words, .. } = bench;
@@ -223,119 +224,79 @@ fn run<L: Named + Send + Sync, R: Threads + Wait + Clock + Sync, G: Gate + Sync,
         failings_in done.receipts + (S.content sink.old).failures ≤ (S.content sink.new).failures) }
     ensures transport { IfErr result.1 (λ fault. 3 < number_of fault) }
 {
-    let ended = AtomicBool::new(false);
     let mut start = Some((lane, writers));
-    let mut mine = Some(share);
-    side_by_side(rt, gate, bench, config, &ended, &mut start, &mut mine, sink)
-}
-
-/// Lets writers and the transport begin with what was made ready for each of them.
-fn side_by_side<
-    L: Named + Send + Sync,
-    R: Threads + Wait + Clock + Sync,
-    G: Gate + Sync,
-    S: Sink + Send,
->(
-    rt: &R,
-    gate: &G,
-    bench: &Bench<L>,
-    config: Config,
-    ended: &AtomicBool,
-    start: &mut Option<(Lane, Vec<Writer<L>>)>,
-    mine: &mut Option<Share<L>>,
-    sink: &mut S,
-) -> (Worked<L>, Result<Done<L>, DriveFault>)
-    requires words { IsSomeAnd start.old (λ s. s.0.words ≡ bench.now.words) }
-    requires roomy { IfSome start.old (λ s. All (IsRoomy bench.now.estimate bench.now.task) s.1.items) }
-    requires room { IfSome start.old (λ s. room_for s.1.items ≤ s.0.lane.room) }
-    requires whole { IfSome start.old (λ s. s.0.lane.room ≤ s.0.words.opening.room) }
-    requires share { IsSome mine.old }
-    requires some_block { 1 ≤ config.limits.max_count }
-    requires some_byte { 1 ≤ config.limits.max_bytes }
-    ensures words { IfSome start.old (λ s. result.0.0.words ≡ s.0.words) }
-    ensures lane_room { IfSome start.old (λ s. result.0.0.lane.room ≡ s.0.lane.room) }
-    ensures done { IfSome start.old (λ s. IfOk result.0.1 (λ dones. AreDone s.1.items dones.items)) }
-    ensures writers { IfErr result.0.1 (λ fault. 3 < number_of fault) }
-    ensures caller { IfSome mine.old (λ share. IfOk result.1 (λ done. done.maker.caller ≡ share.caller)) }
-    ensures made { IfSome mine.old (λ share. IfOk result.1 (λ done.
-        done.maker.made ≡ share.made + length done.receipts)) }
-    ensures failings { IfOk result.1 (λ done.
-        failings_in done.receipts + (S.content sink.old).failures ≤ (S.content sink.new).failures) }
-    ensures transport { IfErr result.1 (λ fault. 3 < number_of fault) }
-{
-    let mut carry = || -> Result<Done<L>, DriveFault>
-        requires share { IsSome mine.now }
-        requires some_block { 1 ≤ config.limits.max_count }
-        requires some_byte { 1 ≤ config.limits.max_bytes }
-        ensures caller { IfSome mine.entry.now (λ share. IfOk result (λ done. done.maker.caller ≡ share.caller)) }
-        ensures made { IfSome mine.entry.now (λ share. IfOk result (λ done.
-            done.maker.made ≡ share.made + length done.receipts)) }
-        ensures failings { IfOk result (λ done. failings_in done.receipts + (S.content sink.entry.now).failures
-            ≤ (S.content sink.exit.now).failures) }
-        ensures fault { IfErr result (λ fault. 3 < number_of fault) }
-    { carry(rt, bench, config, ended, mine, sink) };
-    let mut work = || -> Worked<L>
+    let mut side = Side {
+        bench,
+        share: Some(share),
+    };
+    let mut work = move || -> Worked<L>
         requires row { IsSync R.row }
-        requires words { IsSomeAnd start.now (λ s. s.0.words ≡ bench.now.words) }
-        requires roomy { IfSome start.now (λ s. All (IsRoomy bench.now.estimate bench.now.task) s.1.items) }
-        requires room { IfSome start.now (λ s. room_for s.1.items ≤ s.0.lane.room) }
-        requires whole { IfSome start.now (λ s. s.0.lane.room ≤ s.0.words.opening.room) }
-        ensures words { IfSome start.entry.now (λ s. result.0.words ≡ s.0.words) }
-        ensures lane_room { IfSome start.entry.now (λ s. result.0.lane.room ≡ s.0.lane.room) }
-        ensures done { IfSome start.entry.now (λ s. IfOk result.1 (λ dones. AreDone s.1.items dones.items)) }
+        requires words { IsSomeAnd start (λ s. s.0.words ≡ bench.now.words) }
+        requires roomy { IfSome start (λ s. All (IsRoomy bench.now.estimate bench.now.task) s.1.items) }
+        requires room { IfSome start (λ s. room_for s.1.items ≤ s.0.lane.room) }
+        requires whole { IfSome start (λ s. s.0.lane.room ≤ s.0.words.opening.room) }
+        ensures words { IfSome start.entry (λ s. result.0.words ≡ s.0.words) }
+        ensures lane_room { IfSome start.entry (λ s. result.0.lane.room ≡ s.0.lane.room) }
+        ensures done { IfSome start.entry (λ s. IfOk result.1 (λ dones. AreDone s.1.items dones.items)) }
         ensures fault { IfErr result.1 (λ fault. 3 < number_of fault) }
-    { work(rt, gate, bench, ended, start) };
+    { work(rt, gate, bench, start.take()) };
+    let mut carry = || carry(rt, config, &mut side, sink);
     let (carried, worked) = join_mut(rt, &mut carry, &mut work);
     (worked, carried)
 }
 
-/// The transport, with the share that was made ready for it.
+/// The transport's side of a drive: what it uses with the writers, and its share until it begins.
+#[derive(Drop)]
+struct Side<'d, L: Named> {
+    bench: &'d Bench<L>,
+    share: Option<Share<L>>,
+}
+
+/// Lets the transport work with the share that was made ready for it.
 fn carry<L: Named, R: Wait + Clock, S: Sink>(
     rt: &R,
-    bench: &Bench<L>,
     config: Config,
-    ended: &AtomicBool,
-    mine: &mut Option<Share<L>>,
+    side: &mut Side<'_, L>,
     sink: &mut S,
 ) -> Result<Done<L>, DriveFault>
-    requires share { IsSome mine.old }
+    requires share { IsSome side.old.share }
     requires some_block { 1 ≤ config.limits.max_count }
     requires some_byte { 1 ≤ config.limits.max_bytes }
-    ensures caller { IfSome mine.old (λ share. IfOk result (λ done. done.maker.caller ≡ share.caller)) }
-    ensures made { IfSome mine.old (λ share. IfOk result (λ done.
+    ensures caller { IfSome side.old.share (λ share. IfOk result (λ done. done.maker.caller ≡ share.caller)) }
+    ensures made { IfSome side.old.share (λ share. IfOk result (λ done.
         done.maker.made ≡ share.made + length done.receipts)) }
     ensures failings { IfOk result (λ done.
         failings_in done.receipts + (S.content sink.old).failures ≤ (S.content sink.new).failures) }
     ensures fault { IfErr result (λ fault. 3 < number_of fault) }
 {
-    let Some(share) = mine.take() else {
+    let Some(share) = side.share.take() else {
         unreachable!()
     };
-    transport(rt, bench.alloc, &bench.shared, share, sink, config, ended)
+    let bench = side.bench;
+    transport(rt, bench.alloc, &bench.shared, share, sink, config, &bench.ended)
 }
 
-/// All writers, with the lane that was made ready for them. It tells when they have ended.
+/// Lets all writers work with the lane that was made ready for them, and tells when they have ended.
 fn work<L: Named + Send + Sync, R: Threads + Wait + Clock + Sync, G: Gate + Sync>(
     rt: &R,
     gate: &G,
     bench: &Bench<L>,
-    ended: &AtomicBool,
-    start: &mut Option<(Lane, Vec<Writer<L>>)>,
+    start: Option<(Lane, Vec<Writer<L>>)>,
 ) -> Worked<L>
-    requires words { IsSomeAnd start.old (λ s. s.0.words ≡ bench.now.words) }
-    requires roomy { IfSome start.old (λ s. All (IsRoomy bench.now.estimate bench.now.task) s.1.items) }
-    requires room { IfSome start.old (λ s. room_for s.1.items ≤ s.0.lane.room) }
-    requires whole { IfSome start.old (λ s. s.0.lane.room ≤ s.0.words.opening.room) }
-    ensures words { IfSome start.old (λ s. result.0.words ≡ s.0.words) }
-    ensures lane_room { IfSome start.old (λ s. result.0.lane.room ≡ s.0.lane.room) }
-    ensures done { IfSome start.old (λ s. IfOk result.1 (λ dones. AreDone s.1.items dones.items)) }
+    requires words { IsSomeAnd start (λ s. s.0.words ≡ bench.now.words) }
+    requires roomy { IfSome start (λ s. All (IsRoomy bench.now.estimate bench.now.task) s.1.items) }
+    requires room { IfSome start (λ s. room_for s.1.items ≤ s.0.lane.room) }
+    requires whole { IfSome start (λ s. s.0.lane.room ≤ s.0.words.opening.room) }
+    ensures words { IfSome start (λ s. result.0.words ≡ s.0.words) }
+    ensures lane_room { IfSome start (λ s. result.0.lane.room ≡ s.0.lane.room) }
+    ensures done { IfSome start (λ s. IfOk result.1 (λ dones. AreDone s.1.items dones.items)) }
     ensures fault { IfErr result.1 (λ fault. 3 < number_of fault) }
 {
-    let Some((lane, writers)) = start.take() else {
+    let Some((lane, writers)) = start else {
         unreachable!()
     };
     let worked = work_all(rt, gate, bench, lane, writers);
-    ended.store(true, Ordering::SeqCst);
+    bench.ended.store(true, Ordering::SeqCst);
     worked
 }
 

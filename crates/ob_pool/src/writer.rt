@@ -73,26 +73,27 @@ impl<L: Named> Writer<L> {
         if receipts.reserve(plan.commands.len()).is_err() {
             return (lane, Err(DriveFault::NoMemory));
         }
-        let mut done = Done {
-            share,
-            receipts,
-            told: Vec::new(bench.alloc),
-            seen: Vec::new(bench.alloc),
-        };
         let mut lane = lane;
+        let mut share = share;
         let mut step = 0;
         'steps: for command in plan.commands {
-            let (same, end) = one_step(rt, gate, bench, lane, done.share, step, command);
+            let (same, end) = one_step(rt, gate, bench, lane, share, step, command);
             lane = same;
             match end {
-                Ok((share, receipt)) => {
-                    done.share = share;
-                    done.receipts.push_reserved(receipt);
+                Ok((counted, receipt)) => {
+                    share = counted;
+                    receipts.push_reserved(receipt);
                 }
                 Err(halt) => return (lane, Err(fault_of(writer, halt))),
             }
             step += 1;
         }
+        let done = Done {
+            share,
+            receipts,
+            told: Vec::new(bench.alloc),
+            seen: Vec::new(bench.alloc),
+        };
         (lane, Ok(done))
     }
 }

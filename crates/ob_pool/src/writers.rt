@@ -44,6 +44,8 @@ pub fn work_all<L: Named + Send + Sync, R: Threads + Wait + Clock + Sync, G: Gat
     let Ok(others) = writers.split_off(writers.len() / 2) else {
         return (lane, Err(DriveFault::NoMemory));
     };
+    // A room is a word of 32 bits.
+    let _most = lane.room();
     let Ok((lane, other)) = lane.split(&bench.words, room_for(&others), 0) else {
         unreachable!()
     };
