@@ -32,6 +32,9 @@ is_bad command = not (is_planned command)
 one_less : (place count : ℕ) → nat_lt (1 + place) (suc count) ≡ false → nat_lt place count ≡ false
 one_less place count past = grind (arith, nat_tests, past)
 
+none_before : (count : ℕ) → nat_lt 0 (suc count) ≡ false → ⊥
+none_before count past = grind (arith, nat_tests, past)
+
 all_planned : (plan : List Command) → nat_lt (position_or_len is_bad plan) (length plan) ≡ false →
     count_by is_failing plan ≡ 0
 all_planned [] past = refl
@@ -49,9 +52,6 @@ all_planned (command ∷ plan) past = by_command (is_planned command) refl past 
           rest (one_less (position_or_len is_bad plan) (length plan) behind),
         )
     by_command false is behind rest = absurd (none_before (length plan) behind)
-
-    none_before : (count : ℕ) → nat_lt 0 (suc count) ≡ false → ⊥
-    none_before count past = grind (arith, nat_tests, past)
 
 no_bad_step : (plan : List Command) → bad_step plan ≡ None → count_by is_failing plan ≡ 0
 no_bad_step plan none = by_test (nat_lt (position_or_len is_bad plan) (length plan)) refl none

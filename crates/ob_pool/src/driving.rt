@@ -273,7 +273,15 @@ fn carry<L: Named, R: Wait + Clock, S: Sink>(
         unreachable!()
     };
     let bench = side.bench;
-    transport(rt, bench.alloc, &bench.shared, share, sink, config, &bench.ended)
+    transport(
+        rt,
+        bench.alloc,
+        &bench.shared,
+        share,
+        sink,
+        config,
+        &bench.ended,
+    )
 }
 
 /// Lets all writers work with the lane that was made ready for them, and tells when they have ended.

@@ -52,7 +52,7 @@ impl<L: Named> Writer<L> {
         self,
         rt: &R,
         gate: &G,
-    bench: &Bench<L>,
+        bench: &Bench<L>,
         lane: Lane,
     ) -> (Lane, Result<Done<L>, DriveFault>)
         requires words { lane.words ≡ bench.now.words }

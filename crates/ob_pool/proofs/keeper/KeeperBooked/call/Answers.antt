@@ -21,18 +21,18 @@ invariant_of-self-2 g c =
     let places : vec_len c.reserve.new.self + 1 ≤ vec_capacity c.reserve.new.self = search rules in
     elim c.match-copy.branch [
       | in-Ok w ↦ rw (w.self-inside-is) (
-          omega (arith, kept.0, left, c.saturating_sub.ensures),
-          omega (arith, kept.1, places, c.reserve.ensures.len, c.reserve.ensures.capacity, c.saturating_sub.ensures, w.push_reserved.ensures.len, w.push_reserved.ensures.capacity),
-          (λ found.
-              let copied = w.in-Ok.ensures.same ∙ made.0 in
-              let pushed = w.push_reserved.ensures.items ∙ ap₂ (λ all one. all ++ one ∷ []) c.reserve.ensures.items copied in
-              subst (KeptSince g.K.Begun.beginning c.call.new.self) (sym pushed)
-              (kept_more g.K.Begun.beginning old.desk c.call.new.self old.receipts.items one (kept.2 found) records
-              (ap (λ (maker : Maker). maker.made) c.in_ok-receipt.ensures.made))),
-        )
+        omega (arith, kept.0, left, c.saturating_sub.ensures),
+        omega (arith, kept.1, places, c.reserve.ensures.len, c.reserve.ensures.capacity, c.saturating_sub.ensures, w.push_reserved.ensures.len, w.push_reserved.ensures.capacity),
+        (λ found.
+            let copied = w.in-Ok.ensures.same ∙ made.0 in
+            let pushed = w.push_reserved.ensures.items ∙ ap₂ (λ all one. all ++ one ∷ []) c.reserve.ensures.items copied in
+            subst (KeptSince g.K.Begun.beginning c.call.new.self) (sym pushed)
+            (kept_more g.K.Begun.beginning old.desk c.call.new.self old.receipts.items one (kept.2 found) records
+            (ap (λ (maker : Maker). maker.made) c.in_ok-receipt.ensures.made))),
+      )
       | in-Err w ↦ rw (w.self-inside-is) (
-          omega (arith, kept.0, left, c.saturating_sub.ensures),
-          omega (arith, kept.1, places, c.reserve.ensures.len, c.reserve.ensures.capacity, c.saturating_sub.ensures),
-          (λ found. absurd (cc found)),
-        )
+        omega (arith, kept.0, left, c.saturating_sub.ensures),
+        omega (arith, kept.1, places, c.reserve.ensures.len, c.reserve.ensures.capacity, c.saturating_sub.ensures),
+        (λ found. absurd (cc found)),
+      )
     ]
