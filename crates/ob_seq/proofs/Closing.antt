@@ -25,13 +25,13 @@ use Rattle.ob_seq.specs.Answer.{outcome_of, refusal_of, settlement, settlements_
 use Rattle.ob_seq.specs.Entry.{entry_of}
 use Rattle.ob_seq.specs.Pending.{Pending, StandsFor}
 use Rattle.ob_seq.specs.Steps.{closed_pending, closing_reply, closing_step, failures, unflushed_id}
-use Rattle.ob_seq.proofs.Acceptance.{open_history, same_reply}
+use Rattle.ob_seq.proofs.Acceptance.{same_reply}
 use Rattle.ob_seq.proofs.Along.{moments_past, settlements_past}
 use Rattle.ob_seq.proofs.Failures.{failure}
 use Rattle.ob_seq.proofs.Fronts.{Fronted, fronted, front_is, no_front}
 use Rattle.ob_seq.proofs.Simulation.{Simulates}
-use Rattle.ob_seq.proofs.Held.{opening_of, word_at_end, Held, held_of, line_count, promise_of, stands_by, unflushed_id_is, word_by_moments}
-use Rattle.ob_seq.proofs.History.{moments_after, rows_after_more, accepted_more}
+use Rattle.ob_seq.proofs.Held.{word_at_end, Held, held_of, line_count, promise_of, stands_after, unflushed_id_is, word_by_moments}
+use Rattle.ob_seq.proofs.History.{moments_after}
 use Rattle.ob_seq.proofs.Marks.{half_after, word_from, word_from_more, word_step}
 use Rattle.ob_seq.proofs.Order.{IsGone, IsFresh, all_now_gone, each_append, layout_of, stay_by}
 
@@ -143,12 +143,10 @@ module _ (buffer : Pending) (commands : List Command) (cause : Cause) (stands : 
 
     closed_by : StandsFor after (commands ++ Close cause ∷ []) × (closing_reply cause buffer ≡ reply_of buffer.settings commands (Close cause))
     closed_by = (
-      stands_by after buffer.settings commands (Close cause) (gone ++ closed) [] [] (opening_of buffer commands stands)
-          (open_history buffer.settings commands (Close cause) buffer stands unclosed) refl
-          (accepted_more buffer.settings commands (Close cause) (open_history buffer.settings commands (Close cause) buffer stands unclosed) stands.accepted (close_accepted none)) closed_held
-          (rows_after_more buffer.settings.estimate commands (Close cause) ∙ effect_of_close ∙ sym (append-nil (gone ++ closed))) word_of_close,
+      stands_after buffer after commands (Close cause) stands unclosed (close_accepted none) (gone ++ closed) [] [] refl refl closed_held
+          (effect_of_close ∙ sym (append-nil (gone ++ closed))) word_of_close,
       same_reply (ap Count (ap length stands.unflushed ∙ length-map (unflushed rows) entry_of)) (sym settlements_of_close)
-          (ap (change_between buffer.word) word_of_close ∙ ap (λ before. change_between before (word_after buffer.settings (commands ++ Close cause ∷ []))) stands.word),
+          (ap (change_between buffer.word) word_of_close ∙ rw stands.word refl),
     )
 
   closed_by_parts : (gone standing fresh : List Row) → rows ≡ gone ++ (standing ++ fresh) → Held buffer gone standing fresh → buffer.closed ≡ false → length buffer.line ≡ 0 → length standing ≡ 0 →

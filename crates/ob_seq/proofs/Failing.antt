@@ -1,7 +1,6 @@
 -- A buffer whose line was taken away as failed stands for the history with the failing.
 use Rattle.std.proofs.Common.{◌≡◌, ◌+◌, Bool, false, List, [], ◌∷◌, ◌++◌, length, map, refl, sym, ap, ◌∙◌, append_assoc, append-nil, subst}
 use Rattle.std.proofs.lemmas.List.{length-map}
-use Rattle.ob_types.specs.Change.{change_between}
 use Rattle.ob_types.specs.declared.command.Command.{Command}
 use Rattle.ob_types.specs.declared.command.Command.TheVariants.{FailFlushed}
 use Rattle.ob_types.specs.declared.promise.Cause.{Cause}
@@ -17,10 +16,10 @@ use Rattle.ob_seq.specs.Answer.{settlements_of, reply_of}
 use Rattle.ob_seq.specs.Entry.{entry_of}
 use Rattle.ob_seq.specs.Pending.{Pending, StandsFor}
 use Rattle.ob_seq.specs.Steps.{entry_settlements, failing_reply, failing_step, front_id, front_taken, line_failed, times}
-use Rattle.ob_seq.proofs.Acceptance.{open_history, same_reply}
+use Rattle.ob_seq.proofs.Acceptance.{same_reply}
 use Rattle.ob_seq.proofs.Along.{moments_past, settlements_behind, settlements_past}
-use Rattle.ob_seq.proofs.Held.{opening, opening_of, word_at_end, Held, held_of, front_id_is, line_count, stands_by, word_by_moments}
-use Rattle.ob_seq.proofs.History.{moments_after, rows_after_more, accepted_more}
+use Rattle.ob_seq.proofs.Held.{opening, word_at_end, Held, held_of, front_id_is, line_count, stands_after, word_by_moments}
+use Rattle.ob_seq.proofs.History.{moments_after}
 use Rattle.ob_seq.proofs.Marks.{half_after}
 use Rattle.ob_seq.proofs.Order.{Layout, layout_of, failed_parts}
 use Rattle.ob_seq.proofs.Simulation.{Simulates}
@@ -79,17 +78,15 @@ module _ (buffer : Pending) (commands : List Command) (cause : Cause) (notice : 
 
   -- the buffer stands for the history with the failing
   pub failing_stands : StandsFor after (commands ++ failing ∷ [])
-  failing_stands = stands_by after buffer.settings commands failing (layout.gone ++ now) [] layout.fresh (taken.2 ∙ opening_of buffer commands stands)
-      (open_history buffer.settings commands failing buffer stands unclosed) (taken.3 ∙ unclosed)
-      (accepted_more buffer.settings commands failing (open_history buffer.settings commands failing buffer stands unclosed) stands.accepted refl) taken.0
-      (rows_after_more buffer.settings.estimate commands failing ∙ effect_of_failing ∙ sym (append_assoc layout.gone now layout.fresh))
-      taken.1
+  failing_stands =
+      stands_after buffer after commands failing stands unclosed refl (layout.gone ++ now) [] layout.fresh taken.2 (taken.3 ∙ unclosed) taken.0
+      (effect_of_failing ∙ sym (append_assoc layout.gone now layout.fresh)) taken.1
 
   -- its reply
   pub reply_of_failing : failing_reply cause notice buffer ≡ reply_of buffer.settings commands failing
   reply_of_failing =
       same_reply (ap Count (ap length stands.line ∙ length-map (line rows) entry_of)) (sym settlements_of_failing)
-      (ap (change_between buffer.word) taken.1 ∙ ap (λ before. change_between before (word_after buffer.settings (commands ++ failing ∷ []))) stands.word)
+      (rw (taken.1, stands.word) refl)
 
 -- the failing simulates the command
 pub failing_simulates : (cause : Cause) (notice : Bool) (old : Pending) → Simulates (FailFlushed cause notice) old (failing_step cause notice old)

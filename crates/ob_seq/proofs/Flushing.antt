@@ -15,10 +15,10 @@ use Rattle.ob_seq.specs.Answer.{settlements_of, reply_of}
 use Rattle.ob_seq.specs.Entry.{entry_of}
 use Rattle.ob_seq.specs.Pending.{Pending, StandsFor}
 use Rattle.ob_seq.specs.Steps.{flush_step, next_flushed, times}
-use Rattle.ob_seq.proofs.Acceptance.{open_history, same_reply}
+use Rattle.ob_seq.proofs.Acceptance.{same_reply}
 use Rattle.ob_seq.proofs.Along.{moments_past, settlements_past}
-use Rattle.ob_seq.proofs.Held.{opening, opening_of, word_at_end, Held, held_of, fresh_count, stands_by, word_by_moments}
-use Rattle.ob_seq.proofs.History.{moments_after, rows_after_more, accepted_more}
+use Rattle.ob_seq.proofs.Held.{opening, word_at_end, Held, held_of, fresh_count, stands_after, word_by_moments}
+use Rattle.ob_seq.proofs.History.{moments_after}
 use Rattle.ob_seq.proofs.Marks.{half_after}
 use Rattle.ob_seq.proofs.Order.{Layout, layout_of, flush_parts}
 use Rattle.ob_seq.proofs.Simulation.{Simulates}
@@ -72,17 +72,15 @@ module _ (buffer : Pending) (commands : List Command) (stands : StandsFor buffer
 
   -- the buffer stands for the history with the flush
   pub flushed_stands : StandsFor after (commands ++ Flush ∷ [])
-  flushed_stands = stands_by after buffer.settings commands Flush layout.gone (layout.standing ++ map reached_row layout.fresh) [] (reached.2 ∙ opening_of buffer commands stands)
-      (open_history buffer.settings commands Flush buffer stands unclosed) (reached.3 ∙ unclosed)
-      (accepted_more buffer.settings commands Flush (open_history buffer.settings commands Flush buffer stands unclosed) stands.accepted refl) reached.0
-      (rows_after_more buffer.settings.estimate commands Flush ∙ effect_of_flush ∙ ap (λ rest. layout.gone ++ rest) (sym (append-nil (layout.standing ++ map reached_row layout.fresh))))
-      reached.1
+  flushed_stands =
+      stands_after buffer after commands Flush stands unclosed refl layout.gone (layout.standing ++ map reached_row layout.fresh) [] reached.2 (reached.3 ∙ unclosed) reached.0
+      (effect_of_flush ∙ ap (λ rest. layout.gone ++ rest) (sym (append-nil (layout.standing ++ map reached_row layout.fresh)))) reached.1
 
   -- its reply
   pub reply_of_flush : (let reply : Reply = record { answer = Count (length buffer.unflushed); settled = []; change = change_between buffer.word after.word } in reply ≡ reply_of buffer.settings commands Flush)
   reply_of_flush =
       same_reply (ap Count (ap length stands.unflushed ∙ length-map (unflushed rows) entry_of)) (sym settlements_of_flush)
-      (ap (change_between buffer.word) reached.1 ∙ ap (λ before. change_between before (word_after buffer.settings (commands ++ Flush ∷ []))) stands.word)
+      (rw (reached.1, stands.word) refl)
 
 -- the flush simulates the command
 pub flush_simulates : (old : Pending) → Simulates Flush old (flush_step old)

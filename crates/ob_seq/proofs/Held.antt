@@ -9,7 +9,7 @@ use Rattle.ob_seq.specs.Settings.{Settings}
 use Rattle.ob_seq.specs.Row.{Row}
 use Rattle.ob_seq.specs.Line.{line, unflushed}
 use Rattle.ob_seq.specs.Total.{total}
-use Rattle.ob_seq.specs.Effect.{rows_after}
+use Rattle.ob_seq.specs.Effect.{effect, rows_after}
 use Rattle.ob_seq.specs.Closed.{is_close, is_closed}
 use Rattle.ob_seq.specs.Moment.{Moment, moments_of}
 use Rattle.ob_seq.specs.Word.{word_after}
@@ -20,7 +20,7 @@ use Rattle.ob_seq.specs.Pending.{Pending, StandsFor}
 use Rattle.ob_seq.specs.Steps.{sum_of, pending_total, unflushed_id, front_id}
 use Rattle.ob_seq.proofs.Rows.{sum_of_rows}
 use Rattle.ob_seq.proofs.Acceptance.{open_history}
-use Rattle.ob_seq.proofs.History.{accepted_more, closed_more, moments_after}
+use Rattle.ob_seq.proofs.History.{accepted_more, closed_more, moments_after, rows_after_more}
 use Rattle.ob_seq.proofs.Marks.{IsQuiet, half_after, word_from, word_is_from, word_with_moments}
 use Rattle.ob_seq.proofs.Order.{IsGone, IsStanding, IsFresh, layout_of}
 use Rattle.ob_seq.proofs.Parts.{line_of_parts, unflushed_of_parts}
@@ -76,6 +76,17 @@ stands_by buffer settings commands command gone standing fresh opened unclosed c
       promises = rw more held.promises;
       word = word ∙ ap (λ (s : Settings). word_after s (commands ++ command ∷ [])) (sym same);
     }
+
+-- the same, where the rows and the word are those of one more accepted command
+pub stands_after : (old new : Pending) (commands : List Command) (command : Command) → StandsFor old commands → old.closed ≡ false →
+    refusal_of old.settings.estimate (rows_after old.settings.estimate commands) command ≡ None → (gone standing fresh : List Row) →
+    opening new ≡ opening old → new.closed ≡ is_close command → Held new gone standing fresh →
+    effect old.settings.estimate (rows_after old.settings.estimate commands) command ≡ gone ++ (standing ++ fresh) →
+    new.word ≡ word_after old.settings (commands ++ command ∷ []) → StandsFor new (commands ++ command ∷ [])
+stands_after old new commands command stands unclosed accepted gone standing fresh opened closed held effect_is word =
+    let history = open_history old.settings commands command old stands unclosed in
+    stands_by new old.settings commands command gone standing fresh (opened ∙ opening_of old commands stands) history closed
+    (accepted_more old.settings commands command history stands.accepted accepted) held (rows_after_more old.settings.estimate commands command ∙ effect_is) word
 
 -- a buffer stands as it is for the history with a command that changes no row and not the word
 pub stands_same : (buffer : Pending) (commands : List Command) (command : Command) → StandsFor buffer commands → buffer.closed ≡ false → is_close command ≡ false →

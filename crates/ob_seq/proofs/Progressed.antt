@@ -18,11 +18,10 @@ use Rattle.ob_seq.specs.Word.{word_after}
 use Rattle.ob_seq.specs.Answer.{refusal_of, refusal_of_progress, outcome_of, reply_of}
 use Rattle.ob_seq.specs.Pending.{Pending, StandsFor}
 use Rattle.ob_seq.specs.Steps.{first_progress, first_changed, front_changed, progress_step, progressed_entry}
-use Rattle.ob_seq.proofs.Acceptance.{open_history, same_reply}
+use Rattle.ob_seq.proofs.Acceptance.{same_reply}
 use Rattle.ob_seq.proofs.Along.{moment_of_same, moments_in_one, settlement_same, settlements_in_one}
 use Rattle.ob_seq.proofs.Fronts.{Fronted, fronted, front_is, no_front}
-use Rattle.ob_seq.proofs.Held.{opening_of, Held, promise_of, stands_by}
-use Rattle.ob_seq.proofs.History.{rows_after_more, accepted_more}
+use Rattle.ob_seq.proofs.Held.{Held, promise_of, stands_after}
 use Rattle.ob_seq.proofs.Marks.{word_after_same}
 use Rattle.ob_seq.proofs.Simulation.{Simulates}
 use Rattle.ob_seq.proofs.Order.{with_front_gone, with_front_standing, progressed_stands}
@@ -71,17 +70,16 @@ module _ (buffer : Pending) (commands : List Command) (n : ℕ) (stands : Stands
 
     -- the buffer stands for the history with the progress
     pub progressed_stands_for : StandsFor (front_changed (progressed_entry n) buffer) (commands ++ Progress n ∷ [])
-    progressed_stands_for = stands_by (front_changed (progressed_entry n) buffer) buffer.settings commands (Progress n) f.gone (changed ∷ f.standing) f.fresh (opening_of buffer commands stands)
-        (open_history buffer.settings commands (Progress n) buffer stands unclosed) unclosed
-        (accepted_more buffer.settings commands (Progress n) (open_history buffer.settings commands (Progress n) buffer stands unclosed) stands.accepted accepted) progressed_held
-        (rows_after_more buffer.settings.estimate commands (Progress n) ∙ effect_of_progress) word_of_progress
+    progressed_stands_for =
+        stands_after buffer (front_changed (progressed_entry n) buffer) commands (Progress n) stands unclosed accepted f.gone (changed ∷ f.standing) f.fresh refl unclosed progressed_held
+        effect_of_progress word_of_progress
 
     -- its reply
     pub reply_of_progress : (let reply : Reply = record { answer = Done; settled = []; change = change_between buffer.word buffer.word } in reply ≡ reply_of buffer.settings commands (Progress n))
     reply_of_progress =
         same_reply refl
         (sym (settlements_in_one rows after f.gone f.row changed (f.standing ++ f.fresh) f.rows_are effect_of_progress ∙ settlement_same (length f.gone) (outcome_of f.row.promise)))
-        (ap (change_between buffer.word) word_of_progress ∙ ap (λ before. change_between before (word_after buffer.settings (commands ++ Progress n ∷ []))) stands.word)
+        (ap (change_between buffer.word) word_of_progress ∙ rw stands.word refl)
 
 -- progress simulates the command
 pub progress_simulates : (n : ℕ) (old : Pending) → Simulates (Progress n) old (progress_step n old)

@@ -22,10 +22,10 @@ use Rattle.ob_seq.specs.Word.{word_after}
 use Rattle.ob_seq.specs.Answer.{answer_of, refusal_of, settlements_from, reply_of}
 use Rattle.ob_seq.specs.Pending.{Pending, StandsFor}
 use Rattle.ob_seq.specs.Steps.{front_taken, front_removed, front_settlement, removal_reply, removal_step}
-use Rattle.ob_seq.proofs.Acceptance.{open_history, same_reply}
+use Rattle.ob_seq.proofs.Acceptance.{same_reply}
 use Rattle.ob_seq.proofs.Along.{moments_in_one, moments_of_same, settlements_in_one, settlements_of_same}
-use Rattle.ob_seq.proofs.Held.{opening_of, word_at_end, Held, held_of, line_count, stands_by, stands_same, word_by_moments}
-use Rattle.ob_seq.proofs.History.{moments_after, rows_after_more, accepted_more}
+use Rattle.ob_seq.proofs.Held.{word_at_end, Held, held_of, line_count, stands_after, stands_same, word_by_moments}
+use Rattle.ob_seq.proofs.History.{moments_after, rows_after_more}
 use Rattle.ob_seq.proofs.Marks.{IsQuiet, half_after, word_after_same}
 use Rattle.ob_seq.proofs.Order.{IsGone, IsFresh, with_front_gone, with_front_fresh, with_front_standing, layout_of}
 use Rattle.ob_seq.proofs.Parts.{front_of_parts, no_front_of_parts}
@@ -71,12 +71,9 @@ module _ (command : Command) (outcome : Outcome) (is : IsRemoval command outcome
         ∙ word_at_end buffer commands stands command (moment_of true (counted_size row) 0 (total (gone ++ taken ∷ (standing ++ fresh)))) is.quiet moments_of_removal
 
     taken_stands : StandsFor (front_taken true outcome buffer) (commands ++ command ∷ [])
-    taken_stands = stands_by (front_taken true outcome buffer) buffer.settings commands command (gone ++ taken ∷ []) standing fresh (opening_of buffer commands stands)
-        (open_history buffer.settings commands command buffer stands unclosed) (unclosed ∙ sym is.no_close)
-        (accepted_more buffer.settings commands command (open_history buffer.settings commands command buffer stands unclosed) stands.accepted (is.accepted buffer.settings.estimate rows))
-        (taken_held true outcome buffer gone row standing fresh held)
-        (rows_after_more buffer.settings.estimate commands command ∙ effect_of_removal ∙ sym (append_assoc gone (taken ∷ []) (standing ++ fresh)))
-        word_of_removal
+    taken_stands =
+        stands_after buffer (front_taken true outcome buffer) commands command stands unclosed (is.accepted buffer.settings.estimate rows) (gone ++ taken ∷ []) standing fresh refl
+        (unclosed ∙ sym is.no_close) (taken_held true outcome buffer gone row standing fresh held) (effect_of_removal ∙ sym (append_assoc gone (taken ∷ []) (standing ++ fresh))) word_of_removal
 
     taken_reply : (let reply : Reply = record { answer = Yes true; settled = front_settlement buffer outcome; change = change_between buffer.word (front_taken true outcome buffer).word } in
         reply ≡ reply_of buffer.settings commands command)
@@ -85,7 +82,7 @@ module _ (command : Command) (outcome : Outcome) (is : IsRemoval command outcome
         (sym (is.answer rows ∙ ap (λ all. Yes (is_some (front all))) rows_are ∙ ap (λ found. Yes (is_some found)) (front_of_parts gone row (standing ++ fresh) held.all_gone held.all_standing.0)))
         (taken_settlement true outcome buffer gone row standing fresh held
         ∙ sym (settlements_in_one rows (effect buffer.settings.estimate rows command) gone row taken (standing ++ fresh) rows_are effect_of_removal))
-        (ap (change_between buffer.word) word_of_removal ∙ ap (λ before. change_between before (word_after buffer.settings (commands ++ command ∷ []))) stands.word)
+        (rw (word_of_removal, stands.word) refl)
 
   -- with nothing in line
   module _ (gone fresh : List Row) (rows_are : rows ≡ gone ++ fresh) (all_gone : AllByRecursion IsGone gone) (all_fresh : AllByRecursion IsFresh fresh) where
@@ -109,7 +106,7 @@ module _ (command : Command) (outcome : Outcome) (is : IsRemoval command outcome
         same_reply
         (sym (is.answer rows ∙ ap (λ all. Yes (is_some (front all))) rows_are ∙ ap (λ found. Yes (is_some found)) (no_front_of_parts gone fresh all_gone all_fresh)))
         (sym (ap (settlements_from 0 rows) effect_of_nothing ∙ settlements_of_same rows))
-        (ap (change_between buffer.word) word_of_nothing ∙ ap (λ before. change_between before (word_after buffer.settings (commands ++ command ∷ []))) stands.word)
+        (ap (change_between buffer.word) word_of_nothing ∙ rw stands.word refl)
 
   -- either way
   by_line : (gone standing fresh : List Row) → rows ≡ gone ++ (standing ++ fresh) → Held buffer gone standing fresh → (some : Bool) → ltb 0 (length standing) ≡ some →

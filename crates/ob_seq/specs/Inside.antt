@@ -27,8 +27,8 @@ pending_of inside = record {
   closed = inside.closed;
 }
 
--- what every call keeps: the line is within the entries, each entry has a promise, the numbers fit, and the total is the
--- sum of the sizes
+-- what every call keeps: the line is within the entries, each entry has a promise, the numbers fit, and the total is
+-- the sum of the sizes
 pub record IsSound (inside : Inside) : Type 0 where
   pub line_within : inside.flushed ≤ deque_len inside.entries
   pub each_promised : deque_len inside.entries ≤ vec_len inside.promises

@@ -32,8 +32,8 @@ use Rattle.ob_types.specs.declared.reply.Answer.TheVariants.{Id, Count, Yes, Don
 use Rattle.ob_types.specs.Change.{change_between}
 use Rattle.ob_types.specs.declared.promise.PromiseState.{PromiseState}
 
--- one command carried out on what a buffer holds that is not closed: why it is refused, if it is, and else what it replies
--- and what the buffer holds after it
+-- one command carried out on what a buffer holds that is not closed: why it is refused, if it is, and else what it
+-- replies and what the buffer holds after it
 pub record Step : Type 0 where
   pub refusal : Option Refusal
   pub reply : Reply
@@ -183,7 +183,10 @@ promise_set id state old = record old { promises = slice_set old.promises id sta
 
 -- where a removal of n bytes from these pieces ends, if they hold so many
 abbrev pub whole_cut : ℕ → List (List ℕ) → Cut
-whole_cut n pieces = record { whole = pieces_within n pieces; rest = n - bytes_in (take (pieces_within n pieces) pieces) }
+whole_cut n pieces = record {
+  whole = pieces_within n pieces;
+  rest = n - bytes_in (take (pieces_within n pieces) pieces);
+}
 
 -- where a removal of n bytes from these pieces ends, or nothing where they hold fewer
 abbrev pub cut_of : ℕ → List (List ℕ) → Option Cut
@@ -196,7 +199,10 @@ first_length (entry ∷ entries) = length (block_bytes entry.message)
 
 -- an entry of which so many more bytes are skipped, which count as progress
 abbrev pub skipped_entry : ℕ → PendingEntry → PendingEntry
-skipped_entry n entry = record entry { message = without_skipped n entry.message; progress = min (entry.progress + n) greatest_progress }
+skipped_entry n entry = record entry {
+  message = without_skipped n entry.message;
+  progress = min (entry.progress + n) greatest_progress;
+}
 
 -- a buffer with so many bytes skipped in its front, and unchanged where that is none
 abbrev pub front_skipped : ℕ → Pending → Pending
@@ -246,7 +252,11 @@ failures cause id (state ∷ states) = (if is_waiting state then (record { 0 = i
 
 -- a buffer after its close
 abbrev pub closed_pending : Cause → Pending → Pending
-closed_pending cause old = record old { unflushed = []; promises = failed_from (unflushed_id old) cause old.promises; closed = true }
+closed_pending cause old = record old {
+  unflushed = [];
+  promises = failed_from (unflushed_id old) cause old.promises;
+  closed = true;
+}
 
 -- what a close replies
 abbrev pub closing_reply : Cause → Pending → Reply
@@ -273,8 +283,13 @@ abbrev pub write_step : Message → Pending → Step
 write_step message old =
     let size = counted_bytes old.settings.estimate message in
     let after = written old message size in record {
-      refusal = if is_oversize old.settings.estimate message then Some Oversize else (if has_room size old then None else Some TooMuch);
-      reply = record { answer = Id (record { 0 = length old.promises }); settled = []; change = change_between old.word after.word };
+      refusal = if is_oversize old.settings.estimate message then Some Oversize
+          else (if has_room size old then None else Some TooMuch);
+      reply = record {
+        answer = Id (record { 0 = length old.promises });
+        settled = [];
+        change = change_between old.word after.word;
+      };
       after = after;
     }
 
@@ -286,13 +301,21 @@ all_flushed old = times (length old.unflushed) next_flushed old
 abbrev pub flush_step : Pending → Step
 flush_step old = record {
   refusal = None;
-  reply = record { answer = Count (length old.unflushed); settled = []; change = change_between old.word (all_flushed old).word };
+  reply = record {
+    answer = Count (length old.unflushed);
+    settled = [];
+    change = change_between old.word (all_flushed old).word;
+  };
   after = all_flushed old;
 }
 
 -- a removal of the front as a step
 abbrev pub removal_step : Outcome → Pending → Step
-removal_step outcome old = record { refusal = None; reply = removal_reply outcome old; after = front_removed outcome old }
+removal_step outcome old = record {
+  refusal = None;
+  reply = removal_reply outcome old;
+  after = front_removed outcome old;
+}
 
 -- a removal of n bytes as a step
 abbrev pub bytes_step : ℕ → Pending → Step
@@ -330,7 +353,11 @@ cancel_step id old = record {
 
 -- a failing of all in line as a step
 abbrev pub failing_step : Cause → Bool → Pending → Step
-failing_step cause notice old = record { refusal = None; reply = failing_reply cause notice old; after = line_failed cause notice old }
+failing_step cause notice old = record {
+  refusal = None;
+  reply = failing_reply cause notice old;
+  after = line_failed cause notice old;
+}
 
 -- a close as a step
 abbrev pub closing_step : Cause → Pending → Step
@@ -344,7 +371,11 @@ closing_step cause old = record {
 abbrev pub bit_step : ℕ → Bool → Pending → Step
 bit_step index writable old = record {
   refusal = if is_user_index index then None else Some BadIndex;
-  reply = record { answer = Done; settled = []; change = change_between old.word (bit_changed index writable old).word };
+  reply = record {
+    answer = Done;
+    settled = [];
+    change = change_between old.word (bit_changed index writable old).word;
+  };
   after = bit_changed index writable old;
 }
 

@@ -144,8 +144,8 @@ impl Buffer {
 
     /// Closes the buffer for good: takes all messages away that no flush has reached, oldest first and without notice,
     /// fails their promises for this cause unless they were cancelled, and answers how many messages they were (Netty's
-    /// `close`). The word stays as it was. After it each command is refused as `Closed`, and looks still answer. It goes
-    /// over the messages that it takes away.
+    /// `close`). The word stays as it was. After it each command is refused as `Closed`, and looks still answer. It
+    /// goes over the messages that it takes away.
     ///
     /// `Closed` comes where the buffer is closed already, then `FlushedLeft` where a flushed message is left, voided
     /// ones too, and then `NoMemory` where more than four promises are settled and the allocator refused; all leave

@@ -52,8 +52,8 @@ impl Buffer {
     /// stays as it is.
     ///
     /// It goes over the blocks that it gives and the empty ones that it passes, and takes memory for the list alone.
-    /// `NoMemory` comes where the allocator refused or a block has more owners than can be counted, and not where nothing
-    /// is gathered.
+    /// `NoMemory` comes where the allocator refused or a block has more owners than can be counted, and not where
+    /// nothing is gathered.
     pub fn gather(&self, max_count: u32, max_bytes: u32) -> Result<Vec<Bytes>, Refusal>
         ensures blocks { IfOk result (λ blocks. AreGathered self.now max_count max_bytes blocks.items) }
         ensures no_memory { IfErr result (λ refusal. refusal ≡ Refusal.NoMemory) }

@@ -11,8 +11,10 @@ impl Contents {
     pub fn close(&mut self, cause: Cause) -> Result<Reply, Refusal>
         ensures answer { ¬ IsErrOf result Refusal.NoMemory → result ≡ answer_by self.old (closing_step cause self.old) }
         ensures after { self.new ≡ held_by self.old (closing_step cause self.old) result }
-        ensures no_memory_last { IsErrOf result Refusal.NoMemory → first_of_step self.old (closing_step cause self.old) ≡ None }
-        ensures frugal { IsErrOf result Refusal.NoMemory → inline_settlements < length (closing_step cause self.old).reply.settled }
+        ensures no_memory_last { IsErrOf result Refusal.NoMemory
+            → first_of_step self.old (closing_step cause self.old) ≡ None }
+        ensures frugal { IsErrOf result Refusal.NoMemory
+            → inline_settlements < length (closing_step cause self.old).reply.settled }
     {
         if self.closed {
             return Err(Refusal::Closed);
@@ -40,8 +42,10 @@ impl Contents {
 
     /// What the unflushed promises settle when they fail. The first four need no memory.
     fn failures(&self, cause: Cause) -> Result<Settlements, AllocError>
-        ensures value { IfOk result (λ settled. settled ≡ failures cause (unflushed_id self.now) (drop (unflushed_id self.now) self.now.promises)) }
-        ensures frugal { length (failures cause (unflushed_id self.now) (drop (unflushed_id self.now) self.now.promises)) ≤ inline_settlements → IsOk result }
+        ensures value { IfOk result
+            (λ settled. settled ≡ failures cause (unflushed_id self.now) (drop (unflushed_id self.now) self.now.promises)) }
+        ensures frugal { length (failures cause (unflushed_id self.now) (drop (unflushed_id self.now) self.now.promises))
+            ≤ inline_settlements → IsOk result }
     {
         let first = self.first_unflushed();
         failures_of(&self.promises[first..], first, cause, self.no_settlements())

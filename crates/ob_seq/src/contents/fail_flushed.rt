@@ -8,10 +8,13 @@ use ob_types::{Answer, Cause, Outcome, Refusal, Reply};
 impl Contents {
     /// The step of `Buffer::fail_flushed`.
     pub fn fail_flushed(&mut self, cause: Cause, notify: bool) -> Result<Reply, Refusal>
-        ensures answer { ¬ IsErrOf result Refusal.NoMemory → result ≡ answer_by self.old (failing_step cause notify self.old) }
+        ensures answer { ¬ IsErrOf result Refusal.NoMemory
+            → result ≡ answer_by self.old (failing_step cause notify self.old) }
         ensures after { self.new ≡ held_by self.old (failing_step cause notify self.old) result }
-        ensures no_memory_last { IsErrOf result Refusal.NoMemory → first_of_step self.old (failing_step cause notify self.old) ≡ None }
-        ensures frugal { IsErrOf result Refusal.NoMemory → inline_settlements < length (failing_step cause notify self.old).reply.settled }
+        ensures no_memory_last { IsErrOf result Refusal.NoMemory
+            → first_of_step self.old (failing_step cause notify self.old) ≡ None }
+        ensures frugal { IsErrOf result Refusal.NoMemory
+            → inline_settlements < length (failing_step cause notify self.old).reply.settled }
     {
         if self.closed {
             return Err(Refusal::Closed);

@@ -14,8 +14,10 @@ impl Contents {
     pub fn remove_bytes(&mut self, n: u64) -> Result<Reply, Refusal>
         ensures answer { ¬ IsErrOf result Refusal.NoMemory → result ≡ answer_by self.old (bytes_step n self.old) }
         ensures after { self.new ≡ held_by self.old (bytes_step n self.old) result }
-        ensures no_memory_last { IsErrOf result Refusal.NoMemory → first_of_step self.old (bytes_step n self.old) ≡ None }
-        ensures frugal { IsErrOf result Refusal.NoMemory → inline_settlements < length (bytes_step n self.old).reply.settled }
+        ensures no_memory_last { IsErrOf result Refusal.NoMemory
+            → first_of_step self.old (bytes_step n self.old) ≡ None }
+        ensures frugal { IsErrOf result Refusal.NoMemory
+            → inline_settlements < length (bytes_step n self.old).reply.settled }
     {
         if self.closed {
             return Err(Refusal::Closed);

@@ -17,8 +17,10 @@ impl Contents {
         outcome: Outcome,
     ) -> Result<Settlements, AllocError>
         requires { count ≤ length self.now.line }
-        ensures value { IfOk result (λ settled. settled ≡ entry_settlements outcome (front_id self.now) (take count self.now.line)) }
-        ensures frugal { length (entry_settlements outcome (front_id self.now) (take count self.now.line)) ≤ inline_settlements → IsOk result }
+        ensures value { IfOk result
+            (λ settled. settled ≡ entry_settlements outcome (front_id self.now) (take count self.now.line)) }
+        ensures frugal { length (entry_settlements outcome (front_id self.now) (take count self.now.line))
+            ≤ inline_settlements → IsOk result }
     {
         let first = self.promises.len() - self.entries.len();
         let mut settled = self.no_settlements();

@@ -18,7 +18,8 @@ impl Contents {
     pub fn write(&mut self, message: Message) -> Result<Reply, Refusal>
         ensures answer { ¬ IsErrOf result Refusal.NoMemory → result ≡ answer_by self.old (write_step message self.old) }
         ensures after { self.new ≡ held_by self.old (write_step message self.old) result }
-        ensures no_memory_last { IsErrOf result Refusal.NoMemory → first_of_step self.old (write_step message self.old) ≡ None }
+        ensures no_memory_last { IsErrOf result Refusal.NoMemory
+            → first_of_step self.old (write_step message self.old) ≡ None }
     {
         if self.closed {
             return Err(Refusal::Closed);
