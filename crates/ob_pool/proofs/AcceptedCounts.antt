@@ -1,11 +1,13 @@
 -- Counts of accepted commands, taken record by record.
-use Rattle.std.proofs.Common.{◌≡◌, ℕ, ◌+◌, ◌*◌, ◌<◌, ◌≤◌, ◌^◌, Bool, true, false, List, [], ◌∷◌, ◌++◌, length, map, cond, refl, sym, ap, ◌∙◌, arith}
-use Rattle.std.specs.Prelude.{◌&&◌, filter, count_by, sum_by}
+use Rattle.std.proofs.Common.{◌≡◌, ℕ, suc, ◌+◌, ◌*◌, ◌<◌, ◌≤◌, ◌^◌, Bool, true, false, List, [], ◌∷◌, ◌++◌, length, map, take, drop, cond, refl, sym, ap, ◌∙◌, arith}
+use Rattle.std.specs.Prelude.{◌&&◌, filter, count_by, slice_index_or, sum_by}
 use Rattle.std.specs.List.{All, Contains}
-use Rattle.std.proofs.lemmas.List.{map-append, length-map}
-use Rattle.std.proofs.lemmas.List.Elements.{All-cons, All-nil, filter-append}
+use Rattle.std.proofs.lemmas.List.{drop_more, length-map, map-append, take-append-drop}
+use Rattle.std.proofs.lemmas.List.Elements.{All-cons, All-nil, Contains-get_or, filter-append}
 use Rattle.std.proofs.lemmas.List.Sums.{sum_by-append, sum_by-cons, sum_by-le, length-filter, count_by-le-length}
+use Rattle.ob_types.specs.Limits.{greatest_total}
 use Rattle.ob_types.specs.declared.command.Command.{Command}
+use Rattle.ob_types.specs.declared.command.Command.TheVariants.{Write, Flush, Remove, RemoveWith, RemoveBytes, Progress, Cancel, FailFlushed, Close, UserBit}
 use Rattle.ob_history.specs.Accepted.{accepted_commands, is_accepted}
 use Rattle.ob_history.specs.declared.record.Record.{Record}
 use Rattle.ob_pool.specs.Counts.{removed_by, taken_of}
@@ -27,7 +29,7 @@ accepted_count kind (one ∷ records) =
         cond (accepted && kind one.command) 1 0 + count_by kind (accepted_commands records)
         ≡ count_by kind (map command_of (cond accepted (one ∷ filter is_accepted records) (filter is_accepted records)))
     by_reply true = sym (sum_by-cons (λ command. cond (kind command) 1 0) one.command (accepted_commands records))
-    by_reply false = refl
+    by_reply false = omega arith
 
 -- the accepted commands of two lists of records
 pub accepted_of_both : (records more : List Record) →
@@ -57,7 +59,7 @@ accepted_all : (P : Command → Type 0) (records : List Record) →
     All (λ one. is_accepted one ≡ true → P one.command) records → All P (accepted_commands records)
 accepted_all P [] each = All-nil P
 accepted_all P (one ∷ records) each =
-    by_reply (is_accepted one) refl (accepted_all P records (λ k d within. each (1 + k) d (omega (arith, within))))
+    by_reply (is_accepted one) refl (accepted_all P records (λ k d within. each (suc k) d (omega (arith, within))))
   where
     by_reply : (accepted : Bool) → is_accepted one ≡ accepted → All P (accepted_commands records) →
         All P (map command_of (cond accepted (one ∷ filter is_accepted records) (filter is_accepted records)))
@@ -75,3 +77,41 @@ taken_fits most records each =
   where
     by_count : (few many : ℕ) → taken_of records ≤ few * most → few ≤ many → taken_of records ≤ many * most
     by_count few many sum at_most = grind (arith, sum, at_most)
+
+-- a number of accepted records of a kind is that of the accepted commands of the kind
+pub accepted_is : (kind : Command → Bool) (records : List Record) (n : ℕ) →
+    n ≡ count_by (λ one. is_accepted one && kind one.command) records → n ≡ count_by kind (accepted_commands records)
+accepted_is kind records n is = is ∙ accepted_count kind records
+
+-- what was taken so far, with the next record, is within what is taken in all
+pub taken_within : (records : List Record) (index : ℕ) (one : Record) (taken more : ℕ) →
+    taken ≡ taken_of (take index records) → more ≡ taken_of (one ∷ []) → index < length records →
+    one ≡ slice_index_or records index one → taken_of records < 2 ^ 64 → taken + more < 2 ^ 64
+taken_within records index one taken more so_far here within is fits =
+    let whole = ap taken_of (take-append-drop index records) in
+    let both = taken_of_both (take index records) (drop index records) in
+    let rest = ap taken_of (drop_more records index one within
+    ∙ ap (λ first. first ∷ drop (index + 1) records) (sym is)) in
+    let first = taken_of_both (one ∷ []) (drop (index + 1) records) in
+    omega (arith, so_far, here, fits, whole, both, rest, first)
+
+removal_within : (most : ℕ) (command : Command) → ((n : ℕ) → command ≡ RemoveBytes n → n ≤ most) → removed_by command ≤ most
+removal_within most (Write message) law = omega arith
+removal_within most Flush law = omega arith
+removal_within most Remove law = omega arith
+removal_within most (RemoveWith cause) law = omega arith
+removal_within most (RemoveBytes n) law = law n refl
+removal_within most (Progress n) law = omega arith
+removal_within most (Cancel id) law = omega arith
+removal_within most (FailFlushed cause notify) law = omega arith
+removal_within most (Close cause) law = omega arith
+removal_within most (UserBit index writable) law = omega arith
+
+-- where each accepted removal keeps to the greatest total, all of them fit 64 bits
+pub taken_fits_word : (records : List Record) →
+    ((one : Record) (n : ℕ) → Contains records one → is_accepted one ≡ true → one.command ≡ RemoveBytes n → n ≤ greatest_total) →
+    length records ≤ 1048576 → taken_of records < 2 ^ 64
+taken_fits_word records law few =
+    let fits = taken_fits greatest_total records (λ k d within accepted. removal_within greatest_total _
+    (λ n is. law _ n (Contains-get_or records k d within) accepted is)) in
+    omega (arith, fits, few)

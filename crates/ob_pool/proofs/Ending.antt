@@ -1,17 +1,20 @@
 -- A finished history in which each caller has handed in what it has done.
 use Rattle.std.proofs.Common.{◌≡◌, ℕ, zero, suc, ◌+◌, ◌<◌, ◌≤◌, Bool, true, false, List, [], ◌∷◌, ◌++◌, length, map, cond, eqb, ltb, refl, sym, ap, ◌∙◌, subst, arith}
-use Rattle.std.specs.Prelude.{◌&&◌, nat_lt, count_by, filter, slice_get, sum_by, Some}
+use Rattle.std.specs.Prelude.{◌&&◌, nat_lt, count_by, filter, slice_get, slice_index_or, sum_by, Some}
 use Rattle.std.specs.List.{All}
+use Rattle.std.proofs.Math.Seq.{take-append_seam}
 use Rattle.std.proofs.lemmas.Bool.Decides.{nat_tests}
-use Rattle.std.proofs.lemmas.List.Elements.{All-head, All-tail}
-use Rattle.std.proofs.lemmas.List.Sums.{count_by-le-length, sum_by-cons}
+use Rattle.std.proofs.lemmas.List.{length-map}
+use Rattle.std.proofs.lemmas.List.Elements.{All-contains, All-head, All-map, All-tail, All-take, Contains-push}
+use Rattle.std.proofs.lemmas.List.Sums.{count_by-le-length, sum_by-cons, sum_by_push}
 use Rattle.ob_types.specs.declared.command.Command.{Command}
 use Rattle.ob_history.specs.Own.{records_of}
 use Rattle.ob_history.specs.Receipt.{record_of}
 use Rattle.ob_history.specs.declared.receipt.Receipt.{Receipt}
 use Rattle.ob_history.specs.declared.record.Record.{Record}
 use Rattle.ob_shared.specs.Finished.{HandsInAll}
-use Rattle.ob_shared.specs.Handed.{Handed}
+use Rattle.ob_shared.specs.Handed.{Handed, made_by}
+use Rattle.ob_pool.specs.Keeping.{failings_in}
 use Rattle.ob_pool.specs.CarriedOut.{AreCarriedOut, commands_of}
 use Rattle.ob_pool.specs.Counts.{failings_of, is_failing}
 use Rattle.ob_pool.specs.Errand.{Deed, commands_in, deeds_from, done_by}
@@ -38,21 +41,26 @@ module _ (records : List Record) where
       commands_of (caller + writer) records ≡ plan
   carried_from caller [] all writer plan is = absurd (cc)
   carried_from caller (first ∷ plans) all zero plan is =
-      ap (λ k. commands_of k records) (omega arith) ∙ All-head Stands _ (deeds_from (suc caller) plans) all ∙ cc
+      let here : caller + 0 ≡ caller = omega arith in
+      let same : first ≡ plan = cc in
+      ap (λ k. commands_of k records) here ∙ All-head Stands _ (deeds_from (suc caller) plans) all ∙ same
   carried_from caller (first ∷ plans) all (suc writer) plan is =
-      ap (λ k. commands_of k records) (omega arith)
+      let there : caller + suc writer ≡ suc caller + writer = omega arith in
+      ap (λ k. commands_of k records) there
       ∙ carried_from (suc caller) plans (All-tail Stands _ (deeds_from (suc caller) plans) all) writer plan is
 
   -- plans whose deeds stand are carried out
   pub plans_carried : (plans : List (List Command)) → All Stands (deeds_from 0 plans) → AreCarriedOut records plans
-  plans_carried plans all writer plan is = carried_from 0 plans all writer plan is
+  plans_carried plans all writer plan is =
+      let same : writer ≡ 0 + writer = omega arith in
+      ap (λ k. commands_of k records) same ∙ carried_from 0 plans all writer plan is
 
 -- how many commands of a kind are of callers below this one
 abbrev below : (Command → Bool) → ℕ → List Record → ℕ
 below kind caller records = count_by (λ one. kind one.command && nat_lt one.caller caller) records
 
 one_caller : (is : Bool) (a n : ℕ) →
-    cond (is && ltb a (suc n)) 1 0 ≡ cond (is && ltb a n) 1 0 + cond (eqb a n && is) 1 0
+    cond {A = ℕ} (is && ltb a (suc n)) 1 0 ≡ cond (is && ltb a n) 1 0 + cond (eqb a n && is) 1 0
 one_caller true a n = grind (arith, nat_tests)
 one_caller false a n = grind (arith, nat_tests)
 
@@ -73,18 +81,7 @@ below_next kind caller (one ∷ records) =
         count_by kind (map command_of (cond its (one ∷ records_of caller records) (records_of caller records)))
         ≡ cond (its && kind one.command) 1 0 + count_by kind (commands_of caller records)
     by_caller true = sum_by-cons (λ command. cond (kind command) 1 0) one.command (commands_of caller records)
-    by_caller false = refl
-
--- the commands of a kind among those of callers from one on, where their deeds stand
-below_all : (kind : Command → Bool) (records : List Record) (caller : ℕ) (plans : List (List Command)) →
-    All (Stands records) (deeds_from caller plans) →
-    below kind (caller + length plans) records ≡ below kind caller records + sum_by (count_by kind) plans
-below_all kind records caller [] all = ap (λ k. below kind k records) (omega arith) ∙ omega arith
-below_all kind records caller (plan ∷ plans) all =
-    let rest = below_all kind records (suc caller) plans (All-tail (Stands records) _ (deeds_from (suc caller) plans) all) in
-    let first : commands_of caller records ≡ plan = All-head (Stands records) _ (deeds_from (suc caller) plans) all in
-    ap (λ k. below kind k records) (omega arith) ∙ rest
-    ∙ omega (arith, below_next kind caller records, ap (count_by kind) first, sum_by-cons (count_by kind) plan plans)
+    by_caller false = omega arith
 
 none_below : (kind : Command → Bool) (records : List Record) → below kind 0 records ≡ 0
 none_below kind [] = refl
@@ -96,9 +93,35 @@ none_below kind (one ∷ records) =
       no_caller (kind one.command),
     )
   where
-    no_caller : (is : Bool) → cond (is && ltb one.caller 0) 1 0 ≡ 0
-    no_caller true = refl
+    no_caller : (is : Bool) → cond {A = ℕ} (is && ltb one.caller 0) 1 0 ≡ 0
+    no_caller true = grind (arith, nat_tests)
     no_caller false = refl
+
+-- the commands of a kind among those of callers from one on, where their deeds stand
+below_all : (kind : Command → Bool) (records : List Record) (caller : ℕ) (plans : List (List Command)) →
+    All (Stands records) (deeds_from caller plans) →
+    below kind (caller + length plans) records ≡ below kind caller records + sum_by (count_by kind) plans
+below_all kind records caller [] all =
+    let here : caller + 0 ≡ caller = omega arith in omega (arith, ap (λ k. below kind k records) here)
+below_all kind records caller (plan ∷ plans) all =
+    let rest = below_all kind records (suc caller) plans (All-tail (Stands records) _ (deeds_from (suc caller) plans) all) in
+    let first : commands_of caller records ≡ plan = All-head (Stands records) _ (deeds_from (suc caller) plans) all in
+    let there : caller + suc (length plans) ≡ suc caller + length plans = omega arith in
+    omega (
+      arith,
+      ap (λ k. below kind k records) there,
+      rest,
+      below_next kind caller records,
+      ap (count_by kind) first,
+      sum_by-cons (count_by kind) plan plans,
+    )
+
+-- the commands of a kind among those of all writers
+below_writers : (kind : Command → Bool) (records : List Record) (plans : List (List Command)) →
+    All (Stands records) (deeds_from 0 plans) → below kind (length plans) records ≡ sum_by (count_by kind) plans
+below_writers kind records plans all =
+    let here : length plans ≡ 0 + length plans = omega arith in
+    omega (arith, ap (λ k. below kind k records) here, below_all kind records 0 plans all, none_below kind records)
 
 -- any command
 abbrev any_kind : Command → Bool
@@ -106,35 +129,40 @@ any_kind command = true
 
 all_counted : {X : Type 0} (xs : List X) → count_by (λ x. true) xs ≡ length xs
 all_counted [] = refl
-all_counted (x ∷ xs) = sum_by-cons (λ x. 1) x xs ∙ ap suc (all_counted xs)
+all_counted (x ∷ xs) = omega (arith, sum_by-cons (λ x. 1) x xs, all_counted xs)
 
 -- where all records are of callers below one, all commands of a kind are
 below_full : (kind : Command → Bool) (caller : ℕ) (records : List Record) →
     length records ≤ below any_kind caller records →
     below kind caller records ≡ count_by (λ one. kind one.command) records
 below_full kind caller [] full = refl
-below_full kind caller (one ∷ records) full =
-    by_caller (nat_lt one.caller caller) refl
+below_full kind caller (one ∷ records) full = by_caller (nat_lt one.caller caller) refl (below_full kind caller records)
   where
-    most = count_by-le-length (λ (one : Record). any_kind one.command && nat_lt one.caller caller) records
-    here = sum_by-cons (λ (one : Record). cond (any_kind one.command && nat_lt one.caller caller) 1 0) one records
-
-    of_kind : (is : Bool) → cond (is && true) 1 0 ≡ cond is 1 0
+    of_kind : (is : Bool) → cond {A = ℕ} (is && true) 1 0 ≡ cond is 1 0
     of_kind true = refl
     of_kind false = refl
 
+    most : below any_kind caller records ≤ length records
+    most = count_by-le-length (λ (one : Record). any_kind one.command && nat_lt one.caller caller) records
+
+    here : below any_kind caller (one ∷ records)
+        ≡ cond (any_kind one.command && nat_lt one.caller caller) 1 0 + below any_kind caller records
+    here = sum_by-cons (λ (one : Record). cond (any_kind one.command && nat_lt one.caller caller) 1 0) one records
+
     by_caller : (its : Bool) → nat_lt one.caller caller ≡ its →
+        (length records ≤ below any_kind caller records →
+        below kind caller records ≡ count_by (λ one. kind one.command) records) →
         below kind caller (one ∷ records) ≡ count_by (λ one. kind one.command) (one ∷ records)
-    by_caller true is =
+    by_caller true is rest =
         omega (
           arith,
           sum_by-cons (λ (one : Record). cond (kind one.command && nat_lt one.caller caller) 1 0) one records,
-          ap (λ its. cond (kind one.command && its) 1 0) is,
+          ap (λ its. cond {A = ℕ} (kind one.command && its) 1 0) is,
           of_kind (kind one.command),
           sum_by-cons (λ (one : Record). cond (kind one.command) 1 0) one records,
-          below_full kind caller records (omega (arith, full, here, ap (λ its. cond its 1 0) is)),
+          rest (omega (arith, full, here, ap (λ its. cond {A = ℕ} its 1 0) is)),
         )
-    by_caller false is = absurd (omega (arith, full, here, most, ap (λ its. cond its 1 0) is))
+    by_caller false is rest = absurd (omega (arith, full, here, most, ap (λ its. cond {A = ℕ} its 1 0) is))
 
 -- the records that fail what is flushed are the transport's, where as many were made as there are records
 pub failings_are_last : (records : List Record) (plans : List (List Command)) (mine : List Command) →
@@ -143,13 +171,12 @@ pub failings_are_last : (records : List Record) (plans : List (List Command)) (m
     sum_by (count_by is_failing) plans ≡ 0 →
     failings_of records ≡ count_by is_failing mine
 failings_are_last records plans mine all last counted none =
-    let writers = λ (kind : Command → Bool). below_all kind records 0 plans all in
+    let writers = λ (kind : Command → Bool). below_writers kind records plans all in
     let full : length records ≤ below any_kind (suc (length plans)) records = omega (
       arith,
       counted,
       below_next any_kind (length plans) records,
       writers any_kind,
-      none_below any_kind records,
       ap (count_by any_kind) last,
       all_counted mine,
       lengths plans,
@@ -159,7 +186,6 @@ failings_are_last records plans mine all last counted none =
       below_full is_failing (suc (length plans)) records full,
       below_next is_failing (length plans) records,
       writers is_failing,
-      none_below is_failing records,
       ap (count_by is_failing) last,
       none,
     )
@@ -168,3 +194,73 @@ failings_are_last records plans mine all last counted none =
     lengths [] = refl
     lengths (plan ∷ plans) =
         omega (arith, sum_by-cons (count_by any_kind) plan plans, sum_by-cons length plan plans, all_counted plan, lengths plans)
+
+-- callers that have done what was asked have deeds that stand
+pub deeds_stand : (records : List Record) (dones : List Handed) (plans : List (List Command)) →
+    map done_by dones ≡ deeds_from 0 plans → All (HandsInAll records) dones → All (Stands records) (deeds_from 0 plans)
+deeds_stand records dones plans same all =
+    subst (All (Stands records)) same
+    (All-map (Stands records) done_by dones (λ k d within. deed_stands records (slice_index_or dones k d) (all k d within)))
+
+All-front : {X : Type 0} (P : X → Type 0) (xs ys : List X) → All P (xs ++ ys) → All P xs
+All-front P xs ys all = subst (All P) (take-append_seam xs ys) (All-take P (length xs) (xs ++ ys) all)
+
+-- writers that have handed in what was asked have carried their plans out
+pub all_carried : (records : List Record) (dones more : List Handed) (plans : List (List Command)) →
+    map done_by dones ≡ deeds_from 0 plans → All (HandsInAll records) (dones ++ more) → AreCarriedOut records plans
+all_carried records dones more plans same all =
+    plans_carried records plans (deeds_stand records dones plans same (All-front (HandsInAll records) dones more all))
+
+-- how many records deeds have made together
+abbrev made_in : List Deed → ℕ
+made_in deeds = sum_by (λ deed. deed.made) deeds
+
+-- they have made as many records as their plans have steps
+pub as_many_made : (dones : List Handed) (plans : List (List Command)) → map done_by dones ≡ deeds_from 0 plans →
+    made_by dones ≡ sum_by length plans
+as_many_made dones plans same = of_dones dones ∙ ap made_in same ∙ of_plans 0 plans
+  where
+    of_dones : (dones : List Handed) → made_by dones ≡ made_in (map done_by dones)
+    of_dones [] = refl
+    of_dones (one ∷ dones) =
+        omega (
+          arith,
+          sum_by-cons (λ (one : Handed). one.maker.made) one dones,
+          sum_by-cons (λ (deed : Deed). deed.made) (done_by one) (map done_by dones),
+          of_dones dones,
+        )
+
+    of_plans : (caller : ℕ) (plans : List (List Command)) → made_in (deeds_from caller plans) ≡ sum_by length plans
+    of_plans caller [] = refl
+    of_plans caller (plan ∷ plans) =
+        omega (
+          arith,
+          sum_by-cons (λ (deed : Deed). deed.made) (record { caller = caller; made = length plan; commands = plan })
+              (deeds_from (suc caller) plans),
+          sum_by-cons length plan plans,
+          of_plans (suc caller) plans,
+        )
+
+-- what the history fails is what the transport failed, once all callers have handed in
+pub failings_told : (records : List Record) (dones : List Handed) (done : Handed) (plans : List (List Command)) →
+    map done_by dones ≡ deeds_from 0 plans → All (HandsInAll records) (dones ++ done ∷ []) →
+    length records ≡ made_by (dones ++ done ∷ []) → done.maker.caller ≡ length plans →
+    done.maker.made ≡ length done.receipts → sum_by (count_by is_failing) plans ≡ 0 →
+    failings_of records ≡ failings_in done.receipts
+failings_told records dones done plans same all counted last made none =
+    let stand = deeds_stand records dones plans same (All-front (HandsInAll records) dones (done ∷ []) all) in
+    let its : commands_of (length plans) records ≡ commands_in done.receipts =
+    ap (λ caller. commands_of caller records) (sym last)
+    ∙ deed_stands records done (All-last (HandsInAll records) dones done all) in
+    failings_are_last records plans (commands_in done.receipts) stand its
+    (omega (
+      arith,
+      counted,
+      made,
+      as_many_made dones plans same,
+      sum_by_push (λ (one : Handed). one.maker.made) dones done,
+      length-map done.receipts (λ (receipt : Receipt). receipt.command),
+    )) none
+  where
+    All-last : {X : Type 0} (P : X → Type 0) (xs : List X) (x : X) → All P (xs ++ x ∷ []) → P x
+    All-last P xs x all = All-contains P (xs ++ x ∷ []) x all (Contains-push xs x)

@@ -1,4 +1,10 @@
 pub mod AcceptedCounts
+pub mod BadSteps
 pub mod Ending
+pub mod Halves
+pub mod KeptReceipts
 pub mod Passing
+pub mod PlannedSteps
+pub mod Rooms
 pub mod Settled
+pub mod Shares

@@ -1,5 +1,6 @@
 pub mod CarriedOut
 pub mod Config
+pub mod Counted
 pub mod Counts
 pub mod DriveFault
 pub mod Errand

@@ -1,17 +1,18 @@
 //! The numbers of a finished history.
 
-ghost use Rattle.std.specs.Prelude.{◌≡◌, ◌≤◌, count_by, length};
+ghost use Rattle.std.specs.Prelude.{◌≡◌, ◌<◌, ◌^◌, [], ◌∷◌, count_by, length};
 ghost use Rattle.ob_history.specs.Accepted.{accepted_commands};
-ghost use Rattle.ob_history.specs.Legal.{IsLegal};
 ghost use Rattle.ob_history.specs.Settlements.{settlements_in};
-ghost use Rattle.ob_seq.specs.Settings.{Settings};
 ghost use Rattle.ob_seq.specs.Settles.{settled_by};
-ghost use Rattle.ob_pool.specs.Counts.{bits_of, cancels_of, flushes_of, is_cancelled, is_failed, is_success};
-ghost use Rattle.ob_pool.specs.Counts.{left_of, refused_of, settled_as, taken_of, writes_of};
+ghost use Rattle.ob_pool.specs.Counted.{IsCounted};
+ghost use Rattle.ob_pool.specs.Counts.{refused_of, settled_as, taken_of};
 ghost use Rattle.ob_pool.specs.Kind.{ends_as, is_of};
 
 use crate::report::Report;
-use ob_history::{Record, Recorded};
+use ob_history::{
+    Record, Recorded, a_history_keeps_to_the_limits, a_history_settles_each_promise_once,
+    a_history_tells_each_settled_promise,
+};
 use ob_types::{Command, Outcome, Refusal, Reply};
 
 /// The commands that the report counts.
@@ -34,18 +35,12 @@ pub enum Ending {
 /// The report of a finished history of so many writers, with what is left of the words of the hand-off.
 pub fn report_of(recorded: Recorded, writers: u32, hand: (u64, u32)) -> Report
     ensures recorded { result.recorded ≡ recorded }
-    ensures writes { result.writes ≡ writes_of recorded.records }
-    ensures flushes { result.flushes ≡ flushes_of recorded.records }
-    ensures cancels { result.cancels ≡ cancels_of recorded.records }
-    ensures bits { result.bits ≡ bits_of recorded.records }
-    ensures refused { result.refused ≡ refused_of writers recorded.records }
-    ensures taken { result.taken ≡ taken_of recorded.records }
-    ensures success { result.success ≡ settled_as is_success recorded.records }
-    ensures failed { result.failed ≡ settled_as is_failed recorded.records }
-    ensures cancelled { result.cancelled ≡ settled_as is_cancelled recorded.records }
-    ensures left { result.left ≡ left_of recorded.records }
+    ensures counted { IsCounted writers result }
     ensures hand { result.hand ≡ hand }
 {
+    a_history_keeps_to_the_limits();
+    a_history_settles_each_promise_once();
+    a_history_tells_each_settled_promise();
     let records = recorded.records();
     let writes = accepted(records, Kind::Write);
     let flushes = accepted(records, Kind::Flush);

@@ -1,15 +1,25 @@
 //! A drive from its plans to its report.
 
-ghost use Rattle.std.specs.Prelude.{◌≡◌, ◌<◌, ◌≤◌, ◌+◌, ℕ, None, length, IfErr, IfOk, IfSome, IsErrOf};
+ghost use Rattle.std.specs.List.{All};
+ghost use Rattle.std.specs.Prelude.{◌≡◌, ◌<◌, ◌≤◌, ◌+◌, ◌++◌, ℕ, [], ◌∷◌, None, false, length, map};
+ghost use Rattle.std.specs.Prelude.{IfErr, IfOk, IfSome, IsErrOf, IsOkUnless, IsSome, IsSomeAnd};
 ghost use Rattle.std.specs.Int.{bit_at};
+ghost use Rattle.std.specs.Thread.{IsSync};
 ghost use Rattle.ob_core.specs.Bits.{is_set};
 ghost use Rattle.ob_history.specs.Legal.{IsLegal};
-ghost use Rattle.ob_shared.specs.Opened.{IsNameOf};
+ghost use Rattle.ob_shared.specs.Finished.{HandsInAll};
+ghost use Rattle.ob_shared.specs.Handed.{made_by};
+ghost use Rattle.ob_shared.specs.Maker.{new_makers};
+ghost use Rattle.ob_shared.specs.Opened.{IsAsOpened, IsNameOf};
 ghost use Rattle.ob_pool.specs.CarriedOut.{AreCarriedOut};
 ghost use Rattle.ob_pool.specs.Config.{AreWithin};
 ghost use Rattle.ob_pool.specs.Counts.{bits_of, cancels_of, failings_of, flushes_of, is_cancelled, is_failed, is_success};
 ghost use Rattle.ob_pool.specs.Counts.{left_of, refused_of, settled_as, taken_of, writes_of};
+ghost use Rattle.ob_pool.specs.Counted.{IsCounted};
 ghost use Rattle.ob_pool.specs.DriveFault.{number_of};
+ghost use Rattle.ob_pool.specs.Errand.{AreDone, IsRoomy, asked, deeds_from, room_for};
+ghost use Rattle.ob_pool.specs.HandOff.{rooms_of};
+ghost use Rattle.ob_pool.specs.Keeping.{failings_in};
 ghost use Rattle.ob_pool.specs.PlansFault.{plans_fault};
 
 use crate::bench::Bench;
@@ -112,6 +122,19 @@ fn driven<L: Named + Send + Sync, R: Threads + Wait + Clock + Sync, G: Gate + Sy
 ) -> Result<Report, DriveFault>
     requires name { IsNameOf opening L.opened L.name L.parts }
     requires config { AreWithin config }
+    requires plans { plans_fault config.estimate config.task plans.items ≡ None }
+    requires callers { opening.callers ≡ length plans.items + 1 }
+    ensures planned { IfErr result (λ fault. 3 < number_of fault) }
+    ensures legal { IfOk result (λ report. IsLegal report.recorded.settings report.recorded.records) }
+    ensures settings { IfOk result (λ report. report.recorded.settings ≡ opening.settings) }
+    ensures limit { IfOk result (λ report. report.recorded.limit ≡ opening.limit) }
+    ensures plans { IfOk result (λ report. AreCarriedOut report.recorded.records plans.items) }
+    ensures failings { IfOk result (λ report.
+        failings_of report.recorded.records + (S.content sink.old).failures ≤ (S.content sink.new).failures) }
+    ensures counts { IfOk result (λ report. IsCounted (length plans.items) report) }
+    ensures total { IfOk result (λ report. report.hand.0 ≡ 0) }
+    ensures clear { IfOk result (λ report. (index : ℕ) → 0 < index → bit_at report.hand.1 index ≡ 0) }
+    ensures mark { 0 < config.marks.low → IfOk result (λ report. is_set report.hand.1 0 ≡ false) }
 {
     let count = plans.len() as u32;
     let Some(room) = rooms_of(config.estimate, config.task, &plans) else {
@@ -129,13 +152,14 @@ fn driven<L: Named + Send + Sync, R: Threads + Wait + Clock + Sync, G: Gate + Sy
     };
     let bench = Bench {
         alloc,
-        gate,
-        shared: &shared,
-        words: &words,
+        shared,
+        words,
         estimate: config.estimate,
         task: config.task,
+        ended: AtomicBool::new(false),
     };
-    let ((lane, dones), carried) = run(rt, &bench, lane, writers, share, sink, config);
+    let ((lane, dones), carried) = run(rt, gate, &bench, lane, writers, share, sink, config);
+    let Bench { shared, words, .. } = bench;
     let recorded = finished(shared, dones?, carried?)?;
     let Ok(hand) = lane.finish(words) else {
         unreachable!()
@@ -149,8 +173,15 @@ fn writers_of<L: Named>(
     estimate: Estimate,
     task: u32,
     plans: Vec<Plan>,
-    mut shares: Vec<Share<L>>,
-) -> Result<Vec<Writer<L>>, DriveFault> {
+    shares: Vec<Share<L>>,
+) -> Result<Vec<Writer<L>>, DriveFault>
+    requires shares { shares.items ≡ new_makers (length plans.items) }
+    requires fits { rooms_of estimate task plans.items ≤ 4294967295 }
+    ensures no_memory { IsOkUnless result DriveFault.NoMemory }
+    ensures asked { IfOk result (λ writers. map asked writers.items ≡ deeds_from 0 plans.items) }
+    ensures roomy { IfOk result (λ writers. All (IsRoomy estimate task) writers.items) }
+    ensures room { IfOk result (λ writers. room_for writers.items ≡ rooms_of estimate task plans.items) }
+{
     let mut writers = Vec::new(alloc);
     if writers.reserve(plans.len()).is_err() {
         return Err(DriveFault::NoMemory);
@@ -169,33 +200,112 @@ fn writers_of<L: Named>(
 /// Lets all writers work, and the transport beside them, until all have ended.
 fn run<L: Named + Send + Sync, R: Threads + Wait + Clock + Sync, G: Gate + Sync, S: Sink + Send>(
     rt: &R,
-    bench: &Bench<'_, L, G>,
+    gate: &G,
+    bench: &Bench<L>,
     lane: Lane,
     writers: Vec<Writer<L>>,
     share: Share<L>,
     sink: &mut S,
     config: Config,
-) -> (Worked<L>, Result<Done<L>, DriveFault>) {
-    let ended = AtomicBool::new(false);
-    let flag = &ended;
+) -> (Worked<L>, Result<Done<L>, DriveFault>)
+    requires words { lane.words ≡ bench.now.words }
+    requires roomy { All (IsRoomy bench.now.estimate bench.now.task) writers.items }
+    requires room { room_for writers.items ≤ lane.lane.room }
+    requires whole { lane.lane.room ≤ lane.words.opening.room }
+    requires some_block { 1 ≤ config.limits.max_count }
+    requires some_byte { 1 ≤ config.limits.max_bytes }
+    ensures words { result.0.0.words ≡ lane.words }
+    ensures lane_room { result.0.0.lane.room ≡ lane.lane.room }
+    ensures done { IfOk result.0.1 (λ dones. AreDone writers.items dones.items) }
+    ensures writers { IfErr result.0.1 (λ fault. 3 < number_of fault) }
+    ensures caller { IfOk result.1 (λ done. done.maker.caller ≡ share.caller) }
+    ensures made { IfOk result.1 (λ done. done.maker.made ≡ share.made + length done.receipts) }
+    ensures failings { IfOk result.1 (λ done.
+        failings_in done.receipts + (S.content sink.old).failures ≤ (S.content sink.new).failures) }
+    ensures transport { IfErr result.1 (λ fault. 3 < number_of fault) }
+{
     let mut start = Some((lane, writers));
-    let mut mine = Some(share);
-    let mut carry = || -> Result<Done<L>, DriveFault> {
-        let Some(share) = mine.take() else {
-            unreachable!()
-        };
-        transport(rt, bench.alloc, bench.shared, share, sink, config, flag)
+    let mut side = Side {
+        bench,
+        share: Some(share),
     };
-    let mut work = || -> Worked<L> {
-        let Some((lane, writers)) = start.take() else {
-            unreachable!()
-        };
-        let worked = work_all(rt, bench, lane, writers);
-        flag.store(true, Ordering::SeqCst);
-        worked
-    };
+    let mut work = move || -> Worked<L>
+        requires row { IsSync R.row }
+        requires words { IsSomeAnd start (λ s. s.0.words ≡ bench.now.words) }
+        requires roomy { IfSome start (λ s. All (IsRoomy bench.now.estimate bench.now.task) s.1.items) }
+        requires room { IfSome start (λ s. room_for s.1.items ≤ s.0.lane.room) }
+        requires whole { IfSome start (λ s. s.0.lane.room ≤ s.0.words.opening.room) }
+        ensures words { IfSome start.entry (λ s. result.0.words ≡ s.0.words) }
+        ensures lane_room { IfSome start.entry (λ s. result.0.lane.room ≡ s.0.lane.room) }
+        ensures done { IfSome start.entry (λ s. IfOk result.1 (λ dones. AreDone s.1.items dones.items)) }
+        ensures fault { IfErr result.1 (λ fault. 3 < number_of fault) }
+    { work(rt, gate, bench, start.take()) };
+    let mut carry = || carry(rt, config, &mut side, sink);
     let (carried, worked) = join_mut(rt, &mut carry, &mut work);
     (worked, carried)
+}
+
+/// The transport's side of a drive: what it uses with the writers, and its share until it begins.
+#[derive(Drop)]
+struct Side<'d, L: Named> {
+    bench: &'d Bench<L>,
+    share: Option<Share<L>>,
+}
+
+/// Lets the transport work with the share that was made ready for it.
+fn carry<L: Named, R: Wait + Clock, S: Sink>(
+    rt: &R,
+    config: Config,
+    side: &mut Side<'_, L>,
+    sink: &mut S,
+) -> Result<Done<L>, DriveFault>
+    requires share { IsSome side.old.share }
+    requires some_block { 1 ≤ config.limits.max_count }
+    requires some_byte { 1 ≤ config.limits.max_bytes }
+    ensures caller { IfSome side.old.share (λ share. IfOk result (λ done. done.maker.caller ≡ share.caller)) }
+    ensures made { IfSome side.old.share (λ share. IfOk result (λ done.
+        done.maker.made ≡ share.made + length done.receipts)) }
+    ensures failings { IfOk result (λ done.
+        failings_in done.receipts + (S.content sink.old).failures ≤ (S.content sink.new).failures) }
+    ensures fault { IfErr result (λ fault. 3 < number_of fault) }
+{
+    let Some(share) = side.share.take() else {
+        unreachable!()
+    };
+    let bench = side.bench;
+    transport(
+        rt,
+        bench.alloc,
+        &bench.shared,
+        share,
+        sink,
+        config,
+        &bench.ended,
+    )
+}
+
+/// Lets all writers work with the lane that was made ready for them, and tells when they have ended.
+fn work<L: Named + Send + Sync, R: Threads + Wait + Clock + Sync, G: Gate + Sync>(
+    rt: &R,
+    gate: &G,
+    bench: &Bench<L>,
+    start: Option<(Lane, Vec<Writer<L>>)>,
+) -> Worked<L>
+    requires words { IsSomeAnd start (λ s. s.0.words ≡ bench.now.words) }
+    requires roomy { IfSome start (λ s. All (IsRoomy bench.now.estimate bench.now.task) s.1.items) }
+    requires room { IfSome start (λ s. room_for s.1.items ≤ s.0.lane.room) }
+    requires whole { IfSome start (λ s. s.0.lane.room ≤ s.0.words.opening.room) }
+    ensures words { IfSome start (λ s. result.0.words ≡ s.0.words) }
+    ensures lane_room { IfSome start (λ s. result.0.lane.room ≡ s.0.lane.room) }
+    ensures done { IfSome start (λ s. IfOk result.1 (λ dones. AreDone s.1.items dones.items)) }
+    ensures fault { IfErr result.1 (λ fault. 3 < number_of fault) }
+{
+    let Some((lane, writers)) = start else {
+        unreachable!()
+    };
+    let worked = work_all(rt, gate, bench, lane, writers);
+    bench.ended.store(true, Ordering::SeqCst);
+    worked
 }
 
 /// The history of a shared buffer at its end, with what its writers and its transport hand in.
@@ -203,7 +313,12 @@ fn finished<L: Named>(
     shared: SharedBuffer<L>,
     mut dones: Vec<Done<L>>,
     done: Done<L>,
-) -> Result<Recorded, DriveFault> {
+) -> Result<Recorded, DriveFault>
+    ensures planned { IfErr result (λ fault. 3 < number_of fault) }
+    ensures opened { IfOk result (λ recorded. IsAsOpened L.opened recorded) }
+    ensures counted { IfOk result (λ recorded. length recorded.records ≡ made_by (dones.items ++ done ∷ [])) }
+    ensures own { IfOk result (λ recorded. All (HandsInAll recorded.records) (dones.items ++ done ∷ [])) }
+{
     if dones.push(done).is_err() {
         return Err(DriveFault::NoMemory);
     }

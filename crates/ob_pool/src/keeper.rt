@@ -62,7 +62,7 @@ impl<'b, L: Named, K: Begun> Keeper<'b, L, K> {
         requires records { K.beginning.records ≡ desk.history.records }
         requires made { K.beginning.made ≡ desk.maker.made }
         requires receipts { K.beginning.receipts ≡ receipts.items }
-        ensures { result ≡ record { held = desk; receipts = receipts.items; lost = false; reserved = 0 } }
+        ensures { result ≡ record { held = desk.entry; receipts = receipts.items; lost = false; reserved = 0 } }
     {
         Keeper {
             desk,
@@ -98,8 +98,8 @@ impl<'b, L: Named, K: Begun> Booked for Keeper<'b, L, K> {
 
     ghost caller = { λ keeper. keeper.held.maker.caller };
 
-    /// A full history is refused first, and then want of a place for the receipt. Where the receipt of a record can't be
-    /// copied, it is lost.
+    /// A full history is refused first, and then want of a place for the receipt. Where the receipt of a record can't
+    /// be copied, it is lost.
     fn call(&mut self, command: Command) -> Result<Receipt, Refusal> {
         let Keeper {
             desk,
@@ -108,8 +108,12 @@ impl<'b, L: Named, K: Begun> Booked for Keeper<'b, L, K> {
             reserved,
             begun: _,
         } = self;
-        desk.reserve(1)?;
-        receipts.reserve(1)?;
+        if receipts.reserve(1).is_err() {
+            // A full history is refused first. How many records it has is told with the buffer.
+            let _ = desk.buffer();
+            desk.reserve(1)?;
+            return Err(Refusal::NoMemory);
+        }
         let receipt = desk.call(command)?;
         *reserved = reserved.saturating_sub(1);
         match receipt.copy() {

@@ -1,7 +1,6 @@
 //! What is wrong with plans, and the room that they need.
 
-ghost use Rattle.std.specs.Prelude.{◌≡◌, ◌≤◌};
-ghost use Rattle.ob_types.specs.PendingSize.{readable_bytes};
+ghost use Rattle.std.specs.Prelude.{◌≡◌, ◌<◌, ◌≤◌, length, IfSome, IsNone};
 ghost use Rattle.ob_pool.specs.HandOff.{charge_for, charge_of, room_of, rooms_of};
 ghost use Rattle.ob_pool.specs.Plan.{bad_step, is_planned};
 ghost use Rattle.ob_pool.specs.PlansFault.{bad_plan_from, plans_fault};
@@ -39,8 +38,9 @@ fn charge_for(estimate: Estimate, task: u32, command: &Command) -> u64
 pub fn room_of(estimate: Estimate, task: u32, plan: &Plan) -> u64
     ensures { result ≡ room_of estimate task plan.now }
 {
+    let commands = plan.commands.as_slice();
     let mut room = 0;
-    for command in &plan.commands {
+    for command in commands {
         room = room.max(charge_for(estimate, task, command));
     }
     room
@@ -82,7 +82,8 @@ fn bad_plan(plans: &[Plan]) -> Option<DriveFault>
 
 /// The room that plans need together, or nothing where that is more than a word of 32 bits counts.
 pub fn rooms_of(estimate: Estimate, task: u32, plans: &[Plan]) -> Option<u32>
-    ensures { result ≡ fitting (rooms_of estimate task plans.now) }
+    ensures fits { IfSome result (λ rooms. rooms ≡ rooms_of estimate task plans.now) }
+    ensures none { IsNone result → 4294967295 < rooms_of estimate task plans.now }
 {
     let mut rooms = 0u32;
     for plan in plans {

@@ -1,6 +1,7 @@
 //! One writer, who carries its plan out, command by command.
 
-ghost use Rattle.std.specs.Prelude.{◌≡◌, ◌≤◌, ◌⊎◌, IfOk, IfErr};
+ghost use Rattle.std.specs.Prelude.{◌≡◌, ◌<◌, ◌≤◌, IfOk, IfErr};
+ghost use Rattle.ob_pool.specs.DriveFault.{number_of};
 ghost use Rattle.ob_pool.specs.Errand.{asked, done_by, IsRoomy};
 ghost use Rattle.ob_pool.specs.HandOff.{charge_for, charge_of};
 ghost use Rattle.ob_shared.specs.Maker.{one_more};
@@ -50,15 +51,17 @@ impl<L: Named> Writer<L> {
     pub fn work<R: Wait + Clock, G: Gate>(
         self,
         rt: &R,
-        bench: &Bench<'_, L, G>,
+        gate: &G,
+        bench: &Bench<L>,
         lane: Lane,
     ) -> (Lane, Result<Done<L>, DriveFault>)
-        requires words { lane.words ≡ bench.now.words.now }
+        requires words { lane.words ≡ bench.now.words }
         requires roomy { IsRoomy bench.now.estimate bench.now.task self }
         requires room { self.room ≤ lane.lane.room }
         ensures words { result.0.words ≡ lane.words }
         ensures room { result.0.lane.room ≡ lane.lane.room }
         ensures done { IfOk result.1 (λ done. done_by done ≡ asked self) }
+        ensures fault { IfErr result.1 (λ fault. 3 < number_of fault) }
     {
         let Writer {
             share,
@@ -70,26 +73,27 @@ impl<L: Named> Writer<L> {
         if receipts.reserve(plan.commands.len()).is_err() {
             return (lane, Err(DriveFault::NoMemory));
         }
-        let mut done = Done {
-            share,
-            receipts,
-            told: Vec::new(bench.alloc),
-            seen: Vec::new(bench.alloc),
-        };
         let mut lane = lane;
+        let mut share = share;
         let mut step = 0;
         'steps: for command in plan.commands {
-            let (same, end) = one_step(rt, bench, lane, done.share, step, command);
+            let (same, end) = one_step(rt, gate, bench, lane, share, step, command);
             lane = same;
             match end {
-                Ok((share, receipt)) => {
-                    done.share = share;
-                    done.receipts.push_reserved(receipt);
+                Ok((counted, receipt)) => {
+                    share = counted;
+                    receipts.push_reserved(receipt);
                 }
                 Err(halt) => return (lane, Err(fault_of(writer, halt))),
             }
             step += 1;
         }
+        let done = Done {
+            share,
+            receipts,
+            told: Vec::new(bench.alloc),
+            seen: Vec::new(bench.alloc),
+        };
         (lane, Ok(done))
     }
 }
@@ -97,13 +101,14 @@ impl<L: Named> Writer<L> {
 /// One step of a writer, with its gate before and after it.
 fn one_step<L: Named, R: Wait + Clock, G: Gate>(
     rt: &R,
-    bench: &Bench<'_, L, G>,
+    gate: &G,
+    bench: &Bench<L>,
     lane: Lane,
     share: Share<L>,
     step: usize,
     command: Command,
 ) -> (Lane, Result<(Share<L>, Receipt), Halt>)
-    requires words { lane.words ≡ bench.now.words.now }
+    requires words { lane.words ≡ bench.now.words }
     requires room { charge_for bench.now.estimate bench.now.task command ≤ lane.lane.room }
     ensures words { result.0.words ≡ lane.words }
     ensures room { result.0.lane.room ≡ lane.lane.room }
@@ -111,15 +116,15 @@ fn one_step<L: Named, R: Wait + Clock, G: Gate>(
     ensures command { IfOk result.1 (λ made. made.1.command ≡ command) }
 {
     let writer = share.caller();
-    if bench.gate.before(rt, writer, step).is_err() {
+    if gate.before(rt, writer, step).is_err() {
         return (lane, Err(Halt::Stuck));
     }
     let (lane, end) = match command {
-        Command::Write(message) => write(rt, bench, lane, share, step, message),
-        other => (lane, one_call(rt, bench.shared, share, other)),
+        Command::Write(message) => write(rt, gate, bench, lane, share, step, message),
+        other => (lane, one_call(rt, &bench.shared, share, other)),
     };
     if end.is_ok() {
-        bench.gate.after(rt, writer, step);
+        gate.after(rt, writer, step);
     }
     (lane, end)
 }
@@ -127,13 +132,14 @@ fn one_step<L: Named, R: Wait + Clock, G: Gate>(
 /// Hands a message to the buffer, with its charge in the lane meanwhile.
 fn write<L: Named, R: Wait + Clock, G: Gate>(
     rt: &R,
-    bench: &Bench<'_, L, G>,
+    gate: &G,
+    bench: &Bench<L>,
     lane: Lane,
     share: Share<L>,
     step: usize,
     message: Message,
 ) -> (Lane, Result<(Share<L>, Receipt), Halt>)
-    requires words { lane.words ≡ bench.now.words.now }
+    requires words { lane.words ≡ bench.now.words }
     requires room { charge_of bench.now.estimate bench.now.task message ≤ lane.lane.room }
     ensures words { result.0.words ≡ lane.words }
     ensures room { result.0.lane.room ≡ lane.lane.room }
@@ -142,15 +148,15 @@ fn write<L: Named, R: Wait + Clock, G: Gate>(
 {
     let writer = share.caller();
     let charge = charge_of(bench.estimate, bench.task, &message) as u32;
-    let Ok((mut charged, _change)) = lane.charge(bench.words, charge) else {
+    let Ok((mut charged, _change)) = lane.charge(&bench.words, charge) else {
         unreachable!()
     };
-    let total = charged.total(bench.words);
-    let end = match bench.gate.during(rt, writer, step, total) {
-        Ok(()) => one_call(rt, bench.shared, share, Command::Write(message)),
+    let total = charged.total(&bench.words);
+    let end = match gate.during(rt, writer, step, total) {
+        Ok(()) => one_call(rt, &bench.shared, share, Command::Write(message)),
         Err(Stuck) => Err(Halt::Stuck),
     };
-    let (lane, _change) = charged.discharge(bench.words);
+    let (lane, _change) = charged.discharge(&bench.words);
     (lane, end)
 }
 
@@ -174,7 +180,9 @@ fn one_call<L: Named, R: Wait>(
 }
 
 /// The fault of a drive whose writer ended so.
-fn fault_of(writer: u32, halt: Halt) -> DriveFault {
+fn fault_of(writer: u32, halt: Halt) -> DriveFault
+    ensures { 3 < number_of result }
+{
     match halt {
         Halt::Stuck => DriveFault::Stuck { writer },
         Halt::Refused(Refusal::NoMemory) => DriveFault::NoMemory,

@@ -1,8 +1,9 @@
 //! All writers, in threads of their own.
 
-ghost use Rattle.std.specs.Prelude.{◌≡◌, ◌+◌, ◌<◌, ◌≤◌, ◌^◌, ◌++◌, IfOk, IsOkAnd, vec_len};
+ghost use Rattle.std.specs.Prelude.{◌≡◌, ◌+◌, ◌<◌, ◌≤◌, ◌^◌, ◌++◌, IfErr, IfOk, IsOkAnd, vec_len};
 ghost use Rattle.std.specs.List.{All};
 ghost use Rattle.std.specs.Thread.{IsSync};
+ghost use Rattle.ob_pool.specs.DriveFault.{number_of};
 ghost use Rattle.ob_pool.specs.Errand.{AreDone, IsRoomy, room_for};
 
 use crate::bench::Bench;
@@ -23,35 +24,40 @@ pub type Worked<L> = (Lane, Result<Vec<Done<L>>, DriveFault>);
 #[cycle(work)]
 pub fn work_all<L: Named + Send + Sync, R: Threads + Wait + Clock + Sync, G: Gate + Sync>(
     rt: &R,
-    bench: &Bench<'_, L, G>,
+    gate: &G,
+    bench: &Bench<L>,
     lane: Lane,
     mut writers: Vec<Writer<L>>,
 ) -> Worked<L>
-    requires words { lane.words ≡ bench.now.words.now }
+    requires words { lane.words ≡ bench.now.words }
     requires roomy { All (IsRoomy bench.now.estimate bench.now.task) writers.items }
     requires room { room_for writers.items ≤ lane.lane.room }
     requires whole { lane.lane.room ≤ lane.words.opening.room }
     ensures words { result.0.words ≡ lane.words }
     ensures room { result.0.lane.room ≡ lane.lane.room }
     ensures done { IfOk result.1 (λ dones. AreDone writers.items dones.items) }
+    ensures fault { IfErr result.1 (λ fault. 3 < number_of fault) }
 {
     if writers.len() < 2 {
-        return at_most_one(rt, bench, lane, writers);
+        return at_most_one(rt, gate, bench, lane, writers);
     }
     let Ok(others) = writers.split_off(writers.len() / 2) else {
         return (lane, Err(DriveFault::NoMemory));
     };
-    let Ok((lane, other)) = lane.split(bench.words, room_for(&others), 0) else {
+    // A room is a word of 32 bits.
+    let _most = lane.room();
+    let Ok((lane, other)) = lane.split(&bench.words, room_for(&others), 0) else {
         unreachable!()
     };
-    both_halves(rt, bench, lane, writers, other, others)
+    both_halves(rt, gate, bench, lane, writers, other, others)
 }
 
 /// Lets two lists of writers work at the same time.
 #[cycle(work)]
 fn both_halves<L: Named + Send + Sync, R: Threads + Wait + Clock + Sync, G: Gate + Sync>(
     rt: &R,
-    bench: &Bench<'_, L, G>,
+    gate: &G,
+    bench: &Bench<L>,
     lane: Lane,
     writers: Vec<Writer<L>>,
     other: Lane,
@@ -59,8 +65,8 @@ fn both_halves<L: Named + Send + Sync, R: Threads + Wait + Clock + Sync, G: Gate
 ) -> Worked<L>
     requires some { 0 < vec_len writers }
     requires some_other { 0 < vec_len others }
-    requires words { lane.words ≡ bench.now.words.now }
-    requires other_words { other.words ≡ bench.now.words.now }
+    requires words { lane.words ≡ bench.now.words }
+    requires other_words { other.words ≡ bench.now.words }
     requires roomy { All (IsRoomy bench.now.estimate bench.now.task) writers.items }
     requires others_roomy { All (IsRoomy bench.now.estimate bench.now.task) others.items }
     requires room { room_for writers.items ≤ lane.lane.room }
@@ -69,29 +75,32 @@ fn both_halves<L: Named + Send + Sync, R: Threads + Wait + Clock + Sync, G: Gate
     ensures words { result.0.words ≡ lane.words }
     ensures room { result.0.lane.room ≡ lane.lane.room + other.lane.room }
     ensures done { IfOk result.1 (λ dones. AreDone (writers.items ++ others.items) dones.items) }
+    ensures fault { IfErr result.1 (λ fault. 3 < number_of fault) }
 {
     let first = move || -> Worked<L>
         requires row { IsSync R.row }
-        requires words { lane.words ≡ bench.now.words.now }
+        requires words { lane.words ≡ bench.now.words }
         requires roomy { All (IsRoomy bench.now.estimate bench.now.task) writers.items }
         requires room { room_for writers.items ≤ lane.lane.room }
         requires whole { lane.lane.room ≤ lane.words.opening.room }
         ensures words { result.0.words ≡ lane.words }
         ensures room { result.0.lane.room ≡ lane.lane.room }
         ensures done { IfOk result.1 (λ dones. AreDone writers.items dones.items) }
-    { work_all(rt, bench, lane, writers) };
+        ensures fault { IfErr result.1 (λ fault. 3 < number_of fault) }
+    { work_all(rt, gate, bench, lane, writers) };
     let second = move || -> Worked<L>
         requires row { IsSync R.row }
-        requires words { other.words ≡ bench.now.words.now }
+        requires words { other.words ≡ bench.now.words }
         requires roomy { All (IsRoomy bench.now.estimate bench.now.task) others.items }
         requires room { room_for others.items ≤ other.lane.room }
         requires whole { other.lane.room ≤ other.words.opening.room }
         ensures words { result.0.words ≡ other.words }
         ensures room { result.0.lane.room ≡ other.lane.room }
         ensures done { IfOk result.1 (λ dones. AreDone others.items dones.items) }
-    { work_all(rt, bench, other, others) };
+        ensures fault { IfErr result.1 (λ fault. 3 < number_of fault) }
+    { work_all(rt, gate, bench, other, others) };
     let ((lane, dones), (other, more)) = join(rt, first, second);
-    (lane.join(bench.words, other), both_handed(dones, more))
+    (lane.join(&bench.words, other), both_handed(dones, more))
 }
 
 /// What two lists of writers hand in together.
@@ -101,6 +110,8 @@ fn both_handed<L: Named>(
 ) -> Result<Vec<Done<L>>, DriveFault>
     ensures first { IfOk result (λ all. IsOkAnd dones (λ one. IsOkAnd more (λ other.
         all.items ≡ one.items ++ other.items))) }
+    ensures fault { IfErr dones (λ fault. 3 < number_of fault) → IfErr more (λ fault. 3 < number_of fault)
+        → IfErr result (λ fault. 3 < number_of fault) }
 {
     let mut dones = dones?;
     let mut more = more?;
@@ -113,17 +124,19 @@ fn both_handed<L: Named>(
 /// Lets one writer work, or none.
 fn at_most_one<L: Named, R: Wait + Clock, G: Gate>(
     rt: &R,
-    bench: &Bench<'_, L, G>,
+    gate: &G,
+    bench: &Bench<L>,
     lane: Lane,
     mut writers: Vec<Writer<L>>,
 ) -> Worked<L>
     requires few { vec_len writers < 2 }
-    requires words { lane.words ≡ bench.now.words.now }
+    requires words { lane.words ≡ bench.now.words }
     requires roomy { All (IsRoomy bench.now.estimate bench.now.task) writers.items }
     requires room { room_for writers.items ≤ lane.lane.room }
     ensures words { result.0.words ≡ lane.words }
     ensures room { result.0.lane.room ≡ lane.lane.room }
     ensures done { IfOk result.1 (λ dones. AreDone writers.items dones.items) }
+    ensures fault { IfErr result.1 (λ fault. 3 < number_of fault) }
 {
     let mut dones = Vec::new(bench.alloc);
     let Some(writer) = writers.pop() else {
@@ -132,7 +145,7 @@ fn at_most_one<L: Named, R: Wait + Clock, G: Gate>(
     if dones.reserve(1).is_err() {
         return (lane, Err(DriveFault::NoMemory));
     }
-    let (lane, end) = writer.work(rt, bench, lane);
+    let (lane, end) = writer.work(rt, gate, bench, lane);
     match end {
         Ok(done) => {
             dones.push_reserved(done);

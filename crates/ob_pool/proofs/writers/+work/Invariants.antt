@@ -7,8 +7,8 @@ decreases-work_all g l = 3 * length l.writers.items
 abbrev pub decreases-both_halves : goal.decreases-both_halves
 decreases-both_halves g l = 3 * (length l.writers.items + length l.others.items) - 1
 
-abbrev pub decreases-first : goal.decreases-first
-decreases-first g l = 3 * length l.writers.items + 1
+abbrev pub decreases-both_halves-first : goal.decreases-both_halves-first
+decreases-both_halves-first g l = 3 * length l.writers.items + 1
 
-abbrev pub decreases-second : goal.decreases-second
-decreases-second g l = 3 * length l.others.items + 1
+abbrev pub decreases-both_halves-second : goal.decreases-both_halves-second
+decreases-both_halves-second g l = 3 * length l.others.items + 1

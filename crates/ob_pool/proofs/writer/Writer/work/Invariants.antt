@@ -8,9 +8,10 @@ abbrev pub invariant-steps : goal.invariant-steps
 invariant-steps g l = record {
   words : l.lane.words ≡ l.fn.lane.words;
   room : l.lane.lane.room ≡ l.fn.lane.lane.room;
-  roomy : room_of l.bench.now.estimate l.bench.now.task l.command-iterator.rest.items ≤ l.fn.self.room;
-  caller : l.done.share.caller ≡ l.fn.self.maker.caller;
-  commands : commands_in l.done.receipts.items ++ l.command-iterator.rest.items ≡ l.fn.self.plan;
-  places : vec_len l.done.receipts + length l.command-iterator.rest.items ≤ vec_capacity l.done.receipts;
-  step : l.step ≡ vec_len l.done.receipts;
+  roomy : room_of l.bench.estimate l.bench.task l.command-iterator.rest.items ≤ l.fn.self.room;
+  caller : l.share.caller ≡ l.fn.self.maker.caller;
+  made : l.share.made ≡ l.fn.self.maker.made + vec_len l.receipts;
+  commands : commands_in l.receipts.items ++ l.command-iterator.rest.items ≡ l.fn.self.plan;
+  places : vec_len l.receipts + length l.command-iterator.rest.items ≤ vec_capacity l.receipts;
+  step : l.step ≡ vec_len l.receipts;
 }

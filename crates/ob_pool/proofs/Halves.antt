@@ -1,0 +1,41 @@
+-- What two lists of writers do is what their list does.
+use Rattle.std.proofs.Common.{◌≡◌, ℕ, ◌+◌, ◌≤◌, true, false, eqb, List, ◌++◌, map, take, drop, refl, sym, ap, ◌∙◌, ap₂, subst, arith}
+use Rattle.std.specs.Prelude.{bit_or, nat_lt, None}
+use Rattle.std.proofs.lemmas.Bool.{eq-eqb}
+use Rattle.std.proofs.lemmas.Bool.Decides.{nat_tests}
+use Rattle.std.proofs.lemmas.Nat.Bits.{bit_at-zero, bit_at_or, same_from_bits}
+use Rattle.ob_core.specs.declared.lane.Lane.{Lane}
+use Rattle.ob_lanes.specs.Split.{split_fault}
+use Rattle.std.proofs.lemmas.List.{map-append, take-append-drop}
+use Rattle.ob_shared.specs.Handed.{Handed}
+use Rattle.std.proofs.lemmas.List.Sums.{sum_by-take-drop}
+use Rattle.ob_pool.specs.Errand.{AreDone, Errand, asked, done_by, room_for}
+
+-- two lists of errands that are done one behind the other
+pub both_done : (errands others : List Errand) (dones more all : List Handed) → AreDone errands dones →
+    AreDone others more → all ≡ dones ++ more → AreDone (errands ++ others) all
+both_done errands others dones more all done too is =
+    ap (map done_by) is ∙ map-append done_by dones more ∙ ap₂ ◌++◌ done too ∙ sym (map-append asked errands others)
+
+-- the two parts of a list of errands
+pub parts_done : (at : ℕ) (errands first second : List Errand) (dones : List Handed) → first ≡ take at errands →
+    second ≡ drop at errands → AreDone (first ++ second) dones → AreDone errands dones
+parts_done at errands first second dones front back done =
+    subst (λ whole. AreDone whole dones) (ap₂ ◌++◌ front back ∙ take-append-drop at errands) done
+
+-- a lane that has room enough is split
+pub splits : (lane : Lane) (room : ℕ) → room ≤ lane.room → split_fault lane room 0 ≡ None
+splits lane room enough =
+    let has_room : nat_lt lane.room room ≡ false = grind (arith, nat_tests, enough) in
+    let holds_none : bit_or lane.held 0 ≡ lane.held = same_from_bits (bit_or lane.held 0) lane.held
+    (λ i. omega (arith, bit_at_or lane.held 0 i, bit_at-zero i)) in
+    rw (has_room, holds_none, eqb_same lane.held) refl
+  where
+    eqb_same : (n : ℕ) → eqb n n ≡ true
+    eqb_same n = eq-eqb n n refl
+
+-- the room of a list of errands is that of its two parts
+pub rooms_of_parts : (at : ℕ) (errands first second : List Errand) → first ≡ take at errands → second ≡ drop at errands →
+    room_for first + room_for second ≡ room_for errands
+rooms_of_parts at errands first second front back =
+    ap₂ (λ one other. room_for one + room_for other) front back ∙ sum_by-take-drop (λ (errand : Errand). errand.room) errands at

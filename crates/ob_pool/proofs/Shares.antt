@@ -1,0 +1,81 @@
+-- The shares of a drive: one for each writer, and the last one.
+use Rattle.std.proofs.Common.{◌≡◌, ℕ, suc, ◌+◌, ◌≤◌, List, [], ◌∷◌, ◌++◌, length, map, sym, ap, ap₂, ◌∙◌, subst, append_assoc, arith}
+use Rattle.std.specs.List.{All, range_with_len}
+use Rattle.std.proofs.lemmas.List.{map-append, same_from_push}
+use Rattle.std.proofs.lemmas.List.Elements.{All-append, All-cons, All-nil}
+use Rattle.std.proofs.lemmas.List.FromFn.{map-range_with_len_more}
+use Rattle.std.proofs.lemmas.List.Sums.{sum_by-cons, sum_by_push}
+use Rattle.ob_types.specs.declared.command.Command.{Command}
+use Rattle.ob_types.specs.declared.estimate.Estimate.{Estimate}
+use Rattle.ob_pool.specs.Errand.{Deed, Errand, IsRoomy, asked, deeds_from, room_for}
+use Rattle.ob_pool.specs.HandOff.{room_of, rooms_of}
+use Rattle.ob_shared.specs.Maker.{Maker, new_maker, new_makers}
+
+-- new shares without the last are those of the writers, and the last is the next caller's
+pub last_maker : (writers callers : ℕ) (shares first : List Maker) (last : Maker) → shares ≡ new_makers callers →
+    callers ≡ writers + 1 → shares ≡ first ++ last ∷ [] → (first ≡ new_makers writers) × (last ≡ new_maker writers)
+last_maker writers callers shares first last new one_more split =
+    let same : 0 + writers ≡ writers = omega arith in
+    same_from_push first (new_makers writers) last (new_maker writers)
+    (sym split ∙ new ∙ ap new_makers one_more ∙ map-range_with_len_more new_maker 0 writers writers same)
+
+-- the next share is the next caller's, and those behind it are of the callers behind that
+pub next_share : (next after : ℕ) (shares rest : List Maker) (share : Maker) (plan : List Command) (plans more : List (List Command)) →
+    shares ≡ map new_maker (range_with_len next (length plans)) → plans ≡ plan ∷ more → shares ≡ share ∷ rest →
+    after ≡ next + 1 →
+    (share ≡ new_maker next) × (rest ≡ map new_maker (range_with_len after (length more)))
+next_share next after shares rest share plan plans more are begin split one_more =
+    let whole = sym split ∙ are ∙ ap (λ others. map new_maker (range_with_len next (length others))) begin in (
+      first_of share (new_maker next) rest _ whole,
+      rest_of share (new_maker next) rest _ whole ∙ ap (λ caller. map new_maker (range_with_len caller (length more))) (sym one_more),
+    )
+  where
+    first_of : (x y : Maker) (xs ys : List Maker) → x ∷ xs ≡ y ∷ ys → x ≡ y
+    first_of x y xs ys same = cc
+
+    rest_of : (x y : Maker) (xs ys : List Maker) → x ∷ xs ≡ y ∷ ys → xs ≡ ys
+    rest_of x y xs ys same = cc
+
+-- a caller, how many records it has made, and commands
+abbrev deed : ℕ → ℕ → List Command → Deed
+deed caller made commands = record { caller = caller; made = made; commands = commands }
+
+-- what writers and the plans behind them are asked stays the same with one more writer
+pub asked_more : (next after : ℕ) (errands all : List Errand) (errand : Errand) (plans more : List (List Command)) (whole : List Deed) →
+    map asked errands ++ deeds_from next plans ≡ whole → plans ≡ errand.plan ∷ more → errand.maker ≡ new_maker next →
+    after ≡ next + 1 → all ≡ errands ++ errand ∷ [] → map asked all ++ deeds_from after more ≡ whole
+asked_more next after errands all errand plans more whole before begin share one_more pushed =
+    let later : after ≡ suc next = omega (arith, one_more) in
+    let made : 0 + length errand.plan ≡ length errand.plan = omega arith in
+    let its = ap (λ (maker : Maker). deed maker.caller (maker.made + length errand.plan) errand.plan) share
+    ∙ ap (λ count. deed next count errand.plan) made in
+    ap (λ es. map asked es ++ deeds_from after more) pushed
+    ∙ ap (λ deeds. deeds ++ deeds_from after more) (map-append asked errands (errand ∷ []))
+    ∙ append_assoc (map asked errands) (asked errand ∷ []) (deeds_from after more)
+    ∙ ap₂ (λ one others. map asked errands ++ one ∷ others) its (ap (λ caller. deeds_from caller more) later)
+    ∙ ap (λ others. map asked errands ++ deeds_from next others) (sym begin) ∙ before
+
+-- the room of writers and of the plans behind them stays the same with one more writer
+pub rooms_more : (estimate : Estimate) (task : ℕ) (errands all : List Errand) (errand : Errand) (plans more : List (List Command)) (whole : ℕ) →
+    room_for errands + rooms_of estimate task plans ≡ whole → plans ≡ errand.plan ∷ more →
+    errand.room ≡ room_of estimate task errand.plan → all ≡ errands ++ errand ∷ [] →
+    room_for all + rooms_of estimate task more ≡ whole
+rooms_more estimate task errands all errand plans more whole before begin room pushed =
+    omega (
+      arith,
+      before,
+      room,
+      ap room_for pushed,
+      sum_by_push (λ (errand : Errand). errand.room) errands errand,
+      ap (rooms_of estimate task) begin,
+      sum_by-cons (room_of estimate task) errand.plan more,
+    )
+
+-- all errands have room with one more that has
+pub roomy_more : (estimate : Estimate) (task : ℕ) (errands all : List Errand) (errand : Errand) →
+    All (IsRoomy estimate task) errands → errand.room ≡ room_of estimate task errand.plan →
+    all ≡ errands ++ errand ∷ [] → All (IsRoomy estimate task) all
+roomy_more estimate task errands all errand roomy room pushed =
+    subst (All (IsRoomy estimate task)) (sym pushed)
+    (All-append (IsRoomy estimate task) errands (errand ∷ []) roomy
+    (All-cons (IsRoomy estimate task) errand [] (omega (arith, room)) (All-nil (IsRoomy estimate task))))
