@@ -125,7 +125,8 @@ settled_as kind records = count_by (λ settlement. kind settlement.1) (settlemen
 -- how many accepted writes of a history have a promise that is not settled
 abbrev pub left_of : List Record → ℕ
 left_of records =
-    count_by (λ id. times_settled (record { 0 = id }) (settlements_in records) == 0) (range_with_len 0 (writes_of records))
+    count_by (λ id. times_settled (record { 0 = id }) (settlements_in records) == 0)
+    (range_with_len 0 (writes_of records))
 
 -- how many records of a history fail what is flushed
 abbrev pub failings_of : List Record → ℕ

@@ -42,14 +42,14 @@ impl Gate for OpenGate {
 
     fn during<R: Wait + Clock>(
         &self,
-        _rt: &R,
-        _writer: u32,
-        _step: usize,
+        rt: &R,
+        writer: u32,
+        step: usize,
         _total: u64,
     ) -> Result<(), Stuck>
         ensures { IsOk result }
     {
-        Ok(())
+        self.before(rt, writer, step)
     }
 
     fn after<R: Wait + Clock>(&self, _rt: &R, _writer: u32, _step: usize) {}

@@ -98,8 +98,8 @@ impl<'b, L: Named, K: Begun> Booked for Keeper<'b, L, K> {
 
     ghost caller = { λ keeper. keeper.held.maker.caller };
 
-    /// A full history is refused first, and then want of a place for the receipt. Where the receipt of a record can't be
-    /// copied, it is lost.
+    /// A full history is refused first, and then want of a place for the receipt. Where the receipt of a record can't
+    /// be copied, it is lost.
     fn call(&mut self, command: Command) -> Result<Receipt, Refusal> {
         let Keeper {
             desk,

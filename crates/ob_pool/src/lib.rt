@@ -1,7 +1,7 @@
 //! Writers in threads of their own, and beside them one transport, over one shared buffer.
 //!
-//! Each writer has a plan of commands, a share of the buffer, and a lane, which it charges with a message while it hands
-//! that to the buffer. `drive` carries all plans out, and answers the finished history with its numbers.
+//! Each writer has a plan of commands, a share of the buffer, and a lane, which it charges with a message while it
+//! hands that to the buffer. `drive` carries all plans out, and answers the finished history with its numbers.
 #![tactic(auto)]
 
 mod bench;

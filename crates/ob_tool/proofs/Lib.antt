@@ -9,4 +9,5 @@ pub mod TraceLemmas
 pub mod EntryLemmas
 pub mod DriveScriptLemmas
 mod CoreRows
+mod DriveRows
 mod Rows

@@ -1,8 +1,8 @@
 //! What is read of a drive script: the plans of its writers, the steps of its sink, and its faulty lines.
 
 use crate::drive_run::read_lines;
+use crate::entry::entry;
 use crate::plans::plans;
-use crate::run_fault::RunFault;
 use ob_transport::SinkStep;
 use std::test::Fail;
 
@@ -82,17 +82,20 @@ fn tells_the_first_fault_of_a_drive_line(rt: HostRuntime) -> Result<(), Fail> {
     ];
     for (line, fault) in cases {
         let script = format!(in rt.alloc(); "then 1\nturns 1\nb 63 1048576 1\n{line}\nf 64\n")?;
-        let Err(
-            RunFault::Line {
-                line: number,
-                fault: told,
-            },
-        ) = read_lines(rt.alloc(), script.as_bytes())
-        else {
-            return Err(Fail::from("it was read"));
-        };
-        assert_eq!(rt; number, 4, "{line}");
-        assert_eq!(rt; told.number(), fault, "{line}");
+        let expected = format!(in rt.alloc(); "line 4: fault {fault}\n")?;
+        let mut reader = script.as_bytes();
+        let mut written: Vec<u8> = Vec::new(rt.alloc());
+        let mut told: Vec<u8> = Vec::new(rt.alloc());
+        let status = entry(
+            &rt,
+            &["ob_tool", "drive"],
+            &mut reader,
+            &mut written,
+            &mut told,
+        );
+        assert_eq!(rt; told.as_slice(), expected.as_bytes(), "{line}");
+        assert_eq!(rt; status, 2, "{line}");
+        assert_eq!(rt; written.len(), 0, "{line}");
     }
     Ok(())
 }

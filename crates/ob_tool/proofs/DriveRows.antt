@@ -1,0 +1,62 @@
+-- The definitions of drive scripts at worked rows, by computation.
+use Rattle.std.proofs.Common.{◌≡◌, ℕ, List, [], ◌∷◌, ◌++◌, refl, codes, true, false, Some}
+use Rattle.std.specs.Fmt.{digits, padded_integral, char_count}
+use Rattle.ob_transport.specs.declared.script.SinkStep.TheVariants.{Take, Fail}
+use Rattle.ob_types.specs.declared.command.Command.TheVariants.{Write, Flush, Cancel, UserBit}
+use Rattle.ob_types.specs.declared.message.Message.TheVariants.{Block, Region, Other}
+use Rattle.ob_tool.specs.DriveScript.{drive_language, most_after, most_turns, plans_of, steps_of}
+use Rattle.ob_tool.specs.DriveText.{hand_text, number_line}
+use Rattle.ob_tool.specs.Script.{script_fault, script_lines}
+use Rattle.ob_tool.specs.declared.line_fault.LineFault.TheVariants.{Misplaced, OutOfRange}
+
+abbrev newline : List ℕ
+newline = 10 ∷ []
+
+-- a script with a line of each word, and a writer without lines
+abbrev script : List ℕ
+script =
+    codes "b 3 2 2" ++ newline ++ codes "f 1" ++ newline ++ codes "take 4" ++ newline ++ codes "r 1 9" ++ newline
+    ++ codes "o 0 7" ++ newline ++ codes "fail 9" ++ newline ++ codes "x 3 7" ++ newline ++ codes "then 0" ++ newline
+    ++ codes "u 0 255 1" ++ newline ++ codes "turns 5" ++ newline ++ codes "u 0 1 0"
+
+-- the plans of its writers
+the_plans : plans_of (script_lines drive_language script)
+    ≡ (Write (Other 7) ∷ UserBit 255 true ∷ UserBit 1 false ∷ []) ∷ (Flush ∷ Write (Region 9) ∷ []) ∷ []
+    ∷ (Write (Block (3 ∷ 3 ∷ [])) ∷ Write (Block (3 ∷ 3 ∷ [])) ∷ Cancel (record { 0 = 7 }) ∷ []) ∷ []
+the_plans = refl
+
+-- the steps of its sink, what the sink takes behind them, and how many passes there are
+the_steps : steps_of (script_lines drive_language script) ≡ Take 4 ∷ Fail 9 ∷ []
+the_steps = refl
+
+nothing_behind_them : most_after (script_lines drive_language script) ≡ 0
+nothing_behind_them = refl
+
+the_passes : most_turns (script_lines drive_language script) ≡ 5
+the_passes = refl
+
+-- a script of no bytes has no plan, a sink that takes all, and a million passes
+no_plans : plans_of (script_lines drive_language []) ≡ []
+no_plans = refl
+
+all_is_taken : most_after (script_lines drive_language []) ≡ 18446744073709551615
+all_is_taken = refl
+
+a_million_passes : most_turns (script_lines drive_language []) ≡ 1000000
+a_million_passes = refl
+
+-- a second line with `then`, and a 65th writer
+told_twice : script_fault drive_language (codes "then 7" ++ newline ++ codes "f 0" ++ newline ++ codes "then 7") ≡ Some (3, Misplaced)
+told_twice = refl
+
+no_such_writer : script_fault drive_language (codes "f 63" ++ newline ++ codes "f 64") ≡ Some (2, OutOfRange)
+no_such_writer = refl
+
+-- two lines of a report
+a_number : number_line (codes "writes") 100 ≡ codes "writes 100" ++ newline
+unfolding digits padded_integral char_count
+a_number = refl
+
+at_rest : hand_text (0, 0) ≡ codes "hand 0 00000000" ++ newline
+unfolding digits padded_integral char_count
+at_rest = refl
