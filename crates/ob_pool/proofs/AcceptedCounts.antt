@@ -95,7 +95,8 @@ taken_within records index one taken more so_far here within is fits =
     let first = taken_of_both (one ∷ []) (drop (index + 1) records) in
     omega (arith, so_far, here, fits, whole, both, rest, first)
 
-removal_within : (most : ℕ) (command : Command) → ((n : ℕ) → command ≡ RemoveBytes n → n ≤ most) → removed_by command ≤ most
+removal_within : (most : ℕ) (command : Command) → ((n : ℕ) → command ≡ RemoveBytes n → n ≤ most) →
+    removed_by command ≤ most
 removal_within most (Write message) law = omega arith
 removal_within most Flush law = omega arith
 removal_within most Remove law = omega arith

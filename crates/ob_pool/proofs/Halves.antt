@@ -35,7 +35,9 @@ splits lane room enough =
     eqb_same n = eq-eqb n n refl
 
 -- the room of a list of errands is that of its two parts
-pub rooms_of_parts : (at : ℕ) (errands first second : List Errand) → first ≡ take at errands → second ≡ drop at errands →
+pub rooms_of_parts : (at : ℕ) (errands first second : List Errand) → first ≡ take at errands →
+    second ≡ drop at errands →
     room_for first + room_for second ≡ room_for errands
 rooms_of_parts at errands first second front back =
-    ap₂ (λ one other. room_for one + room_for other) front back ∙ sum_by-take-drop (λ (errand : Errand). errand.room) errands at
+    ap₂ (λ one other. room_for one + room_for other) front back
+    ∙ sum_by-take-drop (λ (errand : Errand). errand.room) errands at

@@ -23,7 +23,8 @@ pub kept_more : (beginning : Beginning) (held after : Held) (receipts : List Rec
 kept_more beginning held after receipts one kept records made =
     record {
       more = kept.more ++ one ∷ [];
-      records = records ∙ ap (λ all. all ++ one ∷ []) kept.records ∙ append_assoc beginning.records kept.more (one ∷ []);
+      records = records ∙ ap (λ all. all ++ one ∷ []) kept.records
+          ∙ append_assoc beginning.records kept.more (one ∷ []);
       made = omega (arith, made, kept.made, length_push kept.more one);
       kept = ap (λ all. all ++ receipt_of one ∷ []) kept.kept
           ∙ append_assoc beginning.receipts (map receipt_of kept.more) (receipt_of one ∷ [])

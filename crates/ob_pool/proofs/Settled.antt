@@ -79,7 +79,8 @@ open_or_settled (suc id) settlements once =
     let is_open : ℕ → Bool = λ k. times_settled (record { 0 = k }) settlements == 0 in
     let same : 0 + id ≡ id = omega arith in
     let pushed : open_below (suc id) settlements ≡ open_below id settlements + cond (is_open id) 1 0 =
-    ap (count_by is_open) (one_more_number 0 id) ∙ sum_by_push (λ k. cond (is_open k) 1 0) (range_with_len 0 id) (0 + id)
+    ap (count_by is_open) (one_more_number 0 id)
+    ∙ sum_by_push (λ k. cond (is_open k) 1 0) (range_with_len 0 id) (0 + id)
     ∙ ap (λ k. open_below id settlements + cond (is_open k) 1 0) same in
     omega (
       arith,

@@ -27,7 +27,8 @@ pub next_share : (next after : ℕ) (shares rest : List Maker) (share : Maker) (
 next_share next after shares rest share plan plans more are begin split one_more =
     let whole = sym split ∙ are ∙ ap (λ others. map new_maker (range_with_len next (length others))) begin in (
       first_of share (new_maker next) rest _ whole,
-      rest_of share (new_maker next) rest _ whole ∙ ap (λ caller. map new_maker (range_with_len caller (length more))) (sym one_more),
+      rest_of share (new_maker next) rest _ whole
+          ∙ ap (λ caller. map new_maker (range_with_len caller (length more))) (sym one_more),
     )
   where
     first_of : (x y : Maker) (xs ys : List Maker) → x ∷ xs ≡ y ∷ ys → x ≡ y

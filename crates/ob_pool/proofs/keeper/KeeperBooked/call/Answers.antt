@@ -25,7 +25,8 @@ invariant_of-self-2 g c =
         omega (arith, kept.1, places, c.reserve.ensures.len, c.reserve.ensures.capacity, c.saturating_sub.ensures, w.push_reserved.ensures.len, w.push_reserved.ensures.capacity),
         (λ found.
             let copied = w.in-Ok.ensures.same ∙ made.0 in
-            let pushed = w.push_reserved.ensures.items ∙ ap₂ (λ all one. all ++ one ∷ []) c.reserve.ensures.items copied in
+            let pushed = w.push_reserved.ensures.items
+            ∙ ap₂ (λ all one. all ++ one ∷ []) c.reserve.ensures.items copied in
             subst (KeptSince g.K.Begun.beginning c.call.new.self) (sym pushed)
             (kept_more g.K.Begun.beginning old.desk c.call.new.self old.receipts.items one (kept.2 found) records
             (ap (λ (maker : Maker). maker.made) c.in_ok-receipt.ensures.made))),
