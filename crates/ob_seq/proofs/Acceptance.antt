@@ -1,15 +1,8 @@
 -- An open history, and replies by their parts.
-use Rattle.std.proofs.Common.{◌≡◌, false, List, sym, ap, ◌∙◌}
-use Rattle.std.specs.Prelude.{Option}
-use Rattle.ob_types.specs.declared.command.Command.{Command}
-use Rattle.ob_types.specs.declared.promise.PromiseId.{PromiseId}
-use Rattle.ob_types.specs.declared.promise.Outcome.{Outcome}
+use Rattle.ob_seq.proofs.Words.{◌≡◌, false, List, sym, ap, ◌∙◌, Option, Command, PromiseId, Outcome, Reply, Settings}
+use Rattle.ob_seq.proofs.Words.{is_closed, Pending, StandsFor}
 use Rattle.ob_types.specs.declared.reply.Answer.{Answer}
 use Rattle.ob_types.specs.declared.reply.Change.{Change}
-use Rattle.ob_types.specs.declared.reply.Reply.{Reply}
-use Rattle.ob_seq.specs.Settings.{Settings}
-use Rattle.ob_seq.specs.Closed.{is_closed}
-use Rattle.ob_seq.specs.Pending.{Pending, StandsFor}
 
 -- the history of a buffer that is not closed is not
 pub open_history : (settings : Settings) (commands : List Command) (command : Command) (buffer : Pending) → StandsFor buffer commands → buffer.closed ≡ false → is_closed commands ≡ false

@@ -1,19 +1,9 @@
 -- The accepted commands among those that are given.
-use Rattle.std.proofs.Common.{◌≡◌, Bool, true, false, ◌&&◌, List, [], ◌∷◌, ◌++◌, refl, sym, ap, ◌∙◌, cond, ◌⊎◌, inl}
-use Rattle.std.proofs.Common.{inr, append_assoc, append-nil, subst, arith}
-use Rattle.std.specs.Prelude.{Option, Some, None, is_ok, fold}
-use Rattle.ob_types.specs.declared.command.Command.{Command}
-use Rattle.ob_types.specs.declared.estimate.Estimate.{Estimate}
-use Rattle.ob_types.specs.declared.refusal.Refusal.{Refusal}
-use Rattle.ob_types.specs.declared.refusal.Refusal.TheVariants.{Closed}
-use Rattle.ob_types.specs.declared.reply.Reply.{Reply}
-use Rattle.ob_seq.specs.Settings.{Settings}
-use Rattle.ob_seq.specs.Answer.{is_accepted, are_accepted, commands_after, first_refusal, refusal_of, reply_of}
-use Rattle.ob_seq.specs.Answer.{unless_refused}
-use Rattle.ob_seq.specs.Closed.{is_closed}
-use Rattle.ob_seq.specs.Effect.{rows_after}
-use Rattle.ob_seq.specs.Accepted.{accepted_among}
-use Rattle.ob_seq.specs.Settles.{settled_along}
+use Rattle.ob_seq.proofs.Words.{◌≡◌, Bool, true, false, ◌&&◌, List, [], ◌∷◌, ◌++◌, refl, sym, ap, ◌∙◌, cond, ◌⊎◌, inl}
+use Rattle.ob_seq.proofs.Words.{inr, append_assoc, append-nil, subst, arith, Option, Some, None, is_ok, fold, Command}
+use Rattle.ob_seq.proofs.Words.{Estimate, Refusal, Closed, Reply, Settings, is_accepted, are_accepted, commands_after}
+use Rattle.ob_seq.proofs.Words.{first_refusal, refusal_of, reply_of, unless_refused, is_closed, rows_after}
+use Rattle.ob_seq.proofs.Words.{accepted_among, settled_along}
 use Rattle.ob_seq.proofs.History.{accepted_by, accepted_from_more}
 
 -- there is none, or there is one

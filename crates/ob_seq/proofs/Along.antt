@@ -1,12 +1,7 @@
 -- The moments and the settlements read off rows before and after.
-use Rattle.std.proofs.Common.{◌≡◌, ℕ, suc, ◌+◌, Bool, List, [], ◌∷◌, ◌++◌, length, refl, sym, ap, ◌∙◌, append_assoc, append-nil, arith, zero-add}
-use Rattle.std.proofs.lemmas.Bool.Decides.{nat_tests}
-use Rattle.std.specs.Prelude.{Option, Some, None}
-use Rattle.ob_types.specs.declared.promise.Outcome.{Outcome}
-use Rattle.ob_seq.specs.Row.{Row}
-use Rattle.ob_seq.specs.Total.{counted_size, total}
-use Rattle.ob_seq.specs.Moment.{moment_of, moments_along}
-use Rattle.ob_seq.specs.Answer.{outcome_of, settlement, settlements_from}
+use Rattle.ob_seq.proofs.Words.{◌≡◌, ℕ, suc, ◌+◌, Bool, List, [], ◌∷◌, ◌++◌, length, refl, sym, ap, ◌∙◌, append_assoc}
+use Rattle.ob_seq.proofs.Words.{append-nil, arith, zero-add, nat_tests, Option, Some, None, Outcome, Row, counted_size}
+use Rattle.ob_seq.proofs.Words.{total, moment_of, moments_along, outcome_of, settlement, settlements_from}
 
 -- a count that stays gives no moment
 pub moment_of_same : (notice : Bool) (count sum : ℕ) → moment_of notice count count sum ≡ []

@@ -1,16 +1,12 @@
 -- The blocks that entries have left, one entry after another.
-use Rattle.std.proofs.Common.{◌≡◌, ℕ, ◌+◌, ◌<◌, ◌≤◌, Bool, true, false, List, [], ◌∷◌, length, map, drop, get_or, refl, sym, ap, ◌∙◌, cond, arith}
+use Rattle.ob_seq.proofs.Words.{◌≡◌, ℕ, ◌+◌, ◌<◌, ◌≤◌, Bool, true, false, List, [], ◌∷◌, length, map, drop, get_or}
+use Rattle.ob_seq.proofs.Words.{refl, sym, ap, ◌∙◌, cond, arith, drop_all, length-map, take_while-cons, Message, Block}
+use Rattle.ob_seq.proofs.Words.{Region, Other, is_block, block_bytes, PendingEntry, blocks_left, pieces_within}
+use Rattle.ob_seq.proofs.Words.{first_length}
 use Rattle.std.specs.Prelude.{take_while}
-use Rattle.std.proofs.lemmas.List.{drop_more, drop_all, length-map}
-use Rattle.std.proofs.lemmas.List.Sums.{prefix_len-le-length, take_while-cons}
+use Rattle.std.proofs.lemmas.List.{drop_more}
+use Rattle.std.proofs.lemmas.List.Sums.{prefix_len-le-length}
 use Rattle.std.proofs.lemmas.List.Folds.{length-prefix_len}
-use Rattle.ob_types.specs.declared.message.Message.{Message}
-use Rattle.ob_types.specs.declared.message.Message.TheVariants.{Block, Region, Other}
-use Rattle.ob_types.specs.Block.{is_block}
-use Rattle.ob_seq.specs.ByteRun.{block_bytes}
-use Rattle.ob_seq.specs.Entry.{PendingEntry, blocks_left}
-use Rattle.ob_seq.specs.Pieces.{pieces_within}
-use Rattle.ob_seq.specs.Steps.{first_length}
 use Rattle.ob_seq.proofs.Pieces.{fitting_few, within_is_fitting}
 
 abbrev message_of : PendingEntry → Message

@@ -1,30 +1,15 @@
 -- A buffer after a removal of bytes stands for the history with the removal.
-use Rattle.std.proofs.Common.{arith, ◌≡◌, ℕ, ◌+◌, ◌-◌, ◌≤◌, Bool, true, false, List, [], ◌∷◌, ◌++◌, length, map, take}
-use Rattle.std.proofs.Common.{drop, refl, sym, ap, ◌∙◌, cond, append_assoc, ltb, zero-add}
-use Rattle.std.specs.Prelude.{Option, Some, None}
-use Rattle.std.specs.List.{AllByRecursion}
-use Rattle.std.proofs.lemmas.List.{length-take-le, take-append-drop, map-append, length-map}
-use Rattle.std.proofs.Math.Seq.{take-append_seam}
+use Rattle.ob_seq.proofs.Words.{arith, ◌≡◌, ℕ, ◌+◌, ◌-◌, ◌≤◌, Bool, true, false, List, [], ◌∷◌, ◌++◌, length, map, take}
+use Rattle.ob_seq.proofs.Words.{drop, refl, sym, ap, ◌∙◌, cond, append_assoc, ltb, zero-add, Option, Some, None}
+use Rattle.ob_seq.proofs.Words.{AllByRecursion, length-take-le, take-append-drop, map-append, length-map}
+use Rattle.ob_seq.proofs.Words.{take-append_seam, change_between, Command, RemoveBytes, Success, Refusal, TooManyBytes}
+use Rattle.ob_seq.proofs.Words.{Count, Cut, Row, line, bytes_in, pieces_within, blocks_in_front, byte_run, whole_rows}
+use Rattle.ob_seq.proofs.Words.{bytes_left_over, effect, rows_after, taken_row, with_first, with_skipped, moments_along}
+use Rattle.ob_seq.proofs.Words.{moments_of, word_after, refusal_of, settlements_from, reply_of, blocks_left, entry_of}
+use Rattle.ob_seq.proofs.Words.{Pending, StandsFor, bytes_reply, cut_of, front_id, front_taken, entry_settlements}
+use Rattle.ob_seq.proofs.Words.{times}
 use Rattle.std.proofs.lemmas.Simd.{map-map}
-use Rattle.ob_types.specs.Change.{change_between}
-use Rattle.ob_types.specs.declared.command.Command.{Command}
-use Rattle.ob_types.specs.declared.command.Command.TheVariants.{RemoveBytes}
-use Rattle.ob_types.specs.declared.promise.Outcome.TheVariants.{Success}
-use Rattle.ob_types.specs.declared.refusal.Refusal.{Refusal}
-use Rattle.ob_types.specs.declared.refusal.Refusal.TheVariants.{TooManyBytes}
-use Rattle.ob_types.specs.declared.reply.Answer.TheVariants.{Count}
-use Rattle.ob_seq.specs.declared.contents.cut.Cut.{Cut}
-use Rattle.ob_seq.specs.Row.{Row}
-use Rattle.ob_seq.specs.Line.{line}
-use Rattle.ob_seq.specs.Pieces.{bytes_in, pieces_within}
-use Rattle.ob_seq.specs.ByteRun.{blocks_in_front, byte_run, whole_rows, bytes_left_over}
-use Rattle.ob_seq.specs.Effect.{effect, rows_after, taken_row, with_first, with_skipped}
-use Rattle.ob_seq.specs.Moment.{moments_along, moments_of}
-use Rattle.ob_seq.specs.Word.{word_after}
-use Rattle.ob_seq.specs.Answer.{refusal_of, settlements_from, reply_of}
-use Rattle.ob_seq.specs.Entry.{blocks_left, entry_of}
-use Rattle.ob_seq.specs.Pending.{Pending, StandsFor}
-use Rattle.ob_seq.specs.Steps.{bytes_removed, bytes_reply, cut_of, front_id, front_taken, entry_settlements, times}
+use Rattle.ob_seq.specs.Steps.{bytes_removed}
 use Rattle.ob_seq.proofs.Acceptance.{open_history, same_reply}
 use Rattle.ob_seq.proofs.Along.{moments_along_same, settlements_from_same}
 use Rattle.ob_seq.proofs.Held.{opening, opening_of, word_at_end, Held, held_of, front_id_is, line_count, stands_by}

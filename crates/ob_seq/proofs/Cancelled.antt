@@ -1,29 +1,13 @@
 -- A buffer with a promise taken back stands for the history with the cancellation.
-use Rattle.std.proofs.Common.{◌≡◌, ℕ, zero, suc, ◌+◌, ◌<◌, Bool, true, false, List, [], ◌∷◌, ◌++◌, length, map, get_or}
-use Rattle.std.proofs.Common.{refl, sym, ap, ◌∙◌, cond, append-nil, arith}
-use Rattle.std.specs.Prelude.{Some, None, filter, slice_set}
-use Rattle.std.proofs.lemmas.Bool.Decides.{nat_tests}
-use Rattle.std.proofs.lemmas.List.{length-map}
-use Rattle.std.proofs.lemmas.Option.{slice_get-map, slice_get-get_or}
-use Rattle.ob_types.specs.Change.{change_between}
-use Rattle.ob_types.specs.declared.command.Command.{Command}
-use Rattle.ob_types.specs.declared.command.Command.TheVariants.{Cancel}
-use Rattle.ob_types.specs.declared.promise.PromiseId.{PromiseId}
-use Rattle.ob_types.specs.declared.promise.PromiseState.{PromiseState}
-use Rattle.ob_types.specs.declared.promise.PromiseState.TheVariants.{Waiting}
-use Rattle.ob_types.specs.declared.reply.Reply.{Reply}
-use Rattle.ob_types.specs.declared.reply.Answer.TheVariants.{Yes}
-use Rattle.ob_types.specs.Waiting.{is_waiting}
-use Rattle.ob_seq.specs.Row.{Row, is_unflushed}
-use Rattle.ob_seq.specs.Line.{is_in_line}
-use Rattle.ob_seq.specs.Total.{counted_size, total}
-use Rattle.ob_seq.specs.Effect.{rows_after, cancelled, with_cancelled}
-use Rattle.ob_seq.specs.Moment.{moments_along}
-use Rattle.ob_seq.specs.Word.{word_after}
-use Rattle.ob_seq.specs.Answer.{refusal_of, outcome_of, settlement, settlements_from, promise_at, reply_of, still_waits}
-use Rattle.ob_seq.specs.Entry.{entry_of}
-use Rattle.ob_seq.specs.Pending.{Pending, StandsFor}
-use Rattle.ob_seq.specs.Steps.{promise_set}
+use Rattle.ob_seq.proofs.Words.{◌≡◌, ℕ, zero, suc, ◌+◌, ◌<◌, Bool, true, false, List, [], ◌∷◌, ◌++◌, length, map}
+use Rattle.ob_seq.proofs.Words.{get_or, refl, sym, ap, ◌∙◌, cond, append-nil, arith, Some, None, filter, slice_set}
+use Rattle.ob_seq.proofs.Words.{nat_tests, length-map, slice_get-map, change_between, Command, Cancel, PromiseId}
+use Rattle.ob_seq.proofs.Words.{PromiseState, Waiting, Reply, Yes, is_waiting, Row, is_unflushed, is_in_line}
+use Rattle.ob_seq.proofs.Words.{counted_size, total, rows_after, cancelled, with_cancelled, moments_along, word_after}
+use Rattle.ob_seq.proofs.Words.{refusal_of, outcome_of, settlement, settlements_from, promise_at, reply_of, entry_of}
+use Rattle.ob_seq.proofs.Words.{Pending, StandsFor, promise_set}
+use Rattle.std.proofs.lemmas.Option.{slice_get-get_or}
+use Rattle.ob_seq.specs.Answer.{still_waits}
 use Rattle.ob_seq.proofs.Acceptance.{open_history, same_reply}
 use Rattle.ob_seq.proofs.Along.{moment_of_same, moments_behind, settlement_same, settlements_behind}
 use Rattle.ob_seq.proofs.EachRow.{taken_back}

@@ -1,36 +1,21 @@
 -- A buffer after its close stands for the history with the close.
-use Rattle.std.proofs.Common.{◌≡◌, ℕ, zero, suc, Bool, true, false, ltb, List, [], ◌∷◌, ◌++◌, length, map, take, drop, refl, sym, ap, ◌∙◌, cond, append_assoc, append-nil, arith}
-use Rattle.std.specs.Prelude.{Option, Some, None, is_some, if◌then◌else◌}
-use Rattle.std.specs.List.{AllByRecursion}
-use Rattle.std.proofs.lemmas.Bool.Decides.{nat_tests}
-use Rattle.std.proofs.lemmas.List.{length-map, map-append}
-use Rattle.std.proofs.Math.Seq.{take-append_seam, drop-append_seam}
-use Rattle.ob_types.specs.WaterMark.{Marks}
-use Rattle.ob_types.specs.Change.{change_between}
-use Rattle.ob_types.specs.declared.command.Command.{Command}
-use Rattle.ob_types.specs.declared.command.Command.TheVariants.{Close}
-use Rattle.ob_types.specs.declared.promise.Cause.{Cause}
-use Rattle.ob_types.specs.declared.promise.PromiseState.{PromiseState}
-use Rattle.ob_types.specs.declared.promise.PromiseState.TheVariants.{Waiting, Fixed, Settled}
-use Rattle.ob_types.specs.declared.refusal.Refusal.{Refusal}
-use Rattle.ob_types.specs.declared.refusal.Refusal.TheVariants.{FlushedLeft}
-use Rattle.ob_types.specs.declared.reply.Answer.TheVariants.{Count}
-use Rattle.ob_seq.specs.Row.{Row, Gone, is_unflushed}
-use Rattle.ob_seq.specs.Line.{unflushed}
-use Rattle.ob_seq.specs.Total.{counted_size, total}
-use Rattle.ob_seq.specs.Effect.{effect, rows_after, failed, closed_row}
-use Rattle.ob_seq.specs.Moment.{Moment, moment_of, moments_along, moments_of}
-use Rattle.ob_seq.specs.Word.{word_after}
-use Rattle.ob_seq.specs.Answer.{outcome_of, refusal_of, settlement, settlements_from, settlements_of, reply_of}
-use Rattle.ob_seq.specs.Entry.{entry_of}
-use Rattle.ob_seq.specs.Pending.{Pending, StandsFor}
-use Rattle.ob_seq.specs.Steps.{closed_pending, closing_reply, closing_step, failures, unflushed_id}
+use Rattle.ob_seq.proofs.Words.{◌≡◌, ℕ, zero, suc, Bool, true, false, ltb, List, [], ◌∷◌, ◌++◌, length, map, take, drop}
+use Rattle.ob_seq.proofs.Words.{refl, sym, ap, ◌∙◌, cond, append_assoc, append-nil, arith, Option, Some, None, is_some}
+use Rattle.ob_seq.proofs.Words.{if◌then◌else◌, AllByRecursion, nat_tests, length-map, map-append, take-append_seam}
+use Rattle.ob_seq.proofs.Words.{drop-append_seam, Marks, change_between, Command, Close, Cause, PromiseState, Waiting}
+use Rattle.ob_seq.proofs.Words.{Fixed, Settled, Refusal, FlushedLeft, Count, Row, Gone, is_unflushed, unflushed}
+use Rattle.ob_seq.proofs.Words.{counted_size, total, effect, rows_after, failed, closed_row, Moment, moment_of}
+use Rattle.ob_seq.proofs.Words.{moments_along, moments_of, word_after, outcome_of, refusal_of, settlement}
+use Rattle.ob_seq.proofs.Words.{settlements_from, settlements_of, reply_of, entry_of, Pending, StandsFor}
+use Rattle.ob_seq.proofs.Words.{closed_pending, closing_reply, failures, unflushed_id}
+use Rattle.ob_seq.specs.Steps.{closing_step}
 use Rattle.ob_seq.proofs.Acceptance.{same_reply}
 use Rattle.ob_seq.proofs.Along.{moments_past, settlements_past}
 use Rattle.ob_seq.proofs.Failures.{failure}
 use Rattle.ob_seq.proofs.Fronts.{Fronted, fronted, front_is, no_front}
 use Rattle.ob_seq.proofs.Simulation.{Simulates}
-use Rattle.ob_seq.proofs.Held.{word_at_end, Held, held_of, line_count, promise_of, stands_after, unflushed_id_is, word_by_moments}
+use Rattle.ob_seq.proofs.Held.{word_at_end, Held, held_of, line_count, promise_of, stands_after, unflushed_id_is}
+use Rattle.ob_seq.proofs.Held.{word_by_moments}
 use Rattle.ob_seq.proofs.History.{moments_after}
 use Rattle.ob_seq.proofs.Marks.{half_after, word_from, word_from_more, word_step}
 use Rattle.ob_seq.proofs.Order.{IsGone, IsFresh, all_now_gone, each_append, layout_of, stay_by}

@@ -1,14 +1,10 @@
 -- The user bits as a number in binary.
-use Rattle.std.proofs.Common.{◌≡◌, ℕ, zero, suc, ◌+◌, ◌*◌, ◌^◌, ◌/◌, ◌%◌, ◌<◌, ◌≤◌, Bool, true, false, refl, sym, ap}
-use Rattle.std.proofs.Common.{◌∙◌, cond, arith, add-zero, add-one, ltb}
-use Rattle.std.specs.Prelude.{sum_by}
-use Rattle.std.proofs.lemmas.Bool.Decides.{nat_tests}
-use Rattle.std.specs.List.{range_with_len}
-use Rattle.std.specs.Int.{bit_at}
-use Rattle.std.proofs.lemmas.List.Sums.{sum_by-cons}
-use Rattle.std.proofs.lemmas.Nat.Bits.{bit_at_lowest, bit_at-suc, bit_at-zero}
+use Rattle.ob_seq.proofs.Words.{◌≡◌, ℕ, zero, suc, ◌+◌, ◌*◌, ◌^◌, ◌/◌, ◌%◌, ◌<◌, ◌≤◌, Bool, true, false, refl, sym, ap}
+use Rattle.ob_seq.proofs.Words.{◌∙◌, cond, arith, add-zero, ltb, sum_by, nat_tests, range_with_len, bit_at, sum_by-cons}
+use Rattle.ob_seq.proofs.Words.{bit_at_lowest, bit_at-suc, bit_at-zero, bit_value}
+use Rattle.std.proofs.Common.{add-one}
 use Rattle.std.proofs.Math.Nat.{pow-suc, mul_assoc, mul-add, mul-zero}
-use Rattle.ob_seq.specs.Word.{bit_value, user_bits}
+use Rattle.ob_seq.specs.Word.{user_bits}
 
 -- a digit of the binary system
 abbrev pub digit : Bool → ℕ

@@ -1,25 +1,13 @@
 -- What one more command does to each row, as one relation between the row before it and after.
-use Rattle.std.proofs.Common.{◌≡◌, ℕ, zero, suc, ◌+◌, Bool, true, false, ◌&&◌, List, [], ◌∷◌, ◌++◌, length, map, arith}
-use Rattle.std.proofs.Common.{cond, ltb, ◌⊎◌, inl, inr, refl}
-use Rattle.std.specs.Prelude.{None, is_some, Option, Some, fold}
-use Rattle.ob_types.specs.Write.{is_write}
-use Rattle.ob_types.specs.declared.command.Command.{Command}
-use Rattle.ob_types.specs.declared.command.Command.TheVariants.{Write, Flush, Remove, RemoveWith, RemoveBytes, Progress}
-use Rattle.ob_types.specs.declared.command.Command.TheVariants.{Cancel, FailFlushed, Close, UserBit}
-use Rattle.ob_types.specs.declared.estimate.Estimate.{Estimate}
-use Rattle.ob_types.specs.declared.promise.Cause.{Cause}
-use Rattle.ob_types.specs.declared.promise.Outcome.{Outcome}
-use Rattle.ob_types.specs.declared.promise.Outcome.TheVariants.{Success, Failed, Cancelled}
-use Rattle.ob_seq.specs.Answer.{refusal_of, outcome_of, promise_at}
-use Rattle.ob_seq.specs.ByteRun.{bytes_left_over, whole_rows}
-use Rattle.ob_seq.specs.Effect.{cancelled, closed_row, effect, failed_row, flushed_row, progressed_row, reached_row}
-use Rattle.ob_seq.specs.Effect.{skipped_row, taken_row, with_cancelled, with_first, with_first_behind, with_front}
-use Rattle.ob_seq.specs.Effect.{with_skipped}
-use Rattle.ob_seq.specs.Line.{front, is_in_line, line}
-use Rattle.ob_seq.specs.Row.{Row, is_unflushed, Place, Unflushed, Flushed, Voided, Gone, new_row}
-use Rattle.std.specs.List.{AllByRecursion}
-use Rattle.ob_types.specs.declared.promise.PromiseState.{PromiseState}
-use Rattle.ob_types.specs.declared.promise.PromiseState.TheVariants.{Waiting, Fixed, Settled}
+use Rattle.ob_seq.proofs.Words.{◌≡◌, ℕ, zero, suc, ◌+◌, Bool, true, false, ◌&&◌, List, [], ◌∷◌, ◌++◌, length, map}
+use Rattle.ob_seq.proofs.Words.{arith, cond, ltb, ◌⊎◌, inl, inr, refl, None, is_some, Option, Some, fold, is_write}
+use Rattle.ob_seq.proofs.Words.{Command, Write, Flush, Remove, RemoveWith, RemoveBytes, Progress, Cancel, FailFlushed}
+use Rattle.ob_seq.proofs.Words.{Close, UserBit, Estimate, Cause, Outcome, Success, Failed, Cancelled, refusal_of}
+use Rattle.ob_seq.proofs.Words.{outcome_of, promise_at, bytes_left_over, whole_rows, cancelled, closed_row, effect}
+use Rattle.ob_seq.proofs.Words.{failed_row, flushed_row, progressed_row, reached_row, skipped_row, taken_row}
+use Rattle.ob_seq.proofs.Words.{with_cancelled, with_first, with_first_behind, with_front, with_skipped, front}
+use Rattle.ob_seq.proofs.Words.{is_in_line, line, Row, is_unflushed, Place, Unflushed, Flushed, Voided, Gone, new_row}
+use Rattle.ob_seq.proofs.Words.{AllByRecursion, PromiseState, Waiting, Fixed, Settled}
 
 -- rows of which each has a relation to the one that stood in its place before
 abbrev pub EachRow : (Row → Row → Type 0) → List Row → List Row → Type 0

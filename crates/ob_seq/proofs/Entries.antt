@@ -1,12 +1,8 @@
 -- Entries, as the code keeps them and as contracts see them.
-use Rattle.std.proofs.Common.{◌≡◌, ℕ, ◌+◌, ◌-◌, ◌<◌, min, List, [], ◌∷◌, ◌++◌, length, take, drop, get_or, refl, sym, ap, ◌∙◌, cond}
-use Rattle.std.specs.Prelude.{count_by, not, sum_by}
-use Rattle.std.proofs.lemmas.List.{get_or-map, length-drop, length-map, length-take, map-append, take-append-drop}
-use Rattle.std.proofs.lemmas.List.Sums.{sum_by-append, sum_by-cons}
-use Rattle.ob_seq.specs.declared.entry.Entry.{Entry}
-use Rattle.ob_seq.specs.Entry.{PendingEntry}
-use Rattle.ob_seq.specs.Inside.{pending_entry, pending_entries}
-use Rattle.ob_seq.specs.Steps.{sum_of}
+use Rattle.ob_seq.proofs.Words.{◌≡◌, ℕ, ◌+◌, ◌-◌, ◌<◌, min, List, [], ◌∷◌, ◌++◌, length, take, drop, get_or, refl, sym}
+use Rattle.ob_seq.proofs.Words.{ap, ◌∙◌, cond, count_by, not, sum_by, length-map, map-append, take-append-drop}
+use Rattle.ob_seq.proofs.Words.{sum_by-append, sum_by-cons, Entry, PendingEntry, pending_entry, pending_entries, sum_of}
+use Rattle.std.proofs.lemmas.List.{get_or-map, length-drop, length-take}
 
 -- two parts of a list count together what the list counts
 pub sum_of_parts : (n : ℕ) (entries : List PendingEntry) → sum_of (take n entries) + sum_of (drop n entries) ≡ sum_of entries

@@ -1,12 +1,8 @@
 -- What entries settle when they are taken away.
-use Rattle.std.proofs.Common.{◌≡◌, ℕ, zero, suc, ◌+◌, ◌<◌, ◌≤◌, Bool, true, false, not, List, [], ◌∷◌, ◌++◌, length, take, get_or, refl, sym, ap, ◌∙◌, cond, append_assoc, append-nil, length-append, add-zero, arith}
-use Rattle.std.specs.Prelude.{count_by}
-use Rattle.std.proofs.lemmas.List.{length-take-le, take_more}
-use Rattle.std.proofs.lemmas.List.Sums.{sum_by-cons}
-use Rattle.ob_types.specs.declared.promise.PromiseId.{PromiseId}
-use Rattle.ob_types.specs.declared.promise.Outcome.{Outcome}
-use Rattle.ob_seq.specs.Entry.{PendingEntry}
-use Rattle.ob_seq.specs.Steps.{entry_settlement, entry_settlements}
+use Rattle.ob_seq.proofs.Words.{◌≡◌, ℕ, zero, suc, ◌+◌, ◌<◌, ◌≤◌, Bool, true, false, not, List, [], ◌∷◌, ◌++◌, length}
+use Rattle.ob_seq.proofs.Words.{take, get_or, refl, sym, ap, ◌∙◌, cond, append_assoc, append-nil, length-append}
+use Rattle.ob_seq.proofs.Words.{add-zero, arith, count_by, length-take-le, take_more, sum_by-cons, PromiseId, Outcome}
+use Rattle.ob_seq.proofs.Words.{PendingEntry, entry_settlement, entry_settlements}
 
 settlements_append : (outcome : Outcome) (id : ℕ) (xs ys : List PendingEntry) → entry_settlements outcome id (xs ++ ys) ≡ entry_settlements outcome id xs ++ entry_settlements outcome (id + length xs) ys
 settlements_append outcome id [] ys = ap (λ at. entry_settlements outcome at ys) (sym (add-zero id))

@@ -1,24 +1,14 @@
 -- A buffer whose line was taken away as failed stands for the history with the failing.
-use Rattle.std.proofs.Common.{◌≡◌, ◌+◌, Bool, false, List, [], ◌∷◌, ◌++◌, length, map, refl, sym, ap, ◌∙◌, append_assoc, append-nil, subst}
-use Rattle.std.proofs.lemmas.List.{length-map}
-use Rattle.ob_types.specs.declared.command.Command.{Command}
-use Rattle.ob_types.specs.declared.command.Command.TheVariants.{FailFlushed}
-use Rattle.ob_types.specs.declared.promise.Cause.{Cause}
-use Rattle.ob_types.specs.declared.promise.Outcome.{Outcome}
-use Rattle.ob_types.specs.declared.promise.Outcome.TheVariants.{Failed}
-use Rattle.ob_types.specs.declared.reply.Answer.TheVariants.{Count}
-use Rattle.ob_seq.specs.Row.{Row}
-use Rattle.ob_seq.specs.Line.{line}
-use Rattle.ob_seq.specs.Effect.{effect, rows_after, taken_row, failed_row}
-use Rattle.ob_seq.specs.Moment.{moments_along, moments_of}
-use Rattle.ob_seq.specs.Word.{word_after}
-use Rattle.ob_seq.specs.Answer.{settlements_of, reply_of}
-use Rattle.ob_seq.specs.Entry.{entry_of}
-use Rattle.ob_seq.specs.Pending.{Pending, StandsFor}
-use Rattle.ob_seq.specs.Steps.{entry_settlements, failing_reply, failing_step, front_id, front_taken, line_failed, times}
+use Rattle.ob_seq.proofs.Words.{◌≡◌, ◌+◌, Bool, false, List, [], ◌∷◌, ◌++◌, length, map, refl, sym, ap, ◌∙◌}
+use Rattle.ob_seq.proofs.Words.{append_assoc, append-nil, subst, length-map, Command, FailFlushed, Cause, Outcome}
+use Rattle.ob_seq.proofs.Words.{Failed, Count, Row, line, effect, rows_after, taken_row, failed_row, moments_along}
+use Rattle.ob_seq.proofs.Words.{moments_of, word_after, settlements_of, reply_of, entry_of, Pending, StandsFor}
+use Rattle.ob_seq.proofs.Words.{entry_settlements, failing_step, front_id, front_taken, times}
+use Rattle.ob_seq.specs.Steps.{failing_reply, line_failed}
 use Rattle.ob_seq.proofs.Acceptance.{same_reply}
 use Rattle.ob_seq.proofs.Along.{moments_past, settlements_behind, settlements_past}
-use Rattle.ob_seq.proofs.Held.{opening, word_at_end, Held, held_of, front_id_is, line_count, stands_after, word_by_moments}
+use Rattle.ob_seq.proofs.Held.{opening, word_at_end, Held, held_of, front_id_is, line_count, stands_after}
+use Rattle.ob_seq.proofs.Held.{word_by_moments}
 use Rattle.ob_seq.proofs.History.{moments_after}
 use Rattle.ob_seq.proofs.Marks.{half_after}
 use Rattle.ob_seq.proofs.Order.{Layout, layout_of, failed_parts}

@@ -1,18 +1,9 @@
 -- Promises that fail if they still wait, and what they settle.
-use Rattle.std.proofs.Common.{◌≡◌, ℕ, zero, suc, ◌+◌, ◌<◌, ◌≤◌, Bool, true, false, List, [], ◌∷◌, ◌++◌, length, map, take, drop, get_or, refl, sym, ap, ◌∙◌, cond, append_assoc, append-nil, length-append, add-zero, arith}
-use Rattle.std.specs.Prelude.{count_by, slice_set}
-use Rattle.std.proofs.lemmas.List.{length-take-le, take_more, map-append, length-map, take-append-drop}
-use Rattle.std.proofs.lemmas.List.Sums.{sum_by-cons}
-use Rattle.std.proofs.Math.Seq.{set-append_seam, get_or-append_seam}
-use Rattle.ob_types.specs.declared.promise.Cause.{Cause}
-use Rattle.ob_types.specs.declared.promise.PromiseId.{PromiseId}
-use Rattle.ob_types.specs.declared.promise.Outcome.{Outcome}
-use Rattle.ob_types.specs.declared.promise.Outcome.TheVariants.{Failed}
-use Rattle.ob_types.specs.declared.promise.PromiseState.{PromiseState}
-use Rattle.ob_types.specs.declared.promise.PromiseState.TheVariants.{Waiting, Fixed, Settled}
-use Rattle.ob_types.specs.Waiting.{is_waiting}
-use Rattle.ob_seq.specs.Effect.{failed}
-use Rattle.ob_seq.specs.Steps.{failures}
+use Rattle.ob_seq.proofs.Words.{◌≡◌, ℕ, zero, suc, ◌+◌, ◌<◌, ◌≤◌, Bool, true, false, List, [], ◌∷◌, ◌++◌, length, map}
+use Rattle.ob_seq.proofs.Words.{take, drop, get_or, refl, sym, ap, ◌∙◌, cond, append_assoc, append-nil, length-append}
+use Rattle.ob_seq.proofs.Words.{add-zero, arith, count_by, slice_set, length-take-le, take_more, map-append, length-map}
+use Rattle.ob_seq.proofs.Words.{take-append-drop, sum_by-cons, set-append_seam, get_or-append_seam, Cause, PromiseId}
+use Rattle.ob_seq.proofs.Words.{Outcome, Failed, PromiseState, Waiting, Fixed, Settled, is_waiting, failed, failures}
 
 -- what one promise settles
 abbrev pub failure : Cause → ℕ → PromiseState → List (PromiseId × Outcome)

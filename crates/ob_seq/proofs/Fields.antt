@@ -1,13 +1,8 @@
 -- What the fields of a buffer say of what it holds.
-use Rattle.std.proofs.Common.{◌≡◌, ℕ, ◌+◌, ◌-◌, ◌<◌, ◌≤◌, List, [], ◌∷◌, length, take, drop, get_or, sym, ap, ◌∙◌, arith}
+use Rattle.ob_seq.proofs.Words.{◌≡◌, ℕ, ◌+◌, ◌-◌, ◌<◌, ◌≤◌, List, [], ◌∷◌, length, take, drop, get_or, sym, ap, ◌∙◌}
+use Rattle.ob_seq.proofs.Words.{arith, Block, Entry, Inside, blocks_left, IsSound, pending_entry, pending_entries}
+use Rattle.ob_seq.proofs.Words.{pending_of, Pending, first_length, pending_total}
 use Rattle.std.proofs.lemmas.List.{get_or-take, take-take}
-use Rattle.ob_types.specs.declared.message.Message.TheVariants.{Block}
-use Rattle.ob_seq.specs.declared.entry.Entry.{Entry}
-use Rattle.ob_seq.specs.declared.contents.Contents.TheInside.{Inside}
-use Rattle.ob_seq.specs.Entry.{blocks_left}
-use Rattle.ob_seq.specs.Inside.{IsSound, pending_entry, pending_entries, pending_of}
-use Rattle.ob_seq.specs.Pending.{Pending}
-use Rattle.ob_seq.specs.Steps.{first_length, pending_total}
 use Rattle.ob_seq.proofs.Blocks.{left_from_block, left_from_other, first_length_is}
 use Rattle.ob_seq.proofs.Entries.{entry_at, line_size, rest_size, sum_of_entries, sum_of_parts}
 

@@ -1,22 +1,11 @@
 -- The promise of each row fits the place of its message, after accepted commands.
-use Rattle.std.proofs.Common.{◌≡◌, ◌<◌, ℕ, zero, suc, true, List, [], ◌∷◌, ◌++◌, length, refl, sym, ap, ◌∙◌, subst}
-use Rattle.std.proofs.Common.{arith, inl}
-use Rattle.std.specs.Prelude.{Some, None}
-use Rattle.std.specs.List.{All, AllByRecursion}
+use Rattle.ob_seq.proofs.Words.{◌≡◌, ◌<◌, ℕ, zero, suc, true, List, [], ◌∷◌, ◌++◌, length, refl, sym, ap, ◌∙◌, subst}
+use Rattle.ob_seq.proofs.Words.{arith, inl, Some, None, AllByRecursion, Command, Close, Estimate, Outcome, PromiseState}
+use Rattle.ob_seq.proofs.Words.{Settled, Settings, are_accepted, first_refusal, promise_at, is_close, is_closed}
+use Rattle.ob_seq.proofs.Words.{cancelled, closed_row, effect, rows_after, Row, Place, writes_in}
+use Rattle.std.specs.List.{All}
 use Rattle.std.proofs.lemmas.List.Elements.{All-from_recursion}
-use Rattle.ob_types.specs.declared.command.Command.{Command}
-use Rattle.ob_types.specs.declared.command.Command.TheVariants.{Close}
-use Rattle.ob_types.specs.declared.estimate.Estimate.{Estimate}
-use Rattle.ob_types.specs.declared.promise.Outcome.{Outcome}
-use Rattle.ob_types.specs.declared.promise.PromiseState.{PromiseState}
-use Rattle.ob_types.specs.declared.promise.PromiseState.TheVariants.{Settled}
-use Rattle.ob_seq.specs.Settings.{Settings}
-use Rattle.ob_seq.specs.Answer.{are_accepted, first_refusal, promise_at}
-use Rattle.ob_seq.specs.Closed.{is_close, is_closed}
-use Rattle.ob_seq.specs.Effect.{cancelled, closed_row, effect, rows_after}
 use Rattle.ob_seq.specs.Fitting.{FitsItsPlace, MayHave}
-use Rattle.ob_seq.specs.Row.{Row, Place}
-use Rattle.ob_seq.specs.Writes.{writes_in}
 use Rattle.ob_seq.proofs.Accepting.{kept_along_accepted, open_and_fit}
 use Rattle.ob_seq.proofs.EachRow.{IsEnding, effect_fits}
 use Rattle.ob_seq.proofs.History.{closed_more, rows_after_more}

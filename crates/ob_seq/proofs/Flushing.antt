@@ -1,20 +1,8 @@
 -- A buffer whose unflushed entries are all in line stands for the history with the flush.
-use Rattle.std.proofs.Common.{◌≡◌, true, false, List, [], ◌∷◌, ◌++◌, length, map, refl, sym, ap, ◌∙◌, append_assoc, append-nil, subst}
-use Rattle.std.proofs.lemmas.List.{length-map}
-use Rattle.ob_types.specs.Change.{change_between}
-use Rattle.ob_types.specs.declared.command.Command.{Command}
-use Rattle.ob_types.specs.declared.command.Command.TheVariants.{Flush}
-use Rattle.ob_types.specs.declared.reply.Reply.{Reply}
-use Rattle.ob_types.specs.declared.reply.Answer.TheVariants.{Count}
-use Rattle.ob_seq.specs.Row.{Row}
-use Rattle.ob_seq.specs.Line.{unflushed}
-use Rattle.ob_seq.specs.Effect.{flushed_row, reached_row, rows_after}
-use Rattle.ob_seq.specs.Moment.{moments_along, moments_of}
-use Rattle.ob_seq.specs.Word.{word_after}
-use Rattle.ob_seq.specs.Answer.{settlements_of, reply_of}
-use Rattle.ob_seq.specs.Entry.{entry_of}
-use Rattle.ob_seq.specs.Pending.{Pending, StandsFor}
-use Rattle.ob_seq.specs.Steps.{flush_step, next_flushed, times}
+use Rattle.ob_seq.proofs.Words.{◌≡◌, true, false, List, [], ◌∷◌, ◌++◌, length, map, refl, sym, ap, ◌∙◌, append_assoc}
+use Rattle.ob_seq.proofs.Words.{append-nil, subst, length-map, change_between, Command, Flush, Reply, Count, Row}
+use Rattle.ob_seq.proofs.Words.{unflushed, flushed_row, reached_row, rows_after, moments_along, moments_of, word_after}
+use Rattle.ob_seq.proofs.Words.{settlements_of, reply_of, entry_of, Pending, StandsFor, flush_step, next_flushed, times}
 use Rattle.ob_seq.proofs.Acceptance.{same_reply}
 use Rattle.ob_seq.proofs.Along.{moments_past, settlements_past}
 use Rattle.ob_seq.proofs.Held.{opening, word_at_end, Held, held_of, fresh_count, stands_after, word_by_moments}

@@ -1,11 +1,6 @@
 -- The front of the rows of a history.
-use Rattle.std.proofs.Common.{◌≡◌, ℕ, ◌<◌, List, [], ◌∷◌, ◌++◌, length, sym, ap, ◌∙◌, subst, arith}
-use Rattle.std.specs.Prelude.{Some, None}
-use Rattle.ob_types.specs.declared.command.Command.{Command}
-use Rattle.ob_seq.specs.Row.{Row}
-use Rattle.ob_seq.specs.Line.{front}
-use Rattle.ob_seq.specs.Effect.{rows_after}
-use Rattle.ob_seq.specs.Pending.{Pending, StandsFor}
+use Rattle.ob_seq.proofs.Words.{◌≡◌, ℕ, ◌<◌, List, [], ◌∷◌, ◌++◌, length, sym, ap, ◌∙◌, subst, arith, Some, None}
+use Rattle.ob_seq.proofs.Words.{Command, Row, front, rows_after, Pending, StandsFor}
 use Rattle.ob_seq.proofs.Held.{Held, held_of, line_count}
 use Rattle.ob_seq.proofs.Order.{layout_of}
 use Rattle.ob_seq.proofs.Parts.{front_of_parts, no_front_of_parts}

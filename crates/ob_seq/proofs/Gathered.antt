@@ -1,9 +1,8 @@
 -- What is gathered, one block after another.
-use Rattle.std.proofs.Common.{◌≡◌, ℕ, zero, suc, ◌+◌, ◌-◌, ◌<◌, ◌≤◌, min, max, Bool, true, false, ◌&&◌, ◌||◌, List, [], ◌∷◌, length, take, refl, sym, ap, ◌∙◌, cond, leb, ltb, arith}
-use Rattle.std.proofs.lemmas.Bool.Decides.{nat_tests}
+use Rattle.ob_seq.proofs.Words.{◌≡◌, ℕ, zero, suc, ◌+◌, ◌-◌, ◌<◌, ◌≤◌, min, max, Bool, true, false, ◌&&◌, ◌||◌, List}
+use Rattle.ob_seq.proofs.Words.{[], ◌∷◌, length, take, refl, sym, ap, ◌∙◌, cond, leb, ltb, arith, nat_tests, with_bytes}
+use Rattle.ob_seq.proofs.Words.{first_blocks, pieces_within}
 use Rattle.std.proofs.Math.Seq.{take-nil}
-use Rattle.ob_seq.specs.Gathering.{with_bytes, first_blocks}
-use Rattle.ob_seq.specs.Pieces.{pieces_within}
 use Rattle.ob_seq.proofs.Pieces.{fitting, within_is_fitting}
 
 -- what is gathered from blocks, where so many are already, which left this much room

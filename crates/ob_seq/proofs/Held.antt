@@ -1,23 +1,9 @@
 -- What a buffer holds, by the parts of the rows.
-use Rattle.std.proofs.Common.{◌≡◌, ℕ, ◌+◌, ◌-◌, true, false, List, [], ◌∷◌, ◌++◌, length, map, sym, ap, ◌∙◌, length-append, arith}
-use Rattle.std.specs.List.{AllByRecursion}
-use Rattle.std.proofs.lemmas.List.{length-map}
-use Rattle.ob_types.specs.WaterMark.{Marks}
-use Rattle.ob_types.specs.declared.command.Command.{Command}
-use Rattle.ob_types.specs.declared.promise.PromiseState.{PromiseState}
-use Rattle.ob_seq.specs.Settings.{Settings}
-use Rattle.ob_seq.specs.Row.{Row}
-use Rattle.ob_seq.specs.Line.{line, unflushed}
-use Rattle.ob_seq.specs.Total.{total}
-use Rattle.ob_seq.specs.Effect.{effect, rows_after}
-use Rattle.ob_seq.specs.Closed.{is_close, is_closed}
-use Rattle.ob_seq.specs.Moment.{Moment, moments_of}
-use Rattle.ob_seq.specs.Word.{word_after}
-use Rattle.ob_seq.specs.Answer.{are_accepted, refusal_of}
-use Rattle.std.specs.Prelude.{None}
-use Rattle.ob_seq.specs.Entry.{entry_of}
-use Rattle.ob_seq.specs.Pending.{Pending, StandsFor}
-use Rattle.ob_seq.specs.Steps.{sum_of, pending_total, unflushed_id, front_id}
+use Rattle.ob_seq.proofs.Words.{◌≡◌, ℕ, ◌+◌, ◌-◌, true, false, List, [], ◌∷◌, ◌++◌, length, map, sym, ap, ◌∙◌}
+use Rattle.ob_seq.proofs.Words.{length-append, arith, AllByRecursion, length-map, Marks, Command, PromiseState}
+use Rattle.ob_seq.proofs.Words.{Settings, Row, line, unflushed, total, effect, rows_after, is_close, is_closed, Moment}
+use Rattle.ob_seq.proofs.Words.{moments_of, word_after, are_accepted, refusal_of, None, entry_of, Pending, StandsFor}
+use Rattle.ob_seq.proofs.Words.{sum_of, pending_total, unflushed_id, front_id}
 use Rattle.ob_seq.proofs.Rows.{sum_of_rows}
 use Rattle.ob_seq.proofs.Acceptance.{open_history}
 use Rattle.ob_seq.proofs.History.{accepted_more, closed_more, moments_after, rows_after_more}

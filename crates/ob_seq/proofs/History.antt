@@ -1,17 +1,10 @@
 -- One more command at the end of a history.
-use Rattle.std.proofs.Common.{◌≡◌, List, [], ◌∷◌, ◌++◌, sym, ap, ◌∙◌, append_assoc, append-nil, Bool, true, false, ◌&&◌, ◌||◌, cond, refl}
-use Rattle.std.specs.Prelude.{fold, Some, None, is_ok}
+use Rattle.ob_seq.proofs.Words.{◌≡◌, List, [], ◌∷◌, ◌++◌, sym, ap, ◌∙◌, append_assoc, append-nil, Bool, true, false}
+use Rattle.ob_seq.proofs.Words.{◌&&◌, ◌||◌, cond, refl, fold, Some, None, is_ok, Estimate, Command, Settings, Row}
+use Rattle.ob_seq.proofs.Words.{effect, rows_after, Moment, moments_of, Closed, first_refusal, refusal_of, reply_of}
+use Rattle.ob_seq.proofs.Words.{unless_refused, is_accepted, are_accepted, is_close, is_closed}
 use Rattle.std.proofs.lemmas.List.Folds.{list_any-append}
 use Rattle.std.proofs.lemmas.List.Sums.{fold-append}
-use Rattle.ob_types.specs.declared.estimate.Estimate.{Estimate}
-use Rattle.ob_types.specs.declared.command.Command.{Command}
-use Rattle.ob_seq.specs.Settings.{Settings}
-use Rattle.ob_seq.specs.Row.{Row}
-use Rattle.ob_seq.specs.Effect.{effect, rows_after}
-use Rattle.ob_seq.specs.Moment.{Moment, moments_of}
-use Rattle.ob_types.specs.declared.refusal.Refusal.TheVariants.{Closed}
-use Rattle.ob_seq.specs.Answer.{first_refusal, refusal_of, reply_of, unless_refused, is_accepted, are_accepted}
-use Rattle.ob_seq.specs.Closed.{is_close, is_closed}
 
 -- the rows after one more command
 pub rows_after_more : (estimate : Estimate) (commands : List Command) (command : Command) → rows_after estimate (commands ++ command ∷ []) ≡ effect estimate (rows_after estimate commands) command

@@ -1,19 +1,12 @@
 -- What the fields of a buffer say after a step, over plain lists.
-use Rattle.std.proofs.Common.{◌≡◌, ℕ, zero, suc, ◌+◌, ◌-◌, ◌<◌, ◌≤◌, List, [], ◌∷◌, ◌++◌, length, take, drop, get_or, refl, sym, ap, ◌∙◌, length-append, arith, false, append_assoc, Bool, cond}
-use Rattle.std.specs.Prelude.{slice_set, if◌then◌else◌}
-use Rattle.std.proofs.Math.Seq.{take-append_seam, drop-append_seam, set-append_seam, get_or-append_seam}
-use Rattle.std.proofs.lemmas.List.Sums.{sum_by-append}
-use Rattle.std.proofs.lemmas.List.{take-append-drop, take-append-le, drop-append-le}
-use Rattle.ob_types.specs.declared.message.Message.{Message}
-use Rattle.ob_types.specs.declared.promise.Outcome.{Outcome}
-use Rattle.ob_types.specs.declared.promise.PromiseState.{PromiseState}
-use Rattle.ob_types.specs.declared.promise.PromiseState.TheVariants.{Waiting, Fixed, Settled}
-use Rattle.ob_seq.specs.Entry.{PendingEntry}
-use Rattle.ob_seq.specs.Settings.{Settings}
-use Rattle.ob_seq.specs.Pending.{Pending}
-use Rattle.ob_seq.specs.Steps.{sum_of, written, front_taken, word_after_rise, word_after_fall, next_flushed, reached_entry}
+use Rattle.ob_seq.proofs.Words.{◌≡◌, ℕ, zero, suc, ◌+◌, ◌-◌, ◌<◌, ◌≤◌, List, [], ◌∷◌, ◌++◌, length, take, drop, get_or}
+use Rattle.ob_seq.proofs.Words.{refl, sym, ap, ◌∙◌, length-append, arith, false, append_assoc, Bool, cond, slice_set}
+use Rattle.ob_seq.proofs.Words.{if◌then◌else◌, take-append_seam, drop-append_seam, set-append_seam, get_or-append_seam}
+use Rattle.ob_seq.proofs.Words.{sum_by-append, take-append-drop, Message, Outcome, PromiseState, Waiting, Fixed}
+use Rattle.ob_seq.proofs.Words.{Settled, PendingEntry, Settings, Pending, sum_of, written, front_taken, word_after_rise}
+use Rattle.ob_seq.proofs.Words.{word_after_fall, next_flushed, reached_entry, is_cancelled}
+use Rattle.std.proofs.lemmas.List.{take-append-le, drop-append-le}
 use Rattle.ob_seq.proofs.Entries.{sum_of_parts}
-use Rattle.ob_seq.specs.Row.{is_cancelled}
 
 -- what a buffer holds, by its parts
 abbrev pub pending_from : Settings → List PendingEntry → List PendingEntry → List PromiseState → ℕ → Bool → Pending

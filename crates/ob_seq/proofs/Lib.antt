@@ -44,4 +44,5 @@ mod Unknown
 mod UserBits
 mod WordBits
 mod WordDigits
+mod Words
 mod Written

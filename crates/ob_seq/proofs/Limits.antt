@@ -1,29 +1,14 @@
 -- What accepted commands leave within the limits.
-use Rattle.std.proofs.Common.{◌≡◌, ◌≤◌, ◌<◌, ℕ, ◌+◌, Bool, true, ◌||◌, List, [], ◌∷◌, ◌++◌, length, map, refl, sym, ap}
-use Rattle.std.proofs.Common.{◌∙◌, cond, ltb, leb, subst, arith, length-append, length-drop}
-use Rattle.std.specs.Prelude.{Option, Some, None}
-use Rattle.std.specs.List.{AllByRecursion}
-use Rattle.std.proofs.lemmas.Bool.Decides.{nat_tests}
-use Rattle.std.proofs.lemmas.List.Sums.{sum_by-cons, sum_by_push, take_while-cons}
-use Rattle.ob_types.specs.Block.{is_block}
+use Rattle.ob_seq.proofs.Words.{◌≡◌, ◌≤◌, ◌<◌, ℕ, ◌+◌, Bool, true, ◌||◌, List, [], ◌∷◌, ◌++◌, length, map, refl, sym}
+use Rattle.ob_seq.proofs.Words.{ap, ◌∙◌, cond, ltb, leb, subst, arith, length-append, Option, Some, None}
+use Rattle.ob_seq.proofs.Words.{AllByRecursion, nat_tests, sum_by-cons, sum_by_push, take_while-cons, is_block}
+use Rattle.ob_seq.proofs.Words.{counted_bytes, is_oversize, Command, Write, RemoveBytes, Estimate, Message, Block}
+use Rattle.ob_seq.proofs.Words.{Region, Other, Refusal, Oversize, TooManyBytes, TooMuch, Settings, is_accepted}
+use Rattle.ob_seq.proofs.Words.{are_accepted, first_refusal, refusal_of, block_bytes, blocks_in_front, byte_run, effect}
+use Rattle.ob_seq.proofs.Words.{rows_after, is_in_line, line, bytes_in, Row, new_row, unread_part, without_skipped}
+use Rattle.ob_seq.proofs.Words.{counted_size, total, writes_in}
+use Rattle.std.proofs.Common.{length-drop}
 use Rattle.ob_types.specs.Limits.{greatest_total, most_writes}
-use Rattle.ob_types.specs.PendingSize.{counted_bytes, is_oversize}
-use Rattle.ob_types.specs.declared.command.Command.{Command}
-use Rattle.ob_types.specs.declared.command.Command.TheVariants.{Write, RemoveBytes}
-use Rattle.ob_types.specs.declared.estimate.Estimate.{Estimate}
-use Rattle.ob_types.specs.declared.message.Message.{Message}
-use Rattle.ob_types.specs.declared.message.Message.TheVariants.{Block, Region, Other}
-use Rattle.ob_types.specs.declared.refusal.Refusal.{Refusal}
-use Rattle.ob_types.specs.declared.refusal.Refusal.TheVariants.{Oversize, TooManyBytes, TooMuch}
-use Rattle.ob_seq.specs.Settings.{Settings}
-use Rattle.ob_seq.specs.Answer.{is_accepted, are_accepted, first_refusal, refusal_of}
-use Rattle.ob_seq.specs.ByteRun.{block_bytes, blocks_in_front, byte_run}
-use Rattle.ob_seq.specs.Effect.{effect, rows_after}
-use Rattle.ob_seq.specs.Line.{is_in_line, line}
-use Rattle.ob_seq.specs.Pieces.{bytes_in}
-use Rattle.ob_seq.specs.Row.{Row, new_row, unread_part, without_skipped}
-use Rattle.ob_seq.specs.Total.{counted_size, total}
-use Rattle.ob_seq.specs.Writes.{writes_in}
 use Rattle.ob_seq.proofs.Accepting.{kept_along_accepted, not_refused, open_and_fit}
 use Rattle.ob_seq.proofs.History.{rows_after_more}
 use Rattle.ob_seq.proofs.Order.{each_append}

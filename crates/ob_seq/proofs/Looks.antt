@@ -1,19 +1,10 @@
 -- A look at a buffer is the look after the history for which it stands.
-use Rattle.std.proofs.Common.{◌≡◌, ℕ, Bool, true, false, List, [], ◌∷◌, length, map, refl, ap, ◌∙◌, cond}
-use Rattle.std.specs.Prelude.{Some}
-use Rattle.std.proofs.lemmas.List.{length-map}
-use Rattle.ob_types.specs.declared.command.Command.{Command}
-use Rattle.ob_types.specs.WaterMark.{Marks}
+use Rattle.ob_seq.proofs.Words.{◌≡◌, ℕ, Bool, true, false, List, [], ◌∷◌, length, map, refl, ap, ◌∙◌, cond, Some}
+use Rattle.ob_seq.proofs.Words.{length-map, Command, Marks, Row, is_in_line, line, front, total, rows_after, word_after}
+use Rattle.ob_seq.proofs.Words.{before_unwritable, before_writable, entry_of, Pending, StandsFor, pending_total}
+use Rattle.ob_seq.proofs.Words.{first_progress}
 use Rattle.ob_seq.specs.declared.look.Look.{Look}
-use Rattle.ob_seq.specs.Row.{Row}
-use Rattle.ob_seq.specs.Line.{is_in_line, line, front}
-use Rattle.ob_seq.specs.Total.{total}
-use Rattle.ob_seq.specs.Effect.{rows_after}
-use Rattle.ob_seq.specs.Word.{word_after}
-use Rattle.ob_seq.specs.Looks.{before_unwritable, before_writable, progress_of, look_after}
-use Rattle.ob_seq.specs.Entry.{entry_of}
-use Rattle.ob_seq.specs.Pending.{Pending, StandsFor}
-use Rattle.ob_seq.specs.Steps.{pending_total, first_progress}
+use Rattle.ob_seq.specs.Looks.{progress_of, look_after}
 use Rattle.ob_seq.proofs.Written.{pending_total_stands}
 
 first_if : (b : Bool) (row : Row) (rows : List Row) → first_progress (map entry_of (line rows)) ≡ progress_of (front rows) →

@@ -1,18 +1,12 @@
 -- The mark and the word after one more command.
-use Rattle.std.proofs.Common.{◌≡◌, ℕ, ◌+◌, ◌*◌, arith, Bool, true, false, List, [], ◌∷◌, ◌++◌, reverse, refl, sym, ap, ◌∙◌, cond, ltb, append-nil}
-use Rattle.std.specs.Prelude.{filter, None, filter_map, slice_get, unwrap_or}
-use Rattle.std.specs.List.{cons_option}
-use Rattle.std.proofs.lemmas.List.{reverse-append}
-use Rattle.std.proofs.lemmas.List.Elements.{filter-append, filter_map-append}
-use Rattle.ob_types.specs.WaterMark.{Marks}
-use Rattle.ob_types.specs.declared.command.Command.{Command}
-use Rattle.ob_seq.specs.Settings.{Settings}
-use Rattle.ob_seq.specs.Row.{Row}
-use Rattle.ob_seq.specs.Effect.{effect, rows_after}
-use Rattle.ob_seq.specs.Moment.{Moment, Rise, NoticedFall, SilentFall, fall, moment_of, moments_of}
-use Rattle.ob_seq.specs.Mark.{decides, deciding_from, is_rise, is_set_by, mark_after}
-use Rattle.ob_seq.specs.UserBit.{bit_request, user_bit}
-use Rattle.ob_seq.specs.Word.{bit_value, user_bits, word_after}
+use Rattle.ob_seq.proofs.Words.{◌≡◌, ℕ, ◌+◌, ◌*◌, arith, Bool, true, false, List, [], ◌∷◌, ◌++◌, reverse, refl, sym, ap}
+use Rattle.ob_seq.proofs.Words.{◌∙◌, cond, ltb, append-nil, filter, None, filter_map, slice_get, unwrap_or, cons_option}
+use Rattle.ob_seq.proofs.Words.{reverse-append, filter-append, filter_map-append, Marks, Command, Settings, Row, effect}
+use Rattle.ob_seq.proofs.Words.{rows_after, Moment, moment_of, moments_of, mark_after, bit_request, user_bit, bit_value}
+use Rattle.ob_seq.proofs.Words.{word_after}
+use Rattle.ob_seq.specs.Moment.{Rise, NoticedFall, SilentFall, fall}
+use Rattle.ob_seq.specs.Mark.{decides, deciding_from, is_rise, is_set_by}
+use Rattle.ob_seq.specs.Word.{user_bits}
 use Rattle.ob_seq.specs.Steps.{with_mark}
 use Rattle.ob_seq.proofs.Digits.{half_bits, same_number, user_bits_even}
 use Rattle.ob_seq.proofs.History.{moments_from, moments_after, moments_after_more}

@@ -1,20 +1,10 @@
 -- No promise is settled twice, and each keeps its outcome.
-use Rattle.std.proofs.Common.{◌≡◌, ℕ, zero, suc, ◌+◌, ◌<◌, ◌≤◌, true, false, List, [], ◌∷◌, ◌++◌, drop, refl, ap, cond}
-use Rattle.std.proofs.Common.{eqb, arith, inl, inr}
-use Rattle.std.specs.Prelude.{Option, Some, None, fold}
-use Rattle.std.proofs.lemmas.Bool.Decides.{nat_tests}
-use Rattle.std.proofs.lemmas.List.Sums.{sum_by-append}
-use Rattle.ob_types.specs.declared.command.Command.{Command}
-use Rattle.ob_types.specs.declared.promise.Outcome.{Outcome}
-use Rattle.ob_types.specs.declared.promise.PromiseId.{PromiseId}
-use Rattle.ob_types.specs.declared.promise.PromiseState.{PromiseState}
-use Rattle.ob_types.specs.declared.promise.PromiseState.TheVariants.{Settled}
-use Rattle.ob_seq.specs.Settings.{Settings}
-use Rattle.ob_seq.specs.Row.{Row}
-use Rattle.ob_seq.specs.Effect.{effect, rows_after}
-use Rattle.ob_seq.specs.Answer.{answer_to, commands_after, first_refusal, outcome_of, settlement, settlements_from}
-use Rattle.ob_seq.specs.Looks.{promise_after}
-use Rattle.ob_seq.specs.Settles.{settled_along, settled_by, times_settled}
+use Rattle.ob_seq.proofs.Words.{◌≡◌, ℕ, zero, suc, ◌+◌, ◌<◌, ◌≤◌, true, false, List, [], ◌∷◌, ◌++◌, drop, refl, ap}
+use Rattle.ob_seq.proofs.Words.{cond, eqb, arith, inl, inr, Option, Some, None, fold, nat_tests, sum_by-append, Command}
+use Rattle.ob_seq.proofs.Words.{Outcome, PromiseId, PromiseState, Settled, Settings, Row, effect, rows_after, answer_to}
+use Rattle.ob_seq.proofs.Words.{commands_after, first_refusal, outcome_of, settlement, settlements_from, promise_after}
+use Rattle.ob_seq.proofs.Words.{settled_along, settled_by}
+use Rattle.ob_seq.specs.Settles.{times_settled}
 use Rattle.ob_seq.proofs.Accepting.{none_or_some}
 use Rattle.ob_seq.proofs.EachRow.{StaySettled, StaysSettled, fit_along, one_more, outcome_at, outcome_in}
 use Rattle.ob_seq.proofs.History.{rows_after_more}

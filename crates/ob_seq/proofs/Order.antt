@@ -1,18 +1,9 @@
 -- The order of the rows: those that are gone, then those in line, then those that no flush has reached.
-use Rattle.std.proofs.Common.{◌≡◌, ℕ, Bool, true, false, List, [], ◌∷◌, ◌++◌, map, refl, cond, arith, ◌⊎◌}
-use Rattle.std.specs.Prelude.{filter}
-use Rattle.std.specs.List.{AllByRecursion}
-use Rattle.std.proofs.lemmas.List.{map-append}
-use Rattle.ob_types.specs.declared.estimate.Estimate.{Estimate}
-use Rattle.ob_types.specs.declared.command.Command.{Command}
-use Rattle.ob_types.specs.declared.promise.Cause.{Cause}
-use Rattle.ob_types.specs.declared.promise.Outcome.TheVariants.{Failed, Cancelled}
-use Rattle.ob_types.specs.declared.promise.PromiseState.TheVariants.{Waiting, Fixed, Settled}
-use Rattle.ob_seq.specs.Effect.{failed_row, flushed_row, progressed_row, reached_row, rows_after, skipped_row}
-use Rattle.ob_seq.specs.Effect.{taken_row, with_front}
-use Rattle.ob_seq.specs.Line.{is_in_line, line, unflushed}
-use Rattle.ob_seq.specs.Order.{gone, is_gone}
-use Rattle.ob_seq.specs.Row.{Row, Unflushed, Flushed, Voided, Gone, is_unflushed}
+use Rattle.ob_seq.proofs.Words.{◌≡◌, ℕ, Bool, true, false, List, [], ◌∷◌, ◌++◌, map, refl, cond, arith, ◌⊎◌, filter}
+use Rattle.ob_seq.proofs.Words.{AllByRecursion, map-append, Estimate, Command, Cause, Failed, Cancelled, Waiting, Fixed}
+use Rattle.ob_seq.proofs.Words.{Settled, failed_row, flushed_row, progressed_row, reached_row, rows_after, skipped_row}
+use Rattle.ob_seq.proofs.Words.{taken_row, with_front, is_in_line, line, unflushed, gone, is_gone, Row, Unflushed}
+use Rattle.ob_seq.proofs.Words.{Flushed, Voided, Gone, is_unflushed}
 use Rattle.ob_seq.proofs.Ordered.{rows_in_order}
 use Rattle.ob_seq.proofs.EachRow.{FitLoosely, Fits, Loose, fit_along}
 

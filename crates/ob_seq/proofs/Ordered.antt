@@ -1,22 +1,13 @@
 -- The rows stand in order: gone, in line, unflushed.
-use Rattle.std.proofs.Common.{◌<◌, ◌≡◌, ℕ, ◌+◌, ◌*◌, ◌/◌, ◌≤◌, Bool, false, ◌&&◌, List, [], ◌∷◌, ◌++◌, map, length, min}
-use Rattle.std.proofs.Common.{refl, cond, ltb, length-append, arith, ◌⊎◌, inl, inr}
-use Rattle.std.specs.Prelude.{filter, fold}
-use Rattle.std.proofs.lemmas.Bool.Decides.{nat_tests}
-use Rattle.std.proofs.lemmas.List.Elements.{filter-append}
-use Rattle.ob_types.specs.declared.estimate.Estimate.{Estimate}
-use Rattle.ob_types.specs.declared.command.Command.{Command}
-use Rattle.ob_types.specs.declared.command.Command.TheVariants.{Write, Flush, Remove, RemoveWith, RemoveBytes, Progress}
-use Rattle.ob_types.specs.declared.command.Command.TheVariants.{Cancel, FailFlushed, Close, UserBit}
-use Rattle.ob_types.specs.declared.promise.Cause.{Cause}
-use Rattle.ob_types.specs.declared.promise.Outcome.{Outcome}
-use Rattle.ob_types.specs.declared.promise.Outcome.TheVariants.{Success, Failed}
-use Rattle.ob_seq.specs.ByteRun.{whole_rows, bytes_left_over}
-use Rattle.ob_seq.specs.Effect.{closed_row, effect, failed_row, flushed_row, progressed_row, rows_after, taken_row}
-use Rattle.ob_seq.specs.Effect.{with_cancelled, with_first, with_first_behind, with_front, with_skipped}
-use Rattle.ob_seq.specs.Line.{is_in_line, line}
-use Rattle.ob_seq.specs.Order.{StandInOrder, gone, is_gone}
-use Rattle.ob_seq.specs.Row.{Row, Place, Unflushed, Flushed, Voided, Gone, new_row}
+use Rattle.ob_seq.proofs.Words.{◌<◌, ◌≡◌, ℕ, ◌+◌, ◌*◌, ◌/◌, ◌≤◌, Bool, false, ◌&&◌, List, [], ◌∷◌, ◌++◌, map, length}
+use Rattle.ob_seq.proofs.Words.{min, refl, cond, ltb, length-append, arith, ◌⊎◌, inl, inr, filter, fold, nat_tests}
+use Rattle.ob_seq.proofs.Words.{filter-append, Estimate, Command, Write, Flush, Remove, RemoveWith, RemoveBytes}
+use Rattle.ob_seq.proofs.Words.{Progress, Cancel, FailFlushed, Close, UserBit, Cause, Outcome, Success, Failed}
+use Rattle.ob_seq.proofs.Words.{whole_rows, bytes_left_over, closed_row, effect, failed_row, flushed_row}
+use Rattle.ob_seq.proofs.Words.{progressed_row, rows_after, taken_row, with_cancelled, with_first, with_first_behind}
+use Rattle.ob_seq.proofs.Words.{with_front, with_skipped, is_in_line, line, gone, is_gone, Row, Place, Unflushed}
+use Rattle.ob_seq.proofs.Words.{Flushed, Voided, Gone, new_row}
+use Rattle.ob_seq.specs.Order.{StandInOrder}
 use Rattle.ob_seq.proofs.EachRow.{EachRow, cancelled_row, front_row, map_rows, skipped_rows}
 
 -- one more row before others counts where it stands in line

@@ -1,10 +1,7 @@
 -- What the parts of the rows are: the line, what is unflushed, the front.
-use Rattle.std.proofs.Common.{◌≡◌, Bool, true, false, List, [], ◌∷◌, ◌++◌, refl, ap, ◌∙◌, cond, append-nil, inl, inr}
-use Rattle.std.specs.List.{AllByRecursion}
-use Rattle.std.specs.Prelude.{filter, Some, None}
-use Rattle.std.proofs.lemmas.List.Elements.{filter-append}
-use Rattle.ob_seq.specs.Row.{Row, is_unflushed}
-use Rattle.ob_seq.specs.Line.{is_in_line, line, front, unflushed}
+use Rattle.ob_seq.proofs.Words.{◌≡◌, Bool, true, false, List, [], ◌∷◌, ◌++◌, refl, ap, ◌∙◌, cond, append-nil, inl, inr}
+use Rattle.ob_seq.proofs.Words.{AllByRecursion, filter, Some, None, filter-append, Row, is_unflushed, is_in_line, line}
+use Rattle.ob_seq.proofs.Words.{front, unflushed}
 use Rattle.ob_seq.proofs.Order.{IsGone, IsStanding, IsFresh, gone_not_in_line, standing_in_line, fresh_not_in_line}
 
 -- a filter that no row passes

@@ -1,15 +1,9 @@
 -- How many pieces from the front of a list fit a limit, one piece after another.
-use Rattle.std.proofs.Common.{◌≡◌, ℕ, zero, suc, ◌+◌, ◌-◌, ◌<◌, ◌≤◌, max, Bool, true, false, List, [], ◌∷◌, length}
-use Rattle.std.proofs.Common.{take, refl, cond, leb, ltb, eqb, zero-add, arith, inl, inr}
-use Rattle.std.specs.Prelude.{Option, Some, None, fold, filter}
-use Rattle.std.specs.List.{range_with_len}
+use Rattle.ob_seq.proofs.Words.{◌≡◌, ℕ, zero, suc, ◌+◌, ◌-◌, ◌<◌, ◌≤◌, max, Bool, true, false, List, [], ◌∷◌, length}
+use Rattle.ob_seq.proofs.Words.{take, refl, cond, leb, ltb, eqb, zero-add, arith, inl, inr, Option, Some, None, fold}
+use Rattle.ob_seq.proofs.Words.{filter, range_with_len, nat_tests, sum_by-cons, Cut, bytes_in, pieces_within, cut_of}
 use Rattle.std.proofs.Math.Nat.{max-le}
 use Rattle.std.proofs.lemmas.Bool.{cases_Bool}
-use Rattle.std.proofs.lemmas.Bool.Decides.{nat_tests}
-use Rattle.std.proofs.lemmas.List.Sums.{sum_by-cons}
-use Rattle.ob_seq.specs.declared.contents.cut.Cut.{Cut}
-use Rattle.ob_seq.specs.Pieces.{bytes_in, pieces_within}
-use Rattle.ob_seq.specs.Steps.{cut_of}
 
 -- the greatest of another number and of those from one on that pass a test
 abbrev greatest_from : (ℕ → Bool) → ℕ → ℕ → ℕ → ℕ

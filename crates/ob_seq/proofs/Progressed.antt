@@ -1,23 +1,13 @@
 -- A buffer of whose front more progress was told stands for the history with the progress.
-use Rattle.std.proofs.Common.{◌≡◌, ℕ, ◌+◌, true, false, List, [], ◌∷◌, ◌++◌, length, refl, sym, ap, ◌∙◌, cond, leb, ltb, Bool, arith}
-use Rattle.std.specs.Prelude.{Option, Some, None, if◌then◌else◌}
-use Rattle.std.proofs.lemmas.Bool.Decides.{nat_tests}
-use Rattle.std.proofs.lemmas.List.{map-append}
-use Rattle.ob_types.specs.Change.{change_between}
-use Rattle.ob_types.specs.declared.command.Command.{Command}
-use Rattle.ob_types.specs.declared.command.Command.TheVariants.{Progress}
-use Rattle.ob_types.specs.declared.refusal.Refusal.{Refusal}
+use Rattle.ob_seq.proofs.Words.{◌≡◌, ℕ, ◌+◌, true, false, List, [], ◌∷◌, ◌++◌, length, refl, sym, ap, ◌∙◌, cond, leb}
+use Rattle.ob_seq.proofs.Words.{ltb, Bool, arith, Option, Some, None, if◌then◌else◌, nat_tests, map-append}
+use Rattle.ob_seq.proofs.Words.{change_between, Command, Progress, Refusal, Reply, Done, Row, counted_size, total}
+use Rattle.ob_seq.proofs.Words.{rows_after, progressed_row, with_front, moments_of, word_after, refusal_of, outcome_of}
+use Rattle.ob_seq.proofs.Words.{reply_of, Pending, StandsFor, first_progress, first_changed, front_changed}
+use Rattle.ob_seq.proofs.Words.{progress_step}
 use Rattle.ob_types.specs.declared.refusal.Refusal.TheVariants.{NothingFlushed, TooFar}
-use Rattle.ob_types.specs.declared.reply.Reply.{Reply}
-use Rattle.ob_types.specs.declared.reply.Answer.TheVariants.{Done}
-use Rattle.ob_seq.specs.Row.{Row}
-use Rattle.ob_seq.specs.Total.{counted_size, total}
-use Rattle.ob_seq.specs.Effect.{rows_after, progressed_row, with_front}
-use Rattle.ob_seq.specs.Moment.{moments_of}
-use Rattle.ob_seq.specs.Word.{word_after}
-use Rattle.ob_seq.specs.Answer.{refusal_of, refusal_of_progress, outcome_of, reply_of}
-use Rattle.ob_seq.specs.Pending.{Pending, StandsFor}
-use Rattle.ob_seq.specs.Steps.{first_progress, first_changed, front_changed, progress_step, progressed_entry}
+use Rattle.ob_seq.specs.Answer.{refusal_of_progress}
+use Rattle.ob_seq.specs.Steps.{progressed_entry}
 use Rattle.ob_seq.proofs.Acceptance.{same_reply}
 use Rattle.ob_seq.proofs.Along.{moment_of_same, moments_in_one, settlement_same, settlements_in_one}
 use Rattle.ob_seq.proofs.Fronts.{Fronted, fronted, front_is, no_front}

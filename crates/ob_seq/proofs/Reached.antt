@@ -1,22 +1,12 @@
 -- A flush, one row after another.
-use Rattle.std.proofs.Common.{arith, ◌≡◌, ℕ, suc, ◌-◌, Bool, true, false, List, [], ◌∷◌, ◌++◌, length, map, drop}
-use Rattle.std.proofs.Common.{get_or, refl, sym, ap, ◌∙◌, cond, append_assoc, append-nil, subst}
-use Rattle.std.specs.Prelude.{slice_set}
-use Rattle.std.proofs.lemmas.Bool.Decides.{nat_tests}
-use Rattle.std.proofs.lemmas.List.{map-append, length-map}
-use Rattle.std.proofs.Math.Seq.{get_or-append_seam, set-append_seam}
-use Rattle.ob_types.specs.WaterMark.{Marks}
-use Rattle.ob_types.specs.declared.promise.PromiseState.{PromiseState}
-use Rattle.ob_types.specs.declared.promise.PromiseState.TheVariants.{Waiting, Fixed}
-use Rattle.ob_seq.specs.Entry.{entry_of}
-use Rattle.ob_seq.specs.Row.{Row, is_cancelled}
-use Rattle.ob_seq.specs.Total.{counted_size, total}
-use Rattle.ob_seq.specs.Effect.{reached_row}
-use Rattle.ob_seq.specs.Moment.{Moment, moment_of, moments_along}
-use Rattle.ob_seq.specs.Answer.{outcome_of, settlement, settlements_from}
-use Rattle.ob_seq.specs.Pending.{Pending}
-use Rattle.ob_seq.specs.Steps.{pending_total, first_size, reached_entry, is_next_cancelled, unflushed_id, next_flushed}
-use Rattle.ob_seq.specs.Steps.{times, word_after_fall}
+use Rattle.ob_seq.proofs.Words.{arith, ◌≡◌, ℕ, suc, ◌-◌, Bool, true, false, List, [], ◌∷◌, ◌++◌, length, map, drop}
+use Rattle.ob_seq.proofs.Words.{get_or, refl, sym, ap, ◌∙◌, cond, append_assoc, append-nil, subst, slice_set, nat_tests}
+use Rattle.ob_seq.proofs.Words.{map-append, length-map, get_or-append_seam, set-append_seam, Marks, PromiseState}
+use Rattle.ob_seq.proofs.Words.{Waiting, Fixed, entry_of, Row, is_cancelled, counted_size, total, reached_row, Moment}
+use Rattle.ob_seq.proofs.Words.{moment_of, moments_along, outcome_of, settlement, settlements_from, Pending}
+use Rattle.ob_seq.proofs.Words.{pending_total, first_size, reached_entry, unflushed_id, next_flushed, times}
+use Rattle.ob_seq.proofs.Words.{word_after_fall}
+use Rattle.ob_seq.specs.Steps.{is_next_cancelled}
 use Rattle.ob_seq.proofs.Held.{opening, Held, promise_of, unflushed_id_is, pending_total_is}
 use Rattle.ob_seq.proofs.Marks.{word_from, word_from_more, word_step}
 use Rattle.ob_seq.proofs.Order.{IsFresh, IsStanding, each_append, reached_stands}

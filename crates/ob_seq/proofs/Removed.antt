@@ -1,27 +1,13 @@
 -- A buffer without its front stands for the history with the removal, by success or by failure.
-use Rattle.std.proofs.Common.{◌≡◌, ℕ, suc, Bool, true, false, List, [], ◌∷◌, ◌++◌, length, refl, sym, ap, ◌∙◌, cond, ltb, append_assoc, arith}
-use Rattle.std.specs.Prelude.{None, is_some}
-use Rattle.std.specs.List.{AllByRecursion}
-use Rattle.std.proofs.lemmas.Bool.Decides.{nat_tests}
-use Rattle.ob_types.specs.Change.{change_between}
-use Rattle.ob_types.specs.declared.estimate.Estimate.{Estimate}
-use Rattle.ob_types.specs.declared.command.Command.{Command}
-use Rattle.ob_types.specs.declared.command.Command.TheVariants.{Remove, RemoveWith}
-use Rattle.ob_types.specs.declared.promise.Outcome.{Outcome}
-use Rattle.ob_types.specs.declared.promise.Outcome.TheVariants.{Success, Failed}
-use Rattle.ob_types.specs.declared.promise.Cause.{Cause}
-use Rattle.ob_types.specs.declared.reply.Reply.{Reply}
-use Rattle.ob_types.specs.declared.reply.Answer.TheVariants.{Yes}
-use Rattle.ob_seq.specs.Row.{Row}
-use Rattle.ob_seq.specs.Line.{front}
-use Rattle.ob_seq.specs.Total.{counted_size, total}
-use Rattle.ob_seq.specs.Effect.{effect, rows_after, taken_row, with_front}
-use Rattle.ob_seq.specs.Moment.{gives_notice, moment_of, moments_along, moments_of}
-use Rattle.ob_seq.specs.Closed.{is_close}
-use Rattle.ob_seq.specs.Word.{word_after}
-use Rattle.ob_seq.specs.Answer.{answer_of, refusal_of, settlements_from, reply_of}
-use Rattle.ob_seq.specs.Pending.{Pending, StandsFor}
-use Rattle.ob_seq.specs.Steps.{front_taken, front_removed, front_settlement, removal_reply, removal_step}
+use Rattle.ob_seq.proofs.Words.{◌≡◌, ℕ, suc, Bool, true, false, List, [], ◌∷◌, ◌++◌, length, refl, sym, ap, ◌∙◌, cond}
+use Rattle.ob_seq.proofs.Words.{ltb, append_assoc, arith, None, is_some, AllByRecursion, nat_tests, change_between}
+use Rattle.ob_seq.proofs.Words.{Estimate, Command, Remove, RemoveWith, Outcome, Success, Failed, Cause, Reply, Yes, Row}
+use Rattle.ob_seq.proofs.Words.{front, counted_size, total, effect, rows_after, taken_row, with_front, moment_of}
+use Rattle.ob_seq.proofs.Words.{moments_along, moments_of, is_close, word_after, refusal_of, settlements_from, reply_of}
+use Rattle.ob_seq.proofs.Words.{Pending, StandsFor, front_taken, front_settlement}
+use Rattle.ob_seq.specs.Moment.{gives_notice}
+use Rattle.ob_seq.specs.Answer.{answer_of}
+use Rattle.ob_seq.specs.Steps.{front_removed, removal_reply, removal_step}
 use Rattle.ob_seq.proofs.Acceptance.{same_reply}
 use Rattle.ob_seq.proofs.Along.{moments_in_one, moments_of_same, settlements_in_one, settlements_of_same}
 use Rattle.ob_seq.proofs.Held.{word_at_end, Held, held_of, line_count, stands_after, stands_same, word_by_moments}

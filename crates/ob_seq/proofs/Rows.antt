@@ -1,11 +1,8 @@
 -- The rows one by one: where they are, and what they count.
-use Rattle.std.proofs.Common.{◌≡◌, ℕ, ◌+◌, Bool, true, false, ◌||◌, List, [], ◌∷◌, map, refl, sym, ap, ◌∙◌, cond, arith}
-use Rattle.std.proofs.lemmas.List.Sums.{sum_by-cons}
-use Rattle.ob_seq.specs.Row.{Row, Place, Unflushed, Flushed, Voided, Gone, is_unflushed, is_flushed, is_voided}
-use Rattle.ob_seq.specs.Line.{is_in_line, line, unflushed}
-use Rattle.ob_seq.specs.Total.{counted_size, total}
-use Rattle.ob_seq.specs.Entry.{entry_of}
-use Rattle.ob_seq.specs.Steps.{sum_of}
+use Rattle.ob_seq.proofs.Words.{◌≡◌, ℕ, ◌+◌, Bool, true, false, ◌||◌, List, [], ◌∷◌, map, refl, sym, ap, ◌∙◌, cond}
+use Rattle.ob_seq.proofs.Words.{arith, sum_by-cons, Row, Place, Unflushed, Flushed, Voided, Gone, is_unflushed}
+use Rattle.ob_seq.proofs.Words.{is_flushed, is_voided, is_in_line, line, unflushed, counted_size, total, entry_of}
+use Rattle.ob_seq.proofs.Words.{sum_of}
 
 -- what a row adds to two sums by its place, and what it counts
 split_by : (place : Place) (size : ℕ) (l u t : ℕ) → l + u ≡ t →

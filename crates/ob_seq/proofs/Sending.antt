@@ -1,9 +1,7 @@
 -- What is left of the entries in line is the unread parts of the flushed rows.
-use Rattle.std.proofs.Common.{◌≡◌, Bool, true, false, ◌||◌, not, List, [], ◌∷◌, map, refl, sym, ap, ◌∙◌, cond}
-use Rattle.std.specs.Prelude.{filter}
-use Rattle.ob_seq.specs.Entry.{PendingEntry, entry_of, messages_to_send}
-use Rattle.ob_seq.specs.Row.{Row, Place, Unflushed, Flushed, Voided, Gone, is_flushed, is_voided, unread_part}
-use Rattle.ob_seq.specs.Line.{line}
+use Rattle.ob_seq.proofs.Words.{◌≡◌, Bool, true, false, ◌||◌, not, List, [], ◌∷◌, map, refl, sym, ap, ◌∙◌, cond, filter}
+use Rattle.ob_seq.proofs.Words.{PendingEntry, entry_of, messages_to_send, Row, Place, Unflushed, Flushed, Voided, Gone}
+use Rattle.ob_seq.proofs.Words.{is_flushed, is_voided, unread_part, line}
 
 module _ (row : Row) (entries : List PendingEntry) where
   -- an entry in line adds its message, unless it was voided

@@ -1,19 +1,10 @@
 -- The first rows in line taken away, one after another.
-use Rattle.std.proofs.lemmas.Bool.Decides.{nat_tests}
-use Rattle.ob_seq.specs.Line.{is_in_line, line}
-use Rattle.std.proofs.Common.{◌&&◌, ltb, Bool, true, cond, ◌≤◌, arith, add-zero, ◌≡◌, ℕ, suc, ◌+◌, List, [], ◌∷◌, ◌++◌}
-use Rattle.std.proofs.Common.{length, map, refl, sym, ap, ◌∙◌, append_assoc, append-nil, subst}
-use Rattle.std.specs.List.{AllByRecursion}
-use Rattle.ob_types.specs.declared.promise.Outcome.{Outcome}
-use Rattle.ob_types.specs.declared.promise.Outcome.TheVariants.{Success}
-use Rattle.ob_seq.specs.Row.{Row}
-use Rattle.ob_seq.specs.Total.{counted_size, total}
-use Rattle.ob_seq.specs.Effect.{taken_row, with_first, with_first_behind}
-use Rattle.ob_seq.specs.Moment.{Moment, moment_of, moments_along}
-use Rattle.ob_seq.specs.Answer.{outcome_of, settlement, settlements_from}
-use Rattle.ob_seq.specs.Entry.{entry_of}
-use Rattle.ob_seq.specs.Pending.{Pending}
-use Rattle.ob_seq.specs.Steps.{front_taken, entry_settlement, entry_settlements, times}
+use Rattle.ob_seq.proofs.Words.{nat_tests, is_in_line, line, ◌&&◌, ltb, Bool, true, cond, ◌≤◌, arith, add-zero, ◌≡◌, ℕ}
+use Rattle.ob_seq.proofs.Words.{suc, ◌+◌, List, [], ◌∷◌, ◌++◌, length, map, refl, sym, ap, ◌∙◌, append_assoc}
+use Rattle.ob_seq.proofs.Words.{append-nil, subst, AllByRecursion, Outcome, Success, Row, counted_size, total}
+use Rattle.ob_seq.proofs.Words.{taken_row, with_first, with_first_behind, Moment, moment_of, moments_along, outcome_of}
+use Rattle.ob_seq.proofs.Words.{settlement, settlements_from, entry_of, Pending, front_taken, entry_settlement}
+use Rattle.ob_seq.proofs.Words.{entry_settlements, times}
 use Rattle.ob_seq.proofs.Along.{moments_behind}
 use Rattle.ob_seq.proofs.Held.{opening, Held}
 use Rattle.ob_seq.proofs.Marks.{word_from}

@@ -1,16 +1,7 @@
 -- A command that is no write brings no row, and makes no row count more.
-use Rattle.std.proofs.Common.{◌≡◌, ◌≤◌, suc, ◌+◌, false, List, [], ◌∷◌, length, refl, ap, ◌∙◌, cond, arith}
-use Rattle.std.proofs.Common.{length-append}
-use Rattle.std.specs.Prelude.{fold}
-use Rattle.std.proofs.lemmas.List.Sums.{sum_by-cons}
-use Rattle.ob_types.specs.Write.{is_write}
-use Rattle.ob_types.specs.declared.command.Command.{Command}
-use Rattle.ob_types.specs.declared.command.Command.TheVariants.{Write}
-use Rattle.ob_types.specs.declared.estimate.Estimate.{Estimate}
-use Rattle.ob_seq.specs.Effect.{effect}
-use Rattle.ob_seq.specs.Row.{Row, new_row}
-use Rattle.ob_seq.specs.Total.{counted_size, total}
-use Rattle.ob_seq.specs.Writes.{writes_in}
+use Rattle.ob_seq.proofs.Words.{◌≡◌, ◌≤◌, suc, ◌+◌, false, List, [], ◌∷◌, length, refl, ap, ◌∙◌, cond, arith}
+use Rattle.ob_seq.proofs.Words.{length-append, fold, sum_by-cons, is_write, Command, Write, Estimate, effect, Row}
+use Rattle.ob_seq.proofs.Words.{new_row, counted_size, total, writes_in}
 use Rattle.ob_seq.proofs.EachRow.{EachRow, IsKept, effect_keeps}
 
 -- a row keeps its message and its size, and counts no more than it did

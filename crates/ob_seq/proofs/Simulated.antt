@@ -1,28 +1,13 @@
 -- Each command is simulated by its step.
-use Rattle.std.proofs.Common.{◌≡◌, ℕ, ◌<◌, ◌≤◌, Bool, true, false, List, [], ◌∷◌, ◌++◌, length, refl, sym, ap, ◌∙◌, cond, ltb, leb, ◌&&◌, arith}
-use Rattle.std.specs.Prelude.{Option, Some, None}
-use Rattle.std.proofs.lemmas.Bool.Decides.{nat_tests}
-use Rattle.std.proofs.lemmas.List.{length-map}
-use Rattle.ob_types.specs.WaterMark.{Marks}
-use Rattle.ob_types.specs.Waiting.{is_waiting}
-use Rattle.ob_types.specs.declared.command.Command.{Command}
-use Rattle.ob_types.specs.declared.command.Command.TheVariants.{Write, Flush, Remove, RemoveWith, RemoveBytes, Progress, Cancel, FailFlushed, Close, UserBit}
-use Rattle.ob_types.specs.declared.promise.Outcome.{Outcome}
-use Rattle.ob_types.specs.declared.promise.Outcome.TheVariants.{Success, Failed, Cancelled}
-use Rattle.ob_types.specs.declared.promise.PromiseId.{PromiseId}
-use Rattle.ob_types.specs.declared.promise.PromiseState.{PromiseState}
-use Rattle.ob_types.specs.declared.promise.PromiseState.TheVariants.{Waiting, Fixed, Settled}
-use Rattle.ob_types.specs.declared.refusal.Refusal.{Refusal}
-use Rattle.ob_types.specs.declared.refusal.Refusal.TheVariants.{BadIndex, TooManyBytes, UnknownPromise}
-use Rattle.ob_seq.specs.declared.contents.cut.Cut.{Cut}
-use Rattle.ob_seq.specs.Answer.{outcome_of, settlement}
-use Rattle.ob_seq.specs.Effect.{cancelled, rows_after}
-use Rattle.ob_seq.specs.Entry.{blocks_left}
-use Rattle.ob_seq.specs.Pending.{Pending, StandsFor}
-use Rattle.ob_seq.specs.Pieces.{bytes_in}
-use Rattle.ob_seq.specs.Row.{Row}
-use Rattle.ob_seq.specs.Settings.{Settings}
-use Rattle.ob_seq.specs.Steps.{bit_step, bytes_step, cancel_step, front_taken, promise_set, state_at, step_of, times, whole_cut}
+use Rattle.ob_seq.proofs.Words.{◌≡◌, ℕ, ◌<◌, ◌≤◌, Bool, true, false, List, [], ◌∷◌, ◌++◌, length, refl, sym, ap, ◌∙◌}
+use Rattle.ob_seq.proofs.Words.{cond, ltb, leb, ◌&&◌, arith, Option, Some, None, nat_tests, length-map, Marks}
+use Rattle.ob_seq.proofs.Words.{is_waiting, Command, Write, Flush, Remove, RemoveWith, RemoveBytes, Progress, Cancel}
+use Rattle.ob_seq.proofs.Words.{FailFlushed, Close, UserBit, Outcome, Success, Failed, Cancelled, PromiseId}
+use Rattle.ob_seq.proofs.Words.{PromiseState, Waiting, Fixed, Settled, Refusal, TooManyBytes, Cut, outcome_of}
+use Rattle.ob_seq.proofs.Words.{settlement, cancelled, rows_after, blocks_left, Pending, StandsFor, bytes_in, Row}
+use Rattle.ob_seq.proofs.Words.{Settings, bit_step, front_taken, promise_set, step_of, times, whole_cut}
+use Rattle.ob_types.specs.declared.refusal.Refusal.TheVariants.{BadIndex, UnknownPromise}
+use Rattle.ob_seq.specs.Steps.{bytes_step, cancel_step, state_at}
 use Rattle.ob_seq.proofs.Acceptance.{same_reply}
 use Rattle.ob_seq.proofs.Blocks.{few_entries}
 use Rattle.ob_seq.proofs.BytesRemoved.{bytes_removed_stand, run_is}

@@ -1,18 +1,16 @@
 -- What holds of every command that a step carries out: its answer, the history that the buffer stands for after it, what it
 -- wants of memory, and how many promises it settles.
-use Rattle.std.proofs.Common.{◌≡◌, ◌<◌, Bool, true, false, List, [], ◌∷◌, ◌++◌, length, refl, sym, ap, ◌∙◌, cond, subst, arith}
-use Rattle.std.specs.Prelude.{Option, Some, None, Result, Ok, Err, is_ok, IsErrOf}
+use Rattle.ob_seq.proofs.Words.{◌≡◌, ◌<◌, Bool, true, false, List, [], ◌∷◌, ◌++◌, length, refl, sym, ap, ◌∙◌, cond}
+use Rattle.ob_seq.proofs.Words.{subst, arith, Option, Some, None, is_ok, Command, Refusal, Closed, Reply, answer_to}
+use Rattle.ob_seq.proofs.Words.{first_refusal, refusal_of, reply_of, unless_refused, is_closed, rows_after, Accepts}
+use Rattle.ob_seq.proofs.Words.{Answers, Pending, StandsFor, SparesMemory, settled_by, settled_by_step}
+use Rattle.std.specs.Prelude.{Result, Ok, Err, IsErrOf}
 use Rattle.ob_types.specs.Limits.{inline_settlements}
-use Rattle.ob_types.specs.declared.command.Command.{Command}
-use Rattle.ob_types.specs.declared.refusal.Refusal.{Refusal}
-use Rattle.ob_types.specs.declared.refusal.Refusal.TheVariants.{Closed, NoMemory}
-use Rattle.ob_types.specs.declared.reply.Reply.{Reply}
-use Rattle.ob_seq.specs.Answer.{answer_to, commands_with, first_refusal, refusal_of, reply_of, unless_refused}
-use Rattle.ob_seq.specs.Closed.{is_closed}
-use Rattle.ob_seq.specs.Effect.{rows_after}
-use Rattle.ob_seq.specs.Pending.{Accepts, Answers, Follows, Pending, StandsFor}
-use Rattle.ob_seq.specs.Settles.{Settles, SparesMemory, settled_by}
-use Rattle.ob_seq.specs.Steps.{Step, answer_by, first_of_step, held_by, settled_by_step, settled_open}
+use Rattle.ob_types.specs.declared.refusal.Refusal.TheVariants.{NoMemory}
+use Rattle.ob_seq.specs.Answer.{commands_with}
+use Rattle.ob_seq.specs.Pending.{Follows}
+use Rattle.ob_seq.specs.Settles.{Settles}
+use Rattle.ob_seq.specs.Steps.{Step, answer_by, first_of_step, held_by, settled_open}
 
 -- whatever history a buffer stands for, its step is refused as the definition says, and else replies as it says and leaves
 -- what stands for the history with the command

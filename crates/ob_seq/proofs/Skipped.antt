@@ -1,22 +1,16 @@
 -- Bytes skipped in the front: the rows and the entries of a buffer change alike.
-use Rattle.std.proofs.Common.{◌≡◌, ℕ, suc, ◌+◌, Bool, true, false, List, [], ◌∷◌, ◌++◌, map, min, refl, sym, ap, ◌∙◌, cond, ltb}
-use Rattle.std.specs.List.{AllByRecursion}
+use Rattle.ob_seq.proofs.Words.{◌≡◌, ℕ, suc, ◌+◌, Bool, true, false, List, [], ◌∷◌, ◌++◌, map, min, refl, sym, ap, ◌∙◌}
+use Rattle.ob_seq.proofs.Words.{cond, ltb, AllByRecursion, map-append, Message, Block, Region, Other, PendingEntry}
+use Rattle.ob_seq.proofs.Words.{entry_of, Row, is_voided, without_skipped, counted_size, total, skipped_row, with_front}
+use Rattle.ob_seq.proofs.Words.{with_skipped, moments_along, outcome_of, settlements_from, Pending, first_changed}
+use Rattle.ob_seq.proofs.Words.{front_changed}
 use Rattle.std.proofs.Math.Seq.{drop-nil}
 use Rattle.std.proofs.lemmas.List.{drop-drop}
-use Rattle.std.proofs.lemmas.List.{map-append}
-use Rattle.ob_types.specs.declared.message.Message.{Message}
-use Rattle.ob_types.specs.declared.message.Message.TheVariants.{Block, Region, Other}
-use Rattle.ob_seq.specs.Entry.{PendingEntry, entry_of}
-use Rattle.ob_seq.specs.Row.{Row, is_voided, without_skipped}
-use Rattle.ob_seq.specs.Total.{counted_size, total}
-use Rattle.ob_seq.specs.Effect.{skipped_row, with_front, with_skipped}
-use Rattle.ob_seq.specs.Moment.{moments_along}
-use Rattle.ob_seq.specs.Answer.{outcome_of, settlements_from}
-use Rattle.ob_seq.specs.Pending.{Pending}
-use Rattle.ob_seq.specs.Steps.{first_changed, front_changed, front_skipped, skipped_entry}
+use Rattle.ob_seq.specs.Steps.{front_skipped, skipped_entry}
 use Rattle.ob_seq.proofs.Along.{moment_of_same, moments_behind, settlement_same, settlements_behind}
 use Rattle.ob_seq.proofs.Held.{Held, promise_of, opening}
-use Rattle.ob_seq.proofs.Order.{IsGone, IsStanding, IsFresh, skipped_stands, with_front_gone, with_front_standing, with_front_fresh}
+use Rattle.ob_seq.proofs.Order.{IsGone, IsStanding, IsFresh, skipped_stands, with_front_gone, with_front_standing}
+use Rattle.ob_seq.proofs.Order.{with_front_fresh}
 
 skipped_of : (voided : Bool) (m n : ℕ) (message : Message) → without_skipped n (cond voided (Block []) (without_skipped m message)) ≡ cond voided (Block []) (without_skipped (m + n) message)
 skipped_of true m n message = ap Block (drop-nil n)

@@ -1,20 +1,11 @@
 -- A buffer whose front is taken away.
-use Rattle.std.proofs.Common.{◌≡◌, ℕ, ◌+◌, ◌-◌, Bool, true, false, inl, inr, List, [], ◌∷◌, ◌++◌, length, map, drop, refl, sym, ap, ◌∙◌, cond, append_assoc, arith}
-use Rattle.std.specs.Prelude.{slice_set, if◌then◌else◌}
-use Rattle.std.proofs.lemmas.Bool.Decides.{nat_tests}
-use Rattle.std.proofs.lemmas.List.{map-append, length-map}
-use Rattle.std.proofs.lemmas.List.Sums.{sum_by-append, sum_by-cons}
-use Rattle.std.proofs.Math.Seq.{set-append_seam}
-use Rattle.ob_types.specs.WaterMark.{Marks}
-use Rattle.ob_types.specs.declared.promise.PromiseState.TheVariants.{Settled}
-use Rattle.ob_types.specs.declared.promise.Outcome.{Outcome}
-use Rattle.ob_seq.specs.Row.{Row, is_voided}
-use Rattle.ob_seq.specs.Total.{counted_size, total}
-use Rattle.ob_seq.specs.Effect.{taken_row}
-use Rattle.ob_seq.specs.Moment.{Moment, moment_of}
-use Rattle.ob_seq.specs.Answer.{outcome_of, settlement}
-use Rattle.ob_seq.specs.Pending.{Pending}
-use Rattle.ob_seq.specs.Steps.{first_size, is_first_voided, front_id, front_settlement, front_taken, word_after_fall}
+use Rattle.ob_seq.proofs.Words.{◌≡◌, ℕ, ◌+◌, ◌-◌, Bool, true, false, inl, inr, List, [], ◌∷◌, ◌++◌, length, map, drop}
+use Rattle.ob_seq.proofs.Words.{refl, sym, ap, ◌∙◌, cond, append_assoc, arith, slice_set, if◌then◌else◌, nat_tests}
+use Rattle.ob_seq.proofs.Words.{map-append, length-map, sum_by-append, sum_by-cons, set-append_seam, Marks, Settled}
+use Rattle.ob_seq.proofs.Words.{Outcome, Row, is_voided, counted_size, total, taken_row, Moment, moment_of, outcome_of}
+use Rattle.ob_seq.proofs.Words.{settlement, Pending, first_size, front_id, front_settlement, front_taken}
+use Rattle.ob_seq.proofs.Words.{word_after_fall}
+use Rattle.ob_seq.specs.Steps.{is_first_voided}
 use Rattle.ob_seq.proofs.Held.{Held, promise_of, front_id_is, pending_total_is}
 use Rattle.ob_seq.proofs.Marks.{word_step, word_from, word_from_more}
 use Rattle.ob_seq.proofs.Order.{IsGone, IsStanding, each_append}

@@ -1,10 +1,7 @@
 -- What stays and what goes while a flush or a removal takes its steps.
-use Rattle.std.proofs.Common.{◌≡◌, ℕ, zero, suc, ◌-◌, Bool, List, [], ◌∷◌, length, drop, refl, ap, ◌∙◌}
+use Rattle.ob_seq.proofs.Words.{◌≡◌, ℕ, zero, suc, ◌-◌, Bool, List, [], ◌∷◌, length, drop, refl, ap, ◌∙◌, Outcome}
+use Rattle.ob_seq.proofs.Words.{PendingEntry, Pending, front_taken, next_flushed, times}
 use Rattle.std.proofs.lemmas.List.{length-drop}
-use Rattle.ob_types.specs.declared.promise.Outcome.{Outcome}
-use Rattle.ob_seq.specs.Entry.{PendingEntry}
-use Rattle.ob_seq.specs.Pending.{Pending}
-use Rattle.ob_seq.specs.Steps.{front_taken, next_flushed, times}
 
 drop_one_more : (n : ℕ) (entries : List PendingEntry) → drop 1 (drop n entries) ≡ drop (suc n) entries
 drop_one_more zero entries = refl

@@ -1,21 +1,11 @@
 -- A promise is settled with an outcome exactly where the two stand among the settlements.
-use Rattle.std.proofs.Common.{◌≡◌, ℕ, zero, suc, ◌+◌, true, List, [], ◌∷◌, drop, inl, inr, refl, sym, ap, ◌∙◌, arith}
-use Rattle.std.proofs.Common.{add-zero}
-use Rattle.std.specs.Prelude.{◌↔◌, Option, Some, None, fold}
+use Rattle.ob_seq.proofs.Words.{◌≡◌, ℕ, zero, suc, ◌+◌, true, List, [], ◌∷◌, drop, inl, inr, refl, sym, ap, ◌∙◌, arith}
+use Rattle.ob_seq.proofs.Words.{add-zero, ◌↔◌, Option, Some, None, fold, Command, Outcome, PromiseId, Settled}
+use Rattle.ob_seq.proofs.Words.{accepted_among, answer_to, are_accepted, commands_after, first_refusal, outcome_of}
+use Rattle.ob_seq.proofs.Words.{settlement, settlements_from, effect, rows_after, promise_after, Row, Settings}
+use Rattle.ob_seq.proofs.Words.{settled_along, settled_by}
 use Rattle.std.specs.List.{Contains}
 use Rattle.std.proofs.lemmas.List.Elements.{Contains-append_left, Contains-append_right, Contains-append_cases}
-use Rattle.ob_types.specs.declared.command.Command.{Command}
-use Rattle.ob_types.specs.declared.promise.Outcome.{Outcome}
-use Rattle.ob_types.specs.declared.promise.PromiseId.{PromiseId}
-use Rattle.ob_types.specs.declared.promise.PromiseState.TheVariants.{Settled}
-use Rattle.ob_seq.specs.Accepted.{accepted_among}
-use Rattle.ob_seq.specs.Answer.{answer_to, are_accepted, commands_after, first_refusal, outcome_of, settlement}
-use Rattle.ob_seq.specs.Answer.{settlements_from}
-use Rattle.ob_seq.specs.Effect.{effect, rows_after}
-use Rattle.ob_seq.specs.Looks.{promise_after}
-use Rattle.ob_seq.specs.Row.{Row}
-use Rattle.ob_seq.specs.Settings.{Settings}
-use Rattle.ob_seq.specs.Settles.{settled_along, settled_by}
 use Rattle.ob_seq.proofs.Accepting.{all_among, none_or_some}
 use Rattle.ob_seq.proofs.EachRow.{outcome_at, outcome_in}
 use Rattle.ob_seq.proofs.History.{rows_after_more}

@@ -1,13 +1,6 @@
 -- Which promises are unknown.
-use Rattle.std.proofs.Common.{◌≡◌, ◌≤◌, ℕ, zero, suc, List, [], ◌∷◌, length, ap, arith}
-use Rattle.std.specs.Prelude.{◌↔◌, None, option_map}
-use Rattle.std.proofs.lemmas.Option.{slice_get_past}
-use Rattle.ob_types.specs.declared.command.Command.{Command}
-use Rattle.ob_types.specs.declared.estimate.Estimate.{Estimate}
-use Rattle.ob_seq.specs.Answer.{promise_at}
-use Rattle.ob_seq.specs.Effect.{rows_after}
-use Rattle.ob_seq.specs.Row.{Row}
-use Rattle.ob_seq.specs.Writes.{writes_in}
+use Rattle.ob_seq.proofs.Words.{◌≡◌, ◌≤◌, ℕ, zero, suc, List, [], ◌∷◌, length, ap, arith, ◌↔◌, None, option_map}
+use Rattle.ob_seq.proofs.Words.{slice_get_past, Command, Estimate, promise_at, rows_after, Row, writes_in}
 use Rattle.ob_seq.proofs.Shrinking.{row_for_each_write}
 
 -- where there is no promise there is no row

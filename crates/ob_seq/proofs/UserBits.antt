@@ -1,26 +1,13 @@
 -- A user bit set or cleared in the word is the user bit after one more command.
-use Rattle.std.proofs.Common.{◌≡◌, ℕ, zero, suc, ◌^◌, ◌<◌, ◌≤◌, Bool, true, false, not, List, [], ◌∷◌, ◌++◌, reverse}
-use Rattle.std.proofs.Common.{refl, sym, ap, ◌∙◌, cond, eqb, ltb, append-nil, arith}
-use Rattle.std.specs.Prelude.{Option, Some, None, filter_map, slice_get, unwrap_or}
-use Rattle.std.specs.Int.{bit_at, bit_not, w32}
-use Rattle.std.specs.List.{cons_option}
-use Rattle.std.proofs.lemmas.Bool.Decides.{nat_tests}
-use Rattle.std.proofs.lemmas.List.{reverse-append}
-use Rattle.std.proofs.lemmas.List.Elements.{filter_map-append}
-use Rattle.std.proofs.lemmas.Nat.Bits.{bit_at_or, bit_at_and, bit_at_not, same_from_bits, bit_at-pow_same}
+use Rattle.ob_seq.proofs.Words.{◌≡◌, ℕ, zero, suc, ◌^◌, ◌<◌, ◌≤◌, Bool, true, false, not, List, [], ◌∷◌, ◌++◌, reverse}
+use Rattle.ob_seq.proofs.Words.{refl, sym, ap, ◌∙◌, cond, eqb, ltb, append-nil, arith, Option, Some, None, filter_map}
+use Rattle.ob_seq.proofs.Words.{slice_get, unwrap_or, bit_at, cons_option, nat_tests, reverse-append, filter_map-append}
+use Rattle.ob_seq.proofs.Words.{bit_at_or, same_from_bits, pow-lt, change_between, Command, UserBit, Reply, Done}
+use Rattle.ob_seq.proofs.Words.{Settings, rows_after, bit_request, user_bit, word_after, refusal_of, reply_of, Pending}
+use Rattle.ob_seq.proofs.Words.{StandsFor}
+use Rattle.std.specs.Int.{bit_not, w32}
+use Rattle.std.proofs.lemmas.Nat.Bits.{bit_at_and, bit_at_not, bit_at-pow_same}
 use Rattle.std.proofs.lemmas.Nat.Bits.{bit_at-pow_other}
-use Rattle.std.proofs.Math.Pow.{pow-lt}
-use Rattle.ob_types.specs.Change.{change_between}
-use Rattle.ob_types.specs.declared.command.Command.{Command}
-use Rattle.ob_types.specs.declared.command.Command.TheVariants.{UserBit}
-use Rattle.ob_types.specs.declared.reply.Reply.{Reply}
-use Rattle.ob_types.specs.declared.reply.Answer.TheVariants.{Done}
-use Rattle.ob_seq.specs.Settings.{Settings}
-use Rattle.ob_seq.specs.Effect.{rows_after}
-use Rattle.ob_seq.specs.UserBit.{bit_request, user_bit}
-use Rattle.ob_seq.specs.Word.{word_after}
-use Rattle.ob_seq.specs.Answer.{refusal_of, reply_of}
-use Rattle.ob_seq.specs.Pending.{Pending, StandsFor}
 use Rattle.ob_seq.specs.Steps.{bit_changed, with_user_bit}
 use Rattle.ob_seq.proofs.Acceptance.{open_history, same_reply}
 use Rattle.ob_seq.proofs.Along.{moments_of_same, settlements_of_same}

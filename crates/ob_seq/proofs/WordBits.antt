@@ -1,7 +1,7 @@
 -- Bit 0 of the word.
-use Rattle.std.proofs.Common.{◌≡◌, ℕ, zero, suc, ◌+◌, ◌*◌, ◌/◌, ◌%◌, sym, ap, ◌∙◌, bit_or, max, arith}
-use Rattle.std.specs.Int.{bit_at}
-use Rattle.std.proofs.lemmas.Nat.Bits.{bit_at_or, same_from_bits, bit_at_lowest, bit_at-suc, bit_at-zero}
+use Rattle.ob_seq.proofs.Words.{◌≡◌, ℕ, zero, suc, ◌+◌, ◌*◌, ◌/◌, ◌%◌, sym, ap, ◌∙◌, max, arith, bit_at, bit_at_or}
+use Rattle.ob_seq.proofs.Words.{same_from_bits, bit_at_lowest, bit_at-suc, bit_at-zero}
+use Rattle.std.proofs.Common.{bit_or}
 
 max_zero : (n : ℕ) → max n 0 ≡ n
 max_zero n = omega arith

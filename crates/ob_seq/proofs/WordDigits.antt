@@ -1,13 +1,6 @@
 -- The bits of the word.
-use Rattle.std.proofs.Common.{◌≡◌, ℕ, zero, suc, ◌+◌, ◌<◌, ◌≤◌, Bool, true, false, List, refl, ap, ◌∙◌, ltb, arith}
-use Rattle.std.specs.Prelude.{◌↔◌}
-use Rattle.std.specs.Int.{bit_at}
-use Rattle.std.proofs.lemmas.Bool.Decides.{nat_tests}
-use Rattle.ob_types.specs.declared.command.Command.{Command}
-use Rattle.ob_seq.specs.Mark.{mark_after}
-use Rattle.ob_seq.specs.Settings.{Settings}
-use Rattle.ob_seq.specs.UserBit.{user_bit}
-use Rattle.ob_seq.specs.Word.{word_after}
+use Rattle.ob_seq.proofs.Words.{◌≡◌, ℕ, zero, suc, ◌+◌, ◌<◌, ◌≤◌, Bool, true, false, List, refl, ap, ◌∙◌, ltb, arith}
+use Rattle.ob_seq.proofs.Words.{◌↔◌, bit_at, nat_tests, Command, mark_after, Settings, user_bit, word_after}
 use Rattle.ob_seq.proofs.Digits.{digit, digit_of, user_bits_even, word_digits, word_of, word_of_digits, word_small}
 
 digit_is : (bit : Bool) → digit bit ≡ 1 ↔ bit ≡ true

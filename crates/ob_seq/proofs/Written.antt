@@ -1,38 +1,21 @@
 -- A buffer with one more message stands for the history with the write.
-use Rattle.std.proofs.Common.{◌≡◌, ℕ, ◌+◌, Bool, true, not, cond, leb, ltb, ◌&&◌, ◌||◌, List, [], ◌∷◌, ◌++◌, length, refl, sym, ap, ◌∙◌, append-nil, arith, false}
-use Rattle.std.proofs.lemmas.Bool.Decides.{nat_tests}
-use Rattle.std.proofs.lemmas.List.{map-append, length-map}
-use Rattle.std.proofs.lemmas.List.Elements.{filter-append}
-use Rattle.std.proofs.lemmas.List.Sums.{sum_by_push}
-use Rattle.ob_types.specs.WaterMark.{Marks}
-use Rattle.ob_types.specs.PendingSize.{counted_bytes, is_oversize}
-use Rattle.ob_types.specs.declared.refusal.Refusal.{Refusal}
-use Rattle.ob_types.specs.declared.refusal.Refusal.TheVariants.{Oversize, TooMuch}
-use Rattle.ob_types.specs.Change.{change_between}
-use Rattle.ob_types.specs.declared.estimate.Estimate.{Estimate}
-use Rattle.ob_types.specs.declared.message.Message.{Message}
-use Rattle.ob_types.specs.declared.message.Message.TheVariants.{Block, Region, Other}
-use Rattle.ob_types.specs.declared.command.Command.{Command}
-use Rattle.ob_types.specs.declared.command.Command.TheVariants.{Write}
-use Rattle.ob_types.specs.declared.reply.Reply.{Reply}
+use Rattle.ob_seq.proofs.Words.{◌≡◌, ℕ, ◌+◌, Bool, true, not, cond, leb, ltb, ◌&&◌, ◌||◌, List, [], ◌∷◌, ◌++◌, length}
+use Rattle.ob_seq.proofs.Words.{refl, sym, ap, ◌∙◌, append-nil, arith, false, nat_tests, map-append, length-map}
+use Rattle.ob_seq.proofs.Words.{filter-append, sum_by_push, Marks, counted_bytes, is_oversize, Refusal, Oversize}
+use Rattle.ob_seq.proofs.Words.{TooMuch, change_between, Estimate, Message, Block, Region, Other, Command, Write, Reply}
+use Rattle.ob_seq.proofs.Words.{PendingEntry, entry_of, Row, new_row, without_skipped, is_unflushed, is_in_line, line}
+use Rattle.ob_seq.proofs.Words.{unflushed, counted_size, total, rows_after, moment_of, moments_of, word_after}
+use Rattle.ob_seq.proofs.Words.{settlements_of, reply_of, refusal_of, Pending, StandsFor, pending_total, written}
+use Rattle.ob_seq.proofs.Words.{word_after_rise, write_step, Option, Some, None}
 use Rattle.ob_types.specs.declared.reply.Answer.TheVariants.{Id}
-use Rattle.ob_seq.specs.Entry.{PendingEntry, entry_of}
-use Rattle.ob_seq.specs.Row.{Row, new_row, without_skipped, is_unflushed}
-use Rattle.ob_seq.specs.Line.{is_in_line, line, unflushed}
-use Rattle.ob_seq.specs.Total.{counted_size, total}
-use Rattle.ob_seq.specs.Effect.{rows_after}
-use Rattle.ob_seq.specs.Moment.{moment_of, moments_of}
-use Rattle.ob_seq.specs.Word.{word_after}
-use Rattle.ob_seq.specs.Answer.{is_too_much, settlements_of, reply_of, refusal_of}
-use Rattle.ob_seq.specs.Pending.{Pending, StandsFor}
-use Rattle.ob_seq.specs.Steps.{has_room, pending_total, written, word_after_rise, write_step}
+use Rattle.ob_seq.specs.Answer.{is_too_much}
+use Rattle.ob_seq.specs.Steps.{has_room}
 use Rattle.ob_seq.proofs.Acceptance.{open_history, same_reply}
 use Rattle.ob_seq.proofs.Simulation.{Simulates}
 use Rattle.ob_seq.proofs.Rows.{sum_of_rows}
 use Rattle.ob_seq.proofs.Along.{moments_past, settlements_past}
 use Rattle.ob_seq.proofs.History.{rows_after_more, accepted_more, closed_more}
 use Rattle.ob_seq.proofs.Marks.{word_step, word_after_more}
-use Rattle.std.specs.Prelude.{Option, Some, None}
 
 -- the bytes pending in a buffer are those of the rows
 pub pending_total_stands : (buffer : Pending) (commands : List Command) → StandsFor buffer commands → pending_total buffer ≡ total (rows_after buffer.settings.estimate commands)

@@ -1,7 +1,5 @@
-use Rattle.std.proofs.Common.{◌≡◌, ℕ, ◌+◌, ◌-◌, ◌<◌, ◌≤◌, min, Bool, true, false, not, ◌&&◌, refl, cond, leb, arith}
-use Rattle.std.specs.Prelude.{◌↔◌}
-use Rattle.std.proofs.lemmas.Bool.Decides.{nat_tests}
-use Rattle.ob_types.specs.Change.{is_writable}
+use Rattle.ob_seq.proofs.Words.{◌≡◌, ℕ, ◌+◌, ◌-◌, ◌<◌, ◌≤◌, min, Bool, true, false, not, ◌&&◌, refl, cond, leb, arith}
+use Rattle.ob_seq.proofs.Words.{◌↔◌, nat_tests, is_writable}
 use Rattle.ob_seq.proofs.laws.before_writable_is_the_least_fall.Goals as goal
 
 -- the number, by whether the buffer is not writable and the pending bytes are at least low

@@ -1,4 +1,4 @@
-use Rattle.ob_types.specs.declared.command.Command.TheVariants.{Cancel}
+use Rattle.ob_seq.proofs.Words.{Cancel}
 use Rattle.ob_seq.proofs.Simulated.{simulated}
 use Rattle.ob_seq.proofs.Simulation.{answers, follows, settings_stay, still_stands}
 use Rattle.ob_seq.proofs.buffer.Buffer.cancel.Goals as goal

@@ -1,4 +1,4 @@
-use Rattle.ob_types.specs.declared.command.Command.TheVariants.{Close}
+use Rattle.ob_seq.proofs.Words.{Close}
 use Rattle.ob_seq.proofs.Simulated.{simulated}
 use Rattle.ob_seq.proofs.Simulation.{accepts, answers, follows, settings_stay, spares, still_stands}
 use Rattle.ob_seq.proofs.buffer.Buffer.close.Goals as goal

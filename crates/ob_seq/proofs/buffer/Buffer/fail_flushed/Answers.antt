@@ -1,4 +1,4 @@
-use Rattle.ob_types.specs.declared.command.Command.TheVariants.{FailFlushed}
+use Rattle.ob_seq.proofs.Words.{FailFlushed}
 use Rattle.ob_seq.proofs.Simulated.{simulated}
 use Rattle.ob_seq.proofs.Simulation.{accepts, answers, follows, settings_stay, spares, still_stands}
 use Rattle.ob_seq.proofs.buffer.Buffer.fail_flushed.Goals as goal

@@ -1,4 +1,4 @@
-use Rattle.ob_types.specs.declared.command.Command.TheVariants.{Progress}
+use Rattle.ob_seq.proofs.Words.{Progress}
 use Rattle.ob_seq.proofs.Simulated.{simulated}
 use Rattle.ob_seq.proofs.Simulation.{answers, follows, settings_stay, still_stands}
 use Rattle.ob_seq.proofs.buffer.Buffer.progress.Goals as goal

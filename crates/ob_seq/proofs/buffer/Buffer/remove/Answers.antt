@@ -1,4 +1,4 @@
-use Rattle.ob_types.specs.declared.command.Command.TheVariants.{Remove}
+use Rattle.ob_seq.proofs.Words.{Remove}
 use Rattle.ob_seq.proofs.Simulated.{simulated}
 use Rattle.ob_seq.proofs.Simulation.{answers, follows, settings_stay, still_stands}
 use Rattle.ob_seq.proofs.buffer.Buffer.remove.Goals as goal

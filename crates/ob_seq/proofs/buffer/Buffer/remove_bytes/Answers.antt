@@ -1,7 +1,4 @@
-use Rattle.std.proofs.Common.{subst}
-use Rattle.ob_types.specs.declared.command.Command.TheVariants.{RemoveBytes}
-use Rattle.ob_seq.specs.Pending.{Accepts, Answers, Pending}
-use Rattle.ob_seq.specs.Settles.{SparesMemory}
+use Rattle.ob_seq.proofs.Words.{subst, RemoveBytes, Accepts, Answers, Pending, SparesMemory}
 use Rattle.ob_seq.proofs.Simulated.{simulated}
 use Rattle.ob_seq.proofs.Simulation.{accepts, answers, follows, settings_stay, spares, still_stands}
 use Rattle.ob_seq.proofs.buffer.Buffer.remove_bytes.Goals as goal

@@ -1,4 +1,4 @@
-use Rattle.ob_types.specs.declared.command.Command.TheVariants.{RemoveWith}
+use Rattle.ob_seq.proofs.Words.{RemoveWith}
 use Rattle.ob_seq.proofs.Simulated.{simulated}
 use Rattle.ob_seq.proofs.Simulation.{answers, follows, settings_stay, still_stands}
 use Rattle.ob_seq.proofs.buffer.Buffer.remove_with.Goals as goal

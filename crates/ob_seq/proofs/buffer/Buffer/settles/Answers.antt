@@ -1,4 +1,4 @@
-use Rattle.std.proofs.Common.{◌∙◌}
+use Rattle.ob_seq.proofs.Words.{◌∙◌}
 use Rattle.ob_seq.proofs.Simulated.{simulated}
 use Rattle.ob_seq.proofs.Simulation.{settles}
 use Rattle.ob_seq.proofs.buffer.Buffer.settles.Goals as goal

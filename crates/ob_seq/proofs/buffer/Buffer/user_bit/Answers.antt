@@ -1,4 +1,4 @@
-use Rattle.ob_types.specs.declared.command.Command.TheVariants.{UserBit}
+use Rattle.ob_seq.proofs.Words.{UserBit}
 use Rattle.ob_seq.proofs.Simulated.{simulated}
 use Rattle.ob_seq.proofs.Simulation.{answers, follows, settings_stay, still_stands}
 use Rattle.ob_seq.proofs.buffer.Buffer.user_bit.Goals as goal

@@ -1,4 +1,4 @@
-use Rattle.ob_types.specs.declared.command.Command.TheVariants.{Write}
+use Rattle.ob_seq.proofs.Words.{Write}
 use Rattle.ob_seq.proofs.Simulated.{simulated}
 use Rattle.ob_seq.proofs.Simulation.{accepts, answers, follows, settings_stay, still_stands}
 use Rattle.ob_seq.proofs.buffer.Buffer.write.Goals as goal

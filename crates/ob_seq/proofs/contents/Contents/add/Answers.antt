@@ -1,9 +1,5 @@
-use Rattle.std.proofs.Common.{◌+◌, [], ◌∷◌, ◌++◌, false, sym, ap, ◌∙◌, arith}
-use Rattle.std.proofs.lemmas.List.{length-map}
-use Rattle.ob_types.specs.declared.promise.PromiseState.TheVariants.{Waiting}
-use Rattle.ob_seq.specs.declared.entry.Entry.{Entry}
-use Rattle.ob_seq.specs.Inside.{pending_entry, pending_entries}
-use Rattle.ob_seq.specs.Steps.{word_after_rise, written}
+use Rattle.ob_seq.proofs.Words.{◌+◌, [], ◌∷◌, ◌++◌, false, sym, ap, ◌∙◌, arith, length-map, Waiting, Entry}
+use Rattle.ob_seq.proofs.Words.{pending_entry, pending_entries, word_after_rise, written}
 use Rattle.ob_seq.proofs.Entries.{entries_pushed, sum_of_entries}
 use Rattle.ob_seq.proofs.Fields.{total_is}
 use Rattle.ob_seq.proofs.Kept.{kept_written}

@@ -1,15 +1,6 @@
-use Rattle.std.proofs.Common.{◌≡◌, Bool, true, false, not, length, take, refl, sym, ap, ◌∙◌, cond, ltb}
-use Rattle.std.specs.Prelude.{Option, Some, None, count_by}
-use Rattle.ob_types.specs.declared.promise.Outcome.TheVariants.{Success}
-use Rattle.ob_types.specs.declared.refusal.Refusal.{Refusal}
-use Rattle.ob_types.specs.declared.refusal.Refusal.TheVariants.{TooManyBytes}
-use Rattle.ob_seq.specs.declared.contents.cut.Cut.{Cut}
-use Rattle.ob_seq.specs.Answer.{unless_refused}
-use Rattle.ob_seq.specs.Entry.{PendingEntry, blocks_left}
-use Rattle.ob_seq.specs.Pending.{Pending}
-use Rattle.ob_seq.specs.Pieces.{bytes_in}
-use Rattle.ob_seq.specs.Settles.{settled_by}
-use Rattle.ob_seq.specs.Steps.{bytes_reply, front_id, whole_cut}
+use Rattle.ob_seq.proofs.Words.{◌≡◌, Bool, true, false, not, length, take, refl, sym, ap, ◌∙◌, cond, ltb, Option, Some}
+use Rattle.ob_seq.proofs.Words.{None, count_by, Success, Refusal, TooManyBytes, Cut, unless_refused, PendingEntry}
+use Rattle.ob_seq.proofs.Words.{blocks_left, Pending, bytes_in, settled_by, bytes_reply, front_id, whole_cut}
 use Rattle.ob_seq.proofs.EntrySettlements.{count_of_settlements}
 use Rattle.ob_seq.proofs.contents.Contents.bytes_settle.Goals as goal
 

@@ -1,8 +1,8 @@
-use Rattle.std.proofs.Common.{rules, ◌≡◌, true, take, drop, refl, sym, ap, ◌∙◌, arith}
+use Rattle.ob_seq.proofs.Words.{◌≡◌, true, take, drop, refl, sym, ap, ◌∙◌, arith, pending_entries, Settings}
+use Rattle.ob_seq.proofs.Words.{closed_pending, unflushed_id}
+use Rattle.std.proofs.Common.{rules}
 use Rattle.std.proofs.lemmas.List.{with_items_is, places}
-use Rattle.ob_seq.specs.Inside.{pending_entries}
-use Rattle.ob_seq.specs.Settings.{Settings}
-use Rattle.ob_seq.specs.Steps.{closed_pending, failed_from, unflushed_id}
+use Rattle.ob_seq.specs.Steps.{failed_from}
 use Rattle.ob_seq.proofs.Fields.{line_count}
 use Rattle.ob_seq.proofs.Kept.{same_pending}
 use Rattle.ob_seq.proofs.contents.Contents.close_with.Goals as goal

@@ -1,11 +1,6 @@
-use Rattle.std.proofs.Common.{◌≡◌, ℕ, ◌≤◌, false, length, drop, sym, ap, ◌∙◌, cond, ltb, arith}
-use Rattle.std.specs.Prelude.{Option, Some, None}
-use Rattle.std.proofs.lemmas.Bool.Decides.{nat_tests}
-use Rattle.ob_types.specs.declared.refusal.Refusal.{Refusal}
-use Rattle.ob_types.specs.declared.refusal.Refusal.TheVariants.{FlushedLeft}
-use Rattle.ob_seq.specs.Answer.{unless_refused}
-use Rattle.ob_seq.specs.Settles.{settled_by}
-use Rattle.ob_seq.specs.Steps.{closing_reply, unflushed_id}
+use Rattle.ob_seq.proofs.Words.{◌≡◌, ℕ, ◌≤◌, false, length, drop, sym, ap, ◌∙◌, cond, ltb, arith, Option, Some, None}
+use Rattle.ob_seq.proofs.Words.{nat_tests, Refusal, FlushedLeft, unless_refused, settled_by, closing_reply}
+use Rattle.ob_seq.proofs.Words.{unflushed_id}
 use Rattle.ob_seq.proofs.Failures.{count_of_failures}
 use Rattle.ob_seq.proofs.contents.Contents.closing_settles.Goals as goal
 

@@ -1,11 +1,6 @@
-use Rattle.std.proofs.Common.{◌≡◌, ℕ, ◌<◌, zero, suc, min, List, [], ◌∷◌, length, take, get_or, sym, ap, ◌∙◌, arith}
-use Rattle.std.specs.Prelude.{Option, Some, None, option_map}
-use Rattle.ob_types.specs.declared.message.Message.{Message}
-use Rattle.ob_seq.specs.declared.entry.Entry.{Entry}
-use Rattle.ob_seq.specs.Entry.{PendingEntry}
-use Rattle.ob_seq.specs.Inside.{pending_entries}
-use Rattle.ob_seq.specs.Row.{unread_part}
-use Rattle.ob_seq.specs.Pending.{Pending}
+use Rattle.ob_seq.proofs.Words.{◌≡◌, ℕ, ◌<◌, zero, suc, min, List, [], ◌∷◌, length, take, get_or, sym, ap, ◌∙◌, arith}
+use Rattle.ob_seq.proofs.Words.{Option, Some, None, option_map, Message, Entry, PendingEntry, pending_entries}
+use Rattle.ob_seq.proofs.Words.{unread_part, Pending}
 use Rattle.ob_seq.proofs.Entries.{line_size}
 use Rattle.ob_seq.proofs.Fronts.{fronted, front_is, no_front}
 use Rattle.ob_seq.proofs.contents.Contents.current.Goals as goal

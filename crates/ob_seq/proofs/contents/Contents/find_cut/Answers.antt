@@ -1,16 +1,12 @@
-use Rattle.std.proofs.Common.{◌≡◌, ℕ, ◌+◌, ◌-◌, ◌<◌, ◌≤◌, true, false, List, [], ◌∷◌, length, drop, refl, sym, ap, ◌∙◌, cond, eqb, leb, ltb, Bool, arith}
-use Rattle.std.specs.Prelude.{Some, None}
+use Rattle.ob_seq.proofs.Words.{◌≡◌, ℕ, ◌+◌, ◌-◌, ◌<◌, ◌≤◌, true, false, List, [], ◌∷◌, length, drop, refl, sym, ap}
+use Rattle.ob_seq.proofs.Words.{◌∙◌, cond, eqb, leb, ltb, Bool, arith, Some, None, nat_tests, Cut, blocks_left, Pending}
+use Rattle.ob_seq.proofs.Words.{cut_of}
 use Rattle.std.specs.Bool.{then_some}
-use Rattle.std.proofs.lemmas.Bool.Decides.{nat_tests}
-use Rattle.ob_seq.specs.declared.contents.cut.Cut.{Cut}
-use Rattle.ob_seq.specs.Entry.{blocks_left}
-use Rattle.ob_seq.specs.Pending.{Pending}
-use Rattle.ob_seq.specs.Steps.{cut_of}
 use Rattle.ob_seq.proofs.Blocks.{left_at_end}
 use Rattle.ob_seq.proofs.Fields.{left_at_block, left_at_other, length_at_block, line_count}
 use Rattle.ob_seq.proofs.Pieces.{cut_from, cut_is}
-use Rattle.ob_seq.proofs.contents.Contents.find_cut.Goals as goal
 use Rattle.ob_seq.proofs.contents.Contents.find_cut.Goals.{else-loop-whole-test, then-loop-whole-test+in_default}
+use Rattle.ob_seq.proofs.contents.Contents.find_cut.Goals as goal
 
 module _ (whole rest : ℕ) (piece : List ℕ) (pieces : List (List ℕ)) where
   fits_so : length piece ≤ rest → leb (length piece) rest ≡ true

@@ -1,5 +1,4 @@
-use Rattle.std.proofs.Common.{◌≡◌, ◌≤◌, ◌-◌, drop, length}
-use Rattle.ob_seq.specs.Entry.{blocks_left}
+use Rattle.ob_seq.proofs.Words.{◌≡◌, ◌≤◌, ◌-◌, drop, length, blocks_left}
 use Rattle.ob_seq.proofs.Pieces.{cut_from}
 use Rattle.ob_seq.proofs.contents.Contents.find_cut.Given as goal
 

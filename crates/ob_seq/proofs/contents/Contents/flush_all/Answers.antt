@@ -1,5 +1,4 @@
-use Rattle.std.proofs.Common.{◌≡◌, ◌-◌, length, ap, ◌∙◌, arith}
-use Rattle.ob_seq.specs.Pending.{Pending}
+use Rattle.ob_seq.proofs.Words.{◌≡◌, ◌-◌, length, ap, ◌∙◌, arith, Pending}
 use Rattle.ob_seq.proofs.Times.{unflushed_left}
 use Rattle.ob_seq.proofs.contents.Contents.flush_all.Goals as goal
 

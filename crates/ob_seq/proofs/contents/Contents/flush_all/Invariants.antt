@@ -1,5 +1,4 @@
-use Rattle.std.proofs.Common.{◌≡◌}
-use Rattle.ob_seq.specs.Steps.{next_flushed, times}
+use Rattle.ob_seq.proofs.Words.{◌≡◌, next_flushed, times}
 use Rattle.ob_seq.proofs.contents.Contents.flush_all.Given as goal
 
 abbrev pub invariant-loop : goal.invariant-loop

@@ -1,19 +1,13 @@
-use Rattle.std.proofs.Common.{◌≡◌, ◌+◌, ◌-◌, ◌<◌, true, ◌∷◌, ◌++◌, length, get_or, refl, sym, ap, ◌∙◌, arith, length-append}
-use Rattle.std.specs.Prelude.{slice_set}
-use Rattle.std.proofs.lemmas.List.{get_or_read, length-map, map-set}
-use Rattle.ob_types.specs.declared.promise.PromiseState.TheVariants.{Waiting, Fixed}
-use Rattle.ob_seq.specs.declared.contents.Contents.TheInside.{Inside}
-use Rattle.ob_seq.specs.Entry.{PendingEntry}
-use Rattle.ob_seq.specs.Inside.{pending_entry, pending_entries}
-use Rattle.ob_seq.specs.Pending.{Pending}
-use Rattle.ob_seq.specs.Row.{is_cancelled}
-use Rattle.ob_seq.specs.Settings.{Settings}
-use Rattle.ob_seq.specs.Steps.{next_flushed, reached_entry, sum_of, word_after_fall}
+use Rattle.ob_seq.proofs.Words.{◌≡◌, ◌+◌, ◌-◌, ◌<◌, true, ◌∷◌, ◌++◌, length, get_or, refl, sym, ap, ◌∙◌, arith}
+use Rattle.ob_seq.proofs.Words.{length-append, slice_set, length-map, Waiting, Fixed, Inside, PendingEntry}
+use Rattle.ob_seq.proofs.Words.{pending_entry, pending_entries, Pending, is_cancelled, Settings, next_flushed}
+use Rattle.ob_seq.proofs.Words.{reached_entry, sum_of, word_after_fall}
+use Rattle.std.proofs.lemmas.List.{get_or_read, map-set}
 use Rattle.ob_seq.proofs.Entries.{entry_at, sum_of_entries}
 use Rattle.ob_seq.proofs.Fields.{promise_count, unflushed_count}
 use Rattle.ob_seq.proofs.Kept.{entry_set, entry_there, kept, kept_next_at, split}
-use Rattle.ob_seq.proofs.contents.Contents.flush_next.Goals as goal
 use Rattle.ob_seq.proofs.contents.Contents.flush_next.Goals.{then-is_cancelled, else-is_cancelled}
+use Rattle.ob_seq.proofs.contents.Contents.flush_next.Goals as goal
 
 -- what the fields say once the entry is in line
 abbrev ahead : Inside → Pending

@@ -1,10 +1,6 @@
-use Rattle.std.proofs.Common.{◌≡◌, take, sym, ap, ◌∙◌}
+use Rattle.ob_seq.proofs.Words.{◌≡◌, take, sym, ap, ◌∙◌, deque_iter_rest, take-map, rows_after, messages_to_send}
+use Rattle.ob_seq.proofs.Words.{pending_entry, pending_entries}
 use native.Mathlib.Numerals.{unary_clauses}
-use Rattle.std.specs.VecDeque.Iter.{deque_iter_rest}
-use Rattle.std.proofs.lemmas.List.{take-map}
-use Rattle.ob_seq.specs.Effect.{rows_after}
-use Rattle.ob_seq.specs.Entry.{messages_to_send}
-use Rattle.ob_seq.specs.Inside.{pending_entry, pending_entries}
 use Rattle.ob_seq.proofs.Fields.{line_is}
 use Rattle.ob_seq.proofs.Sending.{to_send_is}
 use Rattle.ob_seq.proofs.contents.Contents.flushed.Goals as goal

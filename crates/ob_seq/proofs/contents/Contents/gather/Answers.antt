@@ -1,15 +1,16 @@
-use Rattle.std.proofs.Common.{◌≡◌, ℕ, ◌+◌, ◌-◌, ◌<◌, ◌≤◌, Bool, true, false, ◌&&◌, ◌||◌, List, [], ◌∷◌, ◌++◌, length, drop, refl, sym, ap, ◌∙◌, leb, ltb, append-nil, append_assoc, length-append, arith}
-use Rattle.std.proofs.lemmas.Bool.Decides.{nat_tests}
-use Rattle.ob_types.specs.declared.command.Command.{Command}
-use Rattle.ob_seq.specs.Entry.{blocks_left}
-use Rattle.ob_seq.specs.Gathering.{with_bytes, first_blocks, gathered_after}
-use Rattle.ob_seq.specs.Pending.{Pending, StandsFor}
+use Rattle.ob_seq.proofs.Words.{◌≡◌, ℕ, ◌+◌, ◌-◌, ◌<◌, ◌≤◌, Bool, true, false, ◌&&◌, ◌||◌, List, [], ◌∷◌, ◌++◌, length}
+use Rattle.ob_seq.proofs.Words.{drop, refl, sym, ap, ◌∙◌, leb, ltb, append-nil, append_assoc, length-append, arith}
+use Rattle.ob_seq.proofs.Words.{nat_tests, Command, blocks_left, with_bytes, first_blocks, Pending, StandsFor}
+use Rattle.ob_seq.specs.Gathering.{gathered_after}
 use Rattle.ob_seq.proofs.Blocks.{left_at_end}
 use Rattle.ob_seq.proofs.BytesRemoved.{run_is}
 use Rattle.ob_seq.proofs.Fields.{left_at_block, left_at_other, line_count}
 use Rattle.ob_seq.proofs.Gathered.{gather_from, first_blocks_are}
+use Rattle.ob_seq.proofs.contents.Contents.gather.Goals.{then-length-gt0+else-not-has_room+in_ok-push_copy}
+use Rattle.ob_seq.proofs.contents.Contents.gather.Goals.{else-length-gt0, else-loop-place-test}
+use Rattle.ob_seq.proofs.contents.Contents.gather.Goals.{then-loop-place-test+in_default}
+use Rattle.ob_seq.proofs.contents.Contents.gather.Goals.{then-loop-place-test+in-Block+then-length-gt0+then-not-has_room}
 use Rattle.ob_seq.proofs.contents.Contents.gather.Goals as goal
-use Rattle.ob_seq.proofs.contents.Contents.gather.Goals.{then-length-gt0+else-not-has_room+in_ok-push_copy, else-length-gt0, else-loop-place-test, then-loop-place-test+in_default, then-loop-place-test+in-Block+then-length-gt0+then-not-has_room}
 
 holds : (n : ℕ) → 0 < n → ltb 0 n ≡ true
 holds n some = grind (arith, nat_tests)

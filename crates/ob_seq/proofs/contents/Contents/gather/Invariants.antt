@@ -1,5 +1,4 @@
-use Rattle.std.proofs.Common.{◌≡◌, ◌++◌, length, drop}
-use Rattle.ob_seq.specs.Entry.{blocks_left}
+use Rattle.ob_seq.proofs.Words.{◌≡◌, ◌++◌, length, drop, blocks_left}
 use Rattle.ob_seq.proofs.Gathered.{gather_from}
 use Rattle.ob_seq.proofs.contents.Contents.gather.Given as goal
 

@@ -1,7 +1,4 @@
-use Rattle.std.proofs.Common.{◌≡◌, length, sym, ap, ◌∙◌}
-use Rattle.ob_seq.specs.Pending.{Pending}
-use Rattle.ob_seq.specs.Steps.{pending_total}
-use Rattle.ob_seq.specs.Looks.{before_unwritable, before_writable}
+use Rattle.ob_seq.proofs.Words.{◌≡◌, length, sym, ap, ◌∙◌, Pending, pending_total, before_unwritable, before_writable}
 use Rattle.ob_seq.proofs.Fields.{line_count, total_is}
 use Rattle.ob_seq.proofs.Looks.{same_look, look_stands}
 use Rattle.ob_seq.proofs.contents.Contents.look.Goals as goal

@@ -1,5 +1,4 @@
-use Rattle.std.proofs.Common.{refl, sym, ap}
-use Rattle.ob_seq.specs.Inside.{pending_entries}
+use Rattle.ob_seq.proofs.Words.{refl, sym, ap, pending_entries}
 use Rattle.ob_seq.proofs.Marks.{word_at_start}
 use Rattle.ob_seq.proofs.contents.Contents.new.Goals as goal
 

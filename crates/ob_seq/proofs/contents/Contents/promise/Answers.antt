@@ -1,8 +1,5 @@
-use Rattle.std.proofs.Common.{sym, ap, ◌∙◌, arith}
-use Rattle.std.specs.Prelude.{slice_get}
-use Rattle.std.proofs.lemmas.Option.{slice_get-map, slice_get_read, slice_get_past}
-use Rattle.ob_seq.specs.Effect.{rows_after}
-use Rattle.ob_seq.specs.Pending.{Pending}
+use Rattle.ob_seq.proofs.Words.{sym, ap, ◌∙◌, arith, slice_get, slice_get-map, slice_get_past, rows_after, Pending}
+use Rattle.std.proofs.lemmas.Option.{slice_get_read}
 use Rattle.ob_seq.proofs.Held.{promise_of}
 use Rattle.ob_seq.proofs.contents.Contents.promise.Goals as goal
 

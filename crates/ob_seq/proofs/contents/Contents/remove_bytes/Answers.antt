@@ -1,8 +1,4 @@
-use Rattle.std.proofs.Common.{◌≤◌, List, true, sym, ap, ◌∙◌, subst}
-use Rattle.ob_types.specs.declared.promise.Outcome.TheVariants.{Success}
-use Rattle.ob_seq.specs.Entry.{PendingEntry}
-use Rattle.ob_seq.specs.Pending.{Pending}
-use Rattle.ob_seq.specs.Steps.{first_length}
+use Rattle.ob_seq.proofs.Words.{◌≤◌, List, true, sym, ap, ◌∙◌, subst, Success, PendingEntry, Pending, first_length}
 use Rattle.ob_seq.proofs.Times.{line_of_times}
 use Rattle.ob_seq.proofs.contents.Contents.remove_bytes.Goals as goal
 

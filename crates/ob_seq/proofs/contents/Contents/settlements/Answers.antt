@@ -1,12 +1,11 @@
-use Rattle.std.proofs.Common.{◌≡◌, ◌+◌, ◌-◌, ◌<◌, List, [], ◌∷◌, ◌++◌, true, false, length, take, sym, ap, ◌∙◌, append-nil, length-append, arith}
-use Rattle.ob_types.specs.declared.promise.PromiseId.{PromiseId}
-use Rattle.ob_types.specs.declared.promise.Outcome.{Outcome}
-use Rattle.ob_seq.specs.Inside.{pending_entry}
-use Rattle.ob_seq.specs.Steps.{front_id, entry_settlement, entry_settlements}
-use Rattle.ob_seq.proofs.EntrySettlements.{settlements_more, settlements_few, settlement_of_unvoided, settlement_of_voided}
+use Rattle.ob_seq.proofs.Words.{◌≡◌, ◌+◌, ◌-◌, ◌<◌, List, [], ◌∷◌, ◌++◌, true, false, length, take, sym, ap, ◌∙◌}
+use Rattle.ob_seq.proofs.Words.{append-nil, length-append, arith, PromiseId, Outcome, pending_entry, front_id}
+use Rattle.ob_seq.proofs.Words.{entry_settlement, entry_settlements}
+use Rattle.ob_seq.proofs.EntrySettlements.{settlements_more, settlements_few, settlement_of_unvoided}
+use Rattle.ob_seq.proofs.EntrySettlements.{settlement_of_voided}
 use Rattle.ob_seq.proofs.Fields.{in_line, line_count, promise_count, unflushed_count}
-use Rattle.ob_seq.proofs.contents.Contents.settlements.Goals as goal
 use Rattle.ob_seq.proofs.contents.Contents.settlements.Goals.{then-not-index+in_ok-push, else-not-index}
+use Rattle.ob_seq.proofs.contents.Contents.settlements.Goals as goal
 
 pub returns-in_err-push-clause-frugal : goal.returns-in_err-push-clause-frugal
 returns-in_err-push-clause-frugal c few =

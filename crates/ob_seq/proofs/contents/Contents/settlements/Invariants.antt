@@ -1,5 +1,4 @@
-use Rattle.std.proofs.Common.{◌≡◌, take}
-use Rattle.ob_seq.specs.Steps.{front_id, entry_settlements}
+use Rattle.ob_seq.proofs.Words.{◌≡◌, take, front_id, entry_settlements}
 use Rattle.ob_seq.proofs.contents.Contents.settlements.Given as goal
 
 abbrev pub invariant-loop-place : goal.invariant-loop-place

@@ -1,11 +1,6 @@
-use Rattle.std.proofs.Common.{◌≡◌, ℕ, false, length, take, refl, sym, ap, ◌∙◌, arith}
-use Rattle.std.specs.Prelude.{count_by, not}
-use Rattle.std.proofs.lemmas.List.{take_all}
-use Rattle.ob_types.specs.declared.command.Command.{Command}
-use Rattle.ob_types.specs.declared.promise.Outcome.TheVariants.{Failed}
-use Rattle.ob_seq.specs.Entry.{PendingEntry}
-use Rattle.ob_seq.specs.Pending.{Pending}
-use Rattle.ob_seq.specs.Steps.{bit_step, failing_step, flush_step, front_id, progress_step, settled_by_step, step_of, write_step}
+use Rattle.ob_seq.proofs.Words.{◌≡◌, ℕ, false, length, take, refl, sym, ap, ◌∙◌, arith, count_by, not, take_all}
+use Rattle.ob_seq.proofs.Words.{Command, Failed, PendingEntry, Pending, bit_step, failing_step, flush_step, front_id}
+use Rattle.ob_seq.proofs.Words.{progress_step, settled_by_step, step_of, write_step}
 use Rattle.ob_seq.proofs.EntrySettlements.{count_of_settlements}
 use Rattle.ob_seq.proofs.Simulation.{settled_nothing, settled_where_open}
 use Rattle.ob_seq.proofs.contents.Contents.settles.Goals as goal

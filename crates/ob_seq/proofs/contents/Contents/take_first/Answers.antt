@@ -1,6 +1,5 @@
-use Rattle.std.proofs.Common.{◌≡◌, ◌-◌, length, ap, ◌∙◌, arith}
+use Rattle.ob_seq.proofs.Words.{◌≡◌, ◌-◌, length, ap, ◌∙◌, arith, Pending}
 use Rattle.std.proofs.lemmas.List.{length-drop}
-use Rattle.ob_seq.specs.Pending.{Pending}
 use Rattle.ob_seq.proofs.Times.{line_of_times}
 use Rattle.ob_seq.proofs.contents.Contents.take_first.Goals as goal
 

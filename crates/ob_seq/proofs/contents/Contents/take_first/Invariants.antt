@@ -1,5 +1,4 @@
-use Rattle.std.proofs.Common.{◌≡◌}
-use Rattle.ob_seq.specs.Steps.{front_taken, times}
+use Rattle.ob_seq.proofs.Words.{◌≡◌, front_taken, times}
 use Rattle.ob_seq.proofs.contents.Contents.take_first.Given as goal
 
 abbrev pub invariant-loop : goal.invariant-loop

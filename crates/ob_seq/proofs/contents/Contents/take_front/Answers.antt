@@ -1,15 +1,7 @@
-use Rattle.std.proofs.Common.{◌≡◌, ℕ, ◌-◌, ◌<◌, Bool, List, ◌∷◌, length, refl, sym, ap, ◌∙◌, arith}
-use Rattle.std.specs.Prelude.{slice_set, if◌then◌else◌}
-use Rattle.std.proofs.lemmas.List.{length-map}
-use Rattle.ob_types.specs.declared.promise.Outcome.{Outcome}
-use Rattle.ob_types.specs.declared.promise.PromiseState.{PromiseState}
-use Rattle.ob_types.specs.declared.promise.PromiseState.TheVariants.{Settled}
-use Rattle.ob_seq.specs.declared.contents.Contents.TheInside.{Inside}
-use Rattle.ob_seq.specs.declared.entry.Entry.{Entry}
-use Rattle.ob_seq.specs.Inside.{IsSound, pending_entry, pending_entries, pending_of}
-use Rattle.ob_seq.specs.Pending.{Pending}
-use Rattle.ob_seq.specs.Settings.{Settings}
-use Rattle.ob_seq.specs.Steps.{front_taken, sum_of, word_after_fall}
+use Rattle.ob_seq.proofs.Words.{◌≡◌, ℕ, ◌-◌, ◌<◌, Bool, List, ◌∷◌, length, refl, sym, ap, ◌∙◌, arith, slice_set}
+use Rattle.ob_seq.proofs.Words.{if◌then◌else◌, length-map, Outcome, PromiseState, Settled, Inside, Entry, IsSound}
+use Rattle.ob_seq.proofs.Words.{pending_entry, pending_entries, pending_of, Pending, Settings, front_taken, sum_of}
+use Rattle.ob_seq.proofs.Words.{word_after_fall}
 use Rattle.ob_seq.proofs.Entries.{sum_of_entries}
 use Rattle.ob_seq.proofs.Fields.{line_count}
 use Rattle.ob_seq.proofs.Kept.{kept, kept_taken}

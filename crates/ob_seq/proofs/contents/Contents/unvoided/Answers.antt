@@ -1,8 +1,4 @@
-use Rattle.std.proofs.Common.{take, sym, ap, ◌∙◌, arith}
-use Rattle.std.specs.Prelude.{count_by, not}
-use Rattle.std.proofs.lemmas.List.{take-map}
-use Rattle.ob_seq.specs.Entry.{PendingEntry}
-use Rattle.ob_seq.specs.Inside.{pending_entry}
+use Rattle.ob_seq.proofs.Words.{take, sym, ap, ◌∙◌, arith, count_by, not, take-map, PendingEntry, pending_entry}
 use Rattle.ob_seq.proofs.Entries.{unvoided_seen}
 use Rattle.ob_seq.proofs.Fields.{first_in_line, line_count}
 use Rattle.ob_seq.proofs.contents.Contents.unvoided.Goals as goal

@@ -1,8 +1,6 @@
-use Rattle.std.proofs.Common.{◌≡◌, ℕ, ◌<◌, ◌≤◌, true, not, ◌&&◌, eqb, sym, ap, ◌∙◌, arith}
-use Rattle.std.proofs.lemmas.Bool.Decides.{nat_tests}
-use Rattle.std.specs.Int.{bit_at}
-use Rattle.ob_seq.specs.Pending.{Pending}
-use Rattle.ob_seq.specs.UserBit.{is_user_index, user_bit}
+use Rattle.ob_seq.proofs.Words.{◌≡◌, ℕ, ◌<◌, ◌≤◌, true, not, ◌&&◌, eqb, sym, ap, ◌∙◌, arith, nat_tests, bit_at, Pending}
+use Rattle.ob_seq.proofs.Words.{user_bit}
+use Rattle.ob_seq.specs.UserBit.{is_user_index}
 use Rattle.ob_seq.proofs.UserBits.{user_bit_shows}
 use Rattle.ob_seq.proofs.contents.Contents.user_defined_writability.Goals as goal
 

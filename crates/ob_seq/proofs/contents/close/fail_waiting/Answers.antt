@@ -1,14 +1,10 @@
-use Rattle.std.proofs.Common.{◌≡◌, ◌≤◌, ◌<◌, ◌+◌, ◌-◌, List, length, take, drop, get_or, map, sym, ap, ◌∙◌, append-nil, arith, ◌++◌}
-use Rattle.std.specs.Prelude.{slice_set}
-use Rattle.std.proofs.lemmas.List.{length-drop, take_all, drop_all}
-use Rattle.ob_types.specs.declared.promise.PromiseState.{PromiseState}
-use Rattle.ob_types.specs.declared.promise.PromiseState.TheVariants.{Waiting, Settled}
-use Rattle.ob_types.specs.declared.promise.Outcome.TheVariants.{Failed}
-use Rattle.ob_types.specs.Waiting.{is_waiting}
-use Rattle.ob_seq.specs.Effect.{failed}
+use Rattle.ob_seq.proofs.Words.{◌≡◌, ◌≤◌, ◌<◌, ◌+◌, ◌-◌, List, length, take, drop, get_or, map, sym, ap, ◌∙◌}
+use Rattle.ob_seq.proofs.Words.{append-nil, arith, ◌++◌, slice_set, take_all, drop_all, PromiseState, Waiting, Settled}
+use Rattle.ob_seq.proofs.Words.{Failed, is_waiting, failed}
+use Rattle.std.proofs.lemmas.List.{length-drop}
 use Rattle.ob_seq.proofs.Failures.{fails, stays, failed_up_to, none_failed, next_is, one_more_failed, one_more_stayed}
-use Rattle.ob_seq.proofs.contents.close.fail_waiting.Goals as goal
 use Rattle.ob_seq.proofs.contents.close.fail_waiting.Goals.{then-is_waiting, else-is_waiting}
+use Rattle.ob_seq.proofs.contents.close.fail_waiting.Goals as goal
 
 pub loop-id-init : goal.loop-id-init
 loop-id-init c =

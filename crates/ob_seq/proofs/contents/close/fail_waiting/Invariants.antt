@@ -1,4 +1,4 @@
-use Rattle.std.proofs.Common.{◌≡◌, ◌-◌}
+use Rattle.ob_seq.proofs.Words.{◌≡◌, ◌-◌}
 use Rattle.ob_seq.proofs.Failures.{failed_up_to}
 use Rattle.ob_seq.proofs.contents.close.fail_waiting.Given as goal
 

@@ -1,12 +1,8 @@
-use Rattle.std.proofs.Common.{◌≡◌, ◌+◌, List, [], ◌∷◌, ◌++◌, true, false, length, take, get_or, refl, sym, ap, ◌∙◌, append-nil, length-append, arith}
-use Rattle.ob_types.specs.declared.promise.PromiseId.{PromiseId}
-use Rattle.ob_types.specs.declared.promise.Outcome.{Outcome}
-use Rattle.ob_types.specs.declared.promise.Outcome.TheVariants.{Failed}
-use Rattle.ob_types.specs.declared.promise.PromiseState.TheVariants.{Waiting}
-use Rattle.ob_seq.specs.Steps.{failures}
+use Rattle.ob_seq.proofs.Words.{◌≡◌, ◌+◌, List, [], ◌∷◌, ◌++◌, true, false, length, take, get_or, refl, sym, ap, ◌∙◌}
+use Rattle.ob_seq.proofs.Words.{append-nil, length-append, arith, PromiseId, Outcome, Failed, Waiting, failures}
 use Rattle.ob_seq.proofs.Failures.{failures_more, failures_few, failure}
-use Rattle.ob_seq.proofs.contents.close.failures_of.Goals as goal
 use Rattle.ob_seq.proofs.contents.close.failures_of.Goals.{then-is_waiting+in_ok-push, else-is_waiting}
+use Rattle.ob_seq.proofs.contents.close.failures_of.Goals as goal
 
 pub returns-in_err-push-clause-frugal : goal.returns-in_err-push-clause-frugal
 returns-in_err-push-clause-frugal c few =

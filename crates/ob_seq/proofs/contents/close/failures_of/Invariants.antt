@@ -1,5 +1,4 @@
-use Rattle.std.proofs.Common.{◌≡◌, take}
-use Rattle.ob_seq.specs.Steps.{failures}
+use Rattle.ob_seq.proofs.Words.{◌≡◌, take, failures}
 use Rattle.ob_seq.proofs.contents.close.failures_of.Given as goal
 
 abbrev pub invariant-loop-place : goal.invariant-loop-place

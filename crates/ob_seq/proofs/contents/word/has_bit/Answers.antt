@@ -1,8 +1,7 @@
-use Rattle.std.proofs.Common.{◌≡◌, ℕ, zero, suc, ◌*◌, ◌<◌, ◌^◌, ◌%◌, not, eqb, ap, ◌∙◌, bit_and, arith, mod-eq_of_lt, one-mul, zero-mul}
-use Rattle.std.proofs.lemmas.Bool.Decides.{nat_tests}
+use Rattle.ob_seq.proofs.Words.{◌≡◌, ℕ, zero, suc, ◌*◌, ◌<◌, ◌^◌, ◌%◌, not, eqb, ap, ◌∙◌, arith, nat_tests, pow-lt}
+use Rattle.std.proofs.Common.{bit_and, mod-eq_of_lt, one-mul, zero-mul}
 use Rattle.std.proofs.lemmas.Nat.{pow_pos}
 use Rattle.std.proofs.lemmas.Nat.Bits.{and_pow, bit_at-lt}
-use Rattle.std.proofs.Math.Pow.{pow-lt}
 use Rattle.ob_seq.proofs.contents.word.has_bit.Goals as goal
 
 -- a bit times a power is 0 only where the bit is

@@ -1,7 +1,4 @@
-use Rattle.std.proofs.Common.{◌≡◌, length}
-use Rattle.std.specs.VecDeque.Iter.{deque_iter_rest}
-use Rattle.ob_seq.specs.Entry.{messages_to_send}
-use Rattle.ob_seq.specs.Inside.{pending_entries}
+use Rattle.ob_seq.proofs.Words.{◌≡◌, length, deque_iter_rest, messages_to_send, pending_entries}
 use Rattle.ob_seq.proofs.flushed.FlushedIterator.next.Given as goal
 
 abbrev pub invariant-loop-entry : goal.invariant-loop-entry
