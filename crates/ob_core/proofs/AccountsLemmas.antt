@@ -1,5 +1,6 @@
 -- What is read off the accounts, and that a step of a lane keeps them.
-use Rattle.std.proofs.Common.{◌≡◌, ◌≢◌, ℕ, zero, suc, ◌+◌, ◌-◌, ◌<◌, ◌≤◌, true, cond, eqb, nat_lt, List, set, Some, slice_get, if◌then◌else◌, refl, sym, ap, ◌∙◌, arith}
+use Rattle.std.proofs.Common.{◌≡◌, ◌≢◌, ℕ, zero, suc, ◌+◌, ◌-◌, ◌<◌, ◌≤◌, true, cond, eqb, nat_lt, List, set, Some}
+use Rattle.std.proofs.Common.{slice_get, if◌then◌else◌, refl, sym, ap, ◌∙◌, arith}
 use Rattle.std.specs.Int.{bit_at}
 use Rattle.std.specs.List.{All}
 use Rattle.std.proofs.lemmas.Bool.Decides.{nat_tests}
@@ -16,10 +17,12 @@ use Rattle.ob_core.specs.Owed.{owed_by}
 use Rattle.ob_core.specs.declared.lane.Lane.{Lane}
 use Rattle.ob_core.specs.declared.lane.Phase.TheVariants.{Idle, ToLower}
 use Rattle.ob_core.specs.declared.lane_step.LaneStep.{LaneStep}
-use Rattle.ob_core.specs.declared.lane_step.LaneStep.TheVariants.{Add, Subtract, Raise, Lower, SetBit, ClearBit, LoadWord, LoadTotal}
+use Rattle.ob_core.specs.declared.lane_step.LaneStep.TheVariants.{Add, Subtract, Raise, Lower, SetBit, ClearBit}
+use Rattle.ob_core.specs.declared.lane_step.LaneStep.TheVariants.{LoadWord, LoadTotal}
 use Rattle.ob_core.proofs.BitLemmas.{SetsBit-with_bit, ClearsBit-without_bit}
 use Rattle.ob_core.proofs.LaneSums.{all_at, at-le-sum_by, sum_by-put, sum_by-le-each, sum_by-le-outside}
-use Rattle.ob_core.proofs.StepLemmas.{room-lane_after, held-lane_after, moved-step, IsWithinRoom-step, AreAmong-step, is_held-above, shown-step, Raising}
+use Rattle.ob_core.proofs.StepLemmas.{room-lane_after, held-lane_after, moved-step, IsWithinRoom-step, AreAmong-step}
+use Rattle.ob_core.proofs.StepLemmas.{is_held-above, shown-step, Raising}
 
 -- ---- what is read off the accounts
 

@@ -20,11 +20,13 @@ use Rattle.ob_core.specs.declared.lane.Lane.{Lane}
 use Rattle.ob_core.specs.declared.lane.Phase.{Phase}
 use Rattle.ob_core.specs.declared.lane.Phase.TheVariants.{Idle, ToRaise, ToLower}
 use Rattle.ob_core.specs.declared.lane_start.LaneStart.{LaneStart}
-use Rattle.ob_core.proofs.AccountsLemmas.{AccountsHold-step, AccountsHold-alike, BytesAgree-step, BytesAgree-alike, IsAlike}
+use Rattle.ob_core.proofs.AccountsLemmas.{AccountsHold-step, AccountsHold-alike, BytesAgree-step, BytesAgree-alike}
+use Rattle.ob_core.proofs.AccountsLemmas.{IsAlike}
 use Rattle.ob_core.proofs.Kept.{kept_by_all, kept_by_turn}
 use Rattle.ob_core.proofs.LaneSums.{sum_by-none}
 use Rattle.ob_core.proofs.OpeningLemmas.{BytesAgree-new}
-use Rattle.ob_core.proofs.TurnLemmas.{owed_by-lane_after_nothing, room-lane_after_nothing, held-lane_after_nothing, raised-lane_after_nothing, phase-lane_after_nothing}
+use Rattle.ob_core.proofs.TurnLemmas.{owed_by-lane_after_nothing, room-lane_after_nothing, held-lane_after_nothing}
+use Rattle.ob_core.proofs.TurnLemmas.{raised-lane_after_nothing, phase-lane_after_nothing}
 
 -- ---- the accounts
 

@@ -1,5 +1,6 @@
 -- The accounts hold at the beginning.
-use Rattle.std.proofs.Common.{◌≡◌, ℕ, ◌+◌, ◌<◌, ◌≤◌, Bool, true, false, cond, ◌||◌, ◌==◌, nat_lt, List, [], ◌∷◌, length, map, bit_and, None, refl, sym, ap, arith}
+use Rattle.std.proofs.Common.{◌≡◌, ℕ, ◌+◌, ◌<◌, ◌≤◌, Bool, true, false, cond, ◌||◌, ◌==◌, nat_lt, List, [], ◌∷◌, length}
+use Rattle.std.proofs.Common.{map, bit_and, None, refl, sym, ap, arith}
 use Rattle.std.specs.Int.{bit_at}
 use Rattle.std.specs.List.{All, list_any}
 use Rattle.std.proofs.lemmas.Bool.Decides.{nat_tests}
@@ -11,7 +12,8 @@ use Rattle.ob_core.specs.Accounts.{AccountsHold, BitsAgree, BytesAgree, IsWithin
 use Rattle.ob_core.specs.Bits.{is_set, AreAmong}
 use Rattle.ob_core.specs.FirstFault.{first_fault}
 use Rattle.ob_core.specs.Limits.{most_lanes, greatest_room}
-use Rattle.ob_core.specs.Opening.{Opening, any_overlap, bits_of, holders_of, is_bad_count, new_lane, new_core, one_lane, opening_fault, opening_of, room_of, share_a_bit}
+use Rattle.ob_core.specs.Opening.{Opening, any_overlap, bits_of, holders_of, is_bad_count, new_lane, new_core, one_lane}
+use Rattle.ob_core.specs.Opening.{opening_fault, opening_of, room_of, share_a_bit}
 use Rattle.ob_core.specs.Owed.{owed_by, sum_owed}
 use Rattle.ob_core.specs.declared.lane.Lane.{Lane}
 use Rattle.ob_core.specs.declared.lane_start.LaneStart.{LaneStart}

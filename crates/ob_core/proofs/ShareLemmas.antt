@@ -1,5 +1,6 @@
 -- Lanes that are divided or merged keep the accounts.
-use Rattle.std.proofs.Common.{◌≡◌, ◌≢◌, ℕ, ◌+◌, ◌-◌, ◌^◌, ◌<◌, ◌≤◌, bit_and, cond, List, [], ◌∷◌, ◌++◌, set, Some, None, slice_get, unwrap_or, refl, ap, arith}
+use Rattle.std.proofs.Common.{◌≡◌, ◌≢◌, ℕ, ◌+◌, ◌-◌, ◌^◌, ◌<◌, ◌≤◌, bit_and, cond, List, [], ◌∷◌, ◌++◌, set, Some, None}
+use Rattle.std.proofs.Common.{slice_get, unwrap_or, refl, ap, arith}
 use Rattle.std.specs.Int.{bit_at, bit_not, Width}
 use mir.Val.{bits}
 use Rattle.std.specs.List.{sum_by}

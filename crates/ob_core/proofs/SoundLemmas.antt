@@ -17,7 +17,8 @@ use Rattle.ob_core.specs.declared.ask.Turn.{Turn}
 use Rattle.ob_core.specs.declared.lane.Lane.{Lane}
 use Rattle.ob_core.specs.declared.lane_start.LaneStart.{LaneStart}
 use Rattle.ob_core.specs.declared.lane_step.LaneStep.{LaneStep}
-use Rattle.ob_core.specs.declared.lane_step.LaneStep.TheVariants.{Add, Subtract, Raise, Lower, SetBit, ClearBit, LoadWord, LoadTotal}
+use Rattle.ob_core.specs.declared.lane_step.LaneStep.TheVariants.{Add, Subtract, Raise, Lower, SetBit, ClearBit}
+use Rattle.ob_core.specs.declared.lane_step.LaneStep.TheVariants.{LoadWord, LoadTotal}
 use Rattle.ob_core.proofs.AccountsLemmas.{AccountsHold-step, AccountsHold-alike, owed_by-le-total, total-le-room}
 use Rattle.ob_core.proofs.LawLemmas.{IsAlike-nothing}
 use Rattle.ob_core.proofs.OpeningLemmas.{AccountsHold-new, AreFine-no_fault}

@@ -1,5 +1,6 @@
 -- What a lane does at an ask that is not refused.
-use Rattle.std.proofs.Common.{◌≡◌, ℕ, zero, suc, ◌<◌, ◌≤◌, Bool, true, false, not, eqb, [], ◌∷◌, nat_lt, is_some, Option, Some, None, refl, ap, subst, slice_get, unwrap_or, arith}
+use Rattle.std.proofs.Common.{◌≡◌, ℕ, zero, suc, ◌<◌, ◌≤◌, Bool, true, false, not, eqb, [], ◌∷◌, nat_lt, is_some}
+use Rattle.std.proofs.Common.{Option, Some, None, refl, ap, subst, slice_get, unwrap_or, arith}
 use Rattle.std.proofs.lemmas.Bool.Decides.{nat_tests}
 use Rattle.ob_types.specs.Change.{change_between, is_writable, turn}
 use Rattle.ob_core.specs.AskFault.{is_held, idle_refusal, phase_refusal, refusal_of}
@@ -16,7 +17,8 @@ use Rattle.ob_core.specs.declared.lane.Lane.{Lane}
 use Rattle.ob_core.specs.declared.lane.Phase.{Phase}
 use Rattle.ob_core.specs.declared.lane.Phase.TheVariants.{Idle, ToRaise, ToLower}
 use Rattle.ob_core.specs.declared.lane_step.LaneStep.{LaneStep}
-use Rattle.ob_core.specs.declared.lane_step.LaneStep.TheVariants.{Add, Subtract, Raise, Lower, SetBit, ClearBit, LoadWord, LoadTotal}
+use Rattle.ob_core.specs.declared.lane_step.LaneStep.TheVariants.{Add, Subtract, Raise, Lower, SetBit, ClearBit}
+use Rattle.ob_core.specs.declared.lane_step.LaneStep.TheVariants.{LoadWord, LoadTotal}
 
 -- a word that stays has not turned
 same_writability : (b : Bool) → turn b b ≡ None

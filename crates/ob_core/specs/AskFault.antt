@@ -5,7 +5,8 @@ use Rattle.ob_core.specs.FirstFault.{first_fault}
 use Rattle.ob_core.specs.declared.ask.Ask.{Ask}
 use Rattle.ob_core.specs.declared.ask.Ask.TheVariants.{Charge, Discharge, Bit, Word, Total, Go}
 use Rattle.ob_core.specs.declared.ask_fault.AskFault.{AskFault}
-use Rattle.ob_core.specs.declared.ask_fault.AskFault.TheVariants.{UnknownLane, NoRoom, Owing, NotOwing, NotHeld, NotInside}
+use Rattle.ob_core.specs.declared.ask_fault.AskFault.TheVariants.{UnknownLane, NoRoom, Owing, NotOwing, NotHeld}
+use Rattle.ob_core.specs.declared.ask_fault.AskFault.TheVariants.{NotInside}
 use Rattle.ob_core.specs.declared.lane.Lane.{Lane}
 use Rattle.ob_core.specs.declared.lane.Phase.{Phase}
 use Rattle.ob_core.specs.declared.lane.Phase.TheVariants.{Idle, ToRaise, ToLower}

@@ -6,7 +6,8 @@ use Rattle.ob_core.specs.Bits.{with_bit, without_bit}
 use Rattle.ob_core.specs.declared.lane.Lane.{Lane}
 use Rattle.ob_core.specs.declared.lane.Phase.TheVariants.{Idle, ToRaise, ToLower}
 use Rattle.ob_core.specs.declared.lane_step.LaneStep.{LaneStep}
-use Rattle.ob_core.specs.declared.lane_step.LaneStep.TheVariants.{Add, Subtract, Raise, Lower, SetBit, ClearBit, LoadWord, LoadTotal}
+use Rattle.ob_core.specs.declared.lane_step.LaneStep.TheVariants.{Add, Subtract, Raise, Lower, SetBit, ClearBit}
+use Rattle.ob_core.specs.declared.lane_step.LaneStep.TheVariants.{LoadWord, LoadTotal}
 
 -- the total after a step
 abbrev pub total_after : LaneStep → ℕ → ℕ

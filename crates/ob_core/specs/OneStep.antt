@@ -3,9 +3,11 @@ use Rattle.std.specs.Prelude.{◌≡◌, ℕ, Option, Some, slice_get, slice_set
 use Rattle.ob_core.specs.CoreState.{CoreState}
 use Rattle.ob_core.specs.CoreStep.{IsCoreStep}
 use Rattle.ob_core.specs.declared.event.Event.{Event}
-use Rattle.ob_core.specs.declared.event.Event.TheVariants.{Added, Subtracted, Raised, Lowered, BitSet, BitCleared, ReadWord, ReadTotal, Nothing, Refused}
+use Rattle.ob_core.specs.declared.event.Event.TheVariants.{Added, Subtracted, Raised, Lowered, BitSet, BitCleared}
+use Rattle.ob_core.specs.declared.event.Event.TheVariants.{ReadWord, ReadTotal, Nothing, Refused}
 use Rattle.ob_core.specs.declared.lane.Lane.{Lane}
-use Rattle.ob_core.specs.declared.lane_step.LaneStep.TheVariants.{Add, Subtract, Raise, Lower, SetBit, ClearBit, LoadWord, LoadTotal}
+use Rattle.ob_core.specs.declared.lane_step.LaneStep.TheVariants.{Add, Subtract, Raise, Lower, SetBit, ClearBit}
+use Rattle.ob_core.specs.declared.lane_step.LaneStep.TheVariants.{LoadWord, LoadTotal}
 
 -- the lane with this index owes 0 before and after, and nothing changes but whether that is a debt of 0 or none
 pub record OwesNothing (old : CoreState) (index : ℕ) (new : CoreState) : Type 0 where

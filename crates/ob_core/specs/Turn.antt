@@ -10,12 +10,14 @@ use Rattle.ob_core.specs.declared.ask.Ask.TheVariants.{Charge, Discharge, Bit, W
 use Rattle.ob_core.specs.declared.ask.Turn.{Turn}
 use Rattle.ob_core.specs.declared.ask_fault.AskFault.{AskFault}
 use Rattle.ob_core.specs.declared.event.Event.{Event}
-use Rattle.ob_core.specs.declared.event.Event.TheVariants.{Added, Subtracted, Raised, Lowered, BitSet, BitCleared, ReadWord, ReadTotal, Nothing, Refused}
+use Rattle.ob_core.specs.declared.event.Event.TheVariants.{Added, Subtracted, Raised, Lowered, BitSet, BitCleared}
+use Rattle.ob_core.specs.declared.event.Event.TheVariants.{ReadWord, ReadTotal, Nothing, Refused}
 use Rattle.ob_core.specs.declared.lane.Lane.{Lane}
 use Rattle.ob_core.specs.declared.lane.Phase.{Phase}
 use Rattle.ob_core.specs.declared.lane.Phase.TheVariants.{Idle, ToRaise, ToLower}
 use Rattle.ob_core.specs.declared.lane_step.LaneStep.{LaneStep}
-use Rattle.ob_core.specs.declared.lane_step.LaneStep.TheVariants.{Add, Subtract, Raise, Lower, SetBit, ClearBit, LoadWord, LoadTotal}
+use Rattle.ob_core.specs.declared.lane_step.LaneStep.TheVariants.{Add, Subtract, Raise, Lower, SetBit, ClearBit}
+use Rattle.ob_core.specs.declared.lane_step.LaneStep.TheVariants.{LoadWord, LoadTotal}
 
 -- the step of a charge, none where it is 0
 abbrev pub charge_step : ℕ → Option LaneStep

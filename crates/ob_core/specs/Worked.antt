@@ -10,7 +10,8 @@ use Rattle.ob_core.specs.Shares.{AreShares, IsDivision, IsMerger, spent_lane}
 use Rattle.ob_core.specs.declared.lane.Lane.{Lane}
 use Rattle.ob_core.specs.declared.lane.Phase.{Phase}
 use Rattle.ob_core.specs.declared.lane.Phase.TheVariants.{Idle, ToRaise, ToLower}
-use Rattle.ob_core.specs.declared.lane_step.LaneStep.TheVariants.{Add, Subtract, Raise, Lower, SetBit, ClearBit, LoadWord, LoadTotal}
+use Rattle.ob_core.specs.declared.lane_step.LaneStep.TheVariants.{Add, Subtract, Raise, Lower, SetBit, ClearBit}
+use Rattle.ob_core.specs.declared.lane_step.LaneStep.TheVariants.{LoadWord, LoadTotal}
 
 -- ---- accounts
 

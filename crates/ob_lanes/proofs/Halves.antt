@@ -1,5 +1,6 @@
 -- The two lanes that a split makes, and the one that a join makes, share what there was.
-use Rattle.std.proofs.Common.{◌≡◌, ℕ, ◌+◌, ◌≤◌, [], ◌∷◌, Bool, true, false, not, nat_lt, bit_and, bit_or, bit_xor, None, refl, ap, arith}
+use Rattle.std.proofs.Common.{◌≡◌, ℕ, ◌+◌, ◌≤◌, [], ◌∷◌, Bool, true, false, not, nat_lt, bit_and, bit_or, bit_xor, None}
+use Rattle.std.proofs.Common.{refl, ap, arith}
 use Rattle.std.specs.Int.{bit_at}
 use Rattle.std.proofs.lemmas.Bool.Decides.{nat_tests}
 use Rattle.std.proofs.lemmas.Nat.Bits.{bit_at_and, bit_at_or, bit_at_xor, bit_at-lt}

@@ -1,5 +1,6 @@
 -- The accounts, kept by each move, and what they say of a word of 32 bits.
-use Rattle.std.proofs.Common.{◌≡◌, ℕ, List, [], ◌∷◌, false, ◌+◌, ◌*◌, ◌/◌, ◌%◌, ◌^◌, ◌<◌, ◌≤◌, ⊎_elim, subst, sym, ap, ◌∙◌, arith}
+use Rattle.std.proofs.Common.{◌≡◌, ℕ, List, [], ◌∷◌, false, ◌+◌, ◌*◌, ◌/◌, ◌%◌, ◌^◌, ◌<◌, ◌≤◌, ⊎_elim, subst, sym, ap}
+use Rattle.std.proofs.Common.{◌∙◌, arith}
 use Rattle.std.specs.List.{All}
 use Rattle.std.specs.Int.{bit_at}
 use Rattle.std.proofs.Math.Nat.{mod-lt}

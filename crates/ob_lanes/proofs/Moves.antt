@@ -1,5 +1,6 @@
 -- A step of one lane keeps what holds between any two steps.
-use Rattle.std.proofs.Common.{◌≡◌, ℕ, ◌+◌, ◌-◌, ◌%◌, ◌^◌, ◌<◌, List, [], ◌∷◌, ◌++◌, length, map, set, get_or, cond, eqb, sym, refl, ap, ◌∙◌, subst, arith, length-set, unwrap_or, bit_and, bit_or}
+use Rattle.std.proofs.Common.{◌≡◌, ℕ, ◌+◌, ◌-◌, ◌%◌, ◌^◌, ◌<◌, List, [], ◌∷◌, ◌++◌, length, map, set, get_or, cond, eqb}
+use Rattle.std.proofs.Common.{sym, refl, ap, ◌∙◌, subst, arith, length-set, unwrap_or, bit_and, bit_or}
 use Rattle.std.specs.Int.{w64, bit_not}
 use mathlib.Core.Option.{some, none}
 use lib.ListN.{get_elem?}
@@ -15,7 +16,8 @@ use Rattle.ob_core.specs.LaneStep.{CanMake, total_after, word_after, lane_after}
 use Rattle.ob_core.specs.Owed.{owed_by}
 use Rattle.ob_core.specs.declared.lane.Lane.{Lane}
 use Rattle.ob_core.specs.declared.lane_step.LaneStep.{LaneStep}
-use Rattle.ob_core.specs.declared.lane_step.LaneStep.TheVariants.{Add, Subtract, Raise, Lower, SetBit, ClearBit, LoadWord, LoadTotal}
+use Rattle.ob_core.specs.declared.lane_step.LaneStep.TheVariants.{Add, Subtract, Raise, Lower, SetBit, ClearBit}
+use Rattle.ob_core.specs.declared.lane_step.LaneStep.TheVariants.{LoadWord, LoadTotal}
 use Rattle.ob_lanes.specs.Facts.{facts_after}
 use Rattle.ob_lanes.specs.Ruled.{Ruled, HasRun, core_of}
 use Rattle.ob_lanes.specs.Run.{steps}

@@ -1,5 +1,6 @@
 -- What a look at a buffer shows.
-use Rattle.std.specs.Prelude.{ℕ, ◌+◌, ◌-◌, ◌&&◌, not, List, length, map, filter, min, nat_le, if◌then◌else◌, Option, Some, None, option_map}
+use Rattle.std.specs.Prelude.{ℕ, ◌+◌, ◌-◌, ◌&&◌, not, List, length, map, filter, min, nat_le, if◌then◌else◌, Option}
+use Rattle.std.specs.Prelude.{Some, None, option_map}
 use Rattle.ob_types.specs.Change.{is_writable}
 use Rattle.ob_types.specs.Limits.{greatest_total}
 use Rattle.ob_types.specs.WaterMark.{Marks}

@@ -1,5 +1,6 @@
 -- The mark: set where the last moment that decided it was a rise.
-use Rattle.std.specs.Prelude.{Bool, true, false, List, [], ◌∷◌, ◌++◌, filter, reverse, slice_get, nat_lt, Option, Some, None}
+use Rattle.std.specs.Prelude.{Bool, true, false, List, [], ◌∷◌, ◌++◌, filter, reverse, slice_get, nat_lt, Option, Some}
+use Rattle.std.specs.Prelude.{None}
 use Rattle.ob_types.specs.WaterMark.{Marks}
 use Rattle.ob_types.specs.declared.command.Command.{Command}
 use Rattle.ob_seq.specs.Settings.{Settings}

@@ -1,10 +1,13 @@
 -- What one call does to what a buffer holds, step by step. No public clause cites this module.
-use Rattle.std.specs.Prelude.{ℕ, ◌^◌, map, bit_and, bit_or, ◌+◌, ◌-◌, ◌*◌, ◌/◌, ◌&&◌, Bool, true, false, List, [], ◌∷◌, ◌++◌, length, drop, sum_by, slice_set, nat_le, nat_lt, if◌then◌else◌, zero, suc, slice_index_or, take, min, Option, Some, None, Result, is_ok}
+use Rattle.std.specs.Prelude.{ℕ, ◌^◌, map, bit_and, bit_or, ◌+◌, ◌-◌, ◌*◌, ◌/◌, ◌&&◌, Bool, true, false, List, [], ◌∷◌}
+use Rattle.std.specs.Prelude.{◌++◌, length, drop, sum_by, slice_set, nat_le, nat_lt, if◌then◌else◌, zero, suc}
+use Rattle.std.specs.Prelude.{slice_index_or, take, min, Option, Some, None, Result, is_ok}
 use Rattle.std.specs.Int.{bit_not, w32}
 use Rattle.ob_types.specs.WaterMark.{Marks}
 use Rattle.ob_types.specs.PendingSize.{counted_bytes, is_oversize}
 use Rattle.ob_types.specs.declared.command.Command.{Command}
-use Rattle.ob_types.specs.declared.command.Command.TheVariants.{Write, Flush, Remove, RemoveWith, RemoveBytes, Progress, Cancel, FailFlushed, Close, UserBit}
+use Rattle.ob_types.specs.declared.command.Command.TheVariants.{Write, Flush, Remove, RemoveWith, RemoveBytes, Progress}
+use Rattle.ob_types.specs.declared.command.Command.TheVariants.{Cancel, FailFlushed, Close, UserBit}
 use Rattle.ob_types.specs.declared.message.Message.{Message}
 use Rattle.ob_types.specs.declared.promise.Outcome.{Outcome}
 use Rattle.ob_types.specs.declared.promise.Cause.{Cause}
@@ -12,7 +15,8 @@ use Rattle.ob_types.specs.declared.promise.Outcome.TheVariants.{Success, Failed,
 use Rattle.ob_types.specs.declared.promise.PromiseState.TheVariants.{Waiting, Fixed, Settled}
 use Rattle.ob_seq.specs.declared.contents.cut.Cut.{Cut}
 use Rattle.ob_types.specs.declared.refusal.Refusal.{Refusal}
-use Rattle.ob_types.specs.declared.refusal.Refusal.TheVariants.{Oversize, TooMuch, Closed, NothingFlushed, TooFar, TooManyBytes, BadIndex, FlushedLeft, UnknownPromise}
+use Rattle.ob_types.specs.declared.refusal.Refusal.TheVariants.{Oversize, TooMuch, Closed, NothingFlushed, TooFar}
+use Rattle.ob_types.specs.declared.refusal.Refusal.TheVariants.{TooManyBytes, BadIndex, FlushedLeft, UnknownPromise}
 use Rattle.ob_types.specs.Limits.{greatest_progress, greatest_total, most_writes}
 use Rattle.ob_types.specs.Waiting.{is_waiting}
 use Rattle.ob_seq.specs.Entry.{PendingEntry, blocks_left}

@@ -1,7 +1,9 @@
 -- User-defined writability (Netty's `setUserDefinedWritability`).
-use Rattle.std.specs.Prelude.{ℕ, ◌==◌, ◌&&◌, nat_le, Bool, false, not, if◌then◌else◌, Some, List, filter_map, reverse, slice_get, unwrap_or, Option, None}
+use Rattle.std.specs.Prelude.{ℕ, ◌==◌, ◌&&◌, nat_le, Bool, false, not, if◌then◌else◌, Some, List, filter_map, reverse}
+use Rattle.std.specs.Prelude.{slice_get, unwrap_or, Option, None}
 use Rattle.ob_types.specs.declared.command.Command.{Command}
-use Rattle.ob_types.specs.declared.command.Command.TheVariants.{Write, Flush, Remove, RemoveWith, RemoveBytes, Progress, Cancel, FailFlushed, Close, UserBit}
+use Rattle.ob_types.specs.declared.command.Command.TheVariants.{Write, Flush, Remove, RemoveWith, RemoveBytes, Progress}
+use Rattle.ob_types.specs.declared.command.Command.TheVariants.{Cancel, FailFlushed, Close, UserBit}
 
 -- what a command asks of the user bit with this index: to be set, to be clear, or nothing
 abbrev pub bit_request : ℕ → Command → Option Bool

@@ -1,7 +1,9 @@
 -- The refusals, by number.
 use Rattle.std.specs.Prelude.{ℕ}
 use Rattle.ob_types.specs.declared.refusal.Refusal.{Refusal}
-use Rattle.ob_types.specs.declared.refusal.Refusal.TheVariants.{Oversize, BadMarks, TooMuch, Closed, NothingFlushed, TooFar, TooManyBytes, BadIndex, FlushedLeft, UnknownPromise, HistoryFull, NoMemory}
+use Rattle.ob_types.specs.declared.refusal.Refusal.TheVariants.{Oversize, BadMarks, TooMuch, Closed, NothingFlushed}
+use Rattle.ob_types.specs.declared.refusal.Refusal.TheVariants.{TooFar, TooManyBytes, BadIndex, FlushedLeft}
+use Rattle.ob_types.specs.declared.refusal.Refusal.TheVariants.{UnknownPromise, HistoryFull, NoMemory}
 
 -- the number under which a refusal is known in traces
 abbrev pub number_of : Refusal → ℕ

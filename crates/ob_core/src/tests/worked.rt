@@ -1,6 +1,9 @@
 //! The definitions, computed on small core states and steps.
 
-ghost use Rattle.ob_core.specs.Worked.{GoodAccounts, WrongTotal, ShownAndNotRaised, RaisedAndNotShown, HeldTwice, RaisedAndNotHeld, LostRoom, ForgottenMark, RaisingNothing, BusyWithoutRoom, OwingMoreThanRoom, BitGiven, BitGivenAndKept, Divided, Merged, Finds, Changes, WideBits, BitSet, BitCleared, OtherLeft};
+ghost use Rattle.ob_core.specs.Worked.{GoodAccounts, WrongTotal, ShownAndNotRaised, RaisedAndNotShown, HeldTwice};
+ghost use Rattle.ob_core.specs.Worked.{RaisedAndNotHeld, LostRoom, ForgottenMark, RaisingNothing, BusyWithoutRoom};
+ghost use Rattle.ob_core.specs.Worked.{OwingMoreThanRoom, BitGiven, BitGivenAndKept, Divided, Merged, Finds, Changes};
+ghost use Rattle.ob_core.specs.Worked.{WideBits, BitSet, BitCleared, OtherLeft};
 
 fn worked_accounts()
     ensures good { GoodAccounts }

@@ -3,7 +3,8 @@
 ghost use Rattle.ob_history.specs.Worked.{IsLegalWithARefusal, AcceptedWithoutTheRefused, SettledByTheRemoval};
 ghost use Rattle.ob_history.specs.Worked.{IllegalAtAnotherPlace, IllegalWithAnotherReply, LastPlace, FullHistory};
 ghost use Rattle.ob_history.specs.Worked.{SeenBeforeTheRemoval, Glances, SettledByOneRecord, RecordsOfTwoCallers};
-ghost use Rattle.ob_history.specs.Worked.{OwnReceipts, ExchangedReceipts, ForeignReceipts, AllHeld, OneHeldBack, CoveredCalls};
+ghost use Rattle.ob_history.specs.Worked.{OwnReceipts, ExchangedReceipts, ForeignReceipts, AllHeld, OneHeldBack};
+ghost use Rattle.ob_history.specs.Worked.{CoveredCalls};
 
 #[tactic(auto, unfolding(ob_seq::specs::Word::user_bits))]
 fn worked_history()

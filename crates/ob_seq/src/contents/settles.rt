@@ -3,7 +3,8 @@ ghost use Rattle.std.specs.VecDeque.{deque_len};
 ghost use Rattle.ob_types.specs.Waiting.{is_waiting};
 ghost use Rattle.ob_types.specs.declared.promise.Cause.{Cause};
 ghost use Rattle.ob_types.specs.declared.promise.Outcome.{Outcome};
-ghost use Rattle.ob_seq.specs.Steps.{bytes_step, cancel_step, closing_step, removal_step, settled_by_step, settled_open, step_of, unflushed_id};
+ghost use Rattle.ob_seq.specs.Steps.{bytes_step, cancel_step, closing_step, removal_step, settled_by_step};
+ghost use Rattle.ob_seq.specs.Steps.{settled_open, step_of, unflushed_id};
 
 use crate::contents::Contents;
 use crate::entry::Entry;

@@ -2,7 +2,9 @@ use Rattle.std.proofs.Common.{refl, arith}
 use Rattle.ob_history.specs.Own.{AreOwn}
 use Rattle.ob_history.proofs.First.{never_foreign, own_more, own_no_more, up_to_end}
 use Rattle.ob_history.proofs.recorded.Recorded.first_foreign_receipt.Goals as goal
-use Rattle.ob_history.proofs.recorded.Recorded.first_foreign_receipt.Goals.{then-receipt-caller-via-then-receipt-caller, then-receipt-caller-via-else-receipt-caller+then-not-check, then-receipt-caller-via-else-receipt-caller+else-not-check+then-not-rises}
+use Rattle.ob_history.proofs.recorded.Recorded.first_foreign_receipt.Goals.{then-receipt-caller-via-then-receipt-caller}
+use Rattle.ob_history.proofs.recorded.Recorded.first_foreign_receipt.Goals.{then-receipt-caller-via-else-receipt-caller+then-not-check}
+use Rattle.ob_history.proofs.recorded.Recorded.first_foreign_receipt.Goals.{then-receipt-caller-via-else-receipt-caller+else-not-check+then-not-rises}
 
 pub loop-index-preserved : goal.loop-index-preserved
 loop-index-preserved c =
