@@ -21,24 +21,30 @@ pub fn block(alloc: Global, length: usize) -> Result<Message, AllocError> {
     Ok(Message::Block(Bytes::from_vec(vec![in alloc; 0u8; length]?)?))
 }
 
-/// A command of a row, before its message is made.
-#[derive(Clone, Copy)]
-enum Step {
-    Write(usize),
-    Flush,
-    Remove,
-}
+/// A command, what it must answer, the change of writability that it must tell of, and the pending bytes and the word
+/// after it.
+pub type Row = (Command, Result<Answer, Refusal>, Option<Change>, u32, u32);
 
-fn command(alloc: Global, step: Step) -> Result<Command, AllocError> {
-    Ok(match step {
-        Step::Write(length) => Command::Write(block(alloc, length)?),
-        Step::Flush => Command::Flush,
-        Step::Remove => Command::Remove,
-    })
+/// Gives the commands in turn, and answers the place of the first that does otherwise than its row says, or settles
+/// more or fewer promises than `settles` said.
+pub fn first_other(buffer: &mut Buffer, rows: &[Row]) -> Result<Option<usize>, AllocError> {
+    for (place, (command, answer, change, total, word)) in rows.iter().enumerate() {
+        let settles = buffer.settles(command) as usize;
+        let said = match buffer.apply(command.copy()?) {
+            Ok(reply) => (
+                Ok(reply.answer),
+                reply.change,
+                reply.settled.as_slice().len(),
+            ),
+            Err(refusal) => (Err(refusal), None, 0),
+        };
+        let look = buffer.look();
+        if said != (*answer, *change, settles) || (look.total, look.word) != (*total, *word) {
+            return Ok(Some(place));
+        }
+    }
+    Ok(None)
 }
-
-/// What a row expects: the answer, the change, the promise that succeeds, the pending bytes and the word.
-type Row = (Step, Answer, Option<Change>, Option<PromiseId>, u32, u32);
 
 fn settled_by(reply: &Reply) -> Option<(PromiseId, Outcome)> {
     reply.settled.as_slice().first().copied()
@@ -48,45 +54,26 @@ fn settled_by(reply: &Reply) -> Option<(PromiseId, Outcome)> {
 fn the_first_run(rt: HostRuntime) -> Result<(), Fail> {
     let alloc = rt.alloc();
     let mut buffer = buffer(alloc, 200, 400)?;
-    let rows: [Row; 5] = [
-        (
-            Step::Write(304),
-            Answer::Id(PromiseId(0)),
-            None,
-            None,
-            400,
-            0,
-        ),
-        (
-            Step::Write(0),
-            Answer::Id(PromiseId(1)),
-            Some(Change::Unwritable),
-            None,
-            496,
-            1,
-        ),
-        (Step::Flush, Answer::Count(2), None, None, 496, 1),
-        (
-            Step::Remove,
-            Answer::Yes(true),
-            Some(Change::Writable),
-            Some(PromiseId(0)),
-            96,
-            0,
-        ),
-        (Step::Flush, Answer::Count(0), None, None, 96, 0),
+    let unwritable = Some(Change::Unwritable);
+    let first = Command::Write(block(alloc, 304)?);
+    let second = Command::Write(block(alloc, 0)?);
+    let rows = [
+        (first, Ok(Answer::Id(PromiseId(0))), None, 400, 0),
+        (second, Ok(Answer::Id(PromiseId(1))), unwritable, 496, 1),
+        (Command::Flush, Ok(Answer::Count(2)), None, 496, 1),
     ];
-    for (step, answer, change, settled, total, word) in rows {
-        let reply = buffer.apply(command(alloc, step)?)?;
-        assert_eq!(rt; reply.answer, answer);
-        assert_eq!(rt; reply.change, change);
-        assert_eq!(rt;
-            settled_by(&reply),
-            settled.map(|id| (id, Outcome::Success))
-        );
-        let look = buffer.look();
-        assert_eq!(rt; (look.total, look.word), (total, word));
-    }
+    assert_eq!(rt; first_other(&mut buffer, &rows)?, None);
+    let removed = buffer.remove()?;
+    assert_eq!(rt;
+        (removed.answer, removed.change),
+        (Answer::Yes(true), Some(Change::Writable))
+    );
+    assert_eq!(rt;
+        settled_by(&removed),
+        Some((PromiseId(0), Outcome::Success))
+    );
+    let last = [(Command::Flush, Ok(Answer::Count(0)), None, 96, 0)];
+    assert_eq!(rt; first_other(&mut buffer, &last)?, None);
     Ok(())
 }
 

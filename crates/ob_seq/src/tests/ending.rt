@@ -1,7 +1,7 @@
 //! Failing what is flushed, closing, and user bits.
 
 use crate::Buffer;
-use crate::tests::calls::{block, buffer};
+use crate::tests::calls::{block, buffer, first_other};
 use ob_types::{
     Answer, Cause, Change, Command, Message, Outcome, PromiseId, PromiseState, Refusal,
 };
@@ -97,15 +97,24 @@ fn closing_fails_what_no_flush_has_reached(rt: HostRuntime) -> Result<(), Fail> 
 
 #[test]
 fn closing_waits_for_the_line_to_be_empty(rt: HostRuntime) -> Result<(), Fail> {
-    let alloc = rt.alloc();
-    let mut buffer = buffer(alloc, 200, 400)?;
-    write_blocks(&mut buffer, alloc, 1)?;
-    let _ = buffer.cancel(PromiseId(0))?;
-    let _ = buffer.flush()?;
-    assert_eq!(rt; buffer.settles(&Command::Close(CAUSE)), 0);
-    assert_eq!(rt; buffer.close(CAUSE).err(), Some(Refusal::FlushedLeft));
-    let _ = buffer.remove()?;
-    assert_eq!(rt; buffer.close(CAUSE)?.answer, Answer::Count(0));
+    let mut buffer = buffer(rt.alloc(), 200, 400)?;
+    let (waits, done) = (Err(Refusal::FlushedLeft), Ok(Answer::Count(0)));
+    let written = Ok(Answer::Id(PromiseId(0)));
+    let rows = [
+        (Command::Write(Message::Other(7)), written, None, 104, 0),
+        (
+            Command::Cancel(PromiseId(0)),
+            Ok(Answer::Yes(true)),
+            None,
+            104,
+            0,
+        ),
+        (Command::Flush, Ok(Answer::Count(1)), None, 0, 0),
+        (Command::Close(CAUSE), waits, None, 0, 0),
+        (Command::Remove, Ok(Answer::Yes(true)), None, 0, 0),
+        (Command::Close(CAUSE), done, None, 0, 0),
+    ];
+    assert_eq!(rt; first_other(&mut buffer, &rows)?, None);
     Ok(())
 }
 
@@ -134,47 +143,70 @@ fn a_closed_buffer_refuses_each_command(rt: HostRuntime) -> Result<(), Fail> {
     Ok(())
 }
 
+/// Marks of 50 and 100, so that one message is above the high one. The highest user bit is 2147483648.
 #[test]
 fn user_bits_keep_a_buffer_unwritable(rt: HostRuntime) -> Result<(), Fail> {
-    let alloc = rt.alloc();
-    let mut buffer = buffer(alloc, 200, 400)?;
-    for index in [0, 32, 4294967295] {
-        assert_eq!(rt; buffer.user_bit(index, true).err(), Some(Refusal::BadIndex));
-    }
-    assert_eq!(rt;
-        buffer.user_bit(31, false)?.change,
-        Some(Change::Unwritable)
-    );
-    assert_eq!(rt; buffer.user_bit(31, false)?.change, None);
-    write_blocks(&mut buffer, alloc, 5)?;
-    assert_eq!(rt; buffer.look().word, 2147483649);
-    assert_eq!(rt; buffer.user_bit(31, true)?.change, None);
-    assert_eq!(rt; buffer.look().word, 1);
-    let _ = buffer.user_bit(1, false)?;
-    let _ = buffer.flush()?;
-    assert_eq!(rt; buffer.fail_flushed(CAUSE, true)?.change, None);
-    assert_eq!(rt; buffer.user_bit(1, true)?.change, Some(Change::Writable));
+    let mut buffer = buffer(rt.alloc(), 50, 100)?;
+    let (bad, done) = (Err(Refusal::BadIndex), Ok(Answer::Done));
+    let (unwritable, writable) = (Some(Change::Unwritable), Some(Change::Writable));
+    let written = Ok(Answer::Id(PromiseId(0)));
+    let rows = [
+        (Command::UserBit(0, true), bad, None, 0, 0),
+        (Command::UserBit(32, true), bad, None, 0, 0),
+        (Command::UserBit(4294967295, true), bad, None, 0, 0),
+        (Command::UserBit(31, false), done, unwritable, 0, 2147483648),
+        (Command::UserBit(31, false), done, None, 0, 2147483648),
+        (
+            Command::Write(Message::Other(7)),
+            written,
+            None,
+            104,
+            2147483649,
+        ),
+        (Command::UserBit(31, true), done, None, 104, 1),
+        (Command::UserBit(1, false), done, None, 104, 3),
+        (Command::Flush, Ok(Answer::Count(1)), None, 104, 3),
+        (
+            Command::FailFlushed(CAUSE, true),
+            Ok(Answer::Count(1)),
+            None,
+            0,
+            2,
+        ),
+        (Command::UserBit(1, true), done, writable, 0, 0),
+    ];
+    assert_eq!(rt; first_other(&mut buffer, &rows)?, None);
     Ok(())
 }
 
-/// The five queries of a yes, a no or a number, as a buffer goes from new to closed.
+/// Whether a buffer is writable, whether its line is empty, whether it is closed, and how many writes are left.
+fn state_of(buffer: &Buffer) -> (bool, bool, bool, u32) {
+    let (writable, empty) = (buffer.is_writable(), buffer.is_empty());
+    (writable, empty, buffer.is_closed(), buffer.writes_left())
+}
+
+/// The queries of a yes, a no or a number, as a buffer goes from new to closed.
 #[test]
 fn a_buffer_tells_its_state(rt: HostRuntime) -> Result<(), Fail> {
-    let mut buffer = buffer(rt.alloc(), 200, 400)?;
-    assert!(rt; buffer.is_writable() && buffer.is_empty() && !buffer.is_closed());
-    assert_eq!(rt; buffer.writes_left(), 1048576);
-    let _ = buffer.write(block(rt.alloc(), 400)?)?;
-    assert!(rt; !buffer.is_writable() && buffer.is_empty());
-    assert_eq!(rt; buffer.writes_left(), 1048575);
-    let _ = buffer.flush()?;
-    assert!(rt; !buffer.is_empty());
-    let _ = buffer.remove()?;
-    assert!(rt; buffer.is_writable() && buffer.is_empty());
-    let _ = buffer.user_bit(5, false)?;
-    assert!(rt; !buffer.is_writable() && !buffer.user_defined_writability(5));
-    assert!(rt; buffer.user_defined_writability(6) && buffer.user_defined_writability(32));
-    let _ = buffer.close(Cause(3))?;
-    assert!(rt; buffer.is_closed() && !buffer.is_writable());
-    assert_eq!(rt; buffer.writes_left(), 0);
+    let mut buffer = buffer(rt.alloc(), 50, 100)?;
+    assert_eq!(rt; state_of(&buffer), (true, true, false, 1048576));
+    let steps = [
+        (
+            Command::Write(Message::Other(7)),
+            (false, true, false, 1048575),
+        ),
+        (Command::Flush, (false, false, false, 1048575)),
+        (Command::Remove, (true, true, false, 1048575)),
+        (Command::UserBit(5, false), (false, true, false, 1048575)),
+        (Command::Close(CAUSE), (false, true, true, 0)),
+    ];
+    for (command, state) in steps {
+        let _ = buffer.apply(command)?;
+        assert_eq!(rt; state_of(&buffer), state);
+    }
+    let bits = [(4, true), (5, false), (6, true), (32, true)];
+    for (index, writable) in bits {
+        assert_eq!(rt; buffer.user_defined_writability(index), writable);
+    }
     Ok(())
 }
