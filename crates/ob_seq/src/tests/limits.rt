@@ -4,9 +4,9 @@ ghost use Rattle.std.specs.Prelude.{◌≤◌};
 ghost use Rattle.ob_types.specs.Limits.{greatest_overhead};
 
 use crate::Buffer;
-use crate::tests::calls::buffer;
+use crate::tests::calls::{buffer, first_other};
 use ob_types::{
-    Answer, Cause, Estimate, Message, Outcome, PromiseId, PromiseState, Refusal, WaterMark,
+    Answer, Cause, Command, Estimate, Message, Outcome, PromiseId, PromiseState, Refusal, WaterMark,
 };
 use std::alloc::Global;
 use std::test::Fail;
@@ -14,36 +14,44 @@ use std::test::Fail;
 /// The most writes that a buffer accepts, whatever was removed.
 const MOST_WRITES: u32 = 1_048_576;
 
+const TOO_MUCH: Result<Answer, Refusal> = Err(Refusal::TooMuch);
+
+/// Removes what is in line, writes a message and flushes it, so many times. Answers the first time that goes otherwise
+/// than it should.
+fn first_other_cycle(buffer: &mut Buffer, count: u32) -> Result<Option<u32>, Refusal> {
+    for id in 0..count {
+        let removed = buffer.remove()?.answer;
+        let written = buffer.write(Message::Other(7))?.answer;
+        let flushed = buffer.flush()?.answer;
+        if (removed, written) != (Answer::Yes(id > 0), Answer::Id(PromiseId(id)))
+            || flushed != Answer::Count(1)
+        {
+            return Ok(Some(id));
+        }
+    }
+    Ok(None)
+}
+
 #[test]
 fn the_write_past_the_limit_is_too_much(rt: HostRuntime) -> Result<(), Fail> {
     let mut buffer = buffer(rt.alloc(), 200, 400)?;
-    for id in 0..MOST_WRITES {
-        assert_eq!(rt; buffer.remove()?.answer, Answer::Yes(id > 0));
-        let reply = buffer.write(Message::Other(7))?;
-        assert_eq!(rt; reply.answer, Answer::Id(PromiseId(id)));
-        assert_eq!(rt; buffer.flush()?.answer, Answer::Count(1));
-    }
-    let look = buffer.look();
-    assert_eq!(rt; (look.total, look.size), (104, 1));
-    assert_eq!(rt;
-        buffer.write(Message::Other(7)).err(),
-        Some(Refusal::TooMuch)
-    );
-    assert_eq!(rt; buffer.look(), look);
-    assert_eq!(rt; buffer.promise(PromiseId(MOST_WRITES)), None);
-    assert_eq!(rt;
-        buffer.promise(PromiseId(MOST_WRITES - 1)),
-        Some(PromiseState::Fixed)
-    );
+    assert_eq!(rt; first_other_cycle(&mut buffer, MOST_WRITES)?, None);
     let success = PromiseState::Settled(Outcome::Success);
-    assert_eq!(rt; buffer.promise(PromiseId(MOST_WRITES - 2)), Some(success));
+    let states = [
+        (1_048_576, None),
+        (1_048_575, Some(PromiseState::Fixed)),
+        (1_048_574, Some(success)),
+    ];
+    for (id, state) in states {
+        assert_eq!(rt; buffer.promise(PromiseId(id)), state);
+    }
     // a removal makes no room under this limit
-    assert_eq!(rt; buffer.remove()?.answer, Answer::Yes(true));
-    assert_eq!(rt;
-        buffer.write(Message::Other(7)).err(),
-        Some(Refusal::TooMuch)
-    );
-    assert_eq!(rt; buffer.look().total, 0);
+    let rows = [
+        (Command::Write(Message::Other(7)), TOO_MUCH, None, 104, 0),
+        (Command::Remove, Ok(Answer::Yes(true)), None, 0, 0),
+        (Command::Write(Message::Other(7)), TOO_MUCH, None, 0, 0),
+    ];
+    assert_eq!(rt; first_other(&mut buffer, &rows)?, None);
     Ok(())
 }
 
@@ -58,19 +66,30 @@ fn with_overhead(alloc: Global, overhead: u32) -> Result<Buffer, Refusal>
     Ok(Buffer::new(alloc, WaterMark::new(32768, 65536)?, estimate))
 }
 
+/// Writes so many empty regions, and answers the first whose promise is not the next one.
+fn first_other_promise(buffer: &mut Buffer, count: u32) -> Result<Option<u32>, Refusal> {
+    for id in 0..count {
+        if buffer.write(Message::Region(0))?.answer != Answer::Id(PromiseId(id)) {
+            return Ok(Some(id));
+        }
+    }
+    Ok(None)
+}
+
 #[test]
 fn the_total_at_its_limit(rt: HostRuntime) -> Result<(), Fail> {
     let mut buffer = with_overhead(rt.alloc(), 65535)?;
-    for id in 0..65537u32 {
-        let reply = buffer.write(Message::Region(0))?;
-        assert_eq!(rt; reply.answer, Answer::Id(PromiseId(id)));
-    }
+    assert_eq!(rt; first_other_promise(&mut buffer, 65537)?, None);
     let look = buffer.look();
     assert_eq!(rt; (look.total, look.size), (4294967295, 0));
-    assert_eq!(rt;
-        buffer.write(Message::Region(0)).err(),
-        Some(Refusal::TooMuch)
-    );
+    let rows = [(
+        Command::Write(Message::Region(0)),
+        TOO_MUCH,
+        None,
+        4294967295,
+        1,
+    )];
+    assert_eq!(rt; first_other(&mut buffer, &rows)?, None);
     assert_eq!(rt; buffer.look(), look);
     Ok(())
 }
@@ -78,24 +97,23 @@ fn the_total_at_its_limit(rt: HostRuntime) -> Result<(), Fail> {
 #[test]
 fn every_write_pending_at_once(rt: HostRuntime) -> Result<(), Fail> {
     let mut buffer = with_overhead(rt.alloc(), 0)?;
-    for id in 0..MOST_WRITES {
-        let reply = buffer.write(Message::Region(0))?;
-        assert_eq!(rt; reply.answer, Answer::Id(PromiseId(id)));
-    }
-    assert_eq!(rt;
-        buffer.write(Message::Region(0)).err(),
-        Some(Refusal::TooMuch)
-    );
-    assert_eq!(rt; buffer.flush()?.answer, Answer::Count(MOST_WRITES));
+    assert_eq!(rt; first_other_promise(&mut buffer, MOST_WRITES)?, None);
+    let all = Ok(Answer::Count(MOST_WRITES));
+    let rows = [
+        (Command::Write(Message::Region(0)), TOO_MUCH, None, 0, 0),
+        (Command::Flush, all, None, 0, 0),
+    ];
+    assert_eq!(rt; first_other(&mut buffer, &rows)?, None);
     assert_eq!(rt; buffer.look().size, MOST_WRITES);
-    let failed = buffer.fail_flushed(Cause(7), true)?;
-    assert_eq!(rt; failed.answer, Answer::Count(MOST_WRITES));
-    assert_eq!(rt; failed.settled.as_slice().len(), MOST_WRITES as usize);
+    // the reply settles as many as `settles` says, which here is all of them
+    let failing = Command::FailFlushed(Cause(7), true);
+    assert_eq!(rt; buffer.settles(&failing), MOST_WRITES);
     assert_eq!(rt;
-        failed.settled.as_slice().last().copied(),
-        Some((PromiseId(MOST_WRITES - 1), Outcome::Failed(Cause(7))))
+        first_other(&mut buffer, &[(failing, all, None, 0, 0)])?,
+        None
     );
-    let look = buffer.look();
-    assert_eq!(rt; (look.total, look.size), (0, 0));
+    assert_eq!(rt; buffer.look().size, 0);
+    let failed = PromiseState::Settled(Outcome::Failed(Cause(7)));
+    assert_eq!(rt; buffer.promise(PromiseId(1_048_575)), Some(failed));
     Ok(())
 }
