@@ -22,7 +22,6 @@ mod Kept
 mod Limits
 mod Looks
 mod Marks
-mod Once
 mod Order
 mod Ordered
 mod Parts
