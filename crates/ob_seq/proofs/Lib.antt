@@ -23,7 +23,6 @@ mod Limits
 mod Looks
 mod Marks
 mod Order
-mod Ordered
 mod Parts
 mod Pieces
 mod Progressed

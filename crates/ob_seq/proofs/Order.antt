@@ -1,11 +1,14 @@
 -- The order of the rows: those that are gone, then those in line, then those that no flush has reached.
-use Rattle.ob_seq.proofs.Words.{◌≡◌, ℕ, Bool, true, false, List, [], ◌∷◌, ◌++◌, map, refl, cond, arith, ◌⊎◌, filter}
-use Rattle.ob_seq.proofs.Words.{AllByRecursion, map-append, Estimate, Command, Cause, Failed, Cancelled, Waiting, Fixed}
-use Rattle.ob_seq.proofs.Words.{Settled, failed_row, flushed_row, progressed_row, reached_row, rows_after, skipped_row}
-use Rattle.ob_seq.proofs.Words.{taken_row, with_front, is_in_line, line, unflushed, gone, is_gone, Row, Unflushed}
-use Rattle.ob_seq.proofs.Words.{Flushed, Voided, Gone, is_unflushed}
-use Rattle.ob_seq.proofs.Ordered.{rows_in_order}
-use Rattle.ob_seq.proofs.EachRow.{FitLoosely, Fits, Loose, fit_along}
+use Rattle.ob_seq.proofs.Words.{◌≡◌, ◌≤◌, ◌+◌, ◌&&◌, ℕ, zero, suc, Bool, true, false, List, [], ◌∷◌, ◌++◌, map, length}
+use Rattle.ob_seq.proofs.Words.{refl, sym, ap, cond, ltb, arith, nat_tests, ◌⊎◌, inl, inr, fold, AllByRecursion}
+use Rattle.ob_seq.proofs.Words.{map-append, append_assoc, append-nil, length-append, filter-append, Estimate, Cause}
+use Rattle.ob_seq.proofs.Words.{Command, Write, Flush, Remove, RemoveWith, RemoveBytes, Progress, Cancel, FailFlushed}
+use Rattle.ob_seq.proofs.Words.{Close, UserBit, Outcome, Success, Failed, Cancelled, Waiting, Fixed, Settled}
+use Rattle.ob_seq.proofs.Words.{cancelled, effect}
+use Rattle.ob_seq.proofs.Words.{closed_row, failed_row, flushed_row, progressed_row, reached_row, rows_after}
+use Rattle.ob_seq.proofs.Words.{skipped_row, taken_row, with_cancelled, with_first, with_first_behind, with_front}
+use Rattle.ob_seq.proofs.Words.{with_skipped, whole_rows, bytes_left_over, is_in_line, line, Row, new_row, Unflushed}
+use Rattle.ob_seq.proofs.Words.{Flushed, Voided, Gone}
 
 -- the row is no longer in the buffer
 pub record IsGone (row : Row) : Type 0 where
@@ -29,6 +32,10 @@ IsStanding row = IsSent row ⊎ IsVoid row
 pub record IsFresh (row : Row) : Type 0 where
   pub place : row.place ≡ Unflushed
   pub promise : (row.promise ≡ Waiting) ⊎ (row.promise ≡ Settled Cancelled)
+
+-- a row with its promise taken back
+abbrev pub taken_back : Row → Row
+taken_back row = record row { promise = cancelled row.promise }
 
 -- rows in order: gone, standing in line, fresh
 pub record Layout (rows : List Row) : Type 0 where
@@ -59,6 +66,11 @@ pub stay_by : (change : Row → Row) (P : Row → Type 0) (same : (row : Row) �
     (rows : List Row) → AllByRecursion P rows → map change rows ≡ rows
 stay_by change P same [] all = refl
 stay_by change P same (row ∷ rows) all = rw (same row all.0, stay_by change P same rows all.1)
+
+each_map : (change : Row → Row) (P Q : Row → Type 0) → ((row : Row) → P row → Q (change row)) → (rows : List Row) →
+    AllByRecursion P rows → AllByRecursion Q (map change rows)
+each_map change P Q turns [] all = tt
+each_map change P Q turns (row ∷ rows) all = (turns row all.0, each_map change P Q turns rows all.1)
 
 pub all_now_gone : (change : Row → Row) → ((row : Row) → (change row).place ≡ Gone) → (rows : List Row) →
     AllByRecursion IsGone (map change rows)
@@ -120,37 +132,174 @@ progressed_stands n row standing = grind arith
 pub skipped_stands : (n : ℕ) (row : Row) → IsStanding row → IsStanding (skipped_row n row)
 skipped_stands n row standing = grind arith
 
--- the rows that pass a test, each of the kind that it tells
-each_filter : (test : Row → Bool) (P : Row → Type 0) →
-    ((row : Row) → Fits Loose row → test row ≡ true → P row) →
-    (rows : List Row) → FitLoosely rows → AllByRecursion P (filter test rows)
-each_filter test P tells [] fit = tt
-each_filter test P tells (row ∷ rows) fit =
-    step (filter test rows) (tells row fit.0) (each_filter test P tells rows fit.1)
+-- a row that is taken away as sent
+abbrev pub sent : Row → Row
+sent row = taken_row Success row
+
+-- one more row before others counts where it stands in line
+line_count : (before : List Row) (row : Row) →
+    length (line (before ++ row ∷ [])) ≡ length (line before) + cond (is_in_line row) 1 0
+line_count before row = rw (filter-append is_in_line before (row ∷ []), length-append) (grind arith)
+
+same_test : (a b c d : ℕ) → c + b ≡ d + a → ltb a c ≡ ltb b d
+same_test a b c d same = grind (arith, nat_tests)
+
+-- of the rows before others only the number in line counts
+same_first : (count other : ℕ) (before behind rows : List Row) →
+    count + length (line behind) ≡ other + length (line before) →
+    with_first_behind count sent before rows ≡ with_first_behind other sent behind rows
+same_first count other before behind [] same = refl
+same_first count other before behind (row ∷ rows) same =
+    let test = same_test (length (line before)) (length (line behind)) count other same in
+    let more = line_count before row in
+    let next = line_count behind row in
+    rw (test, same_first count other (before ++ row ∷ []) (behind ++ row ∷ []) rows (omega arith))
+
+-- no row sent changes nothing
+pub first_none : (before rows : List Row) → with_first_behind 0 sent before rows ≡ rows
+first_none before [] = refl
+first_none before (row ∷ rows) = rw (first_none (before ++ row ∷ []) rows) (early row (length (line before)))
   where
-    step : (rest : List Row) → (test row ≡ true → P row) → AllByRecursion P rest →
-        AllByRecursion P (cond (test row) (row ∷ rest) rest)
-    step rest one all = grind arith
+    early : (row : Row) (n : ℕ) → cond (is_in_line row && ltb n 0) (sent row) row ∷ rows ≡ row ∷ rows
+    early row n = grind (arith, nat_tests)
 
-gone_by : (row : Row) → is_gone row.place ≡ true → IsGone row
-gone_by row here = record { place = grind arith }
+-- one more row sent is the front sent first
+first_behind : (count : ℕ) (before rows : List Row) → length (line before) ≤ count →
+    with_first_behind (suc count) sent before rows ≡ with_first_behind count sent before (with_front sent rows)
+first_behind count before [] few = refl
+first_behind count before (row ∷ rows) few =
+    by_test (is_in_line row) refl (first_behind count (before ++ row ∷ []) rows)
+  where
+    by_test : (here : Bool) → is_in_line row ≡ here →
+        (length (line (before ++ row ∷ [])) ≤ count → with_first_behind (suc count) sent (before ++ row ∷ []) rows
+        ≡ with_first_behind count sent (before ++ row ∷ []) (with_front sent rows)) →
+        with_first_behind (suc count) sent before (row ∷ rows)
+        ≡ with_first_behind count sent before (with_front sent (row ∷ rows))
+    by_test true here rest =
+        let early : ltb (length (line before)) (suc count) ≡ true = grind (arith, nat_tests) in
+        let more = rw here at (line_count before row) in
+        let next = line_count before (sent row) in
+        rw (here, early, same_first (suc count) count (before ++ row ∷ []) (before ++ sent row ∷ []) rows (omega arith))
+    by_test false away rest = let more = rw away at (line_count before row) in rw (away, rest (omega arith), away)
 
-standing_by : (row : Row) → Fits Loose row → is_in_line row ≡ true → IsStanding row
-standing_by row fits here = grind arith
+pub first_more : (count : ℕ) (rows : List Row) → with_first (suc count) sent rows ≡ with_first count sent (with_front sent rows)
+first_more count rows = first_behind count [] rows (omega arith)
 
-fresh_by : (row : Row) → Fits Loose row → is_unflushed row.place ≡ true → IsFresh row
-fresh_by row fits here = grind arith
+-- rows by their parts
+laid : {rows : List Row} (gone standing fresh : List Row) → rows ≡ gone ++ (standing ++ fresh) →
+    AllByRecursion IsGone gone → AllByRecursion IsStanding standing → AllByRecursion IsFresh fresh → Layout rows
+laid gone standing fresh is all_gone all_standing all_fresh = record {
+  gone = gone;
+  standing = standing;
+  fresh = fresh;
+  is = is;
+  all_gone = all_gone;
+  all_standing = all_standing;
+  all_fresh = all_fresh;
+}
+
+-- a change of the front after which it is gone or still stands
+front_layout : (change : Row → Row) → ((row : Row) → IsStanding row → IsGone (change row) ⊎ IsStanding (change row)) →
+    (gone standing fresh : List Row) → AllByRecursion IsGone gone → AllByRecursion IsStanding standing →
+    AllByRecursion IsFresh fresh → Layout (with_front change (gone ++ (standing ++ fresh)))
+front_layout change turns gone [] fresh all_gone all_standing all_fresh =
+    laid gone [] fresh (rw (with_front_gone change gone fresh all_gone, with_front_fresh change fresh all_fresh))
+    all_gone tt all_fresh
+front_layout change turns gone (row ∷ standing) fresh all_gone all_standing all_fresh =
+    let rows = standing ++ fresh in
+    let is : with_front change (gone ++ row ∷ rows) ≡ gone ++ change row ∷ rows =
+    rw (with_front_gone change gone (row ∷ rows) all_gone, with_front_standing change row rows all_standing.0) in
+    elim (turns row all_standing.0) [
+      | inl away ↦ laid (gone ++ change row ∷ []) standing fresh (rw (is, append_assoc))
+          (each_append IsGone gone (change row ∷ []) all_gone (away, tt)) all_standing.1 all_fresh
+      | inr still ↦ laid gone (change row ∷ standing) fresh is all_gone (still, all_standing.1) all_fresh
+    ]
+
+-- a promise taken back in one of two parts
+back_parts : (id : ℕ) (rows more : List Row) →
+    (with_cancelled id (rows ++ more) ≡ with_cancelled id rows ++ more)
+    ⊎ ((rest : ℕ) × (with_cancelled id (rows ++ more) ≡ rows ++ with_cancelled rest more))
+back_parts id [] more = inr (id, refl)
+back_parts zero (row ∷ rows) more = inl refl
+back_parts (suc id) (row ∷ rows) more = elim (back_parts id rows more) [
+  | inl first ↦ inl (rw first)
+  | inr behind ↦ inr (behind.0, rw behind.1)
+]
+
+each_back : (P : Row → Type 0) → ((row : Row) → P row → P (taken_back row)) → (id : ℕ) (rows : List Row) →
+    AllByRecursion P rows → AllByRecursion P (with_cancelled id rows)
+each_back P back id [] all = tt
+each_back P back zero (row ∷ rows) all = (back row all.0, all.1)
+each_back P back (suc id) (row ∷ rows) all = (all.0, each_back P back id rows all.1)
+
+module _ (rows : List Row) (layout : Layout rows) where
+  open layout use {gone, standing, fresh, is, all_gone, all_standing, all_fresh}
+
+  changed : (change : Row → Row) → ((row : Row) → IsStanding row → IsGone (change row) ⊎ IsStanding (change row)) →
+      Layout (with_front change rows)
+  changed change turns = rw is (front_layout change turns gone standing fresh all_gone all_standing all_fresh)
+
+  taken : (outcome : Outcome) → Layout (with_front (taken_row outcome) rows)
+  taken outcome = changed (taken_row outcome) (λ row standing. inl (record { place = refl }))
+
+  skipped : (n : ℕ) (some : Bool) → Layout (cond some (with_front (skipped_row n) rows) rows)
+  skipped n true = changed (skipped_row n) (λ row standing. inr (skipped_stands n row standing))
+  skipped n false = layout
+
+  back : (id : ℕ) → Layout (with_cancelled id rows)
+  back id = elim (back_parts id gone (standing ++ fresh)) [
+    | inl first ↦ laid (with_cancelled id gone) standing fresh (rw (is, first))
+        (each_back IsGone (λ row away. record { place = away.place }) id gone all_gone) all_standing all_fresh
+    | inr behind ↦ elim (back_parts behind.0 standing fresh) [
+      | inl line ↦ laid gone (with_cancelled behind.0 standing) fresh (rw (is, behind.1, line)) all_gone
+          (each_back IsStanding (λ row standing. grind arith) behind.0 standing all_standing) all_fresh
+      | inr last ↦ laid gone standing (with_cancelled last.0 fresh) (rw (is, behind.1, last.1)) all_gone all_standing
+          (each_back IsFresh (λ row fresh. grind arith) last.0 fresh all_fresh)
+    ]
+  ]
+
+-- so many rows in line sent
+first_layout : (count : ℕ) (rows : List Row) → Layout rows → Layout (with_first count sent rows)
+first_layout zero rows layout = rw (first_none [] rows) layout
+first_layout (suc count) rows layout =
+    rw (first_more count rows) (first_layout count (with_front sent rows) (taken rows layout Success))
+
+-- each command keeps the order
+effect_layout : (estimate : Estimate) (rows : List Row) (command : Command) → Layout rows →
+    Layout (effect estimate rows command)
+effect_layout estimate rows (Write message) l =
+    let new = new_row estimate message ∷ [] in
+    laid l.gone l.standing (l.fresh ++ new) (rw (l.is, append_assoc, append_assoc)) l.all_gone l.all_standing
+    (each_append IsFresh l.fresh new l.all_fresh (record { place = refl; promise = inl refl }, tt))
+effect_layout estimate rows Flush l =
+    let reached = map reached_row l.fresh in
+    laid l.gone (l.standing ++ reached) []
+    (rw (l.is, flush_parts l.gone l.standing l.fresh l.all_gone l.all_standing l.all_fresh, append-nil)) l.all_gone
+    (each_append IsStanding l.standing reached l.all_standing
+    (each_map reached_row IsFresh IsStanding reached_stands l.fresh l.all_fresh)) tt
+effect_layout estimate rows Remove l = taken rows l Success
+effect_layout estimate rows (RemoveWith cause) l = taken rows l (Failed cause)
+effect_layout estimate rows (RemoveBytes n) l =
+    skipped _ (first_layout (whole_rows n rows) rows l) (bytes_left_over n rows) (ltb 0 (bytes_left_over n rows))
+effect_layout estimate rows (Progress n) l =
+    changed rows l (progressed_row n) (λ row standing. inr (progressed_stands n row standing))
+effect_layout estimate rows (Cancel id) l = back rows l id.0
+effect_layout estimate rows (FailFlushed cause notify) l =
+    let taken = map (taken_row (Failed cause)) l.standing in
+    laid (l.gone ++ taken) [] l.fresh
+    (rw (l.is, failed_parts cause l.gone l.standing l.fresh l.all_gone l.all_standing l.all_fresh, append_assoc))
+    (each_append IsGone l.gone taken l.all_gone (all_now_gone (taken_row (Failed cause)) (λ row. refl) l.standing)) tt
+    l.all_fresh
+effect_layout estimate rows (Close cause) l =
+    laid (map (closed_row cause) rows) [] [] (rw append-nil) (all_now_gone (closed_row cause) (λ row. refl) rows) tt tt
+effect_layout estimate rows (UserBit index writable) l = l
+
+layout_along : (estimate : Estimate) (rows : List Row) (commands : List Command) → Layout rows →
+    Layout (fold (effect estimate) rows commands)
+layout_along estimate rows [] layout = layout
+layout_along estimate rows (command ∷ commands) layout =
+    layout_along estimate (effect estimate rows command) commands (effect_layout estimate rows command layout)
 
 -- the rows of each history are in order
 pub layout_of : (estimate : Estimate) (commands : List Command) → Layout (rows_after estimate commands)
-layout_of estimate commands =
-    let rows = rows_after estimate commands in
-    let fit = fit_along estimate [] commands tt in record {
-      gone = gone rows;
-      standing = line rows;
-      fresh = unflushed rows;
-      is = rows_in_order estimate commands;
-      all_gone = each_filter (λ row. is_gone row.place) IsGone (λ row fits. gone_by row) rows fit;
-      all_standing = each_filter is_in_line IsStanding standing_by rows fit;
-      all_fresh = each_filter (λ row. is_unflushed row.place) IsFresh fresh_by rows fit;
-    }
+layout_of estimate commands = layout_along estimate [] commands (laid [] [] [] refl tt tt tt)

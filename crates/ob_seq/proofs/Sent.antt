@@ -8,51 +8,24 @@ use Rattle.ob_seq.proofs.Words.{entry_settlements, times}
 use Rattle.ob_seq.proofs.Along.{moments_behind}
 use Rattle.ob_seq.proofs.Held.{opening, Held}
 use Rattle.ob_seq.proofs.Marks.{word_from}
-use Rattle.ob_seq.proofs.Order.{IsGone, IsStanding, gone_not_in_line, standing_in_line}
-use Rattle.ob_seq.proofs.Ordered.{line_count}
+use Rattle.ob_seq.proofs.Order.{IsGone, IsStanding, each_append, first_more, first_none, sent, with_front_gone}
+use Rattle.ob_seq.proofs.Order.{with_front_standing}
 use Rattle.ob_seq.proofs.Taken.{taken_held, taken_word}
 use Rattle.ob_seq.proofs.Times.{times_first}
 
--- a row that is taken away as sent
-abbrev pub sent : Row → Row
-sent row = taken_row Success row
-
--- behind the first so many none goes
-past_first : (count : ℕ) (before rows : List Row) → count ≤ length (line before) →
-    with_first_behind count sent before rows ≡ rows
-past_first count before [] past = refl
-past_first count before (row ∷ rows) past =
-    let more = line_count before row in
-    let rest = past_first count (before ++ row ∷ []) rows (omega arith) in
-    rw rest (late (is_in_line row) (length (line before)) past)
-  where
-    late : (here : Bool) (early : ℕ) → count ≤ early → cond (here && ltb early count) (sent row) row ∷ rows ≡ row ∷ rows
-    late here early past = grind (arith, nat_tests)
-
-first_standing : (before first behind : List Row) (count : ℕ) → AllByRecursion IsStanding first →
-    length (line before) + length first ≡ count →
-    with_first_behind count sent before (first ++ behind) ≡ map sent first ++ behind
-first_standing before [] behind count all size = past_first count before behind (omega arith)
-first_standing before (row ∷ first) behind count all size =
-    let here = standing_in_line row all.0 in
-    let early : ltb (length (line before)) count ≡ true = grind (arith, nat_tests) in
-    let more = rw here at (line_count before row) in
-    rw (here, early, first_standing (before ++ row ∷ []) first behind count all.1 (omega arith))
-
-first_gone : (before gone first behind : List Row) (count : ℕ) → AllByRecursion IsGone gone →
-    AllByRecursion IsStanding first → length (line before) + length first ≡ count →
-    with_first_behind count sent before (gone ++ (first ++ behind)) ≡ gone ++ (map sent first ++ behind)
-first_gone before [] first behind count all_gone all size = first_standing before first behind count all size
-first_gone before (row ∷ gone) first behind count all_gone all size =
-    let away = gone_not_in_line row all_gone.0 in
-    let more = rw away at (line_count before row) in
-    rw (away, first_gone (before ++ row ∷ []) gone first behind count all_gone.1 all (omega arith))
-
--- the rows when those are gone
+-- the rows when the first in line are gone
 pub with_first_sent : (first gone behind : List Row) → AllByRecursion IsGone gone → AllByRecursion IsStanding first →
     with_first (length first) sent (gone ++ (first ++ behind)) ≡ gone ++ (map sent first ++ behind)
-with_first_sent first gone behind all_gone all =
-    first_gone [] gone first behind (length first) all_gone all (omega arith)
+with_first_sent [] gone behind all_gone all = first_none [] (gone ++ behind)
+with_first_sent (row ∷ first) gone behind all_gone all =
+    let away = each_append IsGone gone (sent row ∷ []) all_gone (record { place = refl }, tt) in
+    let next = with_first_sent first (gone ++ sent row ∷ []) behind away all.1 in
+    let rest = first ++ behind in
+    rw (
+      first_more (length first) (gone ++ row ∷ rest),
+      with_front_gone sent gone (row ∷ rest) all_gone,
+      with_front_standing sent row rest all.0,
+    ) (rw (append_assoc, append_assoc) at next)
 
 -- each of them is gone
 pub all_taken_gone : (outcome : Outcome) (rows : List Row) → AllByRecursion IsGone (map (taken_row outcome) rows)
