@@ -12,7 +12,6 @@ mod EntrySettlements
 mod Failing
 mod Failures
 mod Fields
-mod Fitting
 mod Flushing
 mod Fronts
 mod Gathered

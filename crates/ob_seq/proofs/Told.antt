@@ -10,7 +10,7 @@ use Rattle.std.proofs.lemmas.List.Elements.{All-contains_itself, All-filter, All
 use Rattle.std.proofs.lemmas.List.Sums.{length-filter}
 use Rattle.ob_seq.specs.Settles.{times_settled}
 use Rattle.ob_seq.proofs.Accepting.{all_among, none_or_some}
-use Rattle.ob_seq.proofs.EachRow.{StaySettled, StaysSettled, fit_along, one_more, outcome_at, outcome_in}
+use Rattle.ob_seq.proofs.EachRow.{StaysSettled, effect_stays, outcome_at, outcome_in}
 use Rattle.ob_seq.proofs.History.{rows_after_more}
 
 -- a promise with an outcome is settled with it
@@ -102,7 +102,7 @@ module _ (settings : Settings) where
         | inl none ↦ rw none (record {
           told = rw (rows_after_more settings.estimate earlier command) (of_rows 0 id id (omega arith) rows _);
           stays = rw (rows_after_more settings.estimate earlier command)
-              ((one_more settings.estimate rows command (fit_along settings.estimate [] earlier tt)).1 id);
+              (effect_stays settings.estimate earlier command id);
         })
         | inr some ↦ rw some.1 (record {
           told = sym (settles_no_more id (outcome_after earlier id)).0;
