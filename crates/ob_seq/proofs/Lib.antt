@@ -37,7 +37,6 @@ mod Skipped
 mod Taken
 mod Times
 pub mod Told
-mod Unknown
 mod UserBits
 mod WordBits
 mod WordDigits

@@ -107,16 +107,12 @@ all_reached (row ∷ fresh) buffer gone standing half moments held word =
     let next = standing ++ reached ∷ [] in
     let rest = all_reached fresh (next_flushed buffer) gone next half (moments ++ one)
     (next_held buffer gone standing row fresh held) (next_word buffer gone standing row fresh held half moments word) in
-    let same = times_first next_flushed (length fresh) buffer in (
-      subst (λ (after : Pending). Held after gone (standing ++ reached ∷ map reached_row fresh) []) same
-          (rw append_assoc at rest.0),
-      ap (λ (after : Pending). after.word) (sym same) ∙ rest.1
-          ∙ rw (
-            append_assoc moments one (moments_along true (gone ++ next) fresh (map reached_row fresh)),
-            append_assoc gone standing (reached ∷ []),
-          ) refl,
-      ap opening (sym same) ∙ rest.2,
-      ap (λ (after : Pending). after.closed) (sym same) ∙ rest.3,
+    let more = moments_along true (gone ++ next) fresh (map reached_row fresh) in
+    rw (← times_first next_flushed (length fresh) buffer) (
+      rw append_assoc at rest.0,
+      rest.1 ∙ rw (append_assoc moments one more, append_assoc gone standing (reached ∷ [])) refl,
+      rest.2,
+      rest.3,
     )
 
 -- a flush settles nothing

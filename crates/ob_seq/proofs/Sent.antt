@@ -53,15 +53,13 @@ all_taken notice outcome (row ∷ first) buffer gone rest fresh half moments hel
     let next_word = taken_word notice outcome buffer gone row (first ++ rest) fresh held half moments word in
     let all = all_taken notice outcome first next (gone ++ taken ∷ []) rest fresh half (moments ++ one) next_held
     next_word in
-    let same = times_first (front_taken notice outcome) (length first) buffer in
     let behind = first ++ (rest ++ fresh) in
-    let more = moments_along notice (gone ++ taken ∷ []) behind (now ++ (rest ++ fresh)) in (
-      subst (λ (after : Pending). Held after (gone ++ taken ∷ now) rest fresh) same
-          (rw append_assoc at all.0),
-      ap (λ (after : Pending). after.word) (sym same) ∙ all.1
-          ∙ rw (append_assoc moments one more, append_assoc first rest fresh) refl,
-      ap opening (sym same) ∙ all.2,
-      ap (λ (after : Pending). after.closed) (sym same) ∙ all.3,
+    let more = moments_along notice (gone ++ taken ∷ []) behind (now ++ (rest ++ fresh)) in
+    rw (← times_first (front_taken notice outcome) (length first) buffer) (
+      rw append_assoc at all.0,
+      all.1 ∙ rw (append_assoc moments one more, append_assoc first rest fresh) refl,
+      all.2,
+      all.3,
     )
 
 -- moments behind them that are none
