@@ -103,7 +103,7 @@ module _ (Accepted : Type 0) where
       step others turn same stay rest = grind arith
 
   first_rows : (count : ℕ) (rows : List Row) → AllTurn rows (with_first count sent rows)
-  first_rows zero rows = rw (first_none [] rows) (same_rows rows)
+  first_rows zero rows = rw (first_none rows) (same_rows rows)
   first_rows (suc count) rows =
       rw (first_more count rows)
       (both_rows _ _ _ (front_row sent (taken Success) rows) (first_rows count (with_front sent rows)))

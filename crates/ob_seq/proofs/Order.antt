@@ -1,5 +1,5 @@
 -- The order of the rows: those that are gone, then those in line, then those that no flush has reached.
-use Rattle.ob_seq.proofs.Words.{◌≡◌, ◌≤◌, ◌+◌, ◌&&◌, ℕ, zero, suc, Bool, true, false, List, [], ◌∷◌, ◌++◌, map, length}
+use Rattle.ob_seq.proofs.Words.{◌≡◌, ◌+◌, ◌-◌, ◌&&◌, ℕ, zero, suc, Bool, true, false, List, [], ◌∷◌, ◌++◌, map, length}
 use Rattle.ob_seq.proofs.Words.{refl, sym, ap, cond, ltb, arith, nat_tests, ◌⊎◌, inl, inr, fold, AllByRecursion}
 use Rattle.ob_seq.proofs.Words.{map-append, append_assoc, append-nil, length-append, filter-append, Estimate, Cause}
 use Rattle.ob_seq.proofs.Words.{Command, Write, Flush, Remove, RemoveWith, RemoveBytes, Progress, Cancel, FailFlushed}
@@ -141,49 +141,47 @@ line_count : (before : List Row) (row : Row) →
     length (line (before ++ row ∷ [])) ≡ length (line before) + cond (is_in_line row) 1 0
 line_count before row = rw (filter-append is_in_line before (row ∷ []), length-append) (grind arith)
 
-same_test : (a b c d : ℕ) → c + b ≡ d + a → ltb a c ≡ ltb b d
-same_test a b c d same = grind (arith, nat_tests)
+-- the rows with so many of the line sent, counted down
+abbrev send : ℕ → List Row → List Row
+send count [] = []
+send zero (row ∷ rows) = row ∷ rows
+send (suc count) (row ∷ rows) = cond (is_in_line row) (sent row ∷ send count rows) (row ∷ send (suc count) rows)
 
--- of the rows before others only the number in line counts
-same_first : (count other : ℕ) (before behind rows : List Row) →
-    count + length (line behind) ≡ other + length (line before) →
-    with_first_behind count sent before rows ≡ with_first_behind other sent behind rows
-same_first count other before behind [] same = refl
-same_first count other before behind (row ∷ rows) same =
-    let test = same_test (length (line before)) (length (line behind)) count other same in
-    let more = line_count before row in
-    let next = line_count behind row in
-    rw (test, same_first count other (before ++ row ∷ []) (behind ++ row ∷ []) rows (omega arith))
+send_none : (rows : List Row) → send 0 rows ≡ rows
+send_none [] = refl
+send_none (row ∷ rows) = refl
+
+send_one : (count early left : ℕ) (row : Row) (rows : List Row) → left ≡ count - early →
+    cond (is_in_line row && ltb early count) (sent row) row
+    ∷ send (count - (early + cond (is_in_line row) 1 0)) rows ≡ send left (row ∷ rows)
+send_one count early left row rows is = grind (arith, nat_tests, send_none)
+
+first_behind : (count : ℕ) (before rows : List Row) (left : ℕ) → left ≡ count - length (line before) →
+    with_first_behind count sent before rows ≡ send left rows
+first_behind count before [] left is = refl
+first_behind count before (row ∷ rows) left is =
+    rw (first_behind count (before ++ row ∷ []) rows _ refl, line_count before row)
+    (send_one count (length (line before)) left row rows is)
+
+first_is : (count : ℕ) (rows : List Row) → with_first count sent rows ≡ send count rows
+first_is count rows = first_behind count [] rows count (omega arith)
 
 -- no row sent changes nothing
-pub first_none : (before rows : List Row) → with_first_behind 0 sent before rows ≡ rows
-first_none before [] = refl
-first_none before (row ∷ rows) = rw (first_none (before ++ row ∷ []) rows) (early row (length (line before)))
-  where
-    early : (row : Row) (n : ℕ) → cond (is_in_line row && ltb n 0) (sent row) row ∷ rows ≡ row ∷ rows
-    early row n = grind (arith, nat_tests)
+pub first_none : (rows : List Row) → with_first 0 sent rows ≡ rows
+first_none rows = rw (first_is 0 rows) (send_none rows)
+
+send_front : (count : ℕ) (row : Row) (rows : List Row) → send (suc count) rows ≡ send count (with_front sent rows) →
+    send (suc count) (row ∷ rows) ≡ send count (with_front sent (row ∷ rows))
+send_front count row rows rest = grind (arith, send_none)
+
+send_more : (count : ℕ) (rows : List Row) → send (suc count) rows ≡ send count (with_front sent rows)
+send_more count [] = refl
+send_more count (row ∷ rows) = send_front count row rows (send_more count rows)
 
 -- one more row sent is the front sent first
-first_behind : (count : ℕ) (before rows : List Row) → length (line before) ≤ count →
-    with_first_behind (suc count) sent before rows ≡ with_first_behind count sent before (with_front sent rows)
-first_behind count before [] few = refl
-first_behind count before (row ∷ rows) few =
-    by_test (is_in_line row) refl (first_behind count (before ++ row ∷ []) rows)
-  where
-    by_test : (here : Bool) → is_in_line row ≡ here →
-        (length (line (before ++ row ∷ [])) ≤ count → with_first_behind (suc count) sent (before ++ row ∷ []) rows
-        ≡ with_first_behind count sent (before ++ row ∷ []) (with_front sent rows)) →
-        with_first_behind (suc count) sent before (row ∷ rows)
-        ≡ with_first_behind count sent before (with_front sent (row ∷ rows))
-    by_test true here rest =
-        let early : ltb (length (line before)) (suc count) ≡ true = grind (arith, nat_tests) in
-        let more = rw here at (line_count before row) in
-        let next = line_count before (sent row) in
-        rw (here, early, same_first (suc count) count (before ++ row ∷ []) (before ++ sent row ∷ []) rows (omega arith))
-    by_test false away rest = let more = rw away at (line_count before row) in rw (away, rest (omega arith), away)
-
-pub first_more : (count : ℕ) (rows : List Row) → with_first (suc count) sent rows ≡ with_first count sent (with_front sent rows)
-first_more count rows = first_behind count [] rows (omega arith)
+pub first_more : (count : ℕ) (rows : List Row) →
+    with_first (suc count) sent rows ≡ with_first count sent (with_front sent rows)
+first_more count rows = rw (first_is (suc count) rows, first_is count (with_front sent rows)) (send_more count rows)
 
 -- rows by their parts
 laid : {rows : List Row} (gone standing fresh : List Row) → rows ≡ gone ++ (standing ++ fresh) →
@@ -260,7 +258,7 @@ module _ (rows : List Row) (layout : Layout rows) where
 
 -- so many rows in line sent
 first_layout : (count : ℕ) (rows : List Row) → Layout rows → Layout (with_first count sent rows)
-first_layout zero rows layout = rw (first_none [] rows) layout
+first_layout zero rows layout = rw (first_none rows) layout
 first_layout (suc count) rows layout =
     rw (first_more count rows) (first_layout count (with_front sent rows) (taken rows layout Success))
 

@@ -8,15 +8,15 @@ use Rattle.ob_seq.proofs.Words.{entry_settlements, times}
 use Rattle.ob_seq.proofs.Along.{moments_behind}
 use Rattle.ob_seq.proofs.Held.{opening, Held}
 use Rattle.ob_seq.proofs.Marks.{word_from}
-use Rattle.ob_seq.proofs.Order.{IsGone, IsStanding, each_append, first_more, first_none, sent, with_front_gone}
-use Rattle.ob_seq.proofs.Order.{with_front_standing}
+use Rattle.ob_seq.proofs.Order.{IsGone, IsStanding, all_now_gone, each_append, first_more, first_none, sent}
+use Rattle.ob_seq.proofs.Order.{with_front_gone, with_front_standing}
 use Rattle.ob_seq.proofs.Taken.{taken_held, taken_word}
 use Rattle.ob_seq.proofs.Times.{times_first}
 
 -- the rows when the first in line are gone
 pub with_first_sent : (first gone behind : List Row) → AllByRecursion IsGone gone → AllByRecursion IsStanding first →
     with_first (length first) sent (gone ++ (first ++ behind)) ≡ gone ++ (map sent first ++ behind)
-with_first_sent [] gone behind all_gone all = first_none [] (gone ++ behind)
+with_first_sent [] gone behind all_gone all = first_none (gone ++ behind)
 with_first_sent (row ∷ first) gone behind all_gone all =
     let away = each_append IsGone gone (sent row ∷ []) all_gone (record { place = refl }, tt) in
     let next = with_first_sent first (gone ++ sent row ∷ []) behind away all.1 in
@@ -29,8 +29,7 @@ with_first_sent (row ∷ first) gone behind all_gone all =
 
 -- each of them is gone
 pub all_taken_gone : (outcome : Outcome) (rows : List Row) → AllByRecursion IsGone (map (taken_row outcome) rows)
-all_taken_gone outcome [] = tt
-all_taken_gone outcome (row ∷ rows) = (record { place = refl }, all_taken_gone outcome rows)
+all_taken_gone outcome rows = all_now_gone (taken_row outcome) (λ row. refl) rows
 
 -- what the buffer holds without them, and its word after their moments
 pub all_taken : (notice : Bool) (outcome : Outcome) (first : List Row) (buffer : Pending) (gone rest fresh : List Row)

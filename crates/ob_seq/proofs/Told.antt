@@ -94,32 +94,26 @@ module _ (settings : Settings) where
     told : of_one id settlements ≡ settlement id (outcome_after earlier id) (outcome_after after id)
     stays : StaysSettled (outcome_after earlier id) (outcome_after after id)
 
-  one_settles : (earlier : List Command) (command : Command) (id : ℕ) →
-      Settle earlier (commands_after settings earlier command) (settled_by (answer_to settings earlier command)) id
-  one_settles earlier command id =
-      let rows = rows_after settings.estimate earlier in
-      elim (none_or_some (first_refusal settings.estimate earlier command)) [
-        | inl none ↦ rw none (record {
-          told = rw (rows_after_more settings.estimate earlier command) (of_rows 0 id id (omega arith) rows _);
-          stays = rw (rows_after_more settings.estimate earlier command)
-              (effect_stays settings.estimate earlier command id);
-        })
-        | inr some ↦ rw some.1 (record {
-          told = sym (settles_no_more id (outcome_after earlier id)).0;
-          stays = λ outcome is. is;
-        })
-      ]
-
   all_settle : (earlier commands : List Command) (id : ℕ) →
       Settle earlier (fold (commands_after settings) earlier commands) (settled_along settings earlier commands) id
   all_settle earlier [] id =
       record { told = sym (settles_no_more id (outcome_after earlier id)).0; stays = λ outcome is. is }
-  all_settle earlier (command ∷ commands) id =
-      let one = one_settles earlier command id in
-      let rest = all_settle (commands_after settings earlier command) commands id in record {
-        told = rw (filter-append, one.told, rest.told) (in_two_steps id _ _ _ one.stays rest.stays);
-        stays = λ outcome is. rest.stays outcome (one.stays outcome is);
-      }
+  all_settle earlier (command ∷ commands) id = elim (none_or_some (first_refusal settings.estimate earlier command)) [
+    | inl none ↦
+        let rest = all_settle (earlier ++ command ∷ []) commands id in
+        let later = rw (rows_after_more settings.estimate earlier command) at rest.stays in
+        let one = effect_stays settings.estimate earlier command id in
+        rw none (record {
+          told = rw (
+            filter-append,
+            of_rows 0 id id (omega arith) (rows_after settings.estimate earlier) _,
+            rest.told,
+            rows_after_more settings.estimate earlier command,
+          ) (in_two_steps id _ _ _ one later);
+          stays = λ outcome is. later outcome (one outcome is);
+        })
+    | inr some ↦ rw some.1 (all_settle earlier commands id)
+  ]
 
   -- whatever commands are given, no promise is settled twice
   pub settled_once : (commands : List Command) (id : PromiseId) →
@@ -137,7 +131,7 @@ module _ (settings : Settings) where
       promise_after settings earlier id ≡ Some (Settled outcome) →
       promise_after settings (commands_after settings earlier command) id ≡ Some (Settled outcome)
   outcome_kept earlier command id outcome is =
-      settled_in _ outcome ((one_settles earlier command id.0).stays outcome (ap outcome_in is))
+      settled_in _ outcome ((all_settle earlier (command ∷ []) id.0).stays outcome (ap outcome_in is))
 
   module _ (id : PromiseId) (outcome : Outcome) (commands : List Command) where
     -- of a new buffer just those promises are settled that its answers tell
