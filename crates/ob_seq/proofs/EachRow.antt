@@ -55,20 +55,11 @@ module _ (Accepted : Type 0) where
   both : (was between row : Row) → Turns Accepted was between → Turns Accepted between row → Turns Accepted was row
   both was between row first second = grind arith
 
-  reached : (row : Row) → Turns Accepted row (flushed_row row)
-  reached row = grind arith
-
   taken : (outcome : Outcome) (row : Row) → is_in_line row ≡ true → Turns Accepted row (taken_row outcome row)
   taken outcome row here = grind arith
 
   told : (row : Row) (skipped progress : ℕ) → Turns Accepted row (record row { skipped = skipped; progress = progress })
   told row skipped progress = grind arith
-
-  back : (row : Row) → Turns Accepted row (taken_back row)
-  back row = grind arith
-
-  closed : (cause : Cause) (row : Row) → (Accepted → is_in_line row ≡ false) → Turns Accepted row (closed_row cause row)
-  closed cause row away = grind arith
 
   -- each row turns so
   abbrev AllTurn : List Row → List Row → Type 0
@@ -110,7 +101,7 @@ module _ (Accepted : Type 0) where
 
   cancelled_row : (id : ℕ) (rows : List Row) → AllTurn rows (with_cancelled id rows)
   cancelled_row id [] = tt
-  cancelled_row zero (row ∷ rows) = (back row, same_rows rows)
+  cancelled_row zero (row ∷ rows) = (grind arith, same_rows rows)
   cancelled_row (suc id) (row ∷ rows) = (same row, cancelled_row id rows)
 
   skipped_rows : (n : ℕ) (rows : List Row) (some : Bool) →
@@ -122,13 +113,14 @@ module _ (Accepted : Type 0) where
   closed_rows : (cause : Cause) (rows : List Row) → (Accepted → is_some (front rows) ≡ false) →
       AllTurn rows (map (closed_row cause) rows)
   closed_rows cause [] none = tt
-  closed_rows cause (row ∷ rows) none = (
-    closed cause row (λ accepted. (nothing row rows (none accepted)).0),
-    closed_rows cause rows (λ accepted. (nothing row rows (none accepted)).1),
-  )
+  closed_rows cause (row ∷ rows) none =
+      (closed row rows none, closed_rows cause rows (λ accepted. nothing row rows (none accepted)))
     where
-      nothing : (row : Row) (rows : List Row) → is_some (front (row ∷ rows)) ≡ false →
-          (is_in_line row ≡ false) × (is_some (front rows) ≡ false)
+      closed : (row : Row) (rows : List Row) → (Accepted → is_some (front (row ∷ rows)) ≡ false) →
+          Turns Accepted row (closed_row cause row)
+      closed row rows none = grind arith
+
+      nothing : (row : Row) (rows : List Row) → is_some (front (row ∷ rows)) ≡ false → is_some (front rows) ≡ false
       nothing row rows none = grind arith
 
   -- a command that is no write turns each row
@@ -136,7 +128,7 @@ module _ (Accepted : Type 0) where
       (Accepted → refusal_of estimate rows command ≡ None) → is_write command ≡ false →
       AllTurn rows (effect estimate rows command)
   effect_turns estimate rows (Write message) fits other = absurd (cc)
-  effect_turns estimate rows Flush fits other = map_rows flushed_row reached rows
+  effect_turns estimate rows Flush fits other = map_rows flushed_row (λ row. grind arith) rows
   effect_turns estimate rows Remove fits other = front_row (taken_row Success) (taken Success) rows
   effect_turns estimate rows (RemoveWith cause) fits other =
       front_row (taken_row (Failed cause)) (taken (Failed cause)) rows
@@ -147,15 +139,9 @@ module _ (Accepted : Type 0) where
       (skipped_rows left sent (ltb 0 left))
   effect_turns estimate rows (Progress n) fits other = front_row (progressed_row n) (λ row is. told row _ _) rows
   effect_turns estimate rows (Cancel id) fits other = cancelled_row id.0 rows
-  effect_turns estimate rows (FailFlushed cause notify) fits other = map_rows (failed_row cause) (failing cause) rows
-    where
-      failing : (cause : Cause) (row : Row) → Turns Accepted row (failed_row cause row)
-      failing cause row = grind arith
+  effect_turns estimate rows (FailFlushed cause notify) fits other = map_rows (failed_row cause) (λ row. grind arith) rows
   effect_turns estimate rows (Close cause) fits other =
-      closed_rows cause rows (λ accepted. nothing_left (fits accepted))
-    where
-      nothing_left : refusal_of estimate rows (Close cause) ≡ None → is_some (front rows) ≡ false
-      nothing_left accepted = grind arith
+      closed_rows cause rows (λ accepted. grind (arith, fits accepted))
   effect_turns estimate rows (UserBit index writable) fits other = same_rows rows
 
   -- what each turn makes of a row, it makes of all
@@ -166,6 +152,16 @@ module _ (Accepted : Type 0) where
   each_turns P Q turn (was ∷ before) [] each all = tt
   each_turns P Q turn (was ∷ before) (row ∷ after) each all =
       (turn was row each.0 all.0, each_turns P Q turn before after each.1 all.1)
+
+  -- and rows count together no more
+  pub total_turns : (before after : List Row) → AllTurn before after → total after ≤ total before
+  total_turns [] [] each = omega arith
+  total_turns [] (row ∷ after) each = absurd each
+  total_turns (was ∷ before) [] each = absurd each
+  total_turns (was ∷ before) (row ∷ after) each =
+      let one = each.0.counts in
+      let rest = total_turns before after each.1 in
+      omega (arith, sum_by-cons counted_size was before, sum_by-cons counted_size row after)
 
 -- what is settled stays so
 stay_settled : (before after : List Row) → AllTurn ⊥ before after → AllByRecursion IsKnown before →
@@ -193,15 +189,6 @@ known_of rows l =
     (each_as IsStanding IsKnown (λ row stands. inr (inl stands)) l.standing l.all_standing)
     (each_as IsFresh IsKnown (λ row fresh. inr (inr fresh)) l.fresh l.all_fresh)))
 
--- after each history one more command keeps settled what is
-pub effect_stays : (estimate : Estimate) (earlier : List Command) (command : Command) →
-    StaySettled (rows_after estimate earlier) (effect estimate (rows_after estimate earlier) command)
-effect_stays estimate earlier (Write message) = stay_written (rows_after estimate earlier) (new_row estimate message)
-effect_stays estimate earlier command =
-    let rows = rows_after estimate earlier in
-    stay_settled rows (effect estimate rows command) (effect_turns ⊥ estimate rows command (λ never. absurd never) refl)
-    (known_of rows (layout_of estimate earlier))
-
 -- each of rows turns so, whether the command is accepted or not
 abbrev pub Shrink : List Row → List Row → Type 0
 Shrink before after = AllTurn ⊥ before after
@@ -211,15 +198,14 @@ pub effect_shrinks : (estimate : Estimate) (rows : List Row) (command : Command)
     Shrink rows (effect estimate rows command)
 effect_shrinks estimate rows command other = effect_turns ⊥ estimate rows command (λ never. absurd never) other
 
--- and rows count together no more
-pub total_shrinks : (before after : List Row) → Shrink before after → total after ≤ total before
-total_shrinks [] [] shrink = omega arith
-total_shrinks [] (row ∷ after) shrink = absurd shrink
-total_shrinks (was ∷ before) [] shrink = absurd shrink
-total_shrinks (was ∷ before) (row ∷ after) shrink =
-    let one = shrink.0.counts in
-    let rest = total_shrinks before after shrink.1 in
-    omega (arith, sum_by-cons counted_size was before, sum_by-cons counted_size row after, one, rest)
+-- after each history one more command keeps settled what is
+pub effect_stays : (estimate : Estimate) (earlier : List Command) (command : Command) →
+    StaySettled (rows_after estimate earlier) (effect estimate (rows_after estimate earlier) command)
+effect_stays estimate earlier (Write message) = stay_written (rows_after estimate earlier) (new_row estimate message)
+effect_stays estimate earlier command =
+    let rows = rows_after estimate earlier in
+    stay_settled rows (effect estimate rows command) (effect_shrinks estimate rows command refl)
+    (known_of rows (layout_of estimate earlier))
 
 -- one more command brings a row where it is a write
 length_of_effect : (estimate : Estimate) (rows : List Row) (command : Command) →

@@ -15,7 +15,7 @@ use Rattle.ob_types.specs.Limits.{greatest_total, most_writes}
 use Rattle.ob_seq.specs.Fitting.{FitsItsPlace}
 use Rattle.ob_seq.proofs.Accepting.{kept_along_accepted, none_or_some, not_refused, open_and_fit}
 use Rattle.ob_seq.proofs.EachRow.{Ends, IsKnown, Turns, each_as, each_turns, effect_turns, row_for_each_write}
-use Rattle.ob_seq.proofs.EachRow.{total_shrinks}
+use Rattle.ob_seq.proofs.EachRow.{total_turns}
 use Rattle.ob_seq.proofs.History.{closed_more, rows_after_more}
 use Rattle.ob_seq.proofs.Order.{IsGone, all_now_gone, each_append}
 
@@ -66,20 +66,16 @@ module _ (settings : Settings) where
             (record { size = refl; known = grind arith; ends = λ gone. absurd (cc) }, tt);
       }
   one_within rows command accepted within =
-      let turns = λ (A : Type 0) (always : A → refusal_of estimate rows command ≡ None).
-          effect_turns A estimate rows command always refl in record {
-        sum = omega (arith, total_shrinks rows (effect estimate rows command) (turns ⊥ (λ never. absurd never)), within.sum);
-        count = omega (arith, length_all_zip _ rows (effect estimate rows command) (turns ⊥ (λ never. absurd never)), within.count);
-        right = each_turns (Unit {0}) IsRight IsRight right_stays rows (effect estimate rows command) (turns (Unit {0}) (λ always. accepted))
-            within.right;
+      let after = effect estimate rows command in
+      let each = effect_turns (Unit {0}) estimate rows command (λ always. accepted) refl in record {
+        sum = omega (arith, total_turns (Unit {0}) rows after each, within.sum);
+        count = omega (arith, length_all_zip _ rows after each, within.count);
+        right = each_turns (Unit {0}) IsRight IsRight (λ was row turns right. right_stays was row turns right) rows after
+            each within.right;
       }
     where
       right_stays : (was row : Row) → Turns (Unit {0}) was row → IsRight was → IsRight row
-      right_stays was row turns right = record {
-        size = rw (turns.size, turns.message) right.size;
-        known = turns.known right.known;
-        ends = turns.ends tt right.known right.ends;
-      }
+      right_stays was row turns right = grind (arith, turns.ends tt)
 
   -- after a history the rows are within the limits, and gone where it is closed
   record IsWithin (commands : List Command) : Type 0 where
@@ -102,17 +98,10 @@ module _ (settings : Settings) where
       kept_along_accepted settings IsWithin one_more_within [] commands all
       (record { rows = record { sum = omega arith; count = omega arith; right = tt }; gone = λ closed. tt })
 
-  -- no more bytes are left of a message than it counts
-  left_le : (skipped : ℕ) (message : Message) →
-      length (block_bytes (without_skipped skipped message)) ≤ counted_bytes estimate message
-  left_le skipped (Block bytes) = omega (arith, length-drop skipped bytes)
-  left_le skipped (Region units) = omega arith
-  left_le skipped (Other value) = omega arith
-
   -- no more bytes of a row in line are unread than it counts
   unread_le : (row : Row) → is_in_line row ≡ true → row.size ≡ counted_bytes estimate row.message →
       length (block_bytes (unread_part row)) ≤ counted_size row
-  unread_le row here counted = grind (arith, left_le row.skipped row.message)
+  unread_le row here counted = grind (arith, length-drop {A = ℕ})
 
   -- the bytes of blocks in front, by the first message
   first_bytes : (message : Message) (messages : List Message) →
