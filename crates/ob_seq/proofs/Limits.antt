@@ -9,7 +9,7 @@ use Rattle.ob_seq.proofs.Words.{rows_after, is_in_line, line, bytes_in, Row, new
 use Rattle.ob_seq.proofs.Words.{counted_size, total, writes_in, Outcome, Settled, closed_row, is_close, is_closed, is_write}
 use Rattle.ob_seq.proofs.Words.{promise_at, outcome_of}
 use Rattle.std.specs.List.{All}
-use Rattle.std.proofs.Common.{length-drop}
+use Rattle.std.proofs.Common.{length-drop, take_while}
 use Rattle.std.proofs.lemmas.List.Elements.{All-from_recursion, length_all_zip}
 use Rattle.ob_types.specs.Limits.{greatest_total, most_writes}
 use Rattle.ob_seq.specs.Fitting.{FitsItsPlace}
@@ -19,16 +19,12 @@ use Rattle.ob_seq.proofs.EachRow.{total_turns}
 use Rattle.ob_seq.proofs.History.{closed_more, rows_after_more}
 use Rattle.ob_seq.proofs.Order.{IsGone, all_now_gone, each_append}
 
--- a write and a removal of bytes that their tests do not refuse
+-- a write that its tests do not refuse has room
 room_for : (oversize : Bool) (sum size count : ℕ) →
     (let much = ltb greatest_total (sum + size) || leb most_writes count in
     let refusal : Option Refusal = cond oversize (Some Oversize) (cond much (Some TooMuch) None) in
     refusal ≡ None) → (sum + size ≤ greatest_total) × (count < most_writes)
 room_for oversize sum size count accepted = grind (arith, nat_tests)
-
-not_too_many : (bytes n : ℕ) →
-    (let refusal : Option Refusal = cond (ltb bytes n) (Some TooManyBytes) None in refusal ≡ None) → n ≤ bytes
-not_too_many bytes n accepted = grind (arith, nat_tests)
 
 -- after a close each row is gone
 close_leaves_none : (estimate : Estimate) (rows : List Row) (command : Command) → is_close command ≡ true →
@@ -70,12 +66,9 @@ module _ (settings : Settings) where
       let each = effect_turns (Unit {0}) estimate rows command (λ always. accepted) refl in record {
         sum = omega (arith, total_turns (Unit {0}) rows after each, within.sum);
         count = omega (arith, length_all_zip _ rows after each, within.count);
-        right = each_turns (Unit {0}) IsRight IsRight (λ was row turns right. right_stays was row turns right) rows after
+        right = each_turns (Unit {0}) IsRight IsRight (λ was row turns right. grind (arith, turns.ends tt)) rows after
             each within.right;
       }
-    where
-      right_stays : (was row : Row) → Turns (Unit {0}) was row → IsRight was → IsRight row
-      right_stays was row turns right = grind (arith, turns.ends tt)
 
   -- after a history the rows are within the limits, and gone where it is closed
   record IsWithin (commands : List Command) : Type 0 where
@@ -103,27 +96,22 @@ module _ (settings : Settings) where
       length (block_bytes (unread_part row)) ≤ counted_size row
   unread_le row here counted = grind (arith, length-drop {A = ℕ})
 
-  -- the bytes of blocks in front, by the first message
-  first_bytes : (message : Message) (messages : List Message) →
-      bytes_in (blocks_in_front (message ∷ messages))
-      ≤ length (block_bytes message) + bytes_in (blocks_in_front messages)
-  first_bytes message messages =
-      let first = sum_by-cons (λ (piece : List ℕ). length piece) (block_bytes message) (blocks_in_front messages) in
-      rw (take_while-cons is_block message messages) (grind arith)
-
   -- no more bytes stand in the byte run than the rows count
   run_le : (rows : List Row) → AllByRecursion IsRight rows → bytes_in (byte_run rows) ≤ total rows
   run_le [] right = omega arith
   run_le (row ∷ rows) right =
       step (run_le rows right.1) (λ here. unread_le row here right.0.size)
-      (first_bytes (unread_part row) (map unread_part (line rows))) (sum_by-cons counted_size row rows)
+      (take_while-cons is_block (unread_part row) (map unread_part (line rows)))
     where
       step : bytes_in (byte_run rows) ≤ total rows →
           (is_in_line row ≡ true → length (block_bytes (unread_part row)) ≤ counted_size row) →
-          bytes_in (blocks_in_front (unread_part row ∷ map unread_part (line rows)))
-          ≤ length (block_bytes (unread_part row)) + bytes_in (byte_run rows) →
-          total (row ∷ rows) ≡ counted_size row + total rows → bytes_in (byte_run (row ∷ rows)) ≤ total (row ∷ rows)
-      step rest one first sum = grind arith
+          take_while is_block (unread_part row ∷ map unread_part (line rows))
+          ≡ cond (is_block (unread_part row)) (unread_part row ∷ take_while is_block (map unread_part (line rows))) [] →
+          bytes_in (byte_run (row ∷ rows)) ≤ total (row ∷ rows)
+      step rest one first =
+          let bytes = sum_by-cons (λ (piece : List ℕ). length piece) (block_bytes (unread_part row)) (byte_run rows) in
+          let sizes = sum_by-cons counted_size row rows in
+          grind arith
 
   -- the promise of a row fits its place, and is settled where that is gone
   fits : (row : Row) → IsRight row → FitsItsPlace row
@@ -159,6 +147,10 @@ module _ (settings : Settings) where
         (not_refused settings commands (RemoveBytes n) accepted) in
         let few = not_too_many (bytes_in (byte_run rows)) n fits.1 in
         omega (arith, few, run_le rows within.rows.right, total_within)
+      where
+        not_too_many : (bytes n : ℕ) →
+            (let refusal : Option Refusal = cond (ltb bytes n) (Some TooManyBytes) None in refusal ≡ None) → n ≤ bytes
+        not_too_many bytes n accepted = grind (arith, nat_tests)
 
     -- each promise fits its place
     pub rows_fit : All FitsItsPlace (rows_after estimate commands)

@@ -24,18 +24,15 @@ promises_by : (row : Row) (before behind : List PromiseState) →
     ≡ before ++ (reached_row row).promise ∷ behind
 promises_by row before behind = rw set-append_seam (grind arith)
 
--- the word after a fall where the row was voided, and else as it was
-word_by : (back : Bool) (marks : Marks) (word size after all sum : ℕ) →
-    (back ≡ true → (after ≡ 0) × (sum ≡ all - size)) → (back ≡ false → after ≡ size) →
-    cond back (word_after_fall marks word size (all - size)) word ≡ word_step true marks word size after sum
-word_by back marks word size after all sum voids stays = grind (arith, nat_tests)
-
 nothing_counted : (row : Row) → is_cancelled row.promise ≡ true → counted_size (reached_row row) ≡ 0
 nothing_counted row back = grind arith
 
-same_counted : (row : Row) → IsFresh row → is_cancelled row.promise ≡ false →
-    counted_size (reached_row row) ≡ counted_size row
-same_counted row fresh still = grind arith
+-- the word after a fall where the row was voided, and else as it was
+word_by : (row : Row) → IsFresh row → (marks : Marks) (word all sum : ℕ) →
+    (is_cancelled row.promise ≡ true → sum ≡ all - row.size) →
+    cond (is_cancelled row.promise) (word_after_fall marks word row.size (all - row.size)) word
+    ≡ word_step true marks word (counted_size row) (counted_size (reached_row row)) sum
+word_by row fresh marks word all sum voids = grind (arith, nat_tests)
 
 module _ (buffer : Pending) (gone standing : List Row) (row : Row) (fresh : List Row)
     (held : Held buffer gone standing (row ∷ fresh)) where
@@ -86,9 +83,8 @@ module _ (buffer : Pending) (gone standing : List Row) (row : Row) (fresh : List
       pending_total_is buffer gone standing (row ∷ fresh) held
       ∙ ap total (sym (append_assoc gone standing (row ∷ fresh))) in
       rw (back_is, pending, ap first_size held.unflushed)
-      (word_by (is_cancelled row.promise) buffer.marks buffer.word size after all sum
-      (λ back. let none = nothing_counted row back in
-      (none, total_without (gone ++ standing) row (reached_row row) fresh none)) (same_counted row held.all_fresh.0)
+      (word_by row held.all_fresh.0 buffer.marks buffer.word all sum (λ back.
+      total_without (gone ++ standing) row (reached_row row) fresh (nothing_counted row back))
       ∙ rw was (sym (word_from_more true buffer.marks half moments size after sum)))
 
 -- a flush of all fresh rows, one after another
