@@ -1,6 +1,6 @@
 -- The accepted commands among those that are given.
-use Rattle.ob_seq.proofs.Words.{◌≡◌, Bool, true, false, ◌&&◌, List, [], ◌∷◌, ◌++◌, refl, sym, ap, ◌∙◌, cond, ◌⊎◌, inl}
-use Rattle.ob_seq.proofs.Words.{inr, append_assoc, append-nil, subst, arith, Option, Some, None, is_ok, fold, Command}
+use Rattle.ob_seq.proofs.Words.{◌≡◌, Bool, true, false, ◌&&◌, List, [], ◌∷◌, ◌++◌, refl, sym, cond, ◌⊎◌, inl, inr}
+use Rattle.ob_seq.proofs.Words.{append_assoc, append-nil, subst, arith, Option, Some, None, is_ok, fold, Command}
 use Rattle.ob_seq.proofs.Words.{Estimate, Refusal, Closed, Reply, Settings, is_accepted, are_accepted, commands_after}
 use Rattle.ob_seq.proofs.Words.{first_refusal, refusal_of, reply_of, unless_refused, is_closed, rows_after}
 use Rattle.ob_seq.proofs.Words.{accepted_among, settled_along}

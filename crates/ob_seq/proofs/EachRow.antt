@@ -1,14 +1,12 @@
 -- What one more command does to each row, as one relation between the row before it and after.
-use Rattle.ob_seq.proofs.Words.{◌≡◌, ◌≤◌, ◌+◌, ℕ, zero, suc, Bool, true, false, List, [], ◌∷◌, ◌++◌, length, map, refl, sym}
-use Rattle.ob_seq.proofs.Words.{arith, cond, ltb, ◌⊎◌, inl, inr, get_or, None, is_some, Option, Some, fold, is_write}
-use Rattle.ob_seq.proofs.Words.{Command, Write, Flush, Remove, RemoveWith, RemoveBytes, Progress, Cancel, FailFlushed}
-use Rattle.ob_seq.proofs.Words.{Close, UserBit, Estimate, Cause, Outcome, Success, Failed, Cancelled, refusal_of}
-use Rattle.ob_seq.proofs.Words.{outcome_of, promise_at, bytes_left_over, whole_rows, cancelled, closed_row, effect}
-use Rattle.ob_seq.proofs.Words.{failed_row, flushed_row, progressed_row, reached_row, skipped_row, taken_row}
-use Rattle.ob_seq.proofs.Words.{with_cancelled, with_first, with_front, with_skipped, front, counted_size, total}
-use Rattle.ob_seq.proofs.Words.{is_in_line, Row, is_unflushed, Place, Unflushed, Flushed, Voided, Gone, new_row}
-use Rattle.ob_seq.proofs.Words.{AllByRecursion, PromiseState, Waiting, Fixed, Settled, rows_after, writes_in}
-use Rattle.ob_seq.proofs.Words.{length-append, sum_by-cons}
+use Rattle.ob_seq.proofs.Words.{◌≡◌, ◌≤◌, ◌+◌, ℕ, zero, suc, Bool, true, false, List, [], ◌∷◌, ◌++◌, length, map, refl}
+use Rattle.ob_seq.proofs.Words.{arith, cond, ltb, ◌⊎◌, inl, inr, None, is_some, Option, Some, fold, is_write, Command}
+use Rattle.ob_seq.proofs.Words.{Write, Flush, Remove, RemoveWith, RemoveBytes, Progress, Cancel, FailFlushed, Close}
+use Rattle.ob_seq.proofs.Words.{UserBit, Estimate, Cause, Outcome, Success, Failed, refusal_of, outcome_of, promise_at}
+use Rattle.ob_seq.proofs.Words.{bytes_left_over, whole_rows, closed_row, effect, failed_row, flushed_row}
+use Rattle.ob_seq.proofs.Words.{progressed_row, skipped_row, taken_row, with_cancelled, with_first, with_front}
+use Rattle.ob_seq.proofs.Words.{with_skipped, front, counted_size, total, is_in_line, Row, Gone, new_row}
+use Rattle.ob_seq.proofs.Words.{AllByRecursion, PromiseState, rows_after, writes_in, length-append, sum_by-cons}
 use Rattle.std.specs.List.{AllZip}
 use Rattle.std.proofs.lemmas.List.Elements.{length_all_zip}
 use Rattle.ob_seq.proofs.Order.{IsFresh, IsGone, IsStanding, Layout, each_append, first_more, first_none, layout_of}

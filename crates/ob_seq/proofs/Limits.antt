@@ -1,21 +1,19 @@
 -- What accepted commands leave within the limits, and the promises with it.
 use Rattle.ob_seq.proofs.Words.{◌≡◌, ◌≤◌, ◌<◌, ℕ, zero, suc, ◌+◌, Bool, true, ◌||◌, List, [], ◌∷◌, ◌++◌, length, map}
-use Rattle.ob_seq.proofs.Words.{refl, sym, ap, ◌∙◌, cond, ltb, leb, subst, arith, length-append, Option, Some, None}
-use Rattle.ob_seq.proofs.Words.{AllByRecursion, nat_tests, sum_by-cons, sum_by_push, take_while-cons, is_block, inl, inr}
-use Rattle.ob_seq.proofs.Words.{counted_bytes, is_oversize, Command, Write, RemoveBytes, Close, Estimate, Message, Block}
-use Rattle.ob_seq.proofs.Words.{Region, Other, Refusal, Oversize, TooManyBytes, TooMuch, Settings, is_accepted}
-use Rattle.ob_seq.proofs.Words.{are_accepted, first_refusal, refusal_of, block_bytes, blocks_in_front, byte_run, effect}
-use Rattle.ob_seq.proofs.Words.{rows_after, is_in_line, line, bytes_in, Row, new_row, unread_part, without_skipped}
-use Rattle.ob_seq.proofs.Words.{counted_size, total, writes_in, Outcome, Settled, closed_row, is_close, is_closed, is_write}
-use Rattle.ob_seq.proofs.Words.{promise_at, outcome_of}
+use Rattle.ob_seq.proofs.Words.{refl, sym, ap, ◌∙◌, cond, ltb, leb, arith, length-append, Option, Some, None}
+use Rattle.ob_seq.proofs.Words.{AllByRecursion, nat_tests, sum_by-cons, sum_by_push, take_while-cons, is_block}
+use Rattle.ob_seq.proofs.Words.{counted_bytes, is_oversize, Command, Write, RemoveBytes, Close, Estimate, Refusal}
+use Rattle.ob_seq.proofs.Words.{Oversize, TooManyBytes, TooMuch, Settings, is_accepted, are_accepted, first_refusal}
+use Rattle.ob_seq.proofs.Words.{refusal_of, block_bytes, byte_run, effect, rows_after, is_in_line, line, bytes_in, Row}
+use Rattle.ob_seq.proofs.Words.{new_row, unread_part, counted_size, total, writes_in, Outcome, Settled, closed_row}
+use Rattle.ob_seq.proofs.Words.{is_close, is_closed, promise_at}
 use Rattle.std.specs.List.{All}
 use Rattle.std.proofs.Common.{length-drop, take_while}
 use Rattle.std.proofs.lemmas.List.Elements.{All-from_recursion, length_all_zip}
 use Rattle.ob_types.specs.Limits.{greatest_total, most_writes}
 use Rattle.ob_seq.specs.Fitting.{FitsItsPlace}
-use Rattle.ob_seq.proofs.Accepting.{kept_along_accepted, none_or_some, not_refused, open_and_fit}
-use Rattle.ob_seq.proofs.EachRow.{Ends, IsKnown, Turns, each_as, each_turns, effect_turns, row_for_each_write}
-use Rattle.ob_seq.proofs.EachRow.{total_turns}
+use Rattle.ob_seq.proofs.Accepting.{kept_along_accepted, not_refused, open_and_fit}
+use Rattle.ob_seq.proofs.EachRow.{Ends, IsKnown, each_as, each_turns, effect_turns, row_for_each_write, total_turns}
 use Rattle.ob_seq.proofs.History.{closed_more, rows_after_more}
 use Rattle.ob_seq.proofs.Order.{IsGone, all_now_gone, each_append}
 

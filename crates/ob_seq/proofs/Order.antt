@@ -1,14 +1,13 @@
 -- The order of the rows: those that are gone, then those in line, then those that no flush has reached.
 use Rattle.ob_seq.proofs.Words.{◌≡◌, ◌+◌, ◌-◌, ◌&&◌, ℕ, zero, suc, Bool, true, false, List, [], ◌∷◌, ◌++◌, map, length}
-use Rattle.ob_seq.proofs.Words.{refl, sym, ap, cond, ltb, arith, nat_tests, ◌⊎◌, inl, inr, fold, AllByRecursion}
-use Rattle.ob_seq.proofs.Words.{map-append, append_assoc, append-nil, length-append, filter-append, Estimate, Cause}
-use Rattle.ob_seq.proofs.Words.{Command, Write, Flush, Remove, RemoveWith, RemoveBytes, Progress, Cancel, FailFlushed}
-use Rattle.ob_seq.proofs.Words.{Close, UserBit, Outcome, Success, Failed, Cancelled, Waiting, Fixed, Settled}
-use Rattle.ob_seq.proofs.Words.{cancelled, effect}
+use Rattle.ob_seq.proofs.Words.{refl, cond, ltb, arith, nat_tests, ◌⊎◌, inl, inr, fold, AllByRecursion, map-append}
+use Rattle.ob_seq.proofs.Words.{append_assoc, append-nil, length-append, filter-append, Estimate, Cause, Command, Write}
+use Rattle.ob_seq.proofs.Words.{Flush, Remove, RemoveWith, RemoveBytes, Progress, Cancel, FailFlushed, Close, UserBit}
+use Rattle.ob_seq.proofs.Words.{Outcome, Success, Failed, Cancelled, Waiting, Fixed, Settled, cancelled, effect}
 use Rattle.ob_seq.proofs.Words.{closed_row, failed_row, flushed_row, progressed_row, reached_row, rows_after}
 use Rattle.ob_seq.proofs.Words.{skipped_row, taken_row, with_cancelled, with_first, with_first_behind, with_front}
-use Rattle.ob_seq.proofs.Words.{with_skipped, whole_rows, bytes_left_over, is_in_line, line, Row, new_row, Unflushed}
-use Rattle.ob_seq.proofs.Words.{Flushed, Voided, Gone}
+use Rattle.ob_seq.proofs.Words.{whole_rows, bytes_left_over, is_in_line, line, Row, new_row, Unflushed, Flushed, Voided}
+use Rattle.ob_seq.proofs.Words.{Gone}
 
 -- the row is no longer in the buffer
 pub record IsGone (row : Row) : Type 0 where

@@ -1,10 +1,9 @@
 -- A promise is settled once at most, keeps its outcome, and is told with it.
-use Rattle.ob_seq.proofs.Words.{◌≡◌, ℕ, zero, suc, ◌+◌, ◌<◌, ◌≤◌, Bool, true, false, List, [], ◌∷◌, ◌++◌, drop}
-use Rattle.ob_seq.proofs.Words.{refl, sym, ap, get_or, append-nil, length, cond, eqb, filter, filter-append, arith, nat_tests, inl, inr}
-use Rattle.ob_seq.proofs.Words.{◌↔◌, Option, Some, None, fold, Command, Outcome, PromiseId, PromiseState, Settled}
-use Rattle.ob_seq.proofs.Words.{accepted_among, answer_to, are_accepted, commands_after, first_refusal, outcome_of}
-use Rattle.ob_seq.proofs.Words.{settlement, settlements_from, effect, rows_after, promise_after, Row, Settings}
-use Rattle.ob_seq.proofs.Words.{settled_along, settled_by}
+use Rattle.ob_seq.proofs.Words.{◌≡◌, ℕ, zero, suc, ◌+◌, ◌<◌, ◌≤◌, Bool, true, false, List, [], ◌∷◌, ◌++◌, drop, refl}
+use Rattle.ob_seq.proofs.Words.{sym, ap, get_or, append-nil, length, cond, eqb, filter, filter-append, arith, nat_tests}
+use Rattle.ob_seq.proofs.Words.{inl, inr, ◌↔◌, Option, Some, None, fold, Command, Outcome, PromiseId, PromiseState}
+use Rattle.ob_seq.proofs.Words.{Settled, accepted_among, are_accepted, commands_after, first_refusal, outcome_of}
+use Rattle.ob_seq.proofs.Words.{settlement, settlements_from, rows_after, promise_after, Row, Settings, settled_along}
 use Rattle.std.specs.List.{Contains}
 use Rattle.std.proofs.lemmas.List.Elements.{All-contains_itself, All-filter, All-head}
 use Rattle.std.proofs.lemmas.List.Sums.{length-filter}

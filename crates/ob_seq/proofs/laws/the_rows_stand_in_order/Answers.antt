@@ -1,5 +1,5 @@
-use Rattle.ob_seq.proofs.Words.{◌≡◌, false, List, [], ◌∷◌, ◌++◌, refl, sym, subst, arith, AllByRecursion, Estimate, Command}
-use Rattle.ob_seq.proofs.Words.{Row, rows_after, gone, is_gone}
+use Rattle.ob_seq.proofs.Words.{◌≡◌, false, List, [], ◌∷◌, ◌++◌, refl, sym, subst, arith, AllByRecursion, Row, gone}
+use Rattle.ob_seq.proofs.Words.{is_gone}
 use Rattle.ob_seq.specs.Order.{StandInOrder}
 use Rattle.ob_seq.proofs.Order.{IsFresh, IsGone, IsStanding, layout_of}
 use Rattle.ob_seq.proofs.Parts.{line_of_parts, unflushed_of_parts}
