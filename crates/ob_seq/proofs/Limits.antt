@@ -1,5 +1,5 @@
 -- What accepted commands leave within the limits, and the promises with it.
-use Rattle.ob_seq.proofs.Words.{◌≡◌, ◌≤◌, ◌<◌, ℕ, zero, suc, ◌+◌, Bool, true, ◌||◌, List, [], ◌∷◌, ◌++◌, length, map}
+use Rattle.ob_seq.proofs.Words.{◌≡◌, ◌≤◌, ◌<◌, ℕ, zero, suc, ◌+◌, Bool, true, false, ◌||◌, List, [], ◌∷◌, ◌++◌, length, map}
 use Rattle.ob_seq.proofs.Words.{refl, sym, ap, ◌∙◌, cond, ltb, leb, arith, length-append, Option, Some, None}
 use Rattle.ob_seq.proofs.Words.{AllByRecursion, nat_tests, sum_by-cons, sum_by_push, take_while-cons, is_block}
 use Rattle.ob_seq.proofs.Words.{counted_bytes, is_oversize, Command, Write, RemoveBytes, Close, Estimate, Refusal}
@@ -41,23 +41,24 @@ module _ (settings : Settings) where
     known : IsKnown row
     ends : Ends row
 
-  -- rows within the limits, each of them right
-  record AreWithin (rows : List Row) : Type 0 where
+  -- rows within the limits, each of them right, and gone where the buffer is closed
+  record AreWithin (closed : Bool) (rows : List Row) : Type 0 where
     sum : total rows ≤ greatest_total
     count : length rows ≤ most_writes
     right : AllByRecursion IsRight rows
+    gone : closed ≡ true → AllByRecursion IsGone rows
 
   -- an accepted command leaves rows within the limits
   one_within : (rows : List Row) (command : Command) → refusal_of estimate rows command ≡ None →
-      AreWithin rows → AreWithin (effect estimate rows command)
+      AreWithin false rows → AreWithin (is_close command) (effect estimate rows command)
   one_within rows (Write message) accepted within =
-      let size = counted_bytes estimate message in
       let new = new_row estimate message in
-      let room = room_for (is_oversize estimate message) (total rows) size (length rows) accepted in record {
+      let room = room_for (is_oversize estimate message) (total rows) new.size (length rows) accepted in record {
         sum = omega (arith, sum_by_push counted_size rows new, room.0);
         count = omega (arith, length-append rows (new ∷ []), room.1);
         right = each_append IsRight rows (new ∷ []) within.right
             (record { size = refl; known = grind arith; ends = λ gone. absurd (cc) }, tt);
+        gone = λ closed. absurd (cc);
       }
   one_within rows command accepted within =
       let after = effect estimate rows command in
@@ -66,28 +67,24 @@ module _ (settings : Settings) where
         count = omega (arith, length_all_zip _ rows after each, within.count);
         right = each_turns (Unit {0}) IsRight IsRight (λ was row turns right. grind (arith, turns.ends tt)) rows after
             each within.right;
+        gone = close_leaves_none estimate rows command;
       }
 
-  -- after a history the rows are within the limits, and gone where it is closed
-  record IsWithin (commands : List Command) : Type 0 where
-    rows : AreWithin (rows_after estimate commands)
-    gone : is_closed commands ≡ true → AllByRecursion IsGone (rows_after estimate commands)
+  -- so are the rows after a history
+  abbrev IsWithin : List Command → Type 0
+  IsWithin commands = AreWithin (is_closed commands) (rows_after estimate commands)
 
   one_more_within : (earlier : List Command) (command : Command) → first_refusal estimate earlier command ≡ None →
       IsWithin earlier → IsWithin (earlier ++ command ∷ [])
   one_more_within earlier command accepted within =
       let open_and = open_and_fit estimate earlier command accepted in
-      let rows = rows_after estimate earlier in record {
-        rows = rw (rows_after_more estimate earlier command) (one_within rows command open_and.1 within.rows);
-        gone = λ closed. rw (rows_after_more estimate earlier command)
-            (close_leaves_none estimate rows command (sym (closed_more earlier command open_and.0) ∙ closed));
-      }
+      rw (rows_after_more estimate earlier command, closed_more earlier command open_and.0)
+      (one_within (rows_after estimate earlier) command open_and.1 (rw open_and.0 at within))
 
-  -- so are they after all accepted commands
   within_after : (commands : List Command) → are_accepted settings [] commands ≡ true → IsWithin commands
   within_after commands all =
       kept_along_accepted settings IsWithin one_more_within [] commands all
-      (record { rows = record { sum = omega arith; count = omega arith; right = tt }; gone = λ closed. tt })
+      (record { sum = omega arith; count = omega arith; right = tt; gone = λ closed. tt })
 
   -- no more bytes of a row in line are unread than it counts
   unread_le : (row : Row) → is_in_line row ≡ true → row.size ≡ counted_bytes estimate row.message →
@@ -131,11 +128,11 @@ module _ (settings : Settings) where
 
     -- after accepted commands no more than 4294967295 bytes are pending
     pub total_within : total (rows_after estimate commands) ≤ greatest_total
-    total_within = within.rows.sum
+    total_within = within.sum
 
     -- at most 1048576 of them are writes
     pub writes_within : writes_in commands ≤ most_writes
-    writes_within = omega (arith, row_for_each_write estimate commands, within.rows.count)
+    writes_within = omega (arith, row_for_each_write estimate commands, within.count)
 
     -- and a removal of bytes that is accepted next is of no more than are pending
     pub removal_within : (n : ℕ) → is_accepted settings commands (RemoveBytes n) ≡ true → n ≤ greatest_total
@@ -144,7 +141,7 @@ module _ (settings : Settings) where
         let fits = open_and_fit estimate commands (RemoveBytes n)
         (not_refused settings commands (RemoveBytes n) accepted) in
         let few = not_too_many (bytes_in (byte_run rows)) n fits.1 in
-        omega (arith, few, run_le rows within.rows.right, total_within)
+        omega (arith, few, run_le rows within.right, total_within)
       where
         not_too_many : (bytes n : ℕ) →
             (let refusal : Option Refusal = cond (ltb bytes n) (Some TooManyBytes) None in refusal ≡ None) → n ≤ bytes
@@ -154,11 +151,11 @@ module _ (settings : Settings) where
     pub rows_fit : All FitsItsPlace (rows_after estimate commands)
     rows_fit =
         let rows = rows_after estimate commands in
-        All-from_recursion FitsItsPlace rows (each_as IsRight FitsItsPlace fits rows within.rows.right)
+        All-from_recursion FitsItsPlace rows (each_as IsRight FitsItsPlace fits rows within.right)
 
     -- once the buffer is closed each promise that it gave is settled
     pub closed_is_settled : (id : ℕ) → is_closed commands ≡ true → id < writes_in commands →
         (outcome : Outcome) × (promise_at (rows_after estimate commands) id ≡ Some (Settled outcome))
     closed_is_settled id closed given =
         settled_gone (rows_after estimate commands) id (omega (arith, given, row_for_each_write estimate commands))
-        within.rows.right (within.gone closed)
+        within.right (within.gone closed)
