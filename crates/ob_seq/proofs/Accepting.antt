@@ -44,10 +44,10 @@ pub kept_along_accepted : (settings : Settings) (Holds : List Command → Type 0
     Holds earlier → Holds (earlier ++ command ∷ [])) →
     (earlier commands : List Command) → are_accepted settings earlier commands ≡ true →
     Holds earlier → Holds (earlier ++ commands)
-kept_along_accepted settings Holds keeps earlier [] all holds = subst Holds (sym (append-nil earlier)) holds
+kept_along_accepted settings Holds keeps earlier [] all holds = rw append-nil holds
 kept_along_accepted settings Holds keeps earlier (command ∷ commands) all holds =
     let both = first_and_rest settings earlier command commands all in
-    subst Holds (append_assoc earlier (command ∷ []) commands)
+    rw append_assoc at
     (kept_along_accepted settings Holds keeps (earlier ++ command ∷ []) commands both.1
     (keeps earlier command both.0 holds))
 

@@ -137,7 +137,8 @@ module _ (Accepted : Type 0) where
       (skipped_rows left sent (ltb 0 left))
   effect_turns estimate rows (Progress n) fits other = front_row (progressed_row n) (λ row is. told row _ _) rows
   effect_turns estimate rows (Cancel id) fits other = cancelled_row id.0 rows
-  effect_turns estimate rows (FailFlushed cause notify) fits other = map_rows (failed_row cause) (λ row. grind arith) rows
+  effect_turns estimate rows (FailFlushed cause notify) fits other =
+      map_rows (failed_row cause) (λ row. grind arith) rows
   effect_turns estimate rows (Close cause) fits other =
       closed_rows cause rows (λ accepted. grind (arith, fits accepted))
   effect_turns estimate rows (UserBit index writable) fits other = same_rows rows

@@ -1,6 +1,6 @@
 -- What accepted commands leave within the limits, and the promises with it.
-use Rattle.ob_seq.proofs.Words.{◌≡◌, ◌≤◌, ◌<◌, ℕ, zero, suc, ◌+◌, Bool, true, false, ◌||◌, List, [], ◌∷◌, ◌++◌, length, map}
-use Rattle.ob_seq.proofs.Words.{refl, sym, ap, ◌∙◌, cond, ltb, leb, arith, length-append, Option, Some, None}
+use Rattle.ob_seq.proofs.Words.{◌≡◌, ◌≤◌, ◌<◌, ℕ, zero, suc, ◌+◌, Bool, true, false, ◌||◌, List, [], ◌∷◌, ◌++◌, length}
+use Rattle.ob_seq.proofs.Words.{map, refl, sym, ap, ◌∙◌, cond, ltb, leb, arith, length-append, Option, Some, None}
 use Rattle.ob_seq.proofs.Words.{AllByRecursion, nat_tests, sum_by-cons, sum_by_push, take_while-cons, is_block}
 use Rattle.ob_seq.proofs.Words.{counted_bytes, is_oversize, Command, Write, RemoveBytes, Close, Estimate, Refusal}
 use Rattle.ob_seq.proofs.Words.{Oversize, TooManyBytes, TooMuch, Settings, is_accepted, are_accepted, first_refusal}
@@ -16,13 +16,6 @@ use Rattle.ob_seq.proofs.Accepting.{kept_along_accepted, not_refused, open_and_f
 use Rattle.ob_seq.proofs.EachRow.{Ends, IsKnown, each_as, each_turns, effect_turns, row_for_each_write, total_turns}
 use Rattle.ob_seq.proofs.History.{closed_more, rows_after_more}
 use Rattle.ob_seq.proofs.Order.{IsGone, all_now_gone, each_append}
-
--- a write that its tests do not refuse has room
-room_for : (oversize : Bool) (sum size count : ℕ) →
-    (let much = ltb greatest_total (sum + size) || leb most_writes count in
-    let refusal : Option Refusal = cond oversize (Some Oversize) (cond much (Some TooMuch) None) in
-    refusal ≡ None) → (sum + size ≤ greatest_total) × (count < most_writes)
-room_for oversize sum size count accepted = grind (arith, nat_tests)
 
 -- after a close each row is gone
 close_leaves_none : (estimate : Estimate) (rows : List Row) (command : Command) → is_close command ≡ true →
@@ -52,10 +45,9 @@ module _ (settings : Settings) where
   one_within : (rows : List Row) (command : Command) → refusal_of estimate rows command ≡ None →
       AreWithin false rows → AreWithin (is_close command) (effect estimate rows command)
   one_within rows (Write message) accepted within =
-      let new = new_row estimate message in
-      let room = room_for (is_oversize estimate message) (total rows) new.size (length rows) accepted in record {
-        sum = omega (arith, sum_by_push counted_size rows new, room.0);
-        count = omega (arith, length-append rows (new ∷ []), room.1);
+      let new = new_row estimate message in record {
+        sum = grind (arith, nat_tests, sum_by_push counted_size rows new);
+        count = grind (arith, nat_tests, length-append rows (new ∷ []));
         right = each_append IsRight rows (new ∷ []) within.right
             (record { size = refl; known = grind arith; ends = λ gone. absurd (cc) }, tt);
         gone = λ closed. absurd (cc);

@@ -39,9 +39,12 @@ module _ (buffer : Pending) (gone standing : List Row) (row : Row) (fresh : List
   abbrev before : List PromiseState
   before = map promise_of (gone ++ standing)
 
+  split : (one : Row) →
+      map promise_of (gone ++ (standing ++ one ∷ fresh)) ≡ before ++ one.promise ∷ map promise_of fresh
+  split one = rw (← append_assoc gone standing (one ∷ fresh), map-append promise_of (gone ++ standing) (one ∷ fresh))
+
   promises_are : buffer.promises ≡ before ++ row.promise ∷ map promise_of fresh
-  promises_are = held.promises
-      ∙ rw (← append_assoc gone standing (row ∷ fresh), map-append promise_of (gone ++ standing) (row ∷ fresh)) refl
+  promises_are = held.promises ∙ split row
 
   id_is : unflushed_id buffer ≡ length before
   id_is = unflushed_id_is buffer gone standing (row ∷ fresh) held ∙ sym (length-map (gone ++ standing) promise_of)
@@ -57,12 +60,10 @@ module _ (buffer : Pending) (gone standing : List Row) (row : Row) (fresh : List
     line = rw (back_is, held.line, held.unflushed, map-append entry_of standing (reached_row row ∷ []))
         (ap (λ last. map entry_of standing ++ last ∷ []) (reached_entry_is row held.all_fresh.0));
     unflushed = ap (drop 1) held.unflushed;
-    promises = rw (back_is, id_is, promises_are, append_assoc standing (reached_row row ∷ []) fresh)
-        (promises_by row before (map promise_of fresh)
-        ∙ rw (
-          ← append_assoc gone standing (reached_row row ∷ fresh),
-          map-append promise_of (gone ++ standing) (reached_row row ∷ fresh),
-        ) refl);
+    promises =
+        let apart = split (reached_row row) in
+        rw (back_is, id_is, promises_are, append_assoc standing (reached_row row ∷ []) fresh, apart)
+        (promises_by row before (map promise_of fresh));
     all_gone = held.all_gone;
     all_standing = each_append IsStanding standing (reached_row row ∷ []) held.all_standing
         (reached_stands row held.all_fresh.0, tt);

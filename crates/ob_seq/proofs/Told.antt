@@ -79,7 +79,8 @@ kept test one passes (x ∷ xs) zero within is = rw (is, passes) (0, omega arith
 kept test one passes (x ∷ xs) (suc index) within is =
     onto (test x) (kept test one passes xs index (omega (arith, within)) is)
   where
-    onto : (first : Bool) → Contains (filter test xs) one → Contains (cond first (x ∷ filter test xs) (filter test xs)) one
+    onto : (first : Bool) → Contains (filter test xs) one →
+        Contains (cond first (x ∷ filter test xs) (filter test xs)) one
     onto true there = (suc there.0, omega (arith, there.1), there.2)
     onto false there = there
 
@@ -139,11 +140,12 @@ module _ (settings : Settings) where
         ↔ Contains (settled_along settings [] commands) (id, outcome)
     settled_is_told =
         let all = settled_along settings [] commands in
-        let told = (all_settle [] commands id.0).told in (
+        let told = (all_settle [] commands id.0).told in
+        let itself : is_of id.0 (id, outcome) ≡ true = grind (arith, nat_tests) in (
           λ is. All-head (Contains all) (id, outcome) []
               (rw (told, ap outcome_in is) at (All-filter (is_of id.0) (Contains all) all (All-contains_itself all))),
           λ there. settled_in _ outcome
-              (only _ (rw told at (kept (is_of id.0) (id, outcome) (grind (arith, nat_tests)) all there.0 there.1 there.2))),
+              (only _ (rw told at (kept (is_of id.0) (id, outcome) itself all there.0 there.1 there.2))),
         )
       where
         only : (now : Option Outcome) → Contains (settlement id.0 None now) (id, outcome) → now ≡ Some outcome
