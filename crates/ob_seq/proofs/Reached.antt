@@ -29,8 +29,8 @@ nothing_counted row back = grind arith
 
 -- the word after a fall where the row was voided, and else as it was
 word_by : (row : Row) → IsFresh row → (marks : Marks) (word all sum : ℕ) →
-    (is_cancelled row.promise ≡ true → sum ≡ all - row.size) →
-    cond (is_cancelled row.promise) (word_after_fall marks word row.size (all - row.size)) word
+    (is_cancelled row.promise ≡ true → sum ≡ all - counted_size row) →
+    cond (is_cancelled row.promise) (word_after_fall marks word (counted_size row) (all - counted_size row)) word
     ≡ word_step true marks word (counted_size row) (counted_size (reached_row row)) sum
 word_by row fresh marks word all sum voids = grind (arith, nat_tests)
 
@@ -102,10 +102,11 @@ all_reached (row ∷ fresh) buffer gone standing half moments held word =
     let sum = total ((gone ++ standing) ++ reached ∷ fresh) in
     let one = moment_of true (counted_size row) (counted_size reached) sum in
     let next = standing ++ reached ∷ [] in
-    let rest = all_reached fresh (next_flushed buffer) gone next half (moments ++ one)
-    (next_held buffer gone standing row fresh held) (next_word buffer gone standing row fresh held half moments word) in
-    let more = moments_along true (gone ++ next) fresh (map reached_row fresh) in
-    rw (← times_first next_flushed (length fresh) buffer) (
+    let rest = rw (times_first next_flushed (length fresh) buffer) at
+    (all_reached fresh (next_flushed buffer) gone next half (moments ++ one)
+    (next_held buffer gone standing row fresh held)
+    (next_word buffer gone standing row fresh held half moments word)) in
+    let more = moments_along true (gone ++ next) fresh (map reached_row fresh) in (
       rw append_assoc at rest.0,
       rest.1 ∙ rw (append_assoc moments one more, append_assoc gone standing (reached ∷ [])) refl,
       rest.2,

@@ -47,14 +47,13 @@ all_taken notice outcome (row ∷ first) buffer gone rest fresh half moments hel
     let taken = taken_row outcome row in
     let now = map (taken_row outcome) first in
     let one = moment_of notice (counted_size row) 0 (total (gone ++ taken ∷ ((first ++ rest) ++ fresh))) in
-    let next = front_taken notice outcome buffer in
     let next_held = taken_held notice outcome buffer gone row (first ++ rest) fresh held in
     let next_word = taken_word notice outcome buffer gone row (first ++ rest) fresh held half moments word in
-    let all = all_taken notice outcome first next (gone ++ taken ∷ []) rest fresh half (moments ++ one) next_held
-    next_word in
+    let all = rw (times_first (front_taken notice outcome) (length first) buffer) at
+    (all_taken notice outcome first (front_taken notice outcome buffer) (gone ++ taken ∷ []) rest fresh half
+    (moments ++ one) next_held next_word) in
     let behind = first ++ (rest ++ fresh) in
-    let more = moments_along notice (gone ++ taken ∷ []) behind (now ++ (rest ++ fresh)) in
-    rw (← times_first (front_taken notice outcome) (length first) buffer) (
+    let more = moments_along notice (gone ++ taken ∷ []) behind (now ++ (rest ++ fresh)) in (
       rw append_assoc at all.0,
       all.1 ∙ rw (append_assoc moments one more, append_assoc first rest fresh) refl,
       all.2,
