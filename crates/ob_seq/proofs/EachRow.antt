@@ -84,12 +84,7 @@ module _ (Accepted : Type 0) where
       (rows : List Row) → AllTurn rows (with_front change rows)
   front_row change turn [] = tt
   front_row change turn (row ∷ rows) =
-      step (with_front change rows) (turn row) (same row) (same_rows rows) (front_row change turn rows)
-    where
-      step : (others : List Row) → (is_in_line row ≡ true → Turns Accepted row (change row)) → Turns Accepted row row →
-          AllTurn rows rows → AllTurn rows others →
-          AllTurn (row ∷ rows) (cond (is_in_line row) (change row ∷ rows) (row ∷ others))
-      step others turn same stay rest = grind arith
+      grind (arith, turn row, same row, same_rows rows, front_row change turn rows)
 
   first_rows : (count : ℕ) (rows : List Row) → AllTurn rows (with_first count sent rows)
   first_rows zero rows = rw (first_none rows) (same_rows rows)
@@ -112,14 +107,7 @@ module _ (Accepted : Type 0) where
       AllTurn rows (map (closed_row cause) rows)
   closed_rows cause [] none = tt
   closed_rows cause (row ∷ rows) none =
-      (closed row rows none, closed_rows cause rows (λ accepted. nothing row rows (none accepted)))
-    where
-      closed : (row : Row) (rows : List Row) → (Accepted → is_some (front (row ∷ rows)) ≡ false) →
-          Turns Accepted row (closed_row cause row)
-      closed row rows none = grind arith
-
-      nothing : (row : Row) (rows : List Row) → is_some (front (row ∷ rows)) ≡ false → is_some (front rows) ≡ false
-      nothing row rows none = grind arith
+      (grind arith, closed_rows cause rows (λ accepted. grind (arith, none accepted)))
 
   -- a command that is no write turns each row
   pub effect_turns : (estimate : Estimate) (rows : List Row) (command : Command) →

@@ -87,18 +87,12 @@ module _ (settings : Settings) where
   run_le : (rows : List Row) → AllByRecursion IsRight rows → bytes_in (byte_run rows) ≤ total rows
   run_le [] right = omega arith
   run_le (row ∷ rows) right =
-      step (run_le rows right.1) (λ here. unread_le row here right.0.size)
-      (take_while-cons is_block (unread_part row) (map unread_part (line rows)))
-    where
-      step : bytes_in (byte_run rows) ≤ total rows →
-          (is_in_line row ≡ true → length (block_bytes (unread_part row)) ≤ counted_size row) →
-          take_while is_block (unread_part row ∷ map unread_part (line rows))
-          ≡ cond (is_block (unread_part row)) (unread_part row ∷ take_while is_block (map unread_part (line rows))) [] →
-          bytes_in (byte_run (row ∷ rows)) ≤ total (row ∷ rows)
-      step rest one first =
-          let bytes = sum_by-cons (λ (piece : List ℕ). length piece) (block_bytes (unread_part row)) (byte_run rows) in
-          let sizes = sum_by-cons counted_size row rows in
-          grind arith
+      let rest = run_le rows right.1 in
+      let one = λ (here : is_in_line row ≡ true). unread_le row here right.0.size in
+      let first = take_while-cons is_block (unread_part row) (map unread_part (line rows)) in
+      let bytes = sum_by-cons (λ (piece : List ℕ). length piece) (block_bytes (unread_part row)) (byte_run rows) in
+      let sizes = sum_by-cons counted_size row rows in
+      grind arith
 
   -- the promise of a row fits its place, and is settled where that is gone
   fits : (row : Row) → IsRight row → FitsItsPlace row
@@ -132,12 +126,8 @@ module _ (settings : Settings) where
         let rows = rows_after estimate commands in
         let fits = open_and_fit estimate commands (RemoveBytes n)
         (not_refused settings commands (RemoveBytes n) accepted) in
-        let few = not_too_many (bytes_in (byte_run rows)) n fits.1 in
-        omega (arith, few, run_le rows within.right, total_within)
-      where
-        not_too_many : (bytes n : ℕ) →
-            (let refusal : Option Refusal = cond (ltb bytes n) (Some TooManyBytes) None in refusal ≡ None) → n ≤ bytes
-        not_too_many bytes n accepted = grind (arith, nat_tests)
+        let few : n ≤ bytes_in (byte_run rows) = grind (arith, nat_tests, fits.1) in
+        omega (arith, run_le rows within.right, total_within)
 
     -- each promise fits its place
     pub rows_fit : All FitsItsPlace (rows_after estimate commands)

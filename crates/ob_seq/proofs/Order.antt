@@ -169,13 +169,9 @@ first_is count rows = first_behind count [] rows count (omega arith)
 pub first_none : (rows : List Row) → with_first 0 sent rows ≡ rows
 first_none rows = rw (first_is 0 rows) (send_none rows)
 
-send_front : (count : ℕ) (row : Row) (rows : List Row) → send (suc count) rows ≡ send count (with_front sent rows) →
-    send (suc count) (row ∷ rows) ≡ send count (with_front sent (row ∷ rows))
-send_front count row rows rest = grind (arith, send_none)
-
 send_more : (count : ℕ) (rows : List Row) → send (suc count) rows ≡ send count (with_front sent rows)
 send_more count [] = refl
-send_more count (row ∷ rows) = send_front count row rows (send_more count rows)
+send_more count (row ∷ rows) = grind (arith, send_none, send_more count rows)
 
 -- one more row sent is the front sent first
 pub first_more : (count : ℕ) (rows : List Row) →

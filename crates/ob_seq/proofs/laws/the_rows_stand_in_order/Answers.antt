@@ -5,16 +5,13 @@ use Rattle.ob_seq.proofs.Order.{IsFresh, IsGone, IsStanding, layout_of}
 use Rattle.ob_seq.proofs.Parts.{line_of_parts, unflushed_of_parts}
 use Rattle.ob_seq.proofs.laws.the_rows_stand_in_order.Goals as goal
 
-standing_not_gone : (row : Row) → IsStanding row → is_gone row.place ≡ false
-standing_not_gone row standing = grind arith
-
 -- the rows that are gone are the first part
 gone_of_parts : (away standing fresh : List Row) → AllByRecursion IsGone away → AllByRecursion IsStanding standing →
     AllByRecursion IsFresh fresh → gone (away ++ (standing ++ fresh)) ≡ away
 gone_of_parts [] [] [] a b c = refl
 gone_of_parts [] [] (row ∷ fresh) a b c = rw (c.0.place, gone_of_parts [] [] fresh tt tt c.1)
 gone_of_parts [] (row ∷ standing) fresh a b c =
-    rw (standing_not_gone row b.0, gone_of_parts [] standing fresh tt b.1 c)
+    let here : is_gone row.place ≡ false = grind (arith, b.0) in rw (here, gone_of_parts [] standing fresh tt b.1 c)
 gone_of_parts (row ∷ away) standing fresh a b c = rw (a.0.place, gone_of_parts away standing fresh a.1 b c)
 
 pub returns : goal.returns
