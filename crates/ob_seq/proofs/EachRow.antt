@@ -50,14 +50,8 @@ module _ (Accepted : Type 0) where
   same : (row : Row) → Turns Accepted row row
   same row = grind arith
 
-  both : (was between row : Row) → Turns Accepted was between → Turns Accepted between row → Turns Accepted was row
-  both was between row first second = grind arith
-
   taken : (outcome : Outcome) (row : Row) → is_in_line row ≡ true → Turns Accepted row (taken_row outcome row)
   taken outcome row here = grind arith
-
-  told : (row : Row) (skipped progress : ℕ) → Turns Accepted row (record row { skipped = skipped; progress = progress })
-  told row skipped progress = grind arith
 
   -- each row turns so
   abbrev AllTurn : List Row → List Row → Type 0
@@ -73,7 +67,7 @@ module _ (Accepted : Type 0) where
   both_rows (was ∷ before) [] after first second = absurd first
   both_rows (was ∷ before) (row ∷ between) [] first second = absurd second
   both_rows (was ∷ before) (row ∷ between) (now ∷ after) first second =
-      (both was row now first.0 second.0, both_rows before between after first.1 second.1)
+      (grind (arith, first.0, second.0), both_rows before between after first.1 second.1)
 
   map_rows : (change : Row → Row) → ((row : Row) → Turns Accepted row (change row)) → (rows : List Row) →
       AllTurn rows (map change rows)
@@ -99,7 +93,7 @@ module _ (Accepted : Type 0) where
 
   skipped_rows : (n : ℕ) (rows : List Row) (some : Bool) →
       AllTurn rows (cond some (with_front (skipped_row n) rows) rows)
-  skipped_rows n rows true = front_row (skipped_row n) (λ row is. told row _ _) rows
+  skipped_rows n rows true = front_row (skipped_row n) (λ row is. grind arith) rows
   skipped_rows n rows false = same_rows rows
 
   -- with no front nothing stands in line
@@ -123,7 +117,7 @@ module _ (Accepted : Type 0) where
       let left = bytes_left_over n rows in
       both_rows rows sent (with_skipped left sent) (first_rows (whole_rows n rows) rows)
       (skipped_rows left sent (ltb 0 left))
-  effect_turns estimate rows (Progress n) fits other = front_row (progressed_row n) (λ row is. told row _ _) rows
+  effect_turns estimate rows (Progress n) fits other = front_row (progressed_row n) (λ row is. grind arith) rows
   effect_turns estimate rows (Cancel id) fits other = cancelled_row id.0 rows
   effect_turns estimate rows (FailFlushed cause notify) fits other =
       map_rows (failed_row cause) (λ row. grind arith) rows

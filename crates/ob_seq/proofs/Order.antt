@@ -150,17 +150,12 @@ send_none : (rows : List Row) → send 0 rows ≡ rows
 send_none [] = refl
 send_none (row ∷ rows) = refl
 
-send_one : (count early left : ℕ) (row : Row) (rows : List Row) → left ≡ count - early →
-    cond (is_in_line row && ltb early count) (sent row) row
-    ∷ send (count - (early + cond (is_in_line row) 1 0)) rows ≡ send left (row ∷ rows)
-send_one count early left row rows is = grind (arith, nat_tests, send_none)
-
 first_behind : (count : ℕ) (before rows : List Row) (left : ℕ) → left ≡ count - length (line before) →
     with_first_behind count sent before rows ≡ send left rows
 first_behind count before [] left is = refl
 first_behind count before (row ∷ rows) left is =
     rw (first_behind count (before ++ row ∷ []) rows _ refl, line_count before row)
-    (send_one count (length (line before)) left row rows is)
+    (grind (arith, nat_tests, send_none))
 
 first_is : (count : ℕ) (rows : List Row) → with_first count sent rows ≡ send count rows
 first_is count rows = first_behind count [] rows count (omega arith)

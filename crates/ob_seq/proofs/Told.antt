@@ -145,11 +145,8 @@ module _ (settings : Settings) where
           λ is. All-head (Contains all) (id, outcome) []
               (rw (told, ap outcome_in is) at (All-filter (is_of id.0) (Contains all) all (All-contains_itself all))),
           λ there. settled_in _ outcome
-              (only _ (rw told at (kept (is_of id.0) (id, outcome) itself all there.0 there.1 there.2))),
+              (grind (arith, rw told at (kept (is_of id.0) (id, outcome) itself all there.0 there.1 there.2))),
         )
-      where
-        only : (now : Option Outcome) → Contains (settlement id.0 None now) (id, outcome) → now ≡ Some outcome
-        only now there = grind arith
 
     -- and so after accepted commands
     pub accepted_is_told : are_accepted settings [] commands ≡ true →
