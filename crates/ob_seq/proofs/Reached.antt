@@ -24,9 +24,6 @@ promises_by : (row : Row) (before behind : List PromiseState) →
     ≡ before ++ (reached_row row).promise ∷ behind
 promises_by row before behind = rw set-append_seam (grind arith)
 
-nothing_counted : (row : Row) → is_cancelled row.promise ≡ true → counted_size (reached_row row) ≡ 0
-nothing_counted row back = grind arith
-
 -- the word after a fall where the row was voided, and else as it was
 word_by : (row : Row) → IsFresh row → (marks : Marks) (word all sum : ℕ) →
     (is_cancelled row.promise ≡ true → sum ≡ all - counted_size row) →
@@ -85,7 +82,7 @@ module _ (buffer : Pending) (gone standing : List Row) (row : Row) (fresh : List
       ∙ ap total (sym (append_assoc gone standing (row ∷ fresh))) in
       rw (back_is, pending, ap first_size held.unflushed)
       (word_by row held.all_fresh.0 buffer.marks buffer.word all sum (λ back.
-      total_without (gone ++ standing) row (reached_row row) fresh (nothing_counted row back))
+      total_without (gone ++ standing) row (reached_row row) fresh (grind (arith, back)))
       ∙ rw was (sym (word_from_more true buffer.marks half moments size after sum)))
 
 -- a flush of all fresh rows, one after another

@@ -71,12 +71,6 @@ moments_of_sent (row ∷ first) passed before after none =
     let rest = rw (← append_assoc passed (sent row ∷ []) (map sent first)) at none in
     rw (moments_of_sent first (passed ++ sent row ∷ []) before after rest)
 
--- what one of them settles
-settled_by_one : (outcome : Outcome) (id : ℕ) (row : Row) → IsStanding row →
-    settlement id (outcome_of row.promise) (outcome_of (taken_row outcome row).promise)
-    ≡ entry_settlement outcome id (entry_of row)
-settled_by_one outcome id row standing = grind arith
-
 -- what they settle, where nothing behind them is settled
 pub settlements_of_taken : (outcome : Outcome) (id : ℕ) (first before after : List Row) →
     AllByRecursion IsStanding first → settlements_from (id + length first) before after ≡ [] →
@@ -85,7 +79,6 @@ pub settlements_of_taken : (outcome : Outcome) (id : ℕ) (first before after : 
 settlements_of_taken outcome id [] before after all none = rw add-zero at none
 settlements_of_taken outcome id (row ∷ first) before after all none =
     let next : id + length (row ∷ first) ≡ suc id + length first = omega arith in
-    rw (
-      settled_by_one outcome id row all.0,
-      settlements_of_taken outcome (suc id) first before after all.1 (rw next at none),
-    )
+    let one : settlement id (outcome_of row.promise) (outcome_of (taken_row outcome row).promise)
+    ≡ entry_settlement outcome id (entry_of row) = grind (arith, all.0) in
+    rw (one, settlements_of_taken outcome (suc id) first before after all.1 (rw next at none))

@@ -24,11 +24,6 @@ is_of id settled = eqb settled.0.0 id
 abbrev of_one : ℕ → List (PromiseId × Outcome) → List (PromiseId × Outcome)
 of_one id settlements = filter (is_of id) settlements
 
--- the settlement of one promise is of it alone
-of_settlement : (at id : ℕ) (was now : Option Outcome) →
-    of_one id (settlement at was now) ≡ cond (eqb at id) (settlement id was now) []
-of_settlement at id was now = grind (arith, nat_tests)
-
 settles_no_more : (id : ℕ) (was : Option Outcome) → (settlement id was was ≡ []) × (settlement id was None ≡ [])
 settles_no_more id was = grind arith
 
@@ -42,9 +37,7 @@ of_first : (id at : ℕ) (before : List Row) (row : Row) (after : List Row) →
     of_one id (settlements_from at before (row ∷ after))
     ≡ cond (eqb at id) (settlement id (outcome_at before 0) (outcome_of row.promise)) []
     ++ of_one id (settlements_from (suc at) (drop 1 before) after)
-of_first id at [] row after = rw (filter-append, of_settlement at id None (outcome_of row.promise))
-of_first id at (was ∷ before) row after =
-    rw (filter-append, of_settlement at id (outcome_of was.promise) (outcome_of row.promise))
+of_first id at before row after = grind (arith, nat_tests, filter-append)
 
 outcome_behind : (before : List Row) (id : ℕ) → outcome_at (drop 1 before) id ≡ outcome_at before (suc id)
 outcome_behind [] id = refl
@@ -120,11 +113,8 @@ module _ (settings : Settings) where
       times_settled id (settled_along settings [] commands) ≤ 1
   settled_once commands id =
       let told = ap length (all_settle [] commands id.0).told in
-      let few = one_at_most id.0 (outcome_after (accepted_among settings commands) id.0) in
+      let few : length (settlement id.0 None (outcome_after (accepted_among settings commands) id.0)) ≤ 1 = grind arith in
       omega (arith, length-filter (is_of id.0) (settled_along settings [] commands))
-    where
-      one_at_most : (id : ℕ) (now : Option Outcome) → length (settlement id None now) ≤ 1
-      one_at_most id now = grind arith
 
   -- whatever command comes next, a settled promise keeps its outcome
   pub outcome_kept : (earlier : List Command) (command : Command) (id : PromiseId) (outcome : Outcome) →
