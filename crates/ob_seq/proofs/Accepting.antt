@@ -1,7 +1,7 @@
 -- The accepted commands among those that are given.
 use Rattle.ob_seq.proofs.Words.{◌≡◌, Bool, true, false, ◌&&◌, List, [], ◌∷◌, ◌++◌, refl, sym, cond, ◌⊎◌, inl, inr}
-use Rattle.ob_seq.proofs.Words.{append_assoc, append-nil, subst, arith, Option, Some, None, is_ok, fold, Command}
-use Rattle.ob_seq.proofs.Words.{Estimate, Refusal, Closed, Reply, Settings, is_accepted, are_accepted, commands_after}
+use Rattle.ob_seq.proofs.Words.{append_assoc, append-nil, arith, Option, Some, None, is_ok, fold, Command, Estimate}
+use Rattle.ob_seq.proofs.Words.{Refusal, Closed, Reply, Settings, is_accepted, are_accepted, commands_after}
 use Rattle.ob_seq.proofs.Words.{first_refusal, refusal_of, reply_of, unless_refused, is_closed, rows_after}
 use Rattle.ob_seq.proofs.Words.{accepted_among, settled_along}
 use Rattle.std.proofs.lemmas.List.Sums.{fold-append}

@@ -91,11 +91,6 @@ module _ (Accepted : Type 0) where
   cancelled_row zero (row ∷ rows) = (grind arith, same_rows rows)
   cancelled_row (suc id) (row ∷ rows) = (same row, cancelled_row id rows)
 
-  skipped_rows : (n : ℕ) (rows : List Row) (some : Bool) →
-      AllTurn rows (cond some (with_front (skipped_row n) rows) rows)
-  skipped_rows n rows true = front_row (skipped_row n) (λ row is. grind arith) rows
-  skipped_rows n rows false = same_rows rows
-
   -- with no front nothing stands in line
   closed_rows : (cause : Cause) (rows : List Row) → (Accepted → is_some (front rows) ≡ false) →
       AllTurn rows (map (closed_row cause) rows)
@@ -116,7 +111,10 @@ module _ (Accepted : Type 0) where
       let sent = with_first (whole_rows n rows) sent rows in
       let left = bytes_left_over n rows in
       both_rows rows sent (with_skipped left sent) (first_rows (whole_rows n rows) rows)
-      (skipped_rows left sent (ltb 0 left))
+      (elim (ltb 0 left) as (λ (some : Bool). AllTurn sent (cond some (with_front (skipped_row left) sent) sent)) [
+        | true ↦ front_row (skipped_row left) (λ row is. grind arith) sent
+        | false ↦ same_rows sent
+      ])
   effect_turns estimate rows (Progress n) fits other = front_row (progressed_row n) (λ row is. grind arith) rows
   effect_turns estimate rows (Cancel id) fits other = cancelled_row id.0 rows
   effect_turns estimate rows (FailFlushed cause notify) fits other =

@@ -1,14 +1,13 @@
 -- What accepted commands leave within the limits, and the promises with it.
-use Rattle.ob_seq.proofs.Words.{◌≡◌, ◌≤◌, ◌<◌, ℕ, zero, suc, ◌+◌, Bool, true, false, ◌||◌, List, [], ◌∷◌, ◌++◌, length}
-use Rattle.ob_seq.proofs.Words.{map, refl, sym, ap, ◌∙◌, cond, ltb, leb, arith, length-append, Option, Some, None}
-use Rattle.ob_seq.proofs.Words.{AllByRecursion, nat_tests, sum_by-cons, sum_by_push, take_while-cons, is_block}
-use Rattle.ob_seq.proofs.Words.{counted_bytes, is_oversize, Command, Write, RemoveBytes, Close, Estimate, Refusal}
-use Rattle.ob_seq.proofs.Words.{Oversize, TooManyBytes, TooMuch, Settings, is_accepted, are_accepted, first_refusal}
-use Rattle.ob_seq.proofs.Words.{refusal_of, block_bytes, byte_run, effect, rows_after, is_in_line, line, bytes_in, Row}
-use Rattle.ob_seq.proofs.Words.{new_row, unread_part, counted_size, total, writes_in, Outcome, Settled, closed_row}
-use Rattle.ob_seq.proofs.Words.{is_close, is_closed, promise_at}
+use Rattle.ob_seq.proofs.Words.{◌≡◌, ◌≤◌, ◌<◌, ℕ, zero, suc, Bool, true, false, List, [], ◌∷◌, ◌++◌, length, map, refl}
+use Rattle.ob_seq.proofs.Words.{ap, arith, length-append, Some, None, AllByRecursion, nat_tests, sum_by-cons}
+use Rattle.ob_seq.proofs.Words.{sum_by_push, take_while-cons, is_block, counted_bytes, Command, Write, RemoveBytes}
+use Rattle.ob_seq.proofs.Words.{Close, Estimate, Settings, is_accepted, are_accepted, first_refusal, refusal_of}
+use Rattle.ob_seq.proofs.Words.{block_bytes, byte_run, effect, rows_after, is_in_line, line, bytes_in, Row, new_row}
+use Rattle.ob_seq.proofs.Words.{unread_part, counted_size, total, writes_in, Outcome, Settled, closed_row, is_close}
+use Rattle.ob_seq.proofs.Words.{is_closed, promise_at}
 use Rattle.std.specs.List.{All}
-use Rattle.std.proofs.Common.{length-drop, take_while}
+use Rattle.std.proofs.Common.{length-drop}
 use Rattle.std.proofs.lemmas.List.Elements.{All-from_recursion, length_all_zip}
 use Rattle.ob_types.specs.Limits.{greatest_total, most_writes}
 use Rattle.ob_seq.specs.Fitting.{FitsItsPlace}

@@ -1,6 +1,6 @@
 -- The order of the rows: those that are gone, then those in line, then those that no flush has reached.
-use Rattle.ob_seq.proofs.Words.{◌≡◌, ◌+◌, ◌-◌, ◌&&◌, ℕ, zero, suc, Bool, true, false, List, [], ◌∷◌, ◌++◌, map, length}
-use Rattle.ob_seq.proofs.Words.{refl, cond, ltb, arith, nat_tests, ◌⊎◌, inl, inr, fold, AllByRecursion, map-append}
+use Rattle.ob_seq.proofs.Words.{◌≡◌, ◌+◌, ◌-◌, ℕ, zero, suc, Bool, true, false, List, [], ◌∷◌, ◌++◌, map, length, refl}
+use Rattle.ob_seq.proofs.Words.{cond, ltb, arith, nat_tests, ◌⊎◌, inl, inr, fold, AllByRecursion, map-append}
 use Rattle.ob_seq.proofs.Words.{append_assoc, append-nil, length-append, filter-append, Estimate, Cause, Command, Write}
 use Rattle.ob_seq.proofs.Words.{Flush, Remove, RemoveWith, RemoveBytes, Progress, Cancel, FailFlushed, Close, UserBit}
 use Rattle.ob_seq.proofs.Words.{Outcome, Success, Failed, Cancelled, Waiting, Fixed, Settled, cancelled, effect}
@@ -230,10 +230,6 @@ module _ (rows : List Row) (layout : Layout rows) where
   taken : (outcome : Outcome) → Layout (with_front (taken_row outcome) rows)
   taken outcome = changed (taken_row outcome) (λ row standing. inl (record { place = refl }))
 
-  skipped : (n : ℕ) (some : Bool) → Layout (cond some (with_front (skipped_row n) rows) rows)
-  skipped n true = changed (skipped_row n) (λ row standing. inr (skipped_stands n row standing))
-  skipped n false = layout
-
   back : (id : ℕ) → Layout (with_cancelled id rows)
   back id = elim (back_parts id gone (standing ++ fresh)) [
     | inl first ↦ laid (with_cancelled id gone) standing fresh (rw (is, first))
@@ -268,7 +264,13 @@ effect_layout estimate rows Flush l =
 effect_layout estimate rows Remove l = taken rows l Success
 effect_layout estimate rows (RemoveWith cause) l = taken rows l (Failed cause)
 effect_layout estimate rows (RemoveBytes n) l =
-    skipped _ (first_layout (whole_rows n rows) rows l) (bytes_left_over n rows) (ltb 0 (bytes_left_over n rows))
+    let left = bytes_left_over n rows in
+    let after = with_first (whole_rows n rows) sent rows in
+    let layout = first_layout (whole_rows n rows) rows l in
+    elim (ltb 0 left) as (λ (some : Bool). Layout (cond some (with_front (skipped_row left) after) after)) [
+      | true ↦ changed after layout (skipped_row left) (λ row standing. inr (skipped_stands left row standing))
+      | false ↦ layout
+    ]
 effect_layout estimate rows (Progress n) l =
     changed rows l (progressed_row n) (λ row standing. inr (progressed_stands n row standing))
 effect_layout estimate rows (Cancel id) l = back rows l id.0

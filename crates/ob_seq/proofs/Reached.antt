@@ -1,11 +1,10 @@
 -- A flush, one row after another.
-use Rattle.ob_seq.proofs.Words.{arith, ◌≡◌, ℕ, suc, ◌-◌, Bool, true, false, List, [], ◌∷◌, ◌++◌, length, map, drop}
-use Rattle.ob_seq.proofs.Words.{get_or, refl, sym, ap, ◌∙◌, cond, append_assoc, append-nil, subst, slice_set, nat_tests}
-use Rattle.ob_seq.proofs.Words.{map-append, length-map, get_or-append_seam, set-append_seam, Marks, PromiseState}
-use Rattle.ob_seq.proofs.Words.{Waiting, Fixed, entry_of, Row, is_cancelled, counted_size, total, reached_row, Moment}
-use Rattle.ob_seq.proofs.Words.{moment_of, moments_along, outcome_of, settlement, settlements_from, Pending}
-use Rattle.ob_seq.proofs.Words.{pending_total, first_size, reached_entry, unflushed_id, next_flushed, times}
-use Rattle.ob_seq.proofs.Words.{word_after_fall}
+use Rattle.ob_seq.proofs.Words.{arith, ◌≡◌, ℕ, suc, ◌-◌, true, List, [], ◌∷◌, ◌++◌, length, map, drop, get_or, refl}
+use Rattle.ob_seq.proofs.Words.{sym, ap, ◌∙◌, cond, append_assoc, append-nil, slice_set, nat_tests, map-append}
+use Rattle.ob_seq.proofs.Words.{length-map, get_or-append_seam, set-append_seam, Marks, PromiseState, Waiting, Fixed}
+use Rattle.ob_seq.proofs.Words.{entry_of, Row, is_cancelled, counted_size, total, reached_row, Moment, moment_of}
+use Rattle.ob_seq.proofs.Words.{moments_along, outcome_of, settlement, settlements_from, Pending, pending_total}
+use Rattle.ob_seq.proofs.Words.{first_size, reached_entry, unflushed_id, next_flushed, times, word_after_fall}
 use Rattle.ob_seq.specs.Steps.{is_next_cancelled}
 use Rattle.ob_seq.proofs.Held.{opening, Held, promise_of, unflushed_id_is, pending_total_is}
 use Rattle.ob_seq.proofs.Marks.{word_from, word_from_more, word_step}

@@ -1,10 +1,9 @@
 -- The first rows in line taken away, one after another.
-use Rattle.ob_seq.proofs.Words.{nat_tests, is_in_line, line, ◌&&◌, ltb, Bool, true, cond, ◌≤◌, arith, add-zero, ◌≡◌, ℕ}
-use Rattle.ob_seq.proofs.Words.{suc, ◌+◌, List, [], ◌∷◌, ◌++◌, length, map, refl, sym, ap, ◌∙◌, append_assoc}
-use Rattle.ob_seq.proofs.Words.{append-nil, subst, AllByRecursion, Outcome, Success, Row, counted_size, total}
-use Rattle.ob_seq.proofs.Words.{taken_row, with_first, with_first_behind, Moment, moment_of, moments_along, outcome_of}
-use Rattle.ob_seq.proofs.Words.{settlement, settlements_from, entry_of, Pending, front_taken, entry_settlement}
-use Rattle.ob_seq.proofs.Words.{entry_settlements, times}
+use Rattle.ob_seq.proofs.Words.{Bool, true, arith, add-zero, ◌≡◌, ℕ, suc, ◌+◌, List, [], ◌∷◌, ◌++◌, length, map, refl}
+use Rattle.ob_seq.proofs.Words.{sym, ◌∙◌, append_assoc, append-nil, AllByRecursion, Outcome, Row, counted_size, total}
+use Rattle.ob_seq.proofs.Words.{taken_row, with_first, Moment, moment_of, moments_along, outcome_of, settlement}
+use Rattle.ob_seq.proofs.Words.{settlements_from, entry_of, Pending, front_taken, entry_settlement, entry_settlements}
+use Rattle.ob_seq.proofs.Words.{times}
 use Rattle.ob_seq.proofs.Along.{moments_behind}
 use Rattle.ob_seq.proofs.Held.{opening, Held}
 use Rattle.ob_seq.proofs.Marks.{word_from}

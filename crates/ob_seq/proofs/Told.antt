@@ -70,12 +70,11 @@ kept : (test : PromiseId × Outcome → Bool) (one : PromiseId × Outcome) → t
 kept test one passes [] index within is = absurd (omega (arith, within))
 kept test one passes (x ∷ xs) zero within is = rw (is, passes) (0, omega arith, refl)
 kept test one passes (x ∷ xs) (suc index) within is =
-    onto (test x) (kept test one passes xs index (omega (arith, within)) is)
-  where
-    onto : (first : Bool) → Contains (filter test xs) one →
-        Contains (cond first (x ∷ filter test xs) (filter test xs)) one
-    onto true there = (suc there.0, omega (arith, there.1), there.2)
-    onto false there = there
+    let there = kept test one passes xs index (omega (arith, within)) is in
+    elim (test x) as (λ (first : Bool). Contains (cond first (x ∷ filter test xs) (filter test xs)) one) [
+      | true ↦ (suc there.0, omega (arith, there.1), there.2)
+      | false ↦ there
+    ]
 
 module _ (settings : Settings) where
   -- the outcome of a promise after a history
