@@ -112,7 +112,8 @@ module _ (settings : Settings) where
       times_settled id (settled_along settings [] commands) ≤ 1
   settled_once commands id =
       let told = ap length (all_settle [] commands id.0).told in
-      let few : length (settlement id.0 None (outcome_after (accepted_among settings commands) id.0)) ≤ 1 = grind arith in
+      let now = outcome_after (accepted_among settings commands) id.0 in
+      let few : length (settlement id.0 None now) ≤ 1 = grind arith in
       omega (arith, length-filter (is_of id.0) (settled_along settings [] commands))
 
   -- whatever command comes next, a settled promise keeps its outcome
