@@ -93,7 +93,7 @@ module _ (settings : Settings) where
       let sizes = sum_by-cons counted_size row rows in
       grind arith
 
-  -- the promise of a row fits its place, and is settled where that is gone
+  -- the promise of a row fits its place
   fits : (row : Row) → IsRight row → FitsItsPlace row
   fits row right = grind arith
 
@@ -102,8 +102,7 @@ module _ (settings : Settings) where
       AllByRecursion IsGone rows → (outcome : Outcome) × (promise_at rows id ≡ Some (Settled outcome))
   settled_gone [] id within right gone = absurd (omega (arith, within))
   settled_gone (row ∷ rows) zero within right gone =
-      let settled = rw gone.0.place at (fits row right.0) in
-      (settled.0, ap Some settled.1)
+      let settled = rw gone.0.place at (fits row right.0) in (settled.0, ap Some settled.1)
   settled_gone (row ∷ rows) (suc id) within right gone =
       settled_gone rows id (omega (arith, within)) right.1 gone.1
 

@@ -24,9 +24,6 @@ is_of id settled = eqb settled.0.0 id
 abbrev of_one : ℕ → List (PromiseId × Outcome) → List (PromiseId × Outcome)
 of_one id settlements = filter (is_of id) settlements
 
-settles_no_more : (id : ℕ) (was : Option Outcome) → (settlement id was was ≡ []) × (settlement id was None ≡ [])
-settles_no_more id was = grind arith
-
 -- what is settled in two steps
 in_two_steps : (id : ℕ) (was now after : Option Outcome) → StaysSettled was now → StaysSettled now after →
     settlement id was now ++ settlement id now after ≡ settlement id was after
@@ -53,7 +50,7 @@ none_before at id before (row ∷ after) early =
 -- what rows settle of one promise
 of_rows : (at more id : ℕ) → id ≡ at + more → (before after : List Row) →
     of_one id (settlements_from at before after) ≡ settlement id (outcome_at before more) (outcome_at after more)
-of_rows at more id is before [] = sym (settles_no_more id (outcome_at before more)).1
+of_rows at more id is before [] = grind arith
 of_rows at zero id is before (row ∷ after) =
     let same : eqb at id ≡ true = grind (arith, nat_tests) in
     let rest = none_before (suc at) id (drop 1 before) after (omega arith) in
@@ -88,8 +85,7 @@ module _ (settings : Settings) where
 
   all_settle : (earlier commands : List Command) (id : ℕ) →
       Settle earlier (fold (commands_after settings) earlier commands) (settled_along settings earlier commands) id
-  all_settle earlier [] id =
-      record { told = sym (settles_no_more id (outcome_after earlier id)).0; stays = λ outcome is. is }
+  all_settle earlier [] id = record { told = grind arith; stays = λ outcome is. is }
   all_settle earlier (command ∷ commands) id = elim (none_or_some (first_refusal settings.estimate earlier command)) [
     | inl none ↦
         let rest = all_settle (earlier ++ command ∷ []) commands id in
