@@ -1,9 +1,9 @@
 -- A promise is settled once at most, keeps its outcome, and is told with it.
 use Rattle.ob_seq.proofs.Words.{◌≡◌, ℕ, zero, suc, ◌+◌, ◌<◌, ◌≤◌, Bool, true, false, List, [], ◌∷◌, ◌++◌, drop, refl}
-use Rattle.ob_seq.proofs.Words.{sym, ap, get_or, append-nil, length, cond, eqb, filter, filter-append, arith, nat_tests}
-use Rattle.ob_seq.proofs.Words.{inl, inr, ◌↔◌, Option, Some, None, fold, Command, Outcome, PromiseId, PromiseState}
-use Rattle.ob_seq.proofs.Words.{Settled, accepted_among, are_accepted, commands_after, first_refusal, outcome_of}
-use Rattle.ob_seq.proofs.Words.{settlement, settlements_from, rows_after, promise_after, Row, Settings, settled_along}
+use Rattle.ob_seq.proofs.Words.{ap, get_or, append-nil, length, cond, eqb, filter, filter-append, arith, nat_tests, inl}
+use Rattle.ob_seq.proofs.Words.{inr, ◌↔◌, Option, Some, None, fold, Command, Outcome, PromiseId, PromiseState, Settled}
+use Rattle.ob_seq.proofs.Words.{accepted_among, are_accepted, commands_after, first_refusal, outcome_of, settlement}
+use Rattle.ob_seq.proofs.Words.{settlements_from, rows_after, promise_after, Row, Settings, settled_along}
 use Rattle.std.specs.List.{Contains}
 use Rattle.std.proofs.lemmas.List.Elements.{All-contains_itself, All-filter, All-head}
 use Rattle.std.proofs.lemmas.List.Sums.{length-filter}
