@@ -1,19 +1,20 @@
 -- An open history, and replies by their parts.
-use Rattle.ob_seq.proofs.Words.{◌≡◌, false, List, sym, ap, ◌∙◌, Option, Command, PromiseId, Outcome, Reply, Settings}
-use Rattle.ob_seq.proofs.Words.{is_closed, Pending, StandsFor}
+use Rattle.ob_seq.proofs.Words.{◌≡◌, false, List, Option, Command, PromiseId, Outcome, Reply, Settings, is_closed}
+use Rattle.ob_seq.proofs.Words.{Pending, StandsFor}
 use Rattle.ob_types.specs.declared.reply.Answer.{Answer}
 use Rattle.ob_types.specs.declared.reply.Change.{Change}
 
 -- the history of a buffer that is not closed is not
-pub open_history : (settings : Settings) (commands : List Command) (command : Command) (buffer : Pending) → StandsFor buffer commands → buffer.closed ≡ false → is_closed commands ≡ false
-open_history settings commands command buffer stands unclosed = sym stands.closed ∙ unclosed
+pub open_history : (settings : Settings) (commands : List Command) (command : Command) (buffer : Pending) →
+    StandsFor buffer commands → buffer.closed ≡ false → is_closed commands ≡ false
+open_history settings commands command buffer stands unclosed = cc
 
 -- a reply by its parts
 abbrev pub reply_from : Answer → List (PromiseId × Outcome) → Option Change → Reply
 reply_from answer settled change = record { answer = answer; settled = settled; change = change }
 
 -- two replies with the same parts are the same
-pub same_reply : {answer answer' : Answer} {settled settled' : List (PromiseId × Outcome)} {change change' : Option Change} →
-    answer ≡ answer' → settled ≡ settled' → change ≡ change' → reply_from answer settled change ≡ reply_from answer' settled' change'
-same_reply {answer} {answer'} {settled} {settled'} {change} {change'} answers settlements changes =
-    ap (λ first. reply_from first settled change) answers ∙ ap (λ second. reply_from answer' second change) settlements ∙ ap (reply_from answer' settled') changes
+pub same_reply : {answer answer' : Answer} {settled settled' : List (PromiseId × Outcome)}
+    {change change' : Option Change} → answer ≡ answer' → settled ≡ settled' → change ≡ change' →
+    reply_from answer settled change ≡ reply_from answer' settled' change'
+same_reply answers settlements changes = cc

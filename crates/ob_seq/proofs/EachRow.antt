@@ -1,140 +1,17 @@
 -- What one more command does to each row, as one relation between the row before it and after.
-use Rattle.ob_seq.proofs.Words.{◌≡◌, ℕ, zero, suc, ◌+◌, Bool, true, false, ◌&&◌, List, [], ◌∷◌, ◌++◌, length, map}
-use Rattle.ob_seq.proofs.Words.{arith, cond, ltb, ◌⊎◌, inl, inr, refl, None, is_some, Option, Some, fold, is_write}
-use Rattle.ob_seq.proofs.Words.{Command, Write, Flush, Remove, RemoveWith, RemoveBytes, Progress, Cancel, FailFlushed}
-use Rattle.ob_seq.proofs.Words.{Close, UserBit, Estimate, Cause, Outcome, Success, Failed, Cancelled, refusal_of}
-use Rattle.ob_seq.proofs.Words.{outcome_of, promise_at, bytes_left_over, whole_rows, cancelled, closed_row, effect}
-use Rattle.ob_seq.proofs.Words.{failed_row, flushed_row, progressed_row, reached_row, skipped_row, taken_row}
-use Rattle.ob_seq.proofs.Words.{with_cancelled, with_first, with_first_behind, with_front, with_skipped, front}
-use Rattle.ob_seq.proofs.Words.{is_in_line, line, Row, is_unflushed, Place, Unflushed, Flushed, Voided, Gone, new_row}
-use Rattle.ob_seq.proofs.Words.{AllByRecursion, PromiseState, Waiting, Fixed, Settled}
-
--- rows of which each has a relation to the one that stood in its place before
-abbrev pub EachRow : (Row → Row → Type 0) → List Row → List Row → Type 0
-EachRow R [] [] = Unit {0}
-EachRow R [] (row ∷ after) = ⊥
-EachRow R (was ∷ before) [] = ⊥
-EachRow R (was ∷ before) (row ∷ after) = R was row × EachRow R before after
-
--- a row with its promise taken back
-abbrev pub taken_back : Row → Row
-taken_back row = record row { promise = cancelled row.promise }
-
--- what one command may do to one row: a relation holds of all this; and an accepted close finds nothing in line
-pub record IsKept (Accepted : Type 0) (R : Row → Row → Type 0) : Type 0 where
-  pub same : (row : Row) → R row row
-  pub both : (was between row : Row) → R was between → R between row → R was row
-  pub reached : (row : Row) → is_unflushed row.place ≡ true → R row (reached_row row)
-  pub taken : (outcome : Outcome) (row : Row) → is_in_line row ≡ true → R row (taken_row outcome row)
-  pub told : (row : Row) (skipped progress : ℕ) → R row (record row { skipped = skipped; progress = progress })
-  pub back : (row : Row) → R row (taken_back row)
-  pub closed : (cause : Cause) (row : Row) → (Accepted → is_in_line row ≡ false) → R row (closed_row cause row)
-
-module _ (R : Row → Row → Type 0) where
-  pub map_rows : (change : Row → Row) → ((row : Row) → R row (change row)) → (rows : List Row) →
-      EachRow R rows (map change rows)
-  map_rows change turn [] = tt
-  map_rows change turn (row ∷ rows) = (turn row, map_rows change turn rows)
-
-  -- where some rows stay
-  module _ (same : (row : Row) → R row row) where
-    same_rows : (rows : List Row) → EachRow R rows rows
-    same_rows [] = tt
-    same_rows (row ∷ rows) = (same row, same_rows rows)
-
-    -- where a change is made, by a test
-    by_test : (change : Row → Row) (row : Row) (test : Bool) → (test ≡ true → R row (change row)) →
-        R row (cond test (change row) row)
-    by_test change row test turn = grind (arith, same row)
-
-    -- a change of the front
-    pub front_row : (change : Row → Row) → ((row : Row) → is_in_line row ≡ true → R row (change row)) →
-        (rows : List Row) → EachRow R rows (with_front change rows)
-    front_row change turn [] = tt
-    front_row change turn (row ∷ rows) =
-        step (with_front change rows) (turn row) (same_rows rows) (front_row change turn rows)
-      where
-        step : (others : List Row) → (is_in_line row ≡ true → R row (change row)) → EachRow R rows rows →
-            EachRow R rows others → EachRow R (row ∷ rows) (cond (is_in_line row) (change row ∷ rows) (row ∷ others))
-        step others turn stay rest = grind (arith, same row)
-
-    -- and of the first in line
-    first_rows : (change : Row → Row) → ((row : Row) → is_in_line row ≡ true → R row (change row)) →
-        (count : ℕ) (before rows : List Row) → EachRow R rows (with_first_behind count change before rows)
-    first_rows change turn count before [] = tt
-    first_rows change turn count before (row ∷ rows) = (
-      early (ltb (length (line before)) count) (turn row) (same row),
-      first_rows change turn count (before ++ row ∷ []) rows,
-    )
-      where
-        early : (few : Bool) → (is_in_line row ≡ true → R row (change row)) → R row row →
-            R row (cond (is_in_line row && few) (change row) row)
-        early few turn same = grind arith
-
-    pub cancelled_row : ((row : Row) → R row (taken_back row)) → (id : ℕ) (rows : List Row) →
-        EachRow R rows (with_cancelled id rows)
-    cancelled_row back id [] = tt
-    cancelled_row back zero (row ∷ rows) = (back row, same_rows rows)
-    cancelled_row back (suc id) (row ∷ rows) = (same row, cancelled_row back id rows)
-
-    pub skipped_rows : (n : ℕ) → ((row : Row) → R row (skipped_row n row)) → (rows : List Row) → (some : Bool) →
-        EachRow R rows (cond some (with_front (skipped_row n) rows) rows)
-    skipped_rows n turn rows true = front_row (skipped_row n) (λ row is. turn row) rows
-    skipped_rows n turn rows false = same_rows rows
-
-module _ (Accepted : Type 0) (R : Row → Row → Type 0) (kept : IsKept Accepted R) where
-  both_rows : (before between after : List Row) → EachRow R before between → EachRow R between after →
-      EachRow R before after
-  both_rows [] [] after first second = second
-  both_rows [] (row ∷ between) after first second = absurd first
-  both_rows (was ∷ before) [] after first second = absurd first
-  both_rows (was ∷ before) (row ∷ between) [] first second = absurd second
-  both_rows (was ∷ before) (row ∷ between) (now ∷ after) first second =
-      (kept.both was row now first.0 second.0, both_rows before between after first.1 second.1)
-
-  -- with no front nothing stands in line
-  closed_rows : (cause : Cause) (rows : List Row) → (Accepted → is_some (front rows) ≡ false) →
-      EachRow R rows (map (closed_row cause) rows)
-  closed_rows cause [] none = tt
-  closed_rows cause (row ∷ rows) none = (
-    kept.closed cause row (λ accepted. (nothing row rows (none accepted)).0),
-    closed_rows cause rows (λ accepted. (nothing row rows (none accepted)).1),
-  )
-    where
-      nothing : (row : Row) (rows : List Row) → is_some (front (row ∷ rows)) ≡ false →
-          (is_in_line row ≡ false) × (is_some (front rows) ≡ false)
-      nothing row rows none = grind arith
-
-  -- a command that is no write does so to each row
-  pub effect_keeps : (estimate : Estimate) (rows : List Row) (command : Command) →
-      (Accepted → refusal_of estimate rows command ≡ None) → is_write command ≡ false →
-      EachRow R rows (effect estimate rows command)
-  effect_keeps estimate rows (Write message) fits other = absurd (cc)
-  effect_keeps estimate rows Flush fits other =
-      map_rows R flushed_row
-      (λ row. by_test R kept.same reached_row row (is_unflushed row.place) (kept.reached row)) rows
-  effect_keeps estimate rows Remove fits other = front_row R kept.same (taken_row Success) (kept.taken Success) rows
-  effect_keeps estimate rows (RemoveWith cause) fits other =
-      front_row R kept.same (taken_row (Failed cause)) (kept.taken (Failed cause)) rows
-  effect_keeps estimate rows (RemoveBytes n) fits other =
-      let sent = with_first (whole_rows n rows) (taken_row Success) rows in
-      both_rows rows sent (with_skipped (bytes_left_over n rows) sent)
-      (first_rows R kept.same (taken_row Success) (kept.taken Success) (whole_rows n rows) [] rows)
-      (skipped_rows R kept.same (bytes_left_over n rows) (λ row. kept.told row _ _) sent
-      (ltb 0 (bytes_left_over n rows)))
-  effect_keeps estimate rows (Progress n) fits other =
-      front_row R kept.same (progressed_row n) (λ row is. kept.told row row.skipped (row.progress + n)) rows
-  effect_keeps estimate rows (Cancel id) fits other = cancelled_row R kept.same kept.back id.0 rows
-  effect_keeps estimate rows (FailFlushed cause notify) fits other =
-      let taken : Row → Row = taken_row (Failed cause) in
-      map_rows R (failed_row cause)
-      (λ row. by_test R kept.same taken row (is_in_line row) (kept.taken (Failed cause) row)) rows
-  effect_keeps estimate rows (Close cause) fits other =
-      closed_rows cause rows (λ accepted. nothing_left (fits accepted))
-    where
-      nothing_left : refusal_of estimate rows (Close cause) ≡ None → is_some (front rows) ≡ false
-      nothing_left accepted = grind arith
-  effect_keeps estimate rows (UserBit index writable) fits other = same_rows R kept.same rows
+use Rattle.ob_seq.proofs.Words.{◌≡◌, ◌≤◌, ◌+◌, ℕ, zero, suc, Bool, true, false, List, [], ◌∷◌, ◌++◌, length, map, refl}
+use Rattle.ob_seq.proofs.Words.{arith, cond, ltb, ◌⊎◌, inl, inr, None, is_some, Option, Some, fold, is_write, Command}
+use Rattle.ob_seq.proofs.Words.{Write, Flush, Remove, RemoveWith, RemoveBytes, Progress, Cancel, FailFlushed, Close}
+use Rattle.ob_seq.proofs.Words.{UserBit, Estimate, Cause, Outcome, Success, Failed, refusal_of, outcome_of, promise_at}
+use Rattle.ob_seq.proofs.Words.{bytes_left_over, whole_rows, closed_row, effect, failed_row, flushed_row}
+use Rattle.ob_seq.proofs.Words.{progressed_row, skipped_row, taken_row, with_cancelled, with_first, with_front}
+use Rattle.ob_seq.proofs.Words.{with_skipped, front, counted_size, total, is_in_line, Row, Gone, new_row}
+use Rattle.ob_seq.proofs.Words.{AllByRecursion, PromiseState, rows_after, writes_in, length-append, sum_by-cons}
+use Rattle.std.specs.List.{AllZip}
+use Rattle.std.proofs.lemmas.List.Elements.{length_all_zip}
+use Rattle.ob_seq.proofs.Order.{IsFresh, IsGone, IsStanding, Layout, each_append, first_more, first_none, layout_of}
+use Rattle.ob_seq.proofs.Order.{sent}
+pub use Rattle.ob_seq.proofs.Order.{taken_back}
 
 -- the outcome with which a promise is settled, if there is such a promise and it is
 abbrev pub outcome_in : Option PromiseState → Option Outcome
@@ -152,99 +29,181 @@ StaysSettled was now = (outcome : Outcome) → was ≡ Some outcome → now ≡ 
 abbrev pub StaySettled : List Row → List Row → Type 0
 StaySettled before after = (id : ℕ) → StaysSettled (outcome_at before id) (outcome_at after id)
 
--- a promise by the place of its message, where that of one that is gone has ended as it is said
-abbrev pub MayBe : (PromiseState → Type 0) → Place → PromiseState → Type 0
-MayBe Ended Unflushed promise = (promise ≡ Waiting) ⊎ (promise ≡ Settled Cancelled)
-MayBe Ended Flushed promise = promise ≡ Fixed
-MayBe Ended Voided promise = promise ≡ Settled Cancelled
-MayBe Ended Gone promise = Ended promise
+-- a row as it stands in each history
+abbrev pub IsKnown : Row → Type 0
+IsKnown row = IsGone row ⊎ (IsStanding row ⊎ IsFresh row)
 
--- an ending that each settlement is; it stays where a promise is taken back, and no accepted close leaves a fixed one
-pub record IsEnding (Accepted : Type 0) (Ended : PromiseState → Type 0) : Type 0 where
-  pub settled : (outcome : Outcome) → Ended (Settled outcome)
-  pub back : (state : PromiseState) → Ended state → Ended (cancelled state)
-  pub left : Accepted ⊎ Ended Fixed
+-- the promise of a row that is gone is settled
+abbrev pub Ends : Row → Type 0
+Ends row = row.place ≡ Gone → is_some (outcome_of row.promise) ≡ true
 
--- the promise of a row fits its place
-abbrev pub Fits : (PromiseState → Type 0) → Row → Type 0
-Fits Ended row = MayBe Ended row.place row.promise
+-- what one command may do to one row; where it is accepted, it leaves no promise open of a row that is then gone
+pub record Turns (Accepted : Type 0) (was row : Row) : Type 0 where
+  pub message : row.message ≡ was.message
+  pub size : row.size ≡ was.size
+  pub counts : counted_size row ≤ counted_size was
+  pub known : IsKnown was → IsKnown row
+  pub stays : IsKnown was → StaysSettled (outcome_of was.promise) (outcome_of row.promise)
+  pub ends : Accepted → IsKnown was → Ends was → Ends row
 
-module _ (Accepted : Type 0) (Ended : PromiseState → Type 0) (ending : IsEnding Accepted Ended) where
-  -- where a row's promise fits, it does so after, and what was settled stays so
-  abbrev StaysFit : Row → Row → Type 0
-  StaysFit was row = Fits Ended was → Fits Ended row × StaysSettled (outcome_of was.promise) (outcome_of row.promise)
+module _ (Accepted : Type 0) where
+  same : (row : Row) → Turns Accepted row row
+  same row = grind arith
 
-  staying : IsKept Accepted StaysFit
-  staying = record {
-    same = λ row fits. (fits, λ outcome is. is);
-    both = λ was between row first second fits.
-        let one = first fits in
-        let two = second one.0 in
-        (two.0, λ outcome is. two.1 outcome (one.1 outcome is));
-    reached = λ row fresh fits. grind arith;
-    taken = λ outcome row here fits. grind (arith, ending.settled);
-    told = λ row skipped progress fits. (fits, λ outcome is. is);
-    back = λ row fits. grind (arith, ending.back);
-    closed = λ cause row away fits. grind (arith, ending.settled, ending.left, away);
-  }
+  taken : (outcome : Outcome) (row : Row) → is_in_line row ≡ true → Turns Accepted row (taken_row outcome row)
+  taken outcome row here = grind arith
 
-  -- rows that stay so, one by one
-  abbrev StayFit : List Row → List Row → Type 0
-  StayFit before after = AllByRecursion (Fits Ended) after × StaySettled before after
+  -- each row turns so
+  abbrev AllTurn : List Row → List Row → Type 0
+  AllTurn before after = AllZip (Turns Accepted) before after
 
-  each_stays : (before after : List Row) → EachRow StaysFit before after → AllByRecursion (Fits Ended) before →
-      StayFit before after
-  each_stays [] [] each fit = (tt, λ id outcome is. is)
-  each_stays [] (row ∷ after) each fit = absurd each
-  each_stays (was ∷ before) [] each fit = absurd each
-  each_stays (was ∷ before) (row ∷ after) each fit =
-      let one = each.0 fit.0 in
-      let rest = each_stays before after each.1 fit.1 in
-      ((one.0, rest.0), at one.1 rest.1)
-    where
-      at : StaysSettled (outcome_of was.promise) (outcome_of row.promise) → StaySettled before after →
-          StaySettled (was ∷ before) (row ∷ after)
-      at first rest zero = first
-      at first rest (suc id) = rest id
+  same_rows : (rows : List Row) → AllTurn rows rows
+  same_rows [] = tt
+  same_rows (row ∷ rows) = (same row, same_rows rows)
 
-  -- a write adds a row that fits
-  written : (rows : List Row) (row : Row) → Fits Ended row → AllByRecursion (Fits Ended) rows →
-      StayFit rows (rows ++ row ∷ [])
-  written [] row fits fit = ((fits, tt), λ id outcome is. absurd (cc))
-  written (first ∷ rows) row fits fit =
-      let rest = written rows row fits fit.1 in
-      ((fit.0, rest.0), at rest.1)
-    where
-      at : StaySettled rows (rows ++ row ∷ []) → StaySettled (first ∷ rows) (first ∷ (rows ++ row ∷ []))
-      at rest zero = λ outcome is. is
-      at rest (suc id) = rest id
+  both_rows : (before between after : List Row) → AllTurn before between → AllTurn between after → AllTurn before after
+  both_rows [] [] after first second = second
+  both_rows [] (row ∷ between) after first second = absurd first
+  both_rows (was ∷ before) [] after first second = absurd first
+  both_rows (was ∷ before) (row ∷ between) [] first second = absurd second
+  both_rows (was ∷ before) (row ∷ between) (now ∷ after) first second =
+      (grind (arith, first.0, second.0), both_rows before between after first.1 second.1)
 
-  -- each command keeps all promises fitting, and settled where they are
-  pub effect_fits : (estimate : Estimate) (rows : List Row) (command : Command) →
-      (Accepted → refusal_of estimate rows command ≡ None) → AllByRecursion (Fits Ended) rows →
-      StayFit rows (effect estimate rows command)
-  effect_fits estimate rows (Write message) accepted fit = written rows (new_row estimate message) (inl refl) fit
-  effect_fits estimate rows command accepted fit =
-      each_stays rows (effect estimate rows command)
-      (effect_keeps Accepted StaysFit staying estimate rows command accepted refl) fit
+  map_rows : (change : Row → Row) → ((row : Row) → Turns Accepted row (change row)) → (rows : List Row) →
+      AllTurn rows (map change rows)
+  map_rows change turn [] = tt
+  map_rows change turn (row ∷ rows) = (turn row, map_rows change turn rows)
 
--- whatever commands came, each promise fits its place, but for those of messages that are gone
-abbrev pub Loose : PromiseState → Type 0
-Loose state = Unit {0}
+  front_row : (change : Row → Row) → ((row : Row) → is_in_line row ≡ true → Turns Accepted row (change row)) →
+      (rows : List Row) → AllTurn rows (with_front change rows)
+  front_row change turn [] = tt
+  front_row change turn (row ∷ rows) =
+      grind (arith, turn row, same row, same_rows rows, front_row change turn rows)
 
-loosely : IsEnding ⊥ Loose
-loosely = record { settled = λ outcome. tt; back = λ state ended. tt; left = inr tt }
+  first_rows : (count : ℕ) (rows : List Row) → AllTurn rows (with_first count sent rows)
+  first_rows zero rows = rw (first_none rows) (same_rows rows)
+  first_rows (suc count) rows =
+      rw (first_more count rows)
+      (both_rows _ _ _ (front_row sent (taken Success) rows) (first_rows count (with_front sent rows)))
 
-abbrev pub FitLoosely : List Row → Type 0
-FitLoosely rows = AllByRecursion (Fits Loose) rows
+  cancelled_row : (id : ℕ) (rows : List Row) → AllTurn rows (with_cancelled id rows)
+  cancelled_row id [] = tt
+  cancelled_row zero (row ∷ rows) = (grind arith, same_rows rows)
+  cancelled_row (suc id) (row ∷ rows) = (same row, cancelled_row id rows)
 
-pub one_more : (estimate : Estimate) (rows : List Row) (command : Command) → FitLoosely rows →
-    FitLoosely (effect estimate rows command) × StaySettled rows (effect estimate rows command)
-one_more estimate rows command fit =
-    effect_fits ⊥ Loose loosely estimate rows command (λ never. absurd never) fit
+  -- with no front nothing stands in line
+  closed_rows : (cause : Cause) (rows : List Row) → (Accepted → is_some (front rows) ≡ false) →
+      AllTurn rows (map (closed_row cause) rows)
+  closed_rows cause [] none = tt
+  closed_rows cause (row ∷ rows) none =
+      (grind arith, closed_rows cause rows (λ accepted. grind (arith, none accepted)))
 
-pub fit_along : (estimate : Estimate) (rows : List Row) (commands : List Command) → FitLoosely rows →
-    FitLoosely (fold (effect estimate) rows commands)
-fit_along estimate rows [] fit = fit
-fit_along estimate rows (command ∷ commands) fit =
-    fit_along estimate (effect estimate rows command) commands (one_more estimate rows command fit).0
+  -- a command that is no write turns each row
+  pub effect_turns : (estimate : Estimate) (rows : List Row) (command : Command) →
+      (Accepted → refusal_of estimate rows command ≡ None) → is_write command ≡ false →
+      AllTurn rows (effect estimate rows command)
+  effect_turns estimate rows (Write message) fits other = absurd (cc)
+  effect_turns estimate rows Flush fits other = map_rows flushed_row (λ row. grind arith) rows
+  effect_turns estimate rows Remove fits other = front_row (taken_row Success) (taken Success) rows
+  effect_turns estimate rows (RemoveWith cause) fits other =
+      front_row (taken_row (Failed cause)) (taken (Failed cause)) rows
+  effect_turns estimate rows (RemoveBytes n) fits other =
+      let sent = with_first (whole_rows n rows) sent rows in
+      let left = bytes_left_over n rows in
+      both_rows rows sent (with_skipped left sent) (first_rows (whole_rows n rows) rows)
+      (elim (ltb 0 left) as (λ (some : Bool). AllTurn sent (cond some (with_front (skipped_row left) sent) sent)) [
+        | true ↦ front_row (skipped_row left) (λ row is. grind arith) sent
+        | false ↦ same_rows sent
+      ])
+  effect_turns estimate rows (Progress n) fits other = front_row (progressed_row n) (λ row is. grind arith) rows
+  effect_turns estimate rows (Cancel id) fits other = cancelled_row id.0 rows
+  effect_turns estimate rows (FailFlushed cause notify) fits other =
+      map_rows (failed_row cause) (λ row. grind arith) rows
+  effect_turns estimate rows (Close cause) fits other =
+      closed_rows cause rows (λ accepted. grind (arith, fits accepted))
+  effect_turns estimate rows (UserBit index writable) fits other = same_rows rows
+
+  -- what each turn makes of a row, it makes of all
+  pub each_turns : (P Q : Row → Type 0) → ((was row : Row) → Turns Accepted was row → P was → Q row) →
+      (before after : List Row) → AllTurn before after → AllByRecursion P before → AllByRecursion Q after
+  each_turns P Q turn [] [] each all = tt
+  each_turns P Q turn [] (row ∷ after) each all = absurd each
+  each_turns P Q turn (was ∷ before) [] each all = tt
+  each_turns P Q turn (was ∷ before) (row ∷ after) each all =
+      (turn was row each.0 all.0, each_turns P Q turn before after each.1 all.1)
+
+  -- and rows count together no more
+  pub total_turns : (before after : List Row) → AllTurn before after → total after ≤ total before
+  total_turns [] [] each = omega arith
+  total_turns [] (row ∷ after) each = absurd each
+  total_turns (was ∷ before) [] each = absurd each
+  total_turns (was ∷ before) (row ∷ after) each =
+      let one = each.0.counts in
+      let rest = total_turns before after each.1 in
+      omega (arith, sum_by-cons counted_size was before, sum_by-cons counted_size row after)
+
+-- what is settled stays so
+stay_settled : (before after : List Row) → AllTurn ⊥ before after → AllByRecursion IsKnown before →
+    StaySettled before after
+stay_settled [] after each known id = λ outcome is. absurd (cc)
+stay_settled (was ∷ before) [] each known id = absurd each
+stay_settled (was ∷ before) (row ∷ after) each known zero = each.0.stays known.0
+stay_settled (was ∷ before) (row ∷ after) each known (suc id) = stay_settled before after each.1 known.1 id
+
+stay_written : (rows : List Row) (row : Row) → StaySettled rows (rows ++ row ∷ [])
+stay_written [] row id = λ outcome is. absurd (cc)
+stay_written (first ∷ rows) row zero = λ outcome is. is
+stay_written (first ∷ rows) row (suc id) = stay_written rows row id
+
+pub each_as : (P Q : Row → Type 0) → ((row : Row) → P row → Q row) → (rows : List Row) → AllByRecursion P rows →
+    AllByRecursion Q rows
+each_as P Q turn [] all = tt
+each_as P Q turn (row ∷ rows) all = (turn row all.0, each_as P Q turn rows all.1)
+
+-- each row of a layout is known
+known_of : (rows : List Row) → Layout rows → AllByRecursion IsKnown rows
+known_of rows l =
+    rw l.is (each_append IsKnown l.gone (l.standing ++ l.fresh)
+    (each_as IsGone IsKnown (λ row away. inl away) l.gone l.all_gone) (each_append IsKnown l.standing l.fresh
+    (each_as IsStanding IsKnown (λ row stands. inr (inl stands)) l.standing l.all_standing)
+    (each_as IsFresh IsKnown (λ row fresh. inr (inr fresh)) l.fresh l.all_fresh)))
+
+-- each of rows turns so, whether the command is accepted or not
+abbrev pub Shrink : List Row → List Row → Type 0
+Shrink before after = AllTurn ⊥ before after
+
+-- a command that is no write leaves as many rows, and none of them counts more
+pub effect_shrinks : (estimate : Estimate) (rows : List Row) (command : Command) → is_write command ≡ false →
+    Shrink rows (effect estimate rows command)
+effect_shrinks estimate rows command other = effect_turns ⊥ estimate rows command (λ never. absurd never) other
+
+-- after each history one more command keeps settled what is
+pub effect_stays : (estimate : Estimate) (earlier : List Command) (command : Command) →
+    StaySettled (rows_after estimate earlier) (effect estimate (rows_after estimate earlier) command)
+effect_stays estimate earlier (Write message) = stay_written (rows_after estimate earlier) (new_row estimate message)
+effect_stays estimate earlier command =
+    let rows = rows_after estimate earlier in
+    stay_settled rows (effect estimate rows command) (effect_shrinks estimate rows command refl)
+    (known_of rows (layout_of estimate earlier))
+
+-- one more command brings a row where it is a write
+length_of_effect : (estimate : Estimate) (rows : List Row) (command : Command) →
+    length (effect estimate rows command) ≡ length rows + cond (is_write command) 1 0
+length_of_effect estimate rows (Write message) = length-append rows (new_row estimate message ∷ [])
+length_of_effect estimate rows command =
+    let same = length_all_zip _ rows (effect estimate rows command) (effect_shrinks estimate rows command refl) in
+    omega arith
+
+length_along : (estimate : Estimate) (rows : List Row) (commands : List Command) →
+    length (fold (effect estimate) rows commands) ≡ length rows + writes_in commands
+length_along estimate rows [] = omega arith
+length_along estimate rows (command ∷ commands) =
+    let one = length_of_effect estimate rows command in
+    let rest = length_along estimate (effect estimate rows command) commands in
+    let more = sum_by-cons (λ (command : Command). cond (is_write command) 1 0) command commands in
+    omega (arith, one, rest, more)
+
+-- there is one row for each write
+pub row_for_each_write : (estimate : Estimate) (commands : List Command) →
+    length (fold (effect estimate) [] commands) ≡ writes_in commands
+row_for_each_write estimate commands = let along = length_along estimate [] commands in omega arith

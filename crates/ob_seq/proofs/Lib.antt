@@ -12,7 +12,6 @@ mod EntrySettlements
 mod Failing
 mod Failures
 mod Fields
-mod Fitting
 mod Flushing
 mod Fronts
 mod Gathered
@@ -22,9 +21,7 @@ mod Kept
 mod Limits
 mod Looks
 mod Marks
-mod Once
 mod Order
-mod Ordered
 mod Parts
 mod Pieces
 mod Progressed
@@ -40,7 +37,6 @@ mod Skipped
 mod Taken
 mod Times
 pub mod Told
-mod Unknown
 mod UserBits
 mod WordBits
 mod WordDigits

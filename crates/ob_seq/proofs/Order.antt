@@ -1,11 +1,13 @@
 -- The order of the rows: those that are gone, then those in line, then those that no flush has reached.
-use Rattle.ob_seq.proofs.Words.{◌≡◌, ℕ, Bool, true, false, List, [], ◌∷◌, ◌++◌, map, refl, cond, arith, ◌⊎◌, filter}
-use Rattle.ob_seq.proofs.Words.{AllByRecursion, map-append, Estimate, Command, Cause, Failed, Cancelled, Waiting, Fixed}
-use Rattle.ob_seq.proofs.Words.{Settled, failed_row, flushed_row, progressed_row, reached_row, rows_after, skipped_row}
-use Rattle.ob_seq.proofs.Words.{taken_row, with_front, is_in_line, line, unflushed, gone, is_gone, Row, Unflushed}
-use Rattle.ob_seq.proofs.Words.{Flushed, Voided, Gone, is_unflushed}
-use Rattle.ob_seq.proofs.Ordered.{rows_in_order}
-use Rattle.ob_seq.proofs.EachRow.{FitLoosely, Fits, Loose, fit_along}
+use Rattle.ob_seq.proofs.Words.{◌≡◌, ◌+◌, ◌-◌, ℕ, zero, suc, Bool, true, false, List, [], ◌∷◌, ◌++◌, map, length, refl}
+use Rattle.ob_seq.proofs.Words.{cond, ltb, arith, nat_tests, ◌⊎◌, inl, inr, fold, AllByRecursion, map-append}
+use Rattle.ob_seq.proofs.Words.{append_assoc, append-nil, length-append, filter-append, Estimate, Cause, Command, Write}
+use Rattle.ob_seq.proofs.Words.{Flush, Remove, RemoveWith, RemoveBytes, Progress, Cancel, FailFlushed, Close, UserBit}
+use Rattle.ob_seq.proofs.Words.{Outcome, Success, Failed, Cancelled, Waiting, Fixed, Settled, cancelled, effect}
+use Rattle.ob_seq.proofs.Words.{closed_row, failed_row, flushed_row, progressed_row, reached_row, rows_after}
+use Rattle.ob_seq.proofs.Words.{skipped_row, taken_row, with_cancelled, with_first, with_first_behind, with_front}
+use Rattle.ob_seq.proofs.Words.{whole_rows, bytes_left_over, is_in_line, line, Row, new_row, Unflushed, Flushed, Voided}
+use Rattle.ob_seq.proofs.Words.{Gone}
 
 -- the row is no longer in the buffer
 pub record IsGone (row : Row) : Type 0 where
@@ -29,6 +31,10 @@ IsStanding row = IsSent row ⊎ IsVoid row
 pub record IsFresh (row : Row) : Type 0 where
   pub place : row.place ≡ Unflushed
   pub promise : (row.promise ≡ Waiting) ⊎ (row.promise ≡ Settled Cancelled)
+
+-- a row with its promise taken back
+abbrev pub taken_back : Row → Row
+taken_back row = record row { promise = cancelled row.promise }
 
 -- rows in order: gone, standing in line, fresh
 pub record Layout (rows : List Row) : Type 0 where
@@ -59,6 +65,11 @@ pub stay_by : (change : Row → Row) (P : Row → Type 0) (same : (row : Row) �
     (rows : List Row) → AllByRecursion P rows → map change rows ≡ rows
 stay_by change P same [] all = refl
 stay_by change P same (row ∷ rows) all = rw (same row all.0, stay_by change P same rows all.1)
+
+each_map : (change : Row → Row) (P Q : Row → Type 0) → ((row : Row) → P row → Q (change row)) → (rows : List Row) →
+    AllByRecursion P rows → AllByRecursion Q (map change rows)
+each_map change P Q turns [] all = tt
+each_map change P Q turns (row ∷ rows) all = (turns row all.0, each_map change P Q turns rows all.1)
 
 pub all_now_gone : (change : Row → Row) → ((row : Row) → (change row).place ≡ Gone) → (rows : List Row) →
     AllByRecursion IsGone (map change rows)
@@ -120,37 +131,165 @@ progressed_stands n row standing = grind arith
 pub skipped_stands : (n : ℕ) (row : Row) → IsStanding row → IsStanding (skipped_row n row)
 skipped_stands n row standing = grind arith
 
--- the rows that pass a test, each of the kind that it tells
-each_filter : (test : Row → Bool) (P : Row → Type 0) →
-    ((row : Row) → Fits Loose row → test row ≡ true → P row) →
-    (rows : List Row) → FitLoosely rows → AllByRecursion P (filter test rows)
-each_filter test P tells [] fit = tt
-each_filter test P tells (row ∷ rows) fit =
-    step (filter test rows) (tells row fit.0) (each_filter test P tells rows fit.1)
-  where
-    step : (rest : List Row) → (test row ≡ true → P row) → AllByRecursion P rest →
-        AllByRecursion P (cond (test row) (row ∷ rest) rest)
-    step rest one all = grind arith
+-- a row that is taken away as sent
+abbrev pub sent : Row → Row
+sent row = taken_row Success row
 
-gone_by : (row : Row) → is_gone row.place ≡ true → IsGone row
-gone_by row here = record { place = grind arith }
+-- one more row before others counts where it stands in line
+line_count : (before : List Row) (row : Row) →
+    length (line (before ++ row ∷ [])) ≡ length (line before) + cond (is_in_line row) 1 0
+line_count before row = rw (filter-append is_in_line before (row ∷ []), length-append) (grind arith)
 
-standing_by : (row : Row) → Fits Loose row → is_in_line row ≡ true → IsStanding row
-standing_by row fits here = grind arith
+-- the rows with so many of the line sent, counted down
+abbrev send : ℕ → List Row → List Row
+send count [] = []
+send zero (row ∷ rows) = row ∷ rows
+send (suc count) (row ∷ rows) = cond (is_in_line row) (sent row ∷ send count rows) (row ∷ send (suc count) rows)
 
-fresh_by : (row : Row) → Fits Loose row → is_unflushed row.place ≡ true → IsFresh row
-fresh_by row fits here = grind arith
+send_none : (rows : List Row) → send 0 rows ≡ rows
+send_none [] = refl
+send_none (row ∷ rows) = refl
+
+first_behind : (count : ℕ) (before rows : List Row) (left : ℕ) → left ≡ count - length (line before) →
+    with_first_behind count sent before rows ≡ send left rows
+first_behind count before [] left is = refl
+first_behind count before (row ∷ rows) left is =
+    rw (first_behind count (before ++ row ∷ []) rows _ refl, line_count before row)
+    (grind (arith, nat_tests, send_none))
+
+first_is : (count : ℕ) (rows : List Row) → with_first count sent rows ≡ send count rows
+first_is count rows = first_behind count [] rows count (omega arith)
+
+-- no row sent changes nothing
+pub first_none : (rows : List Row) → with_first 0 sent rows ≡ rows
+first_none rows = rw (first_is 0 rows) (send_none rows)
+
+send_more : (count : ℕ) (rows : List Row) → send (suc count) rows ≡ send count (with_front sent rows)
+send_more count [] = refl
+send_more count (row ∷ rows) = grind (arith, send_none, send_more count rows)
+
+-- one more row sent is the front sent first
+pub first_more : (count : ℕ) (rows : List Row) →
+    with_first (suc count) sent rows ≡ with_first count sent (with_front sent rows)
+first_more count rows = rw (first_is (suc count) rows, first_is count (with_front sent rows)) (send_more count rows)
+
+-- rows by their parts
+laid : {rows : List Row} (gone standing fresh : List Row) → rows ≡ gone ++ (standing ++ fresh) →
+    AllByRecursion IsGone gone → AllByRecursion IsStanding standing → AllByRecursion IsFresh fresh → Layout rows
+laid gone standing fresh is all_gone all_standing all_fresh = record {
+  gone = gone;
+  standing = standing;
+  fresh = fresh;
+  is = is;
+  all_gone = all_gone;
+  all_standing = all_standing;
+  all_fresh = all_fresh;
+}
+
+-- a change of the front after which it is gone or still stands
+front_layout : (change : Row → Row) → ((row : Row) → IsStanding row → IsGone (change row) ⊎ IsStanding (change row)) →
+    (gone standing fresh : List Row) → AllByRecursion IsGone gone → AllByRecursion IsStanding standing →
+    AllByRecursion IsFresh fresh → Layout (with_front change (gone ++ (standing ++ fresh)))
+front_layout change turns gone [] fresh all_gone all_standing all_fresh =
+    laid gone [] fresh (rw (with_front_gone change gone fresh all_gone, with_front_fresh change fresh all_fresh))
+    all_gone tt all_fresh
+front_layout change turns gone (row ∷ standing) fresh all_gone all_standing all_fresh =
+    let rows = standing ++ fresh in
+    let is : with_front change (gone ++ row ∷ rows) ≡ gone ++ change row ∷ rows =
+    rw (with_front_gone change gone (row ∷ rows) all_gone, with_front_standing change row rows all_standing.0) in
+    elim (turns row all_standing.0) [
+      | inl away ↦ laid (gone ++ change row ∷ []) standing fresh (rw (is, append_assoc))
+          (each_append IsGone gone (change row ∷ []) all_gone (away, tt)) all_standing.1 all_fresh
+      | inr still ↦ laid gone (change row ∷ standing) fresh is all_gone (still, all_standing.1) all_fresh
+    ]
+
+-- a promise taken back in one of two parts
+back_parts : (id : ℕ) (rows more : List Row) →
+    (with_cancelled id (rows ++ more) ≡ with_cancelled id rows ++ more)
+    ⊎ ((rest : ℕ) × (with_cancelled id (rows ++ more) ≡ rows ++ with_cancelled rest more))
+back_parts id [] more = inr (id, refl)
+back_parts zero (row ∷ rows) more = inl refl
+back_parts (suc id) (row ∷ rows) more = elim (back_parts id rows more) [
+  | inl first ↦ inl (rw first)
+  | inr behind ↦ inr (behind.0, rw behind.1)
+]
+
+each_back : (P : Row → Type 0) → ((row : Row) → P row → P (taken_back row)) → (id : ℕ) (rows : List Row) →
+    AllByRecursion P rows → AllByRecursion P (with_cancelled id rows)
+each_back P back id [] all = tt
+each_back P back zero (row ∷ rows) all = (back row all.0, all.1)
+each_back P back (suc id) (row ∷ rows) all = (all.0, each_back P back id rows all.1)
+
+module _ (rows : List Row) (layout : Layout rows) where
+  open layout use {gone, standing, fresh, is, all_gone, all_standing, all_fresh}
+
+  changed : (change : Row → Row) → ((row : Row) → IsStanding row → IsGone (change row) ⊎ IsStanding (change row)) →
+      Layout (with_front change rows)
+  changed change turns = rw is (front_layout change turns gone standing fresh all_gone all_standing all_fresh)
+
+  taken : (outcome : Outcome) → Layout (with_front (taken_row outcome) rows)
+  taken outcome = changed (taken_row outcome) (λ row standing. inl (record { place = refl }))
+
+  back : (id : ℕ) → Layout (with_cancelled id rows)
+  back id = elim (back_parts id gone (standing ++ fresh)) [
+    | inl first ↦ laid (with_cancelled id gone) standing fresh (rw (is, first))
+        (each_back IsGone (λ row away. record { place = away.place }) id gone all_gone) all_standing all_fresh
+    | inr behind ↦ elim (back_parts behind.0 standing fresh) [
+      | inl line ↦ laid gone (with_cancelled behind.0 standing) fresh (rw (is, behind.1, line)) all_gone
+          (each_back IsStanding (λ row standing. grind arith) behind.0 standing all_standing) all_fresh
+      | inr last ↦ laid gone standing (with_cancelled last.0 fresh) (rw (is, behind.1, last.1)) all_gone all_standing
+          (each_back IsFresh (λ row fresh. grind arith) last.0 fresh all_fresh)
+    ]
+  ]
+
+-- so many rows in line sent
+first_layout : (count : ℕ) (rows : List Row) → Layout rows → Layout (with_first count sent rows)
+first_layout zero rows layout = rw (first_none rows) layout
+first_layout (suc count) rows layout =
+    rw (first_more count rows) (first_layout count (with_front sent rows) (taken rows layout Success))
+
+-- each command keeps the order
+effect_layout : (estimate : Estimate) (rows : List Row) (command : Command) → Layout rows →
+    Layout (effect estimate rows command)
+effect_layout estimate rows (Write message) l =
+    let new = new_row estimate message ∷ [] in
+    laid l.gone l.standing (l.fresh ++ new) (rw (l.is, append_assoc, append_assoc)) l.all_gone l.all_standing
+    (each_append IsFresh l.fresh new l.all_fresh (record { place = refl; promise = inl refl }, tt))
+effect_layout estimate rows Flush l =
+    let reached = map reached_row l.fresh in
+    laid l.gone (l.standing ++ reached) []
+    (rw (l.is, flush_parts l.gone l.standing l.fresh l.all_gone l.all_standing l.all_fresh, append-nil)) l.all_gone
+    (each_append IsStanding l.standing reached l.all_standing
+    (each_map reached_row IsFresh IsStanding reached_stands l.fresh l.all_fresh)) tt
+effect_layout estimate rows Remove l = taken rows l Success
+effect_layout estimate rows (RemoveWith cause) l = taken rows l (Failed cause)
+effect_layout estimate rows (RemoveBytes n) l =
+    let left = bytes_left_over n rows in
+    let after = with_first (whole_rows n rows) sent rows in
+    let layout = first_layout (whole_rows n rows) rows l in
+    elim (ltb 0 left) as (λ (some : Bool). Layout (cond some (with_front (skipped_row left) after) after)) [
+      | true ↦ changed after layout (skipped_row left) (λ row standing. inr (skipped_stands left row standing))
+      | false ↦ layout
+    ]
+effect_layout estimate rows (Progress n) l =
+    changed rows l (progressed_row n) (λ row standing. inr (progressed_stands n row standing))
+effect_layout estimate rows (Cancel id) l = back rows l id.0
+effect_layout estimate rows (FailFlushed cause notify) l =
+    let taken = map (taken_row (Failed cause)) l.standing in
+    laid (l.gone ++ taken) [] l.fresh
+    (rw (l.is, failed_parts cause l.gone l.standing l.fresh l.all_gone l.all_standing l.all_fresh, append_assoc))
+    (each_append IsGone l.gone taken l.all_gone (all_now_gone (taken_row (Failed cause)) (λ row. refl) l.standing)) tt
+    l.all_fresh
+effect_layout estimate rows (Close cause) l =
+    laid (map (closed_row cause) rows) [] [] (rw append-nil) (all_now_gone (closed_row cause) (λ row. refl) rows) tt tt
+effect_layout estimate rows (UserBit index writable) l = l
+
+layout_along : (estimate : Estimate) (rows : List Row) (commands : List Command) → Layout rows →
+    Layout (fold (effect estimate) rows commands)
+layout_along estimate rows [] layout = layout
+layout_along estimate rows (command ∷ commands) layout =
+    layout_along estimate (effect estimate rows command) commands (effect_layout estimate rows command layout)
 
 -- the rows of each history are in order
 pub layout_of : (estimate : Estimate) (commands : List Command) → Layout (rows_after estimate commands)
-layout_of estimate commands =
-    let rows = rows_after estimate commands in
-    let fit = fit_along estimate [] commands tt in record {
-      gone = gone rows;
-      standing = line rows;
-      fresh = unflushed rows;
-      is = rows_in_order estimate commands;
-      all_gone = each_filter (λ row. is_gone row.place) IsGone (λ row fits. gone_by row) rows fit;
-      all_standing = each_filter is_in_line IsStanding standing_by rows fit;
-      all_fresh = each_filter (λ row. is_unflushed row.place) IsFresh fresh_by rows fit;
-    }
+layout_of estimate commands = layout_along estimate [] commands (laid [] [] [] refl tt tt tt)

@@ -1,11 +1,10 @@
 -- A flush, one row after another.
-use Rattle.ob_seq.proofs.Words.{arith, ◌≡◌, ℕ, suc, ◌-◌, Bool, true, false, List, [], ◌∷◌, ◌++◌, length, map, drop}
-use Rattle.ob_seq.proofs.Words.{get_or, refl, sym, ap, ◌∙◌, cond, append_assoc, append-nil, subst, slice_set, nat_tests}
-use Rattle.ob_seq.proofs.Words.{map-append, length-map, get_or-append_seam, set-append_seam, Marks, PromiseState}
-use Rattle.ob_seq.proofs.Words.{Waiting, Fixed, entry_of, Row, is_cancelled, counted_size, total, reached_row, Moment}
-use Rattle.ob_seq.proofs.Words.{moment_of, moments_along, outcome_of, settlement, settlements_from, Pending}
-use Rattle.ob_seq.proofs.Words.{pending_total, first_size, reached_entry, unflushed_id, next_flushed, times}
-use Rattle.ob_seq.proofs.Words.{word_after_fall}
+use Rattle.ob_seq.proofs.Words.{arith, ◌≡◌, ℕ, suc, ◌-◌, true, List, [], ◌∷◌, ◌++◌, length, map, drop, get_or, refl}
+use Rattle.ob_seq.proofs.Words.{sym, ap, ◌∙◌, cond, append_assoc, append-nil, slice_set, nat_tests, map-append}
+use Rattle.ob_seq.proofs.Words.{length-map, get_or-append_seam, set-append_seam, Marks, PromiseState, Waiting, Fixed}
+use Rattle.ob_seq.proofs.Words.{entry_of, Row, is_cancelled, counted_size, total, reached_row, Moment, moment_of}
+use Rattle.ob_seq.proofs.Words.{moments_along, outcome_of, settlement, settlements_from, Pending, pending_total}
+use Rattle.ob_seq.proofs.Words.{first_size, reached_entry, unflushed_id, next_flushed, times, word_after_fall}
 use Rattle.ob_seq.specs.Steps.{is_next_cancelled}
 use Rattle.ob_seq.proofs.Held.{opening, Held, promise_of, unflushed_id_is, pending_total_is}
 use Rattle.ob_seq.proofs.Marks.{word_from, word_from_more, word_step}
@@ -25,26 +24,23 @@ promises_by : (row : Row) (before behind : List PromiseState) →
 promises_by row before behind = rw set-append_seam (grind arith)
 
 -- the word after a fall where the row was voided, and else as it was
-word_by : (back : Bool) (marks : Marks) (word size after all sum : ℕ) →
-    (back ≡ true → (after ≡ 0) × (sum ≡ all - size)) → (back ≡ false → after ≡ size) →
-    cond back (word_after_fall marks word size (all - size)) word ≡ word_step true marks word size after sum
-word_by back marks word size after all sum voids stays = grind (arith, nat_tests)
-
-nothing_counted : (row : Row) → is_cancelled row.promise ≡ true → counted_size (reached_row row) ≡ 0
-nothing_counted row back = grind arith
-
-same_counted : (row : Row) → IsFresh row → is_cancelled row.promise ≡ false →
-    counted_size (reached_row row) ≡ counted_size row
-same_counted row fresh still = grind arith
+word_by : (row : Row) → IsFresh row → (marks : Marks) (word all sum : ℕ) →
+    (is_cancelled row.promise ≡ true → sum ≡ all - counted_size row) →
+    cond (is_cancelled row.promise) (word_after_fall marks word (counted_size row) (all - counted_size row)) word
+    ≡ word_step true marks word (counted_size row) (counted_size (reached_row row)) sum
+word_by row fresh marks word all sum voids = grind (arith, nat_tests)
 
 module _ (buffer : Pending) (gone standing : List Row) (row : Row) (fresh : List Row)
     (held : Held buffer gone standing (row ∷ fresh)) where
   abbrev before : List PromiseState
   before = map promise_of (gone ++ standing)
 
+  split : (one : Row) →
+      map promise_of (gone ++ (standing ++ one ∷ fresh)) ≡ before ++ one.promise ∷ map promise_of fresh
+  split one = rw (← append_assoc gone standing (one ∷ fresh), map-append promise_of (gone ++ standing) (one ∷ fresh))
+
   promises_are : buffer.promises ≡ before ++ row.promise ∷ map promise_of fresh
-  promises_are = held.promises
-      ∙ rw (← append_assoc gone standing (row ∷ fresh), map-append promise_of (gone ++ standing) (row ∷ fresh)) refl
+  promises_are = held.promises ∙ split row
 
   id_is : unflushed_id buffer ≡ length before
   id_is = unflushed_id_is buffer gone standing (row ∷ fresh) held ∙ sym (length-map (gone ++ standing) promise_of)
@@ -60,12 +56,10 @@ module _ (buffer : Pending) (gone standing : List Row) (row : Row) (fresh : List
     line = rw (back_is, held.line, held.unflushed, map-append entry_of standing (reached_row row ∷ []))
         (ap (λ last. map entry_of standing ++ last ∷ []) (reached_entry_is row held.all_fresh.0));
     unflushed = ap (drop 1) held.unflushed;
-    promises = rw (back_is, id_is, promises_are, append_assoc standing (reached_row row ∷ []) fresh)
-        (promises_by row before (map promise_of fresh)
-        ∙ rw (
-          ← append_assoc gone standing (reached_row row ∷ fresh),
-          map-append promise_of (gone ++ standing) (reached_row row ∷ fresh),
-        ) refl);
+    promises =
+        let apart = split (reached_row row) in
+        rw (back_is, id_is, promises_are, append_assoc standing (reached_row row ∷ []) fresh, apart)
+        (promises_by row before (map promise_of fresh));
     all_gone = held.all_gone;
     all_standing = each_append IsStanding standing (reached_row row ∷ []) held.all_standing
         (reached_stands row held.all_fresh.0, tt);
@@ -86,9 +80,8 @@ module _ (buffer : Pending) (gone standing : List Row) (row : Row) (fresh : List
       pending_total_is buffer gone standing (row ∷ fresh) held
       ∙ ap total (sym (append_assoc gone standing (row ∷ fresh))) in
       rw (back_is, pending, ap first_size held.unflushed)
-      (word_by (is_cancelled row.promise) buffer.marks buffer.word size after all sum
-      (λ back. let none = nothing_counted row back in
-      (none, total_without (gone ++ standing) row (reached_row row) fresh none)) (same_counted row held.all_fresh.0)
+      (word_by row held.all_fresh.0 buffer.marks buffer.word all sum (λ back.
+      total_without (gone ++ standing) row (reached_row row) fresh (grind (arith, back)))
       ∙ rw was (sym (word_from_more true buffer.marks half moments size after sum)))
 
 -- a flush of all fresh rows, one after another
@@ -105,18 +98,15 @@ all_reached (row ∷ fresh) buffer gone standing half moments held word =
     let sum = total ((gone ++ standing) ++ reached ∷ fresh) in
     let one = moment_of true (counted_size row) (counted_size reached) sum in
     let next = standing ++ reached ∷ [] in
-    let rest = all_reached fresh (next_flushed buffer) gone next half (moments ++ one)
-    (next_held buffer gone standing row fresh held) (next_word buffer gone standing row fresh held half moments word) in
-    let same = times_first next_flushed (length fresh) buffer in (
-      subst (λ (after : Pending). Held after gone (standing ++ reached ∷ map reached_row fresh) []) same
-          (rw append_assoc at rest.0),
-      ap (λ (after : Pending). after.word) (sym same) ∙ rest.1
-          ∙ rw (
-            append_assoc moments one (moments_along true (gone ++ next) fresh (map reached_row fresh)),
-            append_assoc gone standing (reached ∷ []),
-          ) refl,
-      ap opening (sym same) ∙ rest.2,
-      ap (λ (after : Pending). after.closed) (sym same) ∙ rest.3,
+    let rest = rw (times_first next_flushed (length fresh) buffer) at
+    (all_reached fresh (next_flushed buffer) gone next half (moments ++ one)
+    (next_held buffer gone standing row fresh held)
+    (next_word buffer gone standing row fresh held half moments word)) in
+    let more = moments_along true (gone ++ next) fresh (map reached_row fresh) in (
+      rw append_assoc at rest.0,
+      rest.1 ∙ rw (append_assoc moments one more, append_assoc gone standing (reached ∷ [])) refl,
+      rest.2,
+      rest.3,
     )
 
 -- a flush settles nothing

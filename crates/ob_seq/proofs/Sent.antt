@@ -1,63 +1,34 @@
 -- The first rows in line taken away, one after another.
-use Rattle.ob_seq.proofs.Words.{nat_tests, is_in_line, line, ◌&&◌, ltb, Bool, true, cond, ◌≤◌, arith, add-zero, ◌≡◌, ℕ}
-use Rattle.ob_seq.proofs.Words.{suc, ◌+◌, List, [], ◌∷◌, ◌++◌, length, map, refl, sym, ap, ◌∙◌, append_assoc}
-use Rattle.ob_seq.proofs.Words.{append-nil, subst, AllByRecursion, Outcome, Success, Row, counted_size, total}
-use Rattle.ob_seq.proofs.Words.{taken_row, with_first, with_first_behind, Moment, moment_of, moments_along, outcome_of}
-use Rattle.ob_seq.proofs.Words.{settlement, settlements_from, entry_of, Pending, front_taken, entry_settlement}
-use Rattle.ob_seq.proofs.Words.{entry_settlements, times}
+use Rattle.ob_seq.proofs.Words.{Bool, true, arith, add-zero, ◌≡◌, ℕ, suc, ◌+◌, List, [], ◌∷◌, ◌++◌, length, map, refl}
+use Rattle.ob_seq.proofs.Words.{sym, ◌∙◌, append_assoc, append-nil, AllByRecursion, Outcome, Row, counted_size, total}
+use Rattle.ob_seq.proofs.Words.{taken_row, with_first, Moment, moment_of, moments_along, outcome_of, settlement}
+use Rattle.ob_seq.proofs.Words.{settlements_from, entry_of, Pending, front_taken, entry_settlement, entry_settlements}
+use Rattle.ob_seq.proofs.Words.{times}
 use Rattle.ob_seq.proofs.Along.{moments_behind}
 use Rattle.ob_seq.proofs.Held.{opening, Held}
 use Rattle.ob_seq.proofs.Marks.{word_from}
-use Rattle.ob_seq.proofs.Order.{IsGone, IsStanding, gone_not_in_line, standing_in_line}
-use Rattle.ob_seq.proofs.Ordered.{line_count}
+use Rattle.ob_seq.proofs.Order.{IsGone, IsStanding, all_now_gone, each_append, first_more, first_none, sent}
+use Rattle.ob_seq.proofs.Order.{with_front_gone, with_front_standing}
 use Rattle.ob_seq.proofs.Taken.{taken_held, taken_word}
 use Rattle.ob_seq.proofs.Times.{times_first}
 
--- a row that is taken away as sent
-abbrev pub sent : Row → Row
-sent row = taken_row Success row
-
--- behind the first so many none goes
-past_first : (count : ℕ) (before rows : List Row) → count ≤ length (line before) →
-    with_first_behind count sent before rows ≡ rows
-past_first count before [] past = refl
-past_first count before (row ∷ rows) past =
-    let more = line_count before row in
-    let rest = past_first count (before ++ row ∷ []) rows (omega arith) in
-    rw rest (late (is_in_line row) (length (line before)) past)
-  where
-    late : (here : Bool) (early : ℕ) → count ≤ early → cond (here && ltb early count) (sent row) row ∷ rows ≡ row ∷ rows
-    late here early past = grind (arith, nat_tests)
-
-first_standing : (before first behind : List Row) (count : ℕ) → AllByRecursion IsStanding first →
-    length (line before) + length first ≡ count →
-    with_first_behind count sent before (first ++ behind) ≡ map sent first ++ behind
-first_standing before [] behind count all size = past_first count before behind (omega arith)
-first_standing before (row ∷ first) behind count all size =
-    let here = standing_in_line row all.0 in
-    let early : ltb (length (line before)) count ≡ true = grind (arith, nat_tests) in
-    let more = rw here at (line_count before row) in
-    rw (here, early, first_standing (before ++ row ∷ []) first behind count all.1 (omega arith))
-
-first_gone : (before gone first behind : List Row) (count : ℕ) → AllByRecursion IsGone gone →
-    AllByRecursion IsStanding first → length (line before) + length first ≡ count →
-    with_first_behind count sent before (gone ++ (first ++ behind)) ≡ gone ++ (map sent first ++ behind)
-first_gone before [] first behind count all_gone all size = first_standing before first behind count all size
-first_gone before (row ∷ gone) first behind count all_gone all size =
-    let away = gone_not_in_line row all_gone.0 in
-    let more = rw away at (line_count before row) in
-    rw (away, first_gone (before ++ row ∷ []) gone first behind count all_gone.1 all (omega arith))
-
--- the rows when those are gone
+-- the rows when the first in line are gone
 pub with_first_sent : (first gone behind : List Row) → AllByRecursion IsGone gone → AllByRecursion IsStanding first →
     with_first (length first) sent (gone ++ (first ++ behind)) ≡ gone ++ (map sent first ++ behind)
-with_first_sent first gone behind all_gone all =
-    first_gone [] gone first behind (length first) all_gone all (omega arith)
+with_first_sent [] gone behind all_gone all = first_none (gone ++ behind)
+with_first_sent (row ∷ first) gone behind all_gone all =
+    let away = each_append IsGone gone (sent row ∷ []) all_gone (record { place = refl }, tt) in
+    let next = with_first_sent first (gone ++ sent row ∷ []) behind away all.1 in
+    let rest = first ++ behind in
+    rw (
+      first_more (length first) (gone ++ row ∷ rest),
+      with_front_gone sent gone (row ∷ rest) all_gone,
+      with_front_standing sent row rest all.0,
+    ) (rw (append_assoc, append_assoc) at next)
 
 -- each of them is gone
 pub all_taken_gone : (outcome : Outcome) (rows : List Row) → AllByRecursion IsGone (map (taken_row outcome) rows)
-all_taken_gone outcome [] = tt
-all_taken_gone outcome (row ∷ rows) = (record { place = refl }, all_taken_gone outcome rows)
+all_taken_gone outcome rows = all_now_gone (taken_row outcome) (λ row. refl) rows
 
 -- what the buffer holds without them, and its word after their moments
 pub all_taken : (notice : Bool) (outcome : Outcome) (first : List Row) (buffer : Pending) (gone rest fresh : List Row)
@@ -75,20 +46,17 @@ all_taken notice outcome (row ∷ first) buffer gone rest fresh half moments hel
     let taken = taken_row outcome row in
     let now = map (taken_row outcome) first in
     let one = moment_of notice (counted_size row) 0 (total (gone ++ taken ∷ ((first ++ rest) ++ fresh))) in
-    let next = front_taken notice outcome buffer in
     let next_held = taken_held notice outcome buffer gone row (first ++ rest) fresh held in
     let next_word = taken_word notice outcome buffer gone row (first ++ rest) fresh held half moments word in
-    let all = all_taken notice outcome first next (gone ++ taken ∷ []) rest fresh half (moments ++ one) next_held
-    next_word in
-    let same = times_first (front_taken notice outcome) (length first) buffer in
+    let all = rw (times_first (front_taken notice outcome) (length first) buffer) at
+    (all_taken notice outcome first (front_taken notice outcome buffer) (gone ++ taken ∷ []) rest fresh half
+    (moments ++ one) next_held next_word) in
     let behind = first ++ (rest ++ fresh) in
     let more = moments_along notice (gone ++ taken ∷ []) behind (now ++ (rest ++ fresh)) in (
-      subst (λ (after : Pending). Held after (gone ++ taken ∷ now) rest fresh) same
-          (rw append_assoc at all.0),
-      ap (λ (after : Pending). after.word) (sym same) ∙ all.1
-          ∙ rw (append_assoc moments one more, append_assoc first rest fresh) refl,
-      ap opening (sym same) ∙ all.2,
-      ap (λ (after : Pending). after.closed) (sym same) ∙ all.3,
+      rw append_assoc at all.0,
+      all.1 ∙ rw (append_assoc moments one more, append_assoc first rest fresh) refl,
+      all.2,
+      all.3,
     )
 
 -- moments behind them that are none
@@ -102,12 +70,6 @@ moments_of_sent (row ∷ first) passed before after none =
     let rest = rw (← append_assoc passed (sent row ∷ []) (map sent first)) at none in
     rw (moments_of_sent first (passed ++ sent row ∷ []) before after rest)
 
--- what one of them settles
-settled_by_one : (outcome : Outcome) (id : ℕ) (row : Row) → IsStanding row →
-    settlement id (outcome_of row.promise) (outcome_of (taken_row outcome row).promise)
-    ≡ entry_settlement outcome id (entry_of row)
-settled_by_one outcome id row standing = grind arith
-
 -- what they settle, where nothing behind them is settled
 pub settlements_of_taken : (outcome : Outcome) (id : ℕ) (first before after : List Row) →
     AllByRecursion IsStanding first → settlements_from (id + length first) before after ≡ [] →
@@ -116,7 +78,6 @@ pub settlements_of_taken : (outcome : Outcome) (id : ℕ) (first before after : 
 settlements_of_taken outcome id [] before after all none = rw add-zero at none
 settlements_of_taken outcome id (row ∷ first) before after all none =
     let next : id + length (row ∷ first) ≡ suc id + length first = omega arith in
-    rw (
-      settled_by_one outcome id row all.0,
-      settlements_of_taken outcome (suc id) first before after all.1 (rw next at none),
-    )
+    let one : settlement id (outcome_of row.promise) (outcome_of (taken_row outcome row).promise)
+    ≡ entry_settlement outcome id (entry_of row) = grind (arith, all.0) in
+    rw (one, settlements_of_taken outcome (suc id) first before after all.1 (rw next at none))

@@ -1,124 +1,141 @@
--- A promise is settled with an outcome exactly where the two stand among the settlements.
-use Rattle.ob_seq.proofs.Words.{◌≡◌, ℕ, zero, suc, ◌+◌, true, List, [], ◌∷◌, drop, inl, inr, refl, sym, ap, ◌∙◌, arith}
-use Rattle.ob_seq.proofs.Words.{add-zero, ◌↔◌, Option, Some, None, fold, Command, Outcome, PromiseId, Settled}
-use Rattle.ob_seq.proofs.Words.{accepted_among, answer_to, are_accepted, commands_after, first_refusal, outcome_of}
-use Rattle.ob_seq.proofs.Words.{settlement, settlements_from, effect, rows_after, promise_after, Row, Settings}
-use Rattle.ob_seq.proofs.Words.{settled_along, settled_by}
+-- A promise is settled once at most, keeps its outcome, and is told with it.
+use Rattle.ob_seq.proofs.Words.{◌≡◌, ℕ, zero, suc, ◌+◌, ◌<◌, ◌≤◌, Bool, true, false, List, [], ◌∷◌, ◌++◌, drop, refl}
+use Rattle.ob_seq.proofs.Words.{ap, get_or, append-nil, length, cond, eqb, filter, filter-append, arith, nat_tests, inl}
+use Rattle.ob_seq.proofs.Words.{inr, ◌↔◌, Option, Some, None, fold, Command, Outcome, PromiseId, PromiseState, Settled}
+use Rattle.ob_seq.proofs.Words.{accepted_among, are_accepted, commands_after, first_refusal, outcome_of, settlement}
+use Rattle.ob_seq.proofs.Words.{settlements_from, rows_after, promise_after, Row, Settings, settled_along}
 use Rattle.std.specs.List.{Contains}
-use Rattle.std.proofs.lemmas.List.Elements.{Contains-append_left, Contains-append_right, Contains-append_cases}
+use Rattle.std.proofs.lemmas.List.Elements.{All-contains_itself, All-filter, All-head}
+use Rattle.std.proofs.lemmas.List.Sums.{length-filter}
+use Rattle.ob_seq.specs.Settles.{times_settled}
 use Rattle.ob_seq.proofs.Accepting.{all_among, none_or_some}
-use Rattle.ob_seq.proofs.EachRow.{outcome_at, outcome_in}
+use Rattle.ob_seq.proofs.EachRow.{StaysSettled, effect_stays, outcome_at, outcome_in}
 use Rattle.ob_seq.proofs.History.{rows_after_more}
-use Rattle.ob_seq.proofs.Once.{outcome_after, outcome_along, outcome_behind, settled_first, settled_in}
 
--- a settlement by its number and its outcome
-abbrev settled_as : ℕ → Outcome → PromiseId × Outcome
-settled_as id outcome = (record { 0 = id }, outcome)
+-- a promise with an outcome is settled with it
+settled_in : (state : Option PromiseState) (outcome : Outcome) → outcome_in state ≡ Some outcome →
+    state ≡ Some (Settled outcome)
+settled_in state outcome is = grind arith
 
--- nothing stands in an empty list
-not_in_none : {one : PromiseId × Outcome} → Contains [] one → ⊥
-not_in_none there = absurd (omega (arith, there.1))
+-- whether a settlement is of this promise, and those that are
+abbrev is_of : ℕ → PromiseId × Outcome → Bool
+is_of id settled = eqb settled.0.0 id
 
-module _ (outcome : Outcome) where
-  -- the promise stands with the outcome among settlements
-  abbrev IsTold : ℕ → List (PromiseId × Outcome) → Type 0
-  IsTold id settlements = Contains settlements (settled_as id outcome)
+abbrev of_one : ℕ → List (PromiseId × Outcome) → List (PromiseId × Outcome)
+of_one id settlements = filter (is_of id) settlements
 
-  -- a promise that was not settled and is then has a settlement
-  newly_told : (at more id : ℕ) → id ≡ at + more → (before after : List Row) → outcome_at before more ≡ None →
-      outcome_at after more ≡ Some outcome → IsTold id (settlements_from at before after)
-  newly_told at more id is before [] was now = absurd (cc)
-  newly_told at zero id is before (row ∷ after) was now =
-      rw (settled_first at before row after, was, now)
-      (0, omega arith, ap (λ n. settled_as n outcome) (sym (is ∙ add-zero at)))
-  newly_told at (suc more) id is before (row ∷ after) was now =
-      let rest = drop 1 before in
-      rw (settled_first at before row after)
-      (Contains-append_right _ _ _
-      (newly_told (suc at) more id (omega arith) rest after (outcome_behind before more ∙ was) now))
+-- what is settled in two steps
+in_two_steps : (id : ℕ) (was now after : Option Outcome) → StaysSettled was now → StaysSettled now after →
+    settlement id was now ++ settlement id now after ≡ settlement id was after
+in_two_steps id was now after first second = grind (arith, first, second)
 
-  -- the settlement of one promise names it, and its outcome after
-  of_one : (at id : ℕ) (was now : Option Outcome) → IsTold id (settlement at was now) → (id ≡ at) × (now ≡ Some outcome)
-  of_one at id was now there = (grind arith, grind arith)
+-- what the first row after a command settles of a promise, and then what the others do
+of_first : (id at : ℕ) (before : List Row) (row : Row) (after : List Row) →
+    of_one id (settlements_from at before (row ∷ after))
+    ≡ cond (eqb at id) (settlement id (outcome_at before 0) (outcome_of row.promise)) []
+    ++ of_one id (settlements_from (suc at) (drop 1 before) after)
+of_first id at before row after = grind (arith, nat_tests, filter-append)
 
-  -- a promise that has a settlement is settled after
-  told_is_settled : (at id : ℕ) (before after : List Row) → IsTold id (settlements_from at before after) →
-      (more : ℕ) × (id ≡ at + more) × (outcome_at after more ≡ Some outcome)
-  told_is_settled at id before [] there = absurd (not_in_none there)
-  told_is_settled at id before (row ∷ after) there =
-      let first = settlement at (outcome_at before 0) (outcome_of row.promise) in
-      elim (Contains-append_cases first _ _ (rw (settled_first at before row after) at there)) [
-        | inl here ↦ let one = of_one at id (outcome_at before 0) (outcome_of row.promise) here in
-            (0, one.0 ∙ sym (add-zero at), one.1)
-        | inr later ↦ let rest = told_is_settled (suc at) id (drop 1 before) after later in
-            (suc rest.0, omega (arith, rest.1), rest.2)
-      ]
+outcome_behind : (before : List Row) (id : ℕ) → outcome_at (drop 1 before) id ≡ outcome_at before (suc id)
+outcome_behind [] id = refl
+outcome_behind (was ∷ before) id = refl
 
-module _ (settings : Settings) (id : PromiseId) (outcome : Outcome) where
-  -- after the history the promise is settled with the outcome
-  abbrev IsSettled : List Command → Type 0
-  IsSettled commands = outcome_after settings commands id.0 ≡ Some outcome
+-- rows settle no promise before them
+none_before : (at id : ℕ) (before after : List Row) → id < at → of_one id (settlements_from at before after) ≡ []
+none_before at id before [] early = refl
+none_before at id before (row ∷ after) early =
+    let other : eqb at id ≡ false = grind (arith, nat_tests) in
+    rw (of_first id at before row after, other) (none_before (suc at) id (drop 1 before) after (omega arith))
 
-  abbrev IsAmong : List (PromiseId × Outcome) → Type 0
-  IsAmong settlements = IsTold outcome id.0 settlements
+-- what rows settle of one promise
+of_rows : (at more id : ℕ) → id ≡ at + more → (before after : List Row) →
+    of_one id (settlements_from at before after) ≡ settlement id (outcome_at before more) (outcome_at after more)
+of_rows at more id is before [] = grind arith
+of_rows at zero id is before (row ∷ after) =
+    let same : eqb at id ≡ true = grind (arith, nat_tests) in
+    let rest = none_before (suc at) id (drop 1 before) after (omega arith) in
+    rw (of_first id at before row after, same, rest, append-nil)
+of_rows at (suc more) id is before (row ∷ after) =
+    let other : eqb at id ≡ false = grind (arith, nat_tests) in
+    let rest = of_rows (suc at) more id (omega arith) (drop 1 before) after in
+    rw (of_first id at before row after, other, rest, outcome_behind before more)
 
-  module _ (earlier : List Command) (command : Command) where
-    -- one more command tells what it settles
-    told_by_one : outcome_after settings earlier id.0 ≡ None → IsSettled (commands_after settings earlier command) →
-        IsAmong (settled_by (answer_to settings earlier command))
-    told_by_one was is = elim (none_or_some (first_refusal settings.estimate earlier command)) [
-      | inl none ↦ rw none (newly_told outcome 0 id.0 id.0 (omega arith) _ _ was
-          (rw (none, rows_after_more settings.estimate earlier command) at is))
-      | inr some ↦ absurd (let same = rw some.1 at is in cc)
+-- what stands in a list and passes a test stands among what passes it
+kept : (test : PromiseId × Outcome → Bool) (one : PromiseId × Outcome) → test one ≡ true →
+    (xs : List (PromiseId × Outcome)) (index : ℕ) → index < length xs → get_or xs index one ≡ one →
+    Contains (filter test xs) one
+kept test one passes [] index within is = absurd (omega (arith, within))
+kept test one passes (x ∷ xs) zero within is = rw (is, passes) (0, omega arith, refl)
+kept test one passes (x ∷ xs) (suc index) within is =
+    let there = kept test one passes xs index (omega (arith, within)) is in
+    elim (test x) as (λ (first : Bool). Contains (cond first (x ∷ filter test xs) (filter test xs)) one) [
+      | true ↦ (suc there.0, omega (arith, there.1), there.2)
+      | false ↦ there
     ]
 
-    -- and settles what it tells
-    settled_by_one : IsAmong (settled_by (answer_to settings earlier command)) →
-        IsSettled (commands_after settings earlier command)
-    settled_by_one there = elim (none_or_some (first_refusal settings.estimate earlier command)) [
-      | inl none ↦
-          let rows = rows_after settings.estimate earlier in
-          let from = told_is_settled outcome 0 id.0 rows (effect settings.estimate rows command) (rw none at there) in
-          let place : id.0 ≡ from.0 = omega (arith, from.1) in
-          rw (none, rows_after_more settings.estimate earlier command, place) from.2
-      | inr some ↦ absurd (not_in_none (rw some.1 at there))
-    ]
+module _ (settings : Settings) where
+  -- the outcome of a promise after a history
+  abbrev outcome_after : List Command → ℕ → Option Outcome
+  outcome_after commands id = outcome_at (rows_after settings.estimate commands) id
 
-  -- what comes to be settled along commands is told
-  told_along : (earlier commands : List Command) → outcome_after settings earlier id.0 ≡ None →
-      IsSettled (fold (commands_after settings) earlier commands) → IsAmong (settled_along settings earlier commands)
-  told_along earlier [] was is = absurd (cc)
-  told_along earlier (command ∷ commands) was is =
-      let next = commands_after settings earlier command in
-      elim (none_or_some (outcome_after settings next id.0)) [
-        | inl none ↦ Contains-append_right _ _ _ (told_along next commands none is)
-        | inr some ↦
-            let kept = outcome_along settings next commands id.0 some.0 some.1 in
-            let same : some.0 ≡ outcome = cc in
-            Contains-append_left _ _ _ (told_by_one earlier command was (some.1 ∙ ap Some same))
-      ]
+  -- commands settle of a promise what is settled after them and was not before, and keep its outcome
+  record Settle (earlier after : List Command) (settlements : List (PromiseId × Outcome)) (id : ℕ) : Type 0 where
+    told : of_one id settlements ≡ settlement id (outcome_after earlier id) (outcome_after after id)
+    stays : StaysSettled (outcome_after earlier id) (outcome_after after id)
 
-  -- and what is told along commands is settled after them
-  settled_after_told : (earlier commands : List Command) → IsAmong (settled_along settings earlier commands) →
-      IsSettled (fold (commands_after settings) earlier commands)
-  settled_after_told earlier [] there = absurd (not_in_none there)
-  settled_after_told earlier (command ∷ commands) there =
-      let next = commands_after settings earlier command in
-      elim (Contains-append_cases (settled_by (answer_to settings earlier command)) _ _ there) [
-        | inl now ↦ outcome_along settings next commands id.0 outcome (settled_by_one earlier command now)
-        | inr told ↦ settled_after_told next commands told
-      ]
+  all_settle : (earlier commands : List Command) (id : ℕ) →
+      Settle earlier (fold (commands_after settings) earlier commands) (settled_along settings earlier commands) id
+  all_settle earlier [] id = record { told = grind arith; stays = λ outcome is. is }
+  all_settle earlier (command ∷ commands) id = elim (none_or_some (first_refusal settings.estimate earlier command)) [
+    | inl none ↦
+        let rest = all_settle (earlier ++ command ∷ []) commands id in
+        let later = rw (rows_after_more settings.estimate earlier command) at rest.stays in
+        let one = effect_stays settings.estimate earlier command id in
+        rw none (record {
+          told = rw (
+            filter-append,
+            of_rows 0 id id (omega arith) (rows_after settings.estimate earlier) _,
+            rest.told,
+            rows_after_more settings.estimate earlier command,
+          ) (in_two_steps id _ _ _ one later);
+          stays = λ outcome is. later outcome (one outcome is);
+        })
+    | inr some ↦ rw some.1 (all_settle earlier commands id)
+  ]
 
-  -- of a new buffer just those promises are settled that its answers tell
-  pub settled_is_told : (commands : List Command) →
-      promise_after settings (accepted_among settings commands) id ≡ Some (Settled outcome)
-      ↔ IsAmong (settled_along settings [] commands)
-  settled_is_told commands = (
-    λ is. told_along [] commands refl (ap outcome_in is),
-    λ there. settled_in _ outcome (settled_after_told [] commands there),
-  )
+  -- whatever commands are given, no promise is settled twice
+  pub settled_once : (commands : List Command) (id : PromiseId) →
+      times_settled id (settled_along settings [] commands) ≤ 1
+  settled_once commands id =
+      let told = ap length (all_settle [] commands id.0).told in
+      let now = outcome_after (accepted_among settings commands) id.0 in
+      let few : length (settlement id.0 None now) ≤ 1 = grind arith in
+      omega (arith, length-filter (is_of id.0) (settled_along settings [] commands))
 
-  -- and so after accepted commands
-  pub accepted_is_told : (commands : List Command) → are_accepted settings [] commands ≡ true →
-      promise_after settings commands id ≡ Some (Settled outcome) ↔ IsAmong (settled_along settings [] commands)
-  accepted_is_told commands all = rw (all_among settings commands all) at (settled_is_told commands)
+  -- whatever command comes next, a settled promise keeps its outcome
+  pub outcome_kept : (earlier : List Command) (command : Command) (id : PromiseId) (outcome : Outcome) →
+      promise_after settings earlier id ≡ Some (Settled outcome) →
+      promise_after settings (commands_after settings earlier command) id ≡ Some (Settled outcome)
+  outcome_kept earlier command id outcome is =
+      settled_in _ outcome ((all_settle earlier (command ∷ []) id.0).stays outcome (ap outcome_in is))
+
+  module _ (id : PromiseId) (outcome : Outcome) (commands : List Command) where
+    -- of a new buffer just those promises are settled that its answers tell
+    pub settled_is_told :
+        promise_after settings (accepted_among settings commands) id ≡ Some (Settled outcome)
+        ↔ Contains (settled_along settings [] commands) (id, outcome)
+    settled_is_told =
+        let all = settled_along settings [] commands in
+        let told = (all_settle [] commands id.0).told in
+        let itself : is_of id.0 (id, outcome) ≡ true = grind (arith, nat_tests) in (
+          λ is. All-head (Contains all) (id, outcome) []
+              (rw (told, ap outcome_in is) at (All-filter (is_of id.0) (Contains all) all (All-contains_itself all))),
+          λ there. settled_in _ outcome
+              (grind (arith, rw told at (kept (is_of id.0) (id, outcome) itself all there.0 there.1 there.2))),
+        )
+
+    -- and so after accepted commands
+    pub accepted_is_told : are_accepted settings [] commands ≡ true →
+        promise_after settings commands id ≡ Some (Settled outcome)
+        ↔ Contains (settled_along settings [] commands) (id, outcome)
+    accepted_is_told all = rw (all_among settings commands all) at settled_is_told

@@ -1,9 +1,21 @@
-use Rattle.ob_seq.proofs.Shrinking.{row_for_each_write}
-use Rattle.ob_seq.proofs.Unknown.{unknown_past_writes}
+use Rattle.ob_seq.proofs.Words.{◌≡◌, ◌≤◌, ℕ, zero, suc, List, [], ◌∷◌, length, arith, None, slice_get_past, promise_at}
+use Rattle.ob_seq.proofs.Words.{rows_after, Row}
+use Rattle.ob_seq.proofs.EachRow.{row_for_each_write}
 use Rattle.ob_seq.proofs.laws.a_promise_is_unknown_past_the_writes.Goals as goal
+
+-- where there is no promise there is no row
+no_row : (rows : List Row) (id : ℕ) → promise_at rows id ≡ None → length rows ≤ id
+no_row [] id none = omega arith
+no_row (row ∷ rows) zero none = absurd (cc)
+no_row (row ∷ rows) (suc id) none = omega (arith, no_row rows id none)
 
 pub returns : goal.returns
 returns c = record {
-  unknown = λ settings commands id. unknown_past_writes settings.estimate commands id.0;
+  unknown = λ settings commands id.
+      let rows = rows_after settings.estimate commands in
+      let count = row_for_each_write settings.estimate commands in (
+        λ none. omega (arith, no_row rows id.0 none),
+        λ past. rw (slice_get_past rows id.0 (omega arith)),
+      );
   rows = row_for_each_write;
 }
