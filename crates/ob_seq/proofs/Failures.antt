@@ -54,6 +54,6 @@ one_more_failed cause old now first id past inside is =
       set_at before state behind (failed cause state) id size,
       more,
       map_more (failed cause) rest count Waiting within,
-      append_assoc,
-      append_assoc,
+      append_assoc (take first old) passed (failed cause state ∷ behind),
+      append_assoc passed (failed cause state ∷ []) behind,
     )
