@@ -1,10 +1,10 @@
 -- A buffer after a removal of bytes stands for the history with the removal.
-use Rattle.ob_seq.proofs.Words.{arith, ◌≡◌, ℕ, ◌-◌, ◌≤◌, Bool, true, false, List, [], ◌∷◌, ◌++◌, length, map, take, drop}
-use Rattle.ob_seq.proofs.Words.{refl, sym, ap, ◌∙◌, cond, append_assoc, ltb, Option, Some, None, AllByRecursion}
+use Rattle.ob_seq.proofs.Words.{arith, ◌≡◌, ℕ, ◌-◌, ◌≤◌, Bool, true, false, List, [], ◌∷◌, ◌++◌, length, map, take}
+use Rattle.ob_seq.proofs.Words.{drop, sym, ap, ◌∙◌, cond, append_assoc, ltb, Option, Some, None, AllByRecursion}
 use Rattle.ob_seq.proofs.Words.{length-take-le, take-append-drop, map-append, length-map, RemoveBytes, Success, Refusal}
-use Rattle.ob_seq.proofs.Words.{TooManyBytes, Count, Cut, Row, line, bytes_in, pieces_within, blocks_in_front, byte_run}
-use Rattle.ob_seq.proofs.Words.{whole_rows, bytes_left_over, effect, rows_after, taken_row, refusal_of, reply_of}
-use Rattle.ob_seq.proofs.Words.{blocks_left, entry_of, Pending, StandsFor, bytes_reply, cut_of, front_id, whole_cut}
+use Rattle.ob_seq.proofs.Words.{TooManyBytes, Count, Cut, Row, line, bytes_in, blocks_in_front, byte_run, whole_rows}
+use Rattle.ob_seq.proofs.Words.{bytes_left_over, effect, rows_after, taken_row, refusal_of, reply_of, blocks_left}
+use Rattle.ob_seq.proofs.Words.{entry_of, Pending, StandsFor, bytes_reply, cut_of, front_id, whole_cut}
 use Rattle.ob_seq.proofs.Words.{entry_settlements, Command}
 use Rattle.std.proofs.lemmas.List.{take_at}
 use Rattle.std.proofs.lemmas.Simd.{map-map}

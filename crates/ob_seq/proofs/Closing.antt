@@ -1,11 +1,11 @@
 -- A buffer after its close stands for the history with the close.
-use Rattle.ob_seq.proofs.Words.{◌≡◌, ℕ, zero, suc, Bool, true, false, ltb, List, [], ◌∷◌, ◌++◌, length, map, take, drop}
-use Rattle.ob_seq.proofs.Words.{refl, sym, ap, ◌∙◌, cond, append_assoc, append-nil, arith, Option, Some, None}
-use Rattle.ob_seq.proofs.Words.{AllByRecursion, nat_tests, length-map, map-append, Marks, Command, Close, Cause}
-use Rattle.ob_seq.proofs.Words.{PromiseState, Refusal, FlushedLeft, Count, Row, Gone, is_unflushed, unflushed}
-use Rattle.ob_seq.proofs.Words.{counted_size, total, effect, rows_after, failed, closed_row, Moment, moment_of}
-use Rattle.ob_seq.proofs.Words.{moments_along, outcome_of, refusal_of, settlement, settlements_from, reply_of, entry_of}
-use Rattle.ob_seq.proofs.Words.{Pending, StandsFor, closed_pending, closing_reply, failures, unflushed_id}
+use Rattle.ob_seq.proofs.Words.{◌≡◌, ℕ, suc, false, ltb, List, [], ◌∷◌, ◌++◌, length, map, take, drop, refl, sym, ap}
+use Rattle.ob_seq.proofs.Words.{◌∙◌, cond, append_assoc, append-nil, arith, Option, Some, None, AllByRecursion}
+use Rattle.ob_seq.proofs.Words.{nat_tests, length-map, map-append, Marks, Command, Close, Cause, PromiseState, Refusal}
+use Rattle.ob_seq.proofs.Words.{FlushedLeft, Count, Row, is_unflushed, unflushed, counted_size, total, rows_after}
+use Rattle.ob_seq.proofs.Words.{failed, closed_row, Moment, moment_of, moments_along, outcome_of, refusal_of}
+use Rattle.ob_seq.proofs.Words.{settlement, settlements_from, reply_of, entry_of, Pending, StandsFor, closed_pending}
+use Rattle.ob_seq.proofs.Words.{closing_reply, failures, unflushed_id}
 use Rattle.std.proofs.lemmas.List.{take_at, drop_at}
 use Rattle.ob_seq.specs.Steps.{closing_step}
 use Rattle.ob_seq.proofs.Failures.{failure}

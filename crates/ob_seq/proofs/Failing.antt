@@ -1,7 +1,8 @@
 -- A buffer whose line was taken away as failed stands for the history with the failing.
 use Rattle.ob_seq.proofs.Words.{◌≡◌, Bool, false, List, [], ◌∷◌, ◌++◌, length, map, refl, sym, ap, ◌∙◌, append-nil}
-use Rattle.ob_seq.proofs.Words.{length-map, Command, FailFlushed, Cause, Failed, Count, line, rows_after, failed_row, reply_of}
-use Rattle.ob_seq.proofs.Words.{entry_of, Pending, StandsFor, entry_settlements, failing_step, front_id, front_taken}
+use Rattle.ob_seq.proofs.Words.{length-map, Command, FailFlushed, Cause, Failed, Count, line, rows_after, failed_row}
+use Rattle.ob_seq.proofs.Words.{reply_of, entry_of, Pending, StandsFor, entry_settlements, failing_step, front_id}
+use Rattle.ob_seq.proofs.Words.{front_taken}
 use Rattle.ob_seq.specs.Steps.{failing_reply, line_failed}
 use Rattle.ob_seq.proofs.Held.{held_of, line_count}
 use Rattle.ob_seq.proofs.Order.{layout_of, failed_parts}

@@ -1,6 +1,6 @@
 -- Promises that fail if they still wait, and what they settle.
-use Rattle.ob_seq.proofs.Words.{◌≡◌, ℕ, ◌+◌, ◌-◌, ◌<◌, ◌≤◌, Bool, true, List, [], ◌∷◌, ◌++◌, length, map, take, drop}
-use Rattle.ob_seq.proofs.Words.{get_or, refl, ◌∙◌, cond, append_assoc, length-append, arith, count_by, slice_set}
+use Rattle.ob_seq.proofs.Words.{◌≡◌, ℕ, ◌+◌, ◌-◌, ◌<◌, ◌≤◌, Bool, List, [], ◌∷◌, ◌++◌, length, map, take, drop, get_or}
+use Rattle.ob_seq.proofs.Words.{refl, ◌∙◌, cond, append_assoc, length-append, arith, count_by, slice_set}
 use Rattle.ob_seq.proofs.Words.{length-take-le, length-map, Cause, PromiseId, Outcome, Failed, PromiseState, Waiting}
 use Rattle.ob_seq.proofs.Words.{Settled, is_waiting, failed, failures}
 use Rattle.std.proofs.lemmas.List.{drop_more, get_or_at, length-drop, map_more, set_at}

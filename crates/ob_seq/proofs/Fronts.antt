@@ -1,8 +1,8 @@
 -- The front of the rows of a history, and what a command leaves behind rows that it lets stay.
-use Rattle.ob_seq.proofs.Words.{◌≡◌, ◌<◌, Bool, false, List, [], ◌∷◌, ◌++◌, length, ltb, refl, sym, ap, ◌∙◌, cond, arith}
+use Rattle.ob_seq.proofs.Words.{◌≡◌, ◌<◌, Bool, false, List, [], ◌∷◌, ◌++◌, length, ltb, refl, sym, ◌∙◌, cond, arith}
 use Rattle.ob_seq.proofs.Words.{Option, Some, None, is_some, nat_tests, length-map, change_between, Command, PromiseId}
-use Rattle.ob_seq.proofs.Words.{Outcome, Row, is_in_line, front, line, effect, rows_after, moments_along, is_close, refusal_of}
-use Rattle.ob_seq.proofs.Words.{settlements_from, reply_of, entry_of, Pending, StandsFor}
+use Rattle.ob_seq.proofs.Words.{Outcome, Row, is_in_line, front, line, effect, rows_after, moments_along, is_close}
+use Rattle.ob_seq.proofs.Words.{refusal_of, settlements_from, reply_of, entry_of, Pending, StandsFor}
 use Rattle.ob_types.specs.declared.reply.Answer.{Answer}
 use Rattle.ob_seq.specs.Answer.{answer_of}
 use Rattle.ob_seq.specs.Moment.{gives_notice}

@@ -1,8 +1,8 @@
 -- Bytes skipped in the front: the rows and the entries of a buffer change alike.
-use Rattle.ob_seq.proofs.Words.{◌≡◌, ℕ, suc, ◌+◌, Bool, true, List, [], ◌∷◌, ◌++◌, map, refl, sym, ap, ◌∙◌, cond, ltb, arith}
-use Rattle.ob_seq.proofs.Words.{AllByRecursion, map-append, Message, Block, Region, Other, entry_of, Row, is_voided}
-use Rattle.ob_seq.proofs.Words.{without_skipped, counted_size, total, skipped_row, with_front, with_skipped}
-use Rattle.ob_seq.proofs.Words.{moments_along, outcome_of, settlements_from, Pending, first_changed, front_changed}
+use Rattle.ob_seq.proofs.Words.{◌≡◌, ℕ, suc, ◌+◌, Bool, true, List, [], ◌∷◌, ◌++◌, ap, ◌∙◌, cond, ltb, arith}
+use Rattle.ob_seq.proofs.Words.{AllByRecursion, map-append, Message, Block, entry_of, Row, is_voided, without_skipped}
+use Rattle.ob_seq.proofs.Words.{counted_size, total, skipped_row, with_front, with_skipped, moments_along, outcome_of}
+use Rattle.ob_seq.proofs.Words.{settlements_from, Pending, first_changed, front_changed}
 use Rattle.std.proofs.Math.Seq.{drop-nil}
 use Rattle.std.proofs.lemmas.List.{drop-drop}
 use Rattle.ob_seq.specs.Steps.{front_skipped, skipped_entry}

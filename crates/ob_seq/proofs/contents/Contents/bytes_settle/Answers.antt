@@ -1,4 +1,4 @@
-use Rattle.ob_seq.proofs.Words.{◌≡◌, Bool, not, length, take, sym, ◌∙◌, cond, ltb, arith, Option, Some, None, count_by}
+use Rattle.ob_seq.proofs.Words.{◌≡◌, Bool, not, length, take, ◌∙◌, cond, ltb, arith, Option, Some, None, count_by}
 use Rattle.ob_seq.proofs.Words.{Success, Refusal, TooManyBytes, Cut, unless_refused, PendingEntry, blocks_left, Pending}
 use Rattle.ob_seq.proofs.Words.{bytes_in, settled_by, bytes_reply, front_id, whole_cut}
 use Rattle.ob_seq.proofs.EntrySettlements.{count_of_settlements}

@@ -1,4 +1,4 @@
-use Rattle.ob_seq.proofs.Words.{◌≡◌, ◌+◌, ◌-◌, ◌<◌, true, false, length, take, refl, sym, ap, ◌∙◌, append-nil, arith}
+use Rattle.ob_seq.proofs.Words.{◌≡◌, ◌+◌, ◌-◌, ◌<◌, true, false, length, refl, sym, ap, ◌∙◌, append-nil, arith}
 use Rattle.ob_seq.proofs.Words.{pending_entry, front_id, entry_settlement}
 use Rattle.ob_seq.proofs.EntrySettlements.{entries_settle, settled_more, settled_room}
 use Rattle.ob_seq.proofs.Fields.{in_line, line_count, promise_count, unflushed_count}

@@ -1,5 +1,5 @@
-use Rattle.ob_seq.proofs.Words.{◌≡◌, ◌≤◌, ◌<◌, ◌-◌, true, false, length, take, drop, get_or, sym, ap, ◌∙◌, append-nil}
-use Rattle.ob_seq.proofs.Words.{arith, slice_set, take_all, drop_all, take-append-drop, Waiting}
+use Rattle.ob_seq.proofs.Words.{◌≡◌, ◌≤◌, ◌<◌, ◌-◌, true, false, length, drop, get_or, sym, ◌∙◌, append-nil, arith}
+use Rattle.ob_seq.proofs.Words.{take_all, drop_all, take-append-drop, Waiting}
 use Rattle.std.proofs.lemmas.List.{length-drop, set-get_or}
 use Rattle.ob_seq.proofs.Failures.{failed_by, one_more_failed}
 use Rattle.ob_seq.proofs.contents.close.fail_waiting.Goals.{then-is_waiting, else-is_waiting}
