@@ -9,6 +9,7 @@ use Rattle.ob_seq.proofs.Words.{entry_settlements, Command}
 use Rattle.std.proofs.lemmas.List.{take_at}
 use Rattle.std.proofs.lemmas.Simd.{map-map}
 use Rattle.ob_seq.specs.Steps.{bytes_removed}
+use Rattle.ob_seq.proofs.Fronts.{Carries}
 use Rattle.ob_seq.proofs.Held.{Held, held_of, line_count}
 use Rattle.ob_seq.proofs.Order.{IsGone, IsStanding, each_append, layout_of}
 use Rattle.ob_seq.proofs.Removed.{taken_away}
@@ -32,30 +33,23 @@ module _ (buffer : Pending) (commands : List Command) (n : ℕ) (stands : Stands
   abbrev rows : List Row
   rows = rows_after buffer.settings.estimate commands
 
-  abbrev pieces : List (List ℕ)
-  pieces = blocks_left buffer.line
-
-  found : (let refusal : Option Refusal = cond (ltb (bytes_in pieces) n) (Some TooManyBytes) None in refusal ≡ None)
-      × (whole_cut n pieces ≡ cut)
-  found = accepted_by (ltb (bytes_in pieces) n) (whole_cut n pieces) cut is
-
-  accepted : refusal_of buffer.settings.estimate rows (RemoveBytes n) ≡ None
-  accepted = rw (run_is buffer commands stands) found.0
-
-  cut_is : whole_cut n (byte_run rows) ≡ cut
-  cut_is = ap (whole_cut n) (run_is buffer commands stands) ∙ found.1
+  found : (refusal_of buffer.settings.estimate rows (RemoveBytes n) ≡ None) × (whole_cut n (byte_run rows) ≡ cut)
+  found =
+      let run = run_is buffer commands stands in
+      let pieces = blocks_left buffer.line in
+      let one = accepted_by (ltb (bytes_in pieces) n) (whole_cut n pieces) cut is in
+      (rw run one.0, ap (whole_cut n) run ∙ one.1)
 
   whole_is : whole_rows n rows ≡ cut.whole
-  whole_is = ap (λ (c : Cut). c.whole) cut_is
+  whole_is = ap (λ (c : Cut). c.whole) found.1
 
   rest_is : bytes_left_over n rows ≡ cut.rest
-  rest_is = ap (λ (c : Cut). c.rest) cut_is
+  rest_is = ap (λ (c : Cut). c.rest) found.1
 
   removed_by : (gone first rest fresh : List Row) → rows ≡ gone ++ ((first ++ rest) ++ fresh) →
       Held buffer gone (first ++ rest) fresh → length first ≡ cut.whole → AllByRecursion IsStanding first →
       AllByRecursion IsStanding rest → buffer.closed ≡ false →
-      StandsFor (bytes_removed cut buffer) (commands ++ RemoveBytes n ∷ [])
-      × (bytes_reply cut buffer ≡ reply_of buffer.settings commands (RemoveBytes n))
+      Carries buffer commands (RemoveBytes n) (bytes_removed cut buffer) (bytes_reply cut buffer)
   removed_by gone first rest fresh rows_are held count each standing unclosed =
       let sent = map (taken_row Success) first in
       let passed = gone ++ sent in
@@ -73,7 +67,7 @@ module _ (buffer : Pending) (commands : List Command) (n : ℕ) (stands : Stands
       (take_at (map entry_of first) (map entry_of rest) cut.whole (length-map first entry_of ∙ count)) in
       taken_away buffer commands (RemoveBytes n) stands unclosed true (assumption) Success cut.rest cut.whole gone first
       rest fresh count rows_are held each effect_is
-      (moments_of_sent first gone behind left (moments_of_skipped cut.rest passed rest fresh)) accepted
+      (moments_of_sent first gone behind left (moments_of_skipped cut.rest passed rest fresh)) found.0
       (ap Count (sym whole_is)) (ap (entry_settlements Success (front_id buffer)) line_is)
 
   split_each : (xs ys : List Row) → AllByRecursion IsStanding (xs ++ ys) →

@@ -1,15 +1,15 @@
 -- A buffer after its close stands for the history with the close.
 use Rattle.ob_seq.proofs.Words.{◌≡◌, ℕ, suc, false, ltb, List, [], ◌∷◌, ◌++◌, length, map, take, drop, refl, sym, ap}
 use Rattle.ob_seq.proofs.Words.{◌∙◌, cond, append_assoc, append-nil, arith, Option, Some, None, AllByRecursion}
-use Rattle.ob_seq.proofs.Words.{nat_tests, length-map, map-append, Marks, Command, Close, Cause, PromiseState, Refusal}
-use Rattle.ob_seq.proofs.Words.{FlushedLeft, Count, Row, is_unflushed, unflushed, counted_size, total, rows_after}
-use Rattle.ob_seq.proofs.Words.{failed, closed_row, Moment, moment_of, moments_along, outcome_of, refusal_of}
-use Rattle.ob_seq.proofs.Words.{settlement, settlements_from, reply_of, entry_of, Pending, StandsFor, closed_pending}
-use Rattle.ob_seq.proofs.Words.{closing_reply, failures, unflushed_id}
+use Rattle.ob_seq.proofs.Words.{nat_tests, length-map, map-append, Marks, Command, Close, Cause, Refusal, FlushedLeft}
+use Rattle.ob_seq.proofs.Words.{Count, Row, is_unflushed, unflushed, counted_size, total, rows_after, failed}
+use Rattle.ob_seq.proofs.Words.{closed_row, Moment, moment_of, moments_along, outcome_of, refusal_of, settlement}
+use Rattle.ob_seq.proofs.Words.{settlements_from, entry_of, Pending, StandsFor, closed_pending, closing_reply, failures}
+use Rattle.ob_seq.proofs.Words.{unflushed_id}
 use Rattle.std.proofs.lemmas.List.{take_at, drop_at}
 use Rattle.ob_seq.specs.Steps.{closing_step}
 use Rattle.ob_seq.proofs.Failures.{failure}
-use Rattle.ob_seq.proofs.Fronts.{carried, some_front}
+use Rattle.ob_seq.proofs.Fronts.{Carries, carried, rows_of, some_front}
 use Rattle.ob_seq.proofs.Simulation.{Simulates}
 use Rattle.ob_seq.proofs.Held.{Held, held_of, line_count, promise_of, unflushed_id_is, word_by_moments}
 use Rattle.ob_seq.proofs.History.{moments_after}
@@ -23,27 +23,21 @@ closed_gone cause row gone =
     rw (past, ← gone.place)
 
 -- the promise of an unflushed row fails if it waits
-closed_promise : (cause : Cause) (row : Row) → IsFresh row → (closed_row cause row).promise ≡ failed cause row.promise
-closed_promise cause row fresh = rw fresh.place
-
 closed_promises : (cause : Cause) (fresh : List Row) → AllByRecursion IsFresh fresh →
     map promise_of (map (closed_row cause) fresh) ≡ map (failed cause) (map promise_of fresh)
 closed_promises cause [] all = refl
-closed_promises cause (row ∷ fresh) all = rw (closed_promise cause row all.0, closed_promises cause fresh all.1)
+closed_promises cause (row ∷ fresh) all = rw (all.0.place, closed_promises cause fresh all.1)
 
 -- what it settles
-settled_by_state : (cause : Cause) (id : ℕ) (state : PromiseState) →
-    settlement id (outcome_of state) (outcome_of (failed cause state)) ≡ failure cause id state
-settled_by_state cause id state = grind arith
+settled_by_one : (cause : Cause) (id : ℕ) (row : Row) → IsFresh row →
+    settlement id (outcome_of row.promise) (outcome_of (closed_row cause row).promise) ≡ failure cause id row.promise
+settled_by_one cause id row fresh = grind arith
 
 settlements_of_closed : (cause : Cause) (id : ℕ) (fresh : List Row) → AllByRecursion IsFresh fresh →
     settlements_from id fresh (map (closed_row cause) fresh) ≡ failures cause id (map promise_of fresh)
 settlements_of_closed cause id [] all = refl
-settlements_of_closed cause id (row ∷ fresh) all = rw (
-  closed_promise cause row all.0,
-  settled_by_state cause id row.promise,
-  settlements_of_closed cause (suc id) fresh all.1,
-)
+settlements_of_closed cause id (row ∷ fresh) all =
+    rw (settled_by_one cause id row all.0, settlements_of_closed cause (suc id) fresh all.1)
 
 -- a fall without notice leaves the word alone
 silent_step : (marks : Marks) (word size sum : ℕ) → word_step false marks word size 0 sum ≡ word
@@ -54,27 +48,23 @@ silent_word : (cause : Cause) (marks : Marks) (half : ℕ) (fresh passed : List 
     ≡ word_from marks half moments
 silent_word cause marks half [] passed moments = ap (word_from marks half) (append-nil moments)
 silent_word cause marks half (row ∷ fresh) passed moments =
-    let behind = passed ++ closed_row cause row ∷ [] in
-    let sum = total (passed ++ closed_row cause row ∷ fresh) in
+    let next = closed_row cause row in
+    let sum = total (passed ++ next ∷ fresh) in
     let one = moment_of false (counted_size row) 0 sum in
-    ap (word_from marks half)
-    (sym (append_assoc moments one (moments_along false behind fresh (map (closed_row cause) fresh))))
-    ∙ silent_word cause marks half fresh behind (moments ++ one)
+    (rw append_assoc at (silent_word cause marks half fresh (passed ++ next ∷ []) (moments ++ one)))
     ∙ word_from_more false marks half moments (counted_size row) 0 sum
     ∙ silent_step marks (word_from marks half moments) (counted_size row) sum
 
 module _ (cause : Cause) (old : Pending) (commands : List Command) (stands : StandsFor old commands) where
-  abbrev rows : List Row
-  rows = rows_after old.settings.estimate commands
-
   -- a close is refused where something is in line
-  refusal_is : (closing_step cause old).refusal ≡ refusal_of old.settings.estimate rows (Close cause)
+  refusal_is : (closing_step cause old).refusal
+      ≡ refusal_of old.settings.estimate (rows_after old.settings.estimate commands) (Close cause)
   refusal_is = rw (some_front old commands stands)
 
   module _ (unclosed : old.closed ≡ false) (accepted : (closing_step cause old).refusal ≡ None) where
-    closed_by : (gone standing fresh : List Row) → rows ≡ gone ++ (standing ++ fresh) → Held old gone standing fresh →
-        length standing ≡ 0 → StandsFor (closed_pending cause old) (commands ++ Close cause ∷ [])
-        × (closing_reply cause old ≡ reply_of old.settings commands (Close cause))
+    closed_by : (gone standing fresh : List Row) → rows_of old commands ≡ gone ++ (standing ++ fresh) →
+        Held old gone standing fresh → length standing ≡ 0 →
+        Carries old commands (Close cause) (closed_pending cause old) (closing_reply cause old)
     closed_by gone (row ∷ standing) fresh rows_are held none = absurd (omega arith)
     closed_by gone [] fresh rows_are held none =
         let closed = map (closed_row cause) fresh in
@@ -86,21 +76,13 @@ module _ (cause : Cause) (old : Pending) (commands : List Command) (stands : Sta
         let promises : old.promises ≡ before ++ waiting = held.promises ∙ map-append promise_of gone fresh in
         let left : drop id old.promises ≡ waiting = ap (drop id) promises ∙ drop_at before waiting id size in
         let first : take id old.promises ≡ before = ap (take id) promises ∙ take_at before waiting id size in
-        let new_held : Held (closed_pending cause old) (gone ++ closed) [] [] = record {
-          line = held.line;
-          unflushed = refl;
-          promises = rw (
-            first,
-            left,
-            append-nil (gone ++ closed),
-            map-append promise_of gone closed,
-            closed_promises cause fresh held.all_fresh,
-          );
-          all_gone =
-              each_append IsGone gone closed held.all_gone (all_now_gone (closed_row cause) (λ row. refl) fresh);
-          all_standing = tt;
-          all_fresh = tt;
-        } in
+        let promised : (closed_pending cause old).promises ≡ map promise_of ((gone ++ closed) ++ []) =
+        rw (first, left, append-nil (gone ++ closed), map-append promise_of gone closed)
+        (rw (closed_promises cause fresh held.all_fresh)) in
+        let all_closed = all_now_gone (closed_row cause) (λ row. refl) fresh in
+        let all_gone = each_append IsGone gone closed held.all_gone all_closed in
+        let new_held : Held (closed_pending cause old) (gone ++ closed) [] [] =
+        assumption (held.line, promised, all_gone) in
         let stay = stay_by (closed_row cause) IsGone (closed_gone cause) gone held.all_gone in
         let moments = moments_after old.settings.estimate commands in
         carried old (closed_pending cause old) commands (Close cause) stands unclosed gone fresh closed rows_are
@@ -108,12 +90,11 @@ module _ (cause : Cause) (old : Pending) (commands : List Command) (stands : Sta
         refl (gone ++ closed) [] [] (sym (append-nil (gone ++ closed))) new_held
         (word_by_moments old commands stands
         ∙ sym (silent_word cause old.marks (half_after commands) fresh gone moments))
-        (ap Count (ap length stands.unflushed ∙ length-map (unflushed rows) entry_of))
+        (ap Count (ap length stands.unflushed ∙ length-map (unflushed (rows_of old commands)) entry_of))
         (rw (left, id_is) (sym (settlements_of_closed cause (length gone) fresh held.all_fresh)))
 
     -- the buffer stands for the history with the close, and replies as it does
-    closed_stands : StandsFor (closed_pending cause old) (commands ++ Close cause ∷ [])
-        × (closing_reply cause old ≡ reply_of old.settings commands (Close cause))
+    closed_stands : Carries old commands (Close cause) (closed_pending cause old) (closing_reply cause old)
     closed_stands =
         let layout = layout_of old.settings.estimate commands in
         let held = held_of old commands stands in

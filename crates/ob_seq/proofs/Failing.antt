@@ -1,9 +1,9 @@
 -- A buffer whose line was taken away as failed stands for the history with the failing.
-use Rattle.ob_seq.proofs.Words.{◌≡◌, Bool, false, List, [], ◌∷◌, ◌++◌, length, map, refl, sym, ap, ◌∙◌, append-nil}
-use Rattle.ob_seq.proofs.Words.{length-map, Command, FailFlushed, Cause, Failed, Count, line, rows_after, failed_row}
-use Rattle.ob_seq.proofs.Words.{reply_of, entry_of, Pending, StandsFor, entry_settlements, failing_step, front_id}
-use Rattle.ob_seq.proofs.Words.{front_taken}
+use Rattle.ob_seq.proofs.Words.{◌≡◌, Bool, false, List, [], length, map, refl, sym, ap, ◌∙◌, append-nil, length-map}
+use Rattle.ob_seq.proofs.Words.{Command, FailFlushed, Cause, Failed, Count, line, failed_row, entry_of, Pending}
+use Rattle.ob_seq.proofs.Words.{StandsFor, entry_settlements, failing_step, front_id, front_taken}
 use Rattle.ob_seq.specs.Steps.{failing_reply, line_failed}
+use Rattle.ob_seq.proofs.Fronts.{Carries, rows_of}
 use Rattle.ob_seq.proofs.Held.{held_of, line_count}
 use Rattle.ob_seq.proofs.Order.{layout_of, failed_parts}
 use Rattle.ob_seq.proofs.Removed.{taken_away}
@@ -11,10 +11,9 @@ use Rattle.ob_seq.proofs.Simulation.{Simulates}
 use Rattle.ob_seq.proofs.Times.{settings_of_times}
 
 failed_line : (cause : Cause) (notice : Bool) (old : Pending) (commands : List Command) → StandsFor old commands →
-    old.closed ≡ false → StandsFor (line_failed cause notice old) (commands ++ FailFlushed cause notice ∷ [])
-    × (failing_reply cause notice old ≡ reply_of old.settings commands (FailFlushed cause notice))
+    old.closed ≡ false →
+    Carries old commands (FailFlushed cause notice) (line_failed cause notice old) (failing_reply cause notice old)
 failed_line cause notice old commands stands unclosed =
-    let rows = rows_after old.settings.estimate commands in
     let layout = layout_of old.settings.estimate commands in
     let held = held_of old commands stands in
     let all = append-nil layout.standing in
@@ -24,7 +23,7 @@ failed_line cause notice old commands stands unclosed =
     (length old.line) layout.gone layout.standing [] layout.fresh
     (sym (line_count old layout.gone layout.standing layout.fresh held)) (rw all layout.is) (rw all held)
     layout.all_standing (ap (map (failed_row cause)) layout.is ∙ failed) refl refl
-    (ap Count (ap length stands.line ∙ length-map (line rows) entry_of))
+    (ap Count (ap length stands.line ∙ length-map (line (rows_of old commands)) entry_of))
     (ap (entry_settlements (Failed cause) (front_id old)) held.line)
 
 -- the failing simulates the command

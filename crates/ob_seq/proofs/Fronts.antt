@@ -1,8 +1,8 @@
 -- The front of the rows of a history, and what a command leaves behind rows that it lets stay.
 use Rattle.ob_seq.proofs.Words.{◌≡◌, ◌<◌, Bool, false, List, [], ◌∷◌, ◌++◌, length, ltb, refl, sym, ◌∙◌, cond, arith}
 use Rattle.ob_seq.proofs.Words.{Option, Some, None, is_some, nat_tests, length-map, change_between, Command, PromiseId}
-use Rattle.ob_seq.proofs.Words.{Outcome, Row, is_in_line, front, line, effect, rows_after, moments_along, is_close}
-use Rattle.ob_seq.proofs.Words.{refusal_of, settlements_from, reply_of, entry_of, Pending, StandsFor}
+use Rattle.ob_seq.proofs.Words.{Outcome, Reply, Row, is_in_line, front, line, effect, rows_after, moments_along}
+use Rattle.ob_seq.proofs.Words.{is_close, refusal_of, settlements_from, reply_of, entry_of, Pending, StandsFor}
 use Rattle.ob_types.specs.declared.reply.Answer.{Answer}
 use Rattle.ob_seq.specs.Answer.{answer_of}
 use Rattle.ob_seq.specs.Moment.{gives_notice}
@@ -68,30 +68,36 @@ no_front buffer commands stands none =
     none_by : (found : Option Row) → is_some found ≡ false → found ≡ None
     none_by found fails = grind arith
 
+-- the rows of a history
+abbrev pub rows_of : Pending → List Command → List Row
+rows_of buffer commands = rows_after buffer.settings.estimate commands
+
+-- a buffer stands for the history with one more command, and the reply is the one to it
+abbrev pub Carries : Pending → List Command → Command → Pending → Reply → Type 0
+Carries old commands command new reply =
+    StandsFor new (commands ++ command ∷ []) × (reply ≡ reply_of old.settings commands command)
+
 -- where a buffer holds the rows after one more command and has the word after its moments, it stands for the history
--- with the command, and a reply with its answer and its settlements is the command's
-module _ (old new : Pending) (commands : List Command) (command : Command) (stands : StandsFor old commands)
-    (unclosed : old.closed ≡ false) (same was now : List Row) where
-  abbrev rows : List Row
-  rows = rows_after old.settings.estimate commands
-
-  abbrev after : List Row
-  after = effect old.settings.estimate (rows_after old.settings.estimate commands) command
-
-  pub carried : rows ≡ same ++ was → after ≡ same ++ now → refusal_of old.settings.estimate rows command ≡ None →
-      IsQuiet command → opening new ≡ opening old → new.closed ≡ is_close command →
-      (gone standing fresh : List Row) → same ++ now ≡ gone ++ (standing ++ fresh) → Held new gone standing fresh →
-      new.word ≡ word_from old.marks (half_after commands)
-      (moments_after old.settings.estimate commands ++ moments_along (gives_notice command) same was now) →
-      {answer : Answer} {settled : List (PromiseId × Outcome)} → answer ≡ answer_of rows command →
-      settled ≡ settlements_from (length same) was now → StandsFor new (commands ++ command ∷ [])
-      × (reply_from answer settled (change_between old.word new.word) ≡ reply_of old.settings commands command)
-  carried rows_are after_is accepted quiet opened closed gone standing fresh parts held word answers settles =
-      let notice = gives_notice command in
-      let moments = moments_past rows after same was now rows_are after_is notice in
-      let end = word ∙ word_at_end old commands stands command (moments_along notice same was now) quiet moments in (
-        stands_after old new commands command stands unclosed accepted gone standing fresh opened closed held
-            (after_is ∙ parts) end,
-        same_reply answers (settles ∙ sym (settlements_past rows after same was now rows_are after_is))
-            (rw (end, stands.word) refl),
-      )
+-- with the command, and a reply with its answer and its settlements is the one to it
+pub carried : (old new : Pending) (commands : List Command) (command : Command) → StandsFor old commands →
+    old.closed ≡ false → (same was now : List Row) → rows_of old commands ≡ same ++ was →
+    effect old.settings.estimate (rows_of old commands) command ≡ same ++ now →
+    refusal_of old.settings.estimate (rows_of old commands) command ≡ None → IsQuiet command →
+    opening new ≡ opening old → new.closed ≡ is_close command →
+    (gone standing fresh : List Row) → same ++ now ≡ gone ++ (standing ++ fresh) → Held new gone standing fresh →
+    new.word ≡ word_from old.marks (half_after commands)
+    (moments_after old.settings.estimate commands ++ moments_along (gives_notice command) same was now) →
+    {answer : Answer} {settled : List (PromiseId × Outcome)} → answer ≡ answer_of (rows_of old commands) command →
+    settled ≡ settlements_from (length same) was now →
+    Carries old commands command new (reply_from answer settled (change_between old.word new.word))
+carried old new commands command stands unclosed same was now rows_are after_is accepted quiet opened closed gone
+    standing fresh parts held word answers settles =
+    let notice = gives_notice command in
+    let after = effect old.settings.estimate (rows_of old commands) command in
+    let moments = moments_past (rows_of old commands) after same was now rows_are after_is notice in
+    let settled = settlements_past (rows_of old commands) after same was now rows_are after_is in
+    let end = word ∙ word_at_end old commands stands command (moments_along notice same was now) quiet moments in (
+      stands_after old new commands command stands unclosed accepted gone standing fresh opened closed held
+          (after_is ∙ parts) end,
+      same_reply answers (settles ∙ sym settled) (rw (end, stands.word) refl),
+    )

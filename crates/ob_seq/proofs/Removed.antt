@@ -3,22 +3,21 @@ use Rattle.ob_seq.proofs.Words.{◌≡◌, ℕ, Bool, true, false, List, [], ◌
 use Rattle.ob_seq.proofs.Words.{◌+◌, append_assoc, append-nil, arith, None, is_some, AllByRecursion, nat_tests}
 use Rattle.ob_seq.proofs.Words.{change_between, Estimate, Command, Remove, RemoveWith, Outcome, Success, Failed, Cause}
 use Rattle.ob_seq.proofs.Words.{PromiseId, Yes, Row, front, effect, rows_after, taken_row, with_front, moments_along}
-use Rattle.ob_seq.proofs.Words.{is_close, refusal_of, reply_of, entry_of, Pending, StandsFor, front_taken, front_id}
+use Rattle.ob_seq.proofs.Words.{is_close, refusal_of, entry_of, Pending, StandsFor, front_taken, front_id}
 use Rattle.ob_seq.proofs.Words.{entry_settlement, entry_settlements, times}
 use Rattle.ob_types.specs.declared.reply.Answer.{Answer}
 use Rattle.ob_seq.specs.Answer.{answer_of}
 use Rattle.ob_seq.specs.Moment.{gives_notice}
 use Rattle.ob_seq.specs.Steps.{front_removed, front_skipped, is_first_voided, removal_reply, removal_step}
 use Rattle.ob_seq.proofs.Acceptance.{reply_from}
-use Rattle.ob_seq.proofs.Fronts.{carried, some_front}
+use Rattle.ob_seq.proofs.Fronts.{Carries, carried, rows_of, some_front}
 use Rattle.ob_seq.proofs.Held.{Held, front_id_is, held_of, word_by_moments}
 use Rattle.ob_seq.proofs.History.{moments_after}
 use Rattle.ob_seq.proofs.Marks.{IsQuiet, half_after}
 use Rattle.ob_seq.proofs.Order.{IsStanding, with_front_gone, with_front_fresh, with_front_standing, layout_of}
 use Rattle.ob_seq.proofs.Sent.{all_taken, settlements_of_taken}
 use Rattle.ob_seq.proofs.Simulation.{Simulates}
-use Rattle.ob_seq.proofs.Skipped.{rows_skipped, settlements_of_skipped, skipped_held, skipped_word, skipped_opening}
-use Rattle.ob_seq.proofs.Skipped.{skipped_closed}
+use Rattle.ob_seq.proofs.Skipped.{rows_skipped, settlements_of_skipped, skipped_held, skipped_opening, skipped_same}
 
 -- the command asks nothing of a user bit and does not close, and its falls are with or without notice
 pub record IsPlain (command : Command) (notice : Bool) : Type 0 where
@@ -26,48 +25,42 @@ pub record IsPlain (command : Command) (notice : Bool) : Type 0 where
   pub no_close : is_close command ≡ false
   pub notice_is : gives_notice command ≡ notice
 
--- where a command takes the first rows in line away and skips bytes of the next, the buffer with the same done stands for
--- the history with the command, and the reply that tells what the entries settle is the command's
+-- where a command takes the first rows in line away and skips bytes of the next, so does the buffer, and the reply tells
+-- what those entries settle
 module _ (old : Pending) (commands : List Command) (command : Command) (stands : StandsFor old commands)
     (unclosed : old.closed ≡ false) (notice : Bool) (plain : IsPlain command notice) (outcome : Outcome)
     (skipped count : ℕ) (gone first rest fresh : List Row) where
-  abbrev rows : List Row
-  rows = rows_after old.settings.estimate commands
-
-  abbrev behind : List Row
-  behind = rest ++ fresh
-
-  abbrev taken : List Row
-  taken = map (taken_row outcome) first
-
   abbrev left : List Row
-  left = rows_skipped skipped rest ++ fresh
+  left = map (taken_row outcome) first ++ (rows_skipped skipped rest ++ fresh)
 
   abbrev after : Pending
   after = front_skipped skipped (times count (front_taken notice outcome) old)
 
-  pub taken_away : length first ≡ count → rows ≡ gone ++ ((first ++ rest) ++ fresh) →
+  pub taken_away : length first ≡ count → rows_of old commands ≡ gone ++ ((first ++ rest) ++ fresh) →
       Held old gone (first ++ rest) fresh → AllByRecursion IsStanding first →
-      effect old.settings.estimate rows command ≡ gone ++ (taken ++ left) →
-      moments_along notice gone (first ++ behind) (taken ++ left)
-      ≡ moments_along notice gone (first ++ behind) (taken ++ behind) →
-      refusal_of old.settings.estimate rows command ≡ None →
-      {answer : Answer} {settled : List (PromiseId × Outcome)} → answer ≡ answer_of rows command →
-      settled ≡ entry_settlements outcome (front_id old) (map entry_of first) → StandsFor after (commands ++ command ∷ [])
-      × (reply_from answer settled (change_between old.word after.word) ≡ reply_of old.settings commands command)
+      effect old.settings.estimate (rows_of old commands) command ≡ gone ++ left →
+      moments_along notice gone (first ++ (rest ++ fresh)) left
+      ≡ moments_along notice gone (first ++ (rest ++ fresh)) (map (taken_row outcome) first ++ (rest ++ fresh)) →
+      refusal_of old.settings.estimate (rows_of old commands) command ≡ None →
+      {answer : Answer} {settled : List (PromiseId × Outcome)} → answer ≡ answer_of (rows_of old commands) command →
+      settled ≡ entry_settlements outcome (front_id old) (map entry_of first) →
+      Carries old commands command after (reply_from answer settled (change_between old.word after.word))
   taken_away size rows_are held each effect_is alike accepted answers settles =
+      let taken = map (taken_row outcome) first in
+      let behind = rest ++ fresh in
+      let now = rows_skipped skipped rest in
       let shorter = times count (front_taken notice outcome) old in
       let nothing = settlements_of_skipped skipped (length gone + length first) rest fresh in
-      let settled = settlements_of_taken outcome (length gone) first behind left each nothing in
+      let settled = settlements_of_taken outcome (length gone) first behind (now ++ fresh) each nothing in
       let all = rw size at (all_taken notice outcome first old gone rest fresh (half_after commands)
       (moments_after old.settings.estimate commands) held (word_by_moments old commands stands)) in
-      carried old after commands command stands unclosed gone (first ++ behind) (taken ++ left)
+      let same = skipped_same skipped shorter in
+      carried old after commands command stands unclosed gone (first ++ behind) left
       (rows_are ∙ ap (λ more. gone ++ more) (append_assoc first rest fresh)) effect_is accepted plain.quiet
-      (skipped_opening skipped shorter ∙ all.2)
-      (skipped_closed skipped shorter ∙ all.3 ∙ unclosed ∙ sym plain.no_close)
-      (gone ++ taken) (rows_skipped skipped rest) fresh (sym (append_assoc gone taken left))
+      (skipped_opening skipped shorter ∙ all.2) (same.1 ∙ all.3 ∙ unclosed ∙ sym plain.no_close) (gone ++ taken) now
+      fresh (sym (append_assoc gone taken (now ++ fresh)))
       (skipped_held skipped shorter (gone ++ taken) rest fresh all.0)
-      (skipped_word skipped shorter ∙ all.1 ∙ rw (plain.notice_is, alike) refl) answers
+      (same.0 ∙ all.1 ∙ rw (plain.notice_is, alike) refl) answers
       (settles ∙ rw (front_id_is old gone (first ++ rest) fresh held) (sym settled))
 
 -- the command takes the front away with this outcome
@@ -86,34 +79,30 @@ removal_with cause = assumption
 
 module _ (command : Command) (outcome : Outcome) (is : IsRemoval command outcome) (old : Pending)
     (commands : List Command) (stands : StandsFor old commands) (unclosed : old.closed ≡ false) where
-  abbrev found : List Row
-  found = rows_after old.settings.estimate commands
-
-  by_line : (gone standing fresh : List Row) → found ≡ gone ++ (standing ++ fresh) → Held old gone standing fresh →
-      StandsFor (front_removed outcome old) (commands ++ command ∷ [])
-      × (removal_reply outcome old ≡ reply_of old.settings commands command)
+  by_line : (gone standing fresh : List Row) → rows_of old commands ≡ gone ++ (standing ++ fresh) →
+      Held old gone standing fresh →
+      Carries old commands command (front_removed outcome old) (removal_reply outcome old)
   by_line gone [] fresh rows_are held =
       let none : ltb 0 (length old.line) ≡ false = rw held.line in
       let change = taken_row outcome in
+      let front = with_front_fresh change fresh held.all_fresh in
       rw none (taken_away old commands command stands unclosed true is.plain outcome 0 0 gone [] [] fresh refl rows_are
-      held tt (is.effect_is old.settings.estimate found
-      ∙ rw (rows_are, with_front_gone change gone fresh held.all_gone, with_front_fresh change fresh held.all_fresh) refl)
-      refl (is.accepted old.settings.estimate found)
-      (sym (is.answer found ∙ ap Yes (some_front old commands stands ∙ none))) refl)
+      held tt (is.effect_is old.settings.estimate (rows_of old commands)
+      ∙ rw (rows_are, with_front_gone change gone fresh held.all_gone, front) refl) refl
+      (is.accepted old.settings.estimate (rows_of old commands))
+      (sym (is.answer (rows_of old commands) ∙ ap Yes (some_front old commands stands ∙ none))) refl)
   by_line gone (row ∷ standing) fresh rows_are held =
       let some : ltb 0 (length old.line) ≡ true = rw held.line (grind (arith, nat_tests)) in
       let change = taken_row outcome in
-      let behind = standing ++ fresh in
-      let front = with_front_standing change row behind held.all_standing.0 in
+      let front = with_front_standing change row (standing ++ fresh) held.all_standing.0 in
       rw some (taken_away old commands command stands unclosed true is.plain outcome 0 1 gone (row ∷ []) standing fresh
-      refl rows_are held (held.all_standing.0, tt) (is.effect_is old.settings.estimate found
-      ∙ rw (rows_are, with_front_gone change gone (row ∷ behind) held.all_gone, front) refl)
-      refl (is.accepted old.settings.estimate found)
-      (sym (is.answer found ∙ ap Yes (some_front old commands stands ∙ some)))
+      refl rows_are held (held.all_standing.0, tt) (is.effect_is old.settings.estimate (rows_of old commands)
+      ∙ rw (rows_are, with_front_gone change gone (row ∷ (standing ++ fresh)) held.all_gone, front) refl) refl
+      (is.accepted old.settings.estimate (rows_of old commands))
+      (sym (is.answer (rows_of old commands) ∙ ap Yes (some_front old commands stands ∙ some)))
       (rw (append-nil (entry_settlement outcome (front_id old) (entry_of row)), ap is_first_voided held.line) refl))
 
-  removed : StandsFor (front_removed outcome old) (commands ++ command ∷ [])
-      × (removal_reply outcome old ≡ reply_of old.settings commands command)
+  removed : Carries old commands command (front_removed outcome old) (removal_reply outcome old)
   removed =
       let layout = layout_of old.settings.estimate commands in
       by_line layout.gone layout.standing layout.fresh layout.is (held_of old commands stands)

@@ -1,12 +1,12 @@
 -- Bytes skipped in the front: the rows and the entries of a buffer change alike.
-use Rattle.ob_seq.proofs.Words.{◌≡◌, ℕ, suc, ◌+◌, Bool, true, List, [], ◌∷◌, ◌++◌, ap, ◌∙◌, cond, ltb, arith}
+use Rattle.ob_seq.proofs.Words.{◌≡◌, ℕ, ◌+◌, Bool, true, List, [], ◌∷◌, ◌++◌, map, ap, ◌∙◌, cond, ltb, arith}
 use Rattle.ob_seq.proofs.Words.{AllByRecursion, map-append, Message, Block, entry_of, Row, is_voided, without_skipped}
-use Rattle.ob_seq.proofs.Words.{counted_size, total, skipped_row, with_front, with_skipped, moments_along, outcome_of}
+use Rattle.ob_seq.proofs.Words.{counted_size, total, skipped_row, with_front, with_skipped, moments_along}
 use Rattle.ob_seq.proofs.Words.{settlements_from, Pending, first_changed, front_changed}
 use Rattle.std.proofs.Math.Seq.{drop-nil}
 use Rattle.std.proofs.lemmas.List.{drop-drop}
 use Rattle.ob_seq.specs.Steps.{front_skipped, skipped_entry}
-use Rattle.ob_seq.proofs.Along.{moment_of_same, moments_behind, settlement_same, settlements_behind}
+use Rattle.ob_seq.proofs.Along.{moment_of_same, moments_behind, settlements_behind}
 use Rattle.ob_seq.proofs.Held.{Held, promise_of, opening}
 use Rattle.ob_seq.proofs.Order.{IsGone, IsStanding, IsFresh, skipped_stands, with_front_gone, with_front_standing}
 use Rattle.ob_seq.proofs.Order.{with_front_fresh}
@@ -46,65 +46,45 @@ module _ (n : ℕ) (gone fresh : List Row) (all_gone : AllByRecursion IsGone gon
   with_skipped_is rest all = let front = front_of rest all in grind arith
 
 -- no count changes, and no promise
-first_moments : (n : ℕ) (passed rest fresh : List Row) →
-    moments_along true passed (rest ++ fresh) (first_skipped n rest ++ fresh) ≡ []
-first_moments n passed [] fresh = moments_behind true passed fresh
-first_moments n passed (row ∷ rest) fresh =
-    let next = skipped_row n row in
-    let sum = total (passed ++ next ∷ (rest ++ fresh)) in
-    rw (moment_of_same true (counted_size row) sum) (moments_behind true (passed ++ next ∷ []) (rest ++ fresh))
-
 pub moments_of_skipped : (n : ℕ) (passed rest fresh : List Row) →
     moments_along true passed (rest ++ fresh) (rows_skipped n rest ++ fresh) ≡ []
-moments_of_skipped n passed rest fresh =
-    let some = first_moments n passed rest fresh in
-    let none = moments_behind true passed (rest ++ fresh) in
+moments_of_skipped n passed [] fresh = let none = moments_behind true passed fresh in grind arith
+moments_of_skipped n passed (row ∷ rest) fresh =
+    let next = skipped_row n row in
+    let same = moment_of_same true (counted_size row) (total (passed ++ next ∷ (rest ++ fresh))) in
+    let some : moments_along true passed (row ∷ (rest ++ fresh)) (next ∷ (rest ++ fresh)) ≡ [] =
+    rw same (moments_behind true (passed ++ next ∷ []) (rest ++ fresh)) in
+    let none = moments_behind true passed (row ∷ (rest ++ fresh)) in
     grind arith
-
-first_settlements : (n id : ℕ) (rest fresh : List Row) →
-    settlements_from id (rest ++ fresh) (first_skipped n rest ++ fresh) ≡ []
-first_settlements n id [] fresh = settlements_behind id fresh
-first_settlements n id (row ∷ rest) fresh =
-    rw (settlement_same id (outcome_of row.promise)) (settlements_behind (suc id) (rest ++ fresh))
 
 pub settlements_of_skipped : (n id : ℕ) (rest fresh : List Row) →
     settlements_from id (rest ++ fresh) (rows_skipped n rest ++ fresh) ≡ []
-settlements_of_skipped n id rest fresh =
-    let some = first_settlements n id rest fresh in
-    let none = settlements_behind id (rest ++ fresh) in
-    grind arith
-
-first_held : (n : ℕ) (buffer : Pending) (gone rest fresh : List Row) → Held buffer gone rest fresh →
-    Held (front_changed (skipped_entry n) buffer) gone (first_skipped n rest) fresh
-first_held n buffer gone [] fresh held = record {
-  line = ap (first_changed (skipped_entry n)) held.line;
-  unflushed = held.unflushed;
-  promises = held.promises;
-  all_gone = held.all_gone;
-  all_standing = tt;
-  all_fresh = held.all_fresh;
-}
-first_held n buffer gone (row ∷ rest) fresh held = record {
-  line = rw (held.line, skipped_entry_is n row);
-  unflushed = held.unflushed;
-  promises = rw (map-append promise_of gone (skipped_row n row ∷ (rest ++ fresh)))
-      (held.promises ∙ map-append promise_of gone (row ∷ (rest ++ fresh)));
-  all_gone = held.all_gone;
-  all_standing = (skipped_stands n row held.all_standing.0, held.all_standing.1);
-  all_fresh = held.all_fresh;
-}
+settlements_of_skipped n id [] fresh = let none = settlements_behind id fresh in grind arith
+settlements_of_skipped n id (row ∷ rest) fresh =
+    let none = settlements_behind id (row ∷ (rest ++ fresh)) in grind arith
 
 -- what the buffer holds
 pub skipped_held : (n : ℕ) (buffer : Pending) (gone rest fresh : List Row) → Held buffer gone rest fresh →
     Held (front_skipped n buffer) gone (rows_skipped n rest) fresh
-skipped_held n buffer gone rest fresh held = let first = first_held n buffer gone rest fresh held in grind arith
+skipped_held n buffer gone [] fresh held =
+    let first : Held (front_changed (skipped_entry n) buffer) gone [] fresh =
+    assumption (held, ap (first_changed (skipped_entry n)) held.line) in
+    grind arith
+skipped_held n buffer gone (row ∷ rest) fresh held =
+    let next = skipped_row n row in
+    let line : first_changed (skipped_entry n) buffer.line ≡ map entry_of (next ∷ rest) =
+    rw (held.line, skipped_entry_is n row) in
+    let promises : buffer.promises ≡ map promise_of (gone ++ next ∷ (rest ++ fresh)) =
+    rw (map-append promise_of gone (next ∷ (rest ++ fresh)))
+    (held.promises ∙ map-append promise_of gone (row ∷ (rest ++ fresh))) in
+    let first : Held (front_changed (skipped_entry n) buffer) gone (next ∷ rest) fresh =
+    assumption (held, line, promises, skipped_stands n row held.all_standing.0) in
+    grind arith
 
--- its word, its settings and its marks stay, and whether it is closed
-pub skipped_word : (n : ℕ) (buffer : Pending) → (front_skipped n buffer).word ≡ buffer.word
-skipped_word n buffer = grind arith
-
+-- all else stays
 pub skipped_opening : (n : ℕ) (buffer : Pending) → opening (front_skipped n buffer) ≡ opening buffer
 skipped_opening n buffer = grind arith
 
-pub skipped_closed : (n : ℕ) (buffer : Pending) → (front_skipped n buffer).closed ≡ buffer.closed
-skipped_closed n buffer = grind arith
+pub skipped_same : (n : ℕ) (buffer : Pending) →
+    (front_skipped n buffer).word ≡ buffer.word × (front_skipped n buffer).closed ≡ buffer.closed
+skipped_same n buffer = grind arith
