@@ -3,13 +3,13 @@ use Rattle.ob_seq.proofs.Words.{arith, ◌≡◌, ℕ, ◌-◌, ◌≤◌, Bool,
 use Rattle.ob_seq.proofs.Words.{drop, sym, ap, ◌∙◌, cond, append_assoc, ltb, Option, Some, None, AllByRecursion}
 use Rattle.ob_seq.proofs.Words.{length-take-le, take-append-drop, map-append, length-map, RemoveBytes, Success, Refusal}
 use Rattle.ob_seq.proofs.Words.{TooManyBytes, Count, Cut, Row, line, bytes_in, blocks_in_front, byte_run, whole_rows}
-use Rattle.ob_seq.proofs.Words.{bytes_left_over, effect, rows_after, taken_row, refusal_of, reply_of, blocks_left}
-use Rattle.ob_seq.proofs.Words.{entry_of, Pending, StandsFor, bytes_reply, cut_of, front_id, whole_cut}
-use Rattle.ob_seq.proofs.Words.{entry_settlements, Command}
+use Rattle.ob_seq.proofs.Words.{bytes_left_over, effect, rows_after, taken_row, reply_of, blocks_left, entry_of}
+use Rattle.ob_seq.proofs.Words.{Pending, StandsFor, bytes_reply, cut_of, front_id, whole_cut, entry_settlements}
+use Rattle.ob_seq.proofs.Words.{Command}
 use Rattle.std.proofs.lemmas.List.{take_at}
 use Rattle.std.proofs.lemmas.Simd.{map-map}
 use Rattle.ob_seq.specs.Steps.{bytes_removed}
-use Rattle.ob_seq.proofs.Fronts.{Carries}
+use Rattle.ob_seq.proofs.Fronts.{Carries, rows_of}
 use Rattle.ob_seq.proofs.Held.{Held, held_of, line_count}
 use Rattle.ob_seq.proofs.Order.{IsGone, IsStanding, each_append, layout_of}
 use Rattle.ob_seq.proofs.Removed.{taken_away}
@@ -28,29 +28,25 @@ accepted_by : (few : Bool) (cut found : Cut) → (let one : Option Cut = cond fe
     (let refusal : Option Refusal = cond few (Some TooManyBytes) None in refusal ≡ None) × (cut ≡ found)
 accepted_by few cut found some = grind arith
 
+split_each : (xs ys : List Row) → AllByRecursion IsStanding (xs ++ ys) →
+    AllByRecursion IsStanding xs × AllByRecursion IsStanding ys
+split_each [] ys all = (tt, all)
+split_each (x ∷ xs) ys all = let rest = split_each xs ys all.1 in ((all.0, rest.0), rest.1)
+
 module _ (buffer : Pending) (commands : List Command) (n : ℕ) (stands : StandsFor buffer commands) (cut : Cut)
     (is : cut_of n (blocks_left buffer.line) ≡ Some cut) where
-  abbrev rows : List Row
-  rows = rows_after buffer.settings.estimate commands
-
-  found : (refusal_of buffer.settings.estimate rows (RemoveBytes n) ≡ None) × (whole_cut n (byte_run rows) ≡ cut)
-  found =
+  removed_by : (gone first rest fresh : List Row) → rows_of buffer commands ≡ gone ++ ((first ++ rest) ++ fresh) →
+      Held buffer gone (first ++ rest) fresh → length first ≡ cut.whole → buffer.closed ≡ false →
+      Carries buffer commands (RemoveBytes n) (bytes_removed cut buffer) (bytes_reply cut buffer)
+  removed_by gone first rest fresh rows_are held count unclosed =
+      let rows = rows_of buffer commands in
       let run = run_is buffer commands stands in
       let pieces = blocks_left buffer.line in
-      let one = accepted_by (ltb (bytes_in pieces) n) (whole_cut n pieces) cut is in
-      (rw run one.0, ap (whole_cut n) run ∙ one.1)
-
-  whole_is : whole_rows n rows ≡ cut.whole
-  whole_is = ap (λ (c : Cut). c.whole) found.1
-
-  rest_is : bytes_left_over n rows ≡ cut.rest
-  rest_is = ap (λ (c : Cut). c.rest) found.1
-
-  removed_by : (gone first rest fresh : List Row) → rows ≡ gone ++ ((first ++ rest) ++ fresh) →
-      Held buffer gone (first ++ rest) fresh → length first ≡ cut.whole → AllByRecursion IsStanding first →
-      AllByRecursion IsStanding rest → buffer.closed ≡ false →
-      Carries buffer commands (RemoveBytes n) (bytes_removed cut buffer) (bytes_reply cut buffer)
-  removed_by gone first rest fresh rows_are held count each standing unclosed =
+      let found = accepted_by (ltb (bytes_in pieces) n) (whole_cut n pieces) cut is in
+      let cut_is : whole_cut n (byte_run rows) ≡ cut = ap (whole_cut n) run ∙ found.1 in
+      let whole_is : whole_rows n rows ≡ cut.whole = ap (λ (c : Cut). c.whole) cut_is in
+      let rest_is : bytes_left_over n rows ≡ cut.rest = ap (λ (c : Cut). c.rest) cut_is in
+      let each = split_each first rest held.all_standing in
       let sent = map (taken_row Success) first in
       let passed = gone ++ sent in
       let behind = rest ++ fresh in
@@ -59,21 +55,16 @@ module _ (buffer : Pending) (commands : List Command) (n : ℕ) (stands : Stands
       let split : rows ≡ gone ++ (first ++ behind) =
       rows_are ∙ ap (λ more. gone ++ more) (append_assoc first rest fresh) in
       let effect_is : effect buffer.settings.estimate rows (RemoveBytes n) ≡ gone ++ (sent ++ left) =
-      let sent_is = with_first_sent first gone behind held.all_gone each in
+      let sent_is = with_first_sent first gone behind held.all_gone each.0 in
       rw (rest_is, whole_is, ← count, split, sent_is, ← append_assoc gone sent behind)
-      (with_skipped_is cut.rest passed fresh all_passed held.all_fresh rest standing ∙ append_assoc gone sent left) in
+      (with_skipped_is cut.rest passed fresh all_passed held.all_fresh rest each.1 ∙ append_assoc gone sent left) in
       let line_is : take cut.whole buffer.line ≡ map entry_of first =
       rw (held.line, map-append entry_of first rest)
       (take_at (map entry_of first) (map entry_of rest) cut.whole (length-map first entry_of ∙ count)) in
       taken_away buffer commands (RemoveBytes n) stands unclosed true (assumption) Success cut.rest cut.whole gone first
-      rest fresh count rows_are held each effect_is
-      (moments_of_sent first gone behind left (moments_of_skipped cut.rest passed rest fresh)) found.0
+      rest fresh count rows_are held each.0 effect_is
+      (moments_of_sent first gone behind left (moments_of_skipped cut.rest passed rest fresh)) (rw run found.0)
       (ap Count (sym whole_is)) (ap (entry_settlements Success (front_id buffer)) line_is)
-
-  split_each : (xs ys : List Row) → AllByRecursion IsStanding (xs ++ ys) →
-      AllByRecursion IsStanding xs × AllByRecursion IsStanding ys
-  split_each [] ys all = (tt, all)
-  split_each (x ∷ xs) ys all = let rest = split_each xs ys all.1 in ((all.0, rest.0), rest.1)
 
   -- the buffer stands for the history with the removal, and replies as it does
   pub bytes_removed_stand : buffer.closed ≡ false → cut.whole ≤ length buffer.line →
@@ -86,6 +77,5 @@ module _ (buffer : Pending) (commands : List Command) (n : ℕ) (stands : Stands
       let first = take cut.whole layout.standing in
       let rest = drop cut.whole layout.standing in
       let parts : first ++ rest ≡ layout.standing = take-append-drop cut.whole layout.standing in
-      let each = split_each first rest (rw parts layout.all_standing) in
       removed_by layout.gone first rest layout.fresh (rw parts layout.is) (rw parts held)
-      (length-take-le cut.whole layout.standing (omega arith)) each.0 each.1 unclosed
+      (length-take-le cut.whole layout.standing (omega arith)) unclosed

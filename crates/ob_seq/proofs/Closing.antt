@@ -1,11 +1,10 @@
 -- A buffer after its close stands for the history with the close.
-use Rattle.ob_seq.proofs.Words.{◌≡◌, ℕ, suc, false, ltb, List, [], ◌∷◌, ◌++◌, length, map, take, drop, refl, sym, ap}
-use Rattle.ob_seq.proofs.Words.{◌∙◌, cond, append_assoc, append-nil, arith, Option, Some, None, AllByRecursion}
-use Rattle.ob_seq.proofs.Words.{nat_tests, length-map, map-append, Marks, Command, Close, Cause, Refusal, FlushedLeft}
-use Rattle.ob_seq.proofs.Words.{Count, Row, is_unflushed, unflushed, counted_size, total, rows_after, failed}
-use Rattle.ob_seq.proofs.Words.{closed_row, Moment, moment_of, moments_along, outcome_of, refusal_of, settlement}
-use Rattle.ob_seq.proofs.Words.{settlements_from, entry_of, Pending, StandsFor, closed_pending, closing_reply, failures}
-use Rattle.ob_seq.proofs.Words.{unflushed_id}
+use Rattle.ob_seq.proofs.Words.{◌≡◌, ℕ, suc, false, List, [], ◌∷◌, ◌++◌, length, map, take, drop, refl, sym, ap, ◌∙◌}
+use Rattle.ob_seq.proofs.Words.{append_assoc, append-nil, arith, None, AllByRecursion, nat_tests, length-map}
+use Rattle.ob_seq.proofs.Words.{map-append, Marks, Command, Close, Cause, Count, Row, is_unflushed, unflushed}
+use Rattle.ob_seq.proofs.Words.{counted_size, total, rows_after, failed, closed_row, Moment, moment_of, moments_along}
+use Rattle.ob_seq.proofs.Words.{outcome_of, refusal_of, settlement, settlements_from, entry_of, Pending, StandsFor}
+use Rattle.ob_seq.proofs.Words.{closed_pending, closing_reply, failures, unflushed_id}
 use Rattle.std.proofs.lemmas.List.{take_at, drop_at}
 use Rattle.ob_seq.specs.Steps.{closing_step}
 use Rattle.ob_seq.proofs.Failures.{failure}
@@ -98,12 +97,9 @@ module _ (cause : Cause) (old : Pending) (commands : List Command) (stands : Sta
     closed_stands =
         let layout = layout_of old.settings.estimate commands in
         let held = held_of old commands stands in
+        let nothing : length old.line ≡ 0 = grind (arith, nat_tests) in
         closed_by layout.gone layout.standing layout.fresh layout.is held
-        (sym (line_count old layout.gone layout.standing layout.fresh held) ∙ empty (length old.line) accepted)
-      where
-        empty : (count : ℕ) →
-            (let refusal : Option Refusal = cond (ltb 0 count) (Some FlushedLeft) None in refusal) ≡ None → count ≡ 0
-        empty count none = grind (arith, nat_tests)
+        (sym (line_count old layout.gone layout.standing layout.fresh held) ∙ nothing)
 
 -- the close simulates the command
 pub closing_simulates : (cause : Cause) (old : Pending) → Simulates (Close cause) old (closing_step cause old)

@@ -1,6 +1,6 @@
 -- What is settled along a list, one id after another; what entries settle when they are taken away.
-use Rattle.ob_seq.proofs.Words.{◌≡◌, ℕ, suc, ◌+◌, ◌<◌, ◌≤◌, Bool, not, List, [], ◌∷◌, ◌++◌, length, take, drop, get_or}
-use Rattle.ob_seq.proofs.Words.{sym, ap, cond, append_assoc, append-nil, length-append, add-zero, arith, count_by}
+use Rattle.ob_seq.proofs.Words.{◌≡◌, ℕ, suc, ◌+◌, ◌<◌, Bool, not, List, [], ◌∷◌, ◌++◌, length, take, drop, get_or, sym}
+use Rattle.ob_seq.proofs.Words.{◌∙◌, ap, cond, append_assoc, append-nil, length-append, add-zero, arith, count_by}
 use Rattle.ob_seq.proofs.Words.{length-take-le, take_more, take-append-drop, sum_by-cons, PromiseId, Outcome}
 use Rattle.ob_seq.proofs.Words.{PendingEntry, entry_settlement, entry_settlements}
 use Rattle.std.proofs.lemmas.List.{take-take}
@@ -27,18 +27,16 @@ module _ {A : Type 0} {one : ℕ → A → List (PromiseId × Outcome)} {all : �
       rw (take_more xs i d inside, ← read, append id (take i xs) (x ∷ []), size, is.more (id + i) x [])
       (rw (is.none (suc (id + i)), append-nil (one (id + i) x)))
 
-  -- fewer elements settle no more, and less where one that is left out settles a promise
-  settled_few : (id n : ℕ) (xs : List A) → length (all id (take n xs)) ≤ length (all id xs)
-  settled_few id n xs =
-      let whole = rw take-append-drop at (append id (take n xs) (drop n xs)) in
-      let behind = all (id + length (take n xs)) (drop n xs) in
-      omega (arith, ap length whole, length-append (all id (take n xs)) behind)
-
+  -- fewer elements settle fewer promises, where one that is left out settles one
   pub settled_room : (id : ℕ) (xs : List A) (i m : ℕ) (x d : A) → i < m → i < length xs → x ≡ get_or xs i d →
       length (one (id + i) x) ≡ 1 → length (all id (take i xs)) < length (all id (take m xs))
   settled_room id xs i m x d before inside read single =
       let more = settled_more id xs i x d inside read in
-      let few = rw (take-take (i + 1) m xs (omega arith)) at (settled_few id (i + 1) (take m xs)) in
+      let first = take (i + 1) (take m xs) in
+      let behind = drop (i + 1) (take m xs) in
+      let whole = rw take-append-drop at (append id first behind) in
+      let fewer = take-take (i + 1) m xs (omega arith) in
+      let both = rw fewer at (ap length whole ∙ length-append (all id first) (all (id + length first) behind)) in
       omega (arith, ap length more, length-append (all id (take i xs)) (one (id + i) x))
 
   -- as many promises as elements that settle theirs

@@ -1,9 +1,10 @@
 -- Promises that fail if they still wait, and what they settle.
 use Rattle.ob_seq.proofs.Words.{◌≡◌, ℕ, ◌+◌, ◌-◌, ◌<◌, ◌≤◌, Bool, List, [], ◌∷◌, ◌++◌, length, map, take, drop, get_or}
-use Rattle.ob_seq.proofs.Words.{refl, ◌∙◌, cond, append_assoc, length-append, arith, count_by, slice_set}
-use Rattle.ob_seq.proofs.Words.{length-take-le, length-map, Cause, PromiseId, Outcome, Failed, PromiseState, Waiting}
-use Rattle.ob_seq.proofs.Words.{Settled, is_waiting, failed, failures}
-use Rattle.std.proofs.lemmas.List.{drop_more, get_or_at, length-drop, map_more, set_at}
+use Rattle.ob_seq.proofs.Words.{refl, cond, length-append, arith, count_by, slice_set, length-take-le, length-map}
+use Rattle.ob_seq.proofs.Words.{Cause, PromiseId, Outcome, Failed, PromiseState, Waiting, Settled, is_waiting, failed}
+use Rattle.ob_seq.proofs.Words.{failures, take-append-drop}
+use Rattle.std.proofs.lemmas.List.{get_or-append_right, get_or_default, length-drop, set-append_right}
+use Rattle.std.proofs.lemmas.List.Edits.{map_over_more}
 use Rattle.ob_seq.proofs.EntrySettlements.{SettlesEach, settled_count}
 
 -- what one promise settles
@@ -34,26 +35,21 @@ pub one_more_failed : (cause : Cause) (old now : List PromiseState) (first id : 
     now ≡ failed_up_to first (id - first) cause old →
     slice_set now id (failed cause (get_or now id Waiting)) ≡ failed_up_to first (id + 1 - first) cause old
 one_more_failed cause old now first id past inside is =
+    let before = take first old in
     let rest = drop first old in
     let count = id - first in
+    let more = map (failed cause) (take count rest) ++ drop count rest in
+    let state = get_or more count Waiting in
     let left = length-drop first old in
-    let within : count < length rest = omega arith in
-    let state = get_or rest count Waiting in
-    let behind = drop (count + 1) rest in
-    let passed = map (failed cause) (take count rest) in
-    let before = take first old ++ passed in
-    let first_size = length-take-le first old (omega arith) in
-    let passed_size = length-map (take count rest) (failed cause) ∙ length-take-le count rest (omega arith) in
-    let size : length before ≡ id = omega (arith, length-append (take first old) passed) in
-    let more : id + 1 - first ≡ count + 1 = omega arith in
-    let now_is : now ≡ before ++ state ∷ behind =
-    is ∙ rw (drop_more rest count Waiting within, append_assoc (take first old) passed (state ∷ behind)) refl in
-    rw (
-      now_is,
-      get_or_at before state behind Waiting id size,
-      set_at before state behind (failed cause state) id size,
-      more,
-      map_more (failed cause) rest count Waiting within,
-      append_assoc (take first old) passed (failed cause state ∷ behind),
-      append_assoc passed (failed cause state ∷ []) behind,
-    )
+    let size = length-take-le first old (omega arith) in
+    let whole : length more ≡ length rest = rw (
+      length-append (map (failed cause) (take count rest)) (drop count rest),
+      length-map (take count rest) (failed cause),
+      ← length-append (take count rest) (drop count rest),
+      take-append-drop count rest,
+    ) in
+    let read = get_or_default more count Waiting state (omega arith) in
+    let step = map_over_more (failed cause) rest more count state (omega arith) refl read in
+    let next : id + 1 - first ≡ count + 1 = omega arith in
+    rw (is, get_or-append_right before more first id Waiting size past, next, ← step)
+    (set-append_right before more first id (failed cause state) size past)

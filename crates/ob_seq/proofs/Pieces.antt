@@ -34,9 +34,8 @@ fitting_step piece bytes limit k fit is = grind (arith, nat_tests)
 
 fitting_is : (limit : ℕ) (pieces : List (List ℕ)) (k : ℕ) → k ≤ length pieces →
     leb (bytes_in (take k pieces)) limit ≡ leb k (fitting limit pieces)
-fitting_is limit [] zero few = grind (arith, nat_tests)
+fitting_is limit pieces zero few = grind (arith, nat_tests)
 fitting_is limit [] (suc k) few = absurd (omega arith)
-fitting_is limit (piece ∷ pieces) zero few = grind (arith, nat_tests)
 fitting_is limit (piece ∷ pieces) (suc k) few =
     let rest = fitting_is (limit - length piece) pieces k (omega arith) in
     rw (sum_by-cons (λ p. length p) piece (take k pieces))

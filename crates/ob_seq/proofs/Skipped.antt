@@ -1,12 +1,12 @@
 -- Bytes skipped in the front: the rows and the entries of a buffer change alike.
 use Rattle.ob_seq.proofs.Words.{◌≡◌, ℕ, ◌+◌, Bool, true, List, [], ◌∷◌, ◌++◌, map, ap, ◌∙◌, cond, ltb, arith}
 use Rattle.ob_seq.proofs.Words.{AllByRecursion, map-append, Message, Block, entry_of, Row, is_voided, without_skipped}
-use Rattle.ob_seq.proofs.Words.{counted_size, total, skipped_row, with_front, with_skipped, moments_along}
-use Rattle.ob_seq.proofs.Words.{settlements_from, Pending, first_changed, front_changed}
+use Rattle.ob_seq.proofs.Words.{nat_tests, skipped_row, with_skipped, moments_along, settlements_from, Pending}
+use Rattle.ob_seq.proofs.Words.{first_changed, front_changed}
 use Rattle.std.proofs.Math.Seq.{drop-nil}
 use Rattle.std.proofs.lemmas.List.{drop-drop}
 use Rattle.ob_seq.specs.Steps.{front_skipped, skipped_entry}
-use Rattle.ob_seq.proofs.Along.{moment_of_same, moments_behind, settlements_behind}
+use Rattle.ob_seq.proofs.Along.{moments_behind, settlements_behind}
 use Rattle.ob_seq.proofs.Held.{Held, promise_of, opening}
 use Rattle.ob_seq.proofs.Order.{IsGone, IsStanding, IsFresh, skipped_stands, with_front_gone, with_front_standing}
 use Rattle.ob_seq.proofs.Order.{with_front_fresh}
@@ -31,31 +31,26 @@ rows_skipped n rows = cond (ltb 0 n) (first_skipped n rows) rows
 
 module _ (n : ℕ) (gone fresh : List Row) (all_gone : AllByRecursion IsGone gone)
     (all_fresh : AllByRecursion IsFresh fresh) where
-  front_of : (rest : List Row) → AllByRecursion IsStanding rest →
-      with_front (skipped_row n) (gone ++ (rest ++ fresh)) ≡ gone ++ (first_skipped n rest ++ fresh)
-  front_of [] all =
-      rw (with_front_gone (skipped_row n) gone fresh all_gone, with_front_fresh (skipped_row n) fresh all_fresh)
-  front_of (row ∷ rest) all =
-      let behind = rest ++ fresh in
-      let front = with_front_standing (skipped_row n) row behind all.0 in
-      rw (with_front_gone (skipped_row n) gone (row ∷ behind) all_gone, front)
-
   -- the rows of which the front is skipped
   pub with_skipped_is : (rest : List Row) → AllByRecursion IsStanding rest →
       with_skipped n (gone ++ (rest ++ fresh)) ≡ gone ++ (rows_skipped n rest ++ fresh)
-  with_skipped_is rest all = let front = front_of rest all in grind arith
+  with_skipped_is [] all =
+      let past = with_front_gone (skipped_row n) gone fresh all_gone in
+      let none = with_front_fresh (skipped_row n) fresh all_fresh in
+      grind arith
+  with_skipped_is (row ∷ rest) all =
+      let past = with_front_gone (skipped_row n) gone (row ∷ (rest ++ fresh)) all_gone in
+      let front = with_front_standing (skipped_row n) row (rest ++ fresh) all.0 in
+      grind arith
 
 -- no count changes, and no promise
 pub moments_of_skipped : (n : ℕ) (passed rest fresh : List Row) →
     moments_along true passed (rest ++ fresh) (rows_skipped n rest ++ fresh) ≡ []
 moments_of_skipped n passed [] fresh = let none = moments_behind true passed fresh in grind arith
 moments_of_skipped n passed (row ∷ rest) fresh =
-    let next = skipped_row n row in
-    let same = moment_of_same true (counted_size row) (total (passed ++ next ∷ (rest ++ fresh))) in
-    let some : moments_along true passed (row ∷ (rest ++ fresh)) (next ∷ (rest ++ fresh)) ≡ [] =
-    rw same (moments_behind true (passed ++ next ∷ []) (rest ++ fresh)) in
+    let some = moments_behind true (passed ++ skipped_row n row ∷ []) (rest ++ fresh) in
     let none = moments_behind true passed (row ∷ (rest ++ fresh)) in
-    grind arith
+    grind (arith, nat_tests)
 
 pub settlements_of_skipped : (n id : ℕ) (rest fresh : List Row) →
     settlements_from id (rest ++ fresh) (rows_skipped n rest ++ fresh) ≡ []

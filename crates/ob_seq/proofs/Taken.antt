@@ -2,8 +2,8 @@
 use Rattle.ob_seq.proofs.Words.{◌≡◌, ℕ, ◌-◌, Bool, List, [], ◌∷◌, ◌++◌, length, map, drop, refl, sym, ap, ◌∙◌, cond}
 use Rattle.ob_seq.proofs.Words.{append_assoc, arith, slice_set, nat_tests, map-append, length-map, sum_by-append}
 use Rattle.ob_seq.proofs.Words.{sum_by-cons, set-append_seam, Marks, Settled, Outcome, PromiseState, Row, is_voided}
-use Rattle.ob_seq.proofs.Words.{counted_size, total, taken_row, Moment, moment_of, Pending, first_size, front_id}
-use Rattle.ob_seq.proofs.Words.{front_taken, word_after_fall}
+use Rattle.ob_seq.proofs.Words.{counted_size, total, taken_row, Moment, moment_of, Pending, first_size, front_taken}
+use Rattle.ob_seq.proofs.Words.{word_after_fall}
 use Rattle.ob_seq.specs.Steps.{is_first_voided}
 use Rattle.ob_seq.proofs.Held.{Held, promise_of, front_id_is, pending_total_is}
 use Rattle.ob_seq.proofs.Marks.{word_step, word_from, word_from_more}
@@ -34,28 +34,22 @@ module _ (notice : Bool) (outcome : Outcome) (buffer : Pending) (gone : List Row
   abbrev taken : Row
   taken = taken_row outcome row
 
-  id_is : front_id buffer ≡ length (map promise_of gone)
-  id_is = front_id_is buffer gone (row ∷ standing) fresh held ∙ sym (length-map gone promise_of)
-
-  promises_are : buffer.promises ≡ map promise_of gone ++ row.promise ∷ map promise_of (standing ++ fresh)
-  promises_are = held.promises ∙ map-append promise_of gone (row ∷ (standing ++ fresh))
-
   -- what the buffer holds without its front
   pub taken_held : Held (front_taken notice outcome buffer) (gone ++ taken ∷ []) standing fresh
-  taken_held = record {
-    line = ap (drop 1) held.line;
-    unflushed = held.unflushed;
-    promises = rw (
-      id_is,
-      ap is_first_voided held.line,
-      promises_are,
-      append_assoc gone (taken ∷ []) (standing ++ fresh),
-      map-append promise_of gone (taken ∷ (standing ++ fresh)),
-    ) (promises_by row outcome (map promise_of gone) (map promise_of (standing ++ fresh)) held.all_standing.0);
-    all_gone = each_append IsGone gone (taken ∷ []) held.all_gone (record { place = refl }, tt);
-    all_standing = held.all_standing.1;
-    all_fresh = held.all_fresh;
-  }
+  taken_held =
+      let before = map promise_of gone in
+      let behind = map promise_of (standing ++ fresh) in
+      let id = front_id_is buffer gone (row ∷ standing) fresh held ∙ sym (length-map gone promise_of) in
+      let was : buffer.promises ≡ before ++ row.promise ∷ behind =
+      held.promises ∙ map-append promise_of gone (row ∷ (standing ++ fresh)) in
+      let all = append_assoc gone (taken ∷ []) (standing ++ fresh) in
+      let promises : (front_taken notice outcome buffer).promises
+      ≡ map promise_of ((gone ++ taken ∷ []) ++ (standing ++ fresh)) =
+      rw (id, ap is_first_voided held.line, was, all, map-append promise_of gone (taken ∷ (standing ++ fresh)))
+      (promises_by row outcome before behind held.all_standing.0) in
+      let line = ap (drop 1) held.line in
+      let all_gone = each_append IsGone gone (taken ∷ []) held.all_gone (record { place = refl }, tt) in
+      assumption (held, line, promises, all_gone)
 
   -- its word, after the moment of the removal
   pub taken_word : (half : ℕ) (moments : List Moment) → buffer.word ≡ word_from buffer.marks half moments →

@@ -4,28 +4,18 @@ use Rattle.ob_seq.proofs.Words.{bytes_in, settled_by, bytes_reply, front_id, who
 use Rattle.ob_seq.proofs.EntrySettlements.{count_of_settlements}
 use Rattle.ob_seq.proofs.contents.Contents.bytes_settle.Goals as goal
 
--- a removal of bytes settles nothing where no cut is found, and else as many promises as unvoided entries
-module _ (few : Bool) (one : Cut) (now : Pending) where
-  abbrev refusal : Option Refusal
-  refusal = cond few (Some TooManyBytes) None
-
-  abbrev found : Option Cut
-  found = cond few None (Some one)
-
-  none_by : None ≡ found → 0 ≡ length (settled_by (unless_refused refusal (bytes_reply one now)))
-  none_by none = grind arith
-
-  some_by : (cut : Cut) → Some cut ≡ found → count_by (λ (entry : PendingEntry). not entry.voided) (take cut.whole now.line)
-      ≡ length (settled_by (unless_refused refusal (bytes_reply one now)))
-  some_by cut some = let count = count_of_settlements Success (front_id now) (take one.whole now.line) in grind arith
+-- a removal of bytes that finds a cut settles as many promises as unvoided entries
+some_by : (few : Bool) (one cut : Cut) (now : Pending) →
+    (let found : Option Cut = cond few None (Some one) in Some cut ≡ found) →
+    count_by (λ (entry : PendingEntry). not entry.voided) (take cut.whole now.line)
+    ≡ (let refusal : Option Refusal = cond few (Some TooManyBytes) None in
+    length (settled_by (unless_refused refusal (bytes_reply one now))))
+some_by few one cut now some =
+    let count = count_of_settlements Success (front_id now) (take one.whole now.line) in
+    grind arith
 
 pub returns-in-Some : goal.returns-in-Some
 returns-in-Some c =
     let pieces = blocks_left c.args.self.now.line in
-    c.unvoided.ensures ∙ some_by (ltb (bytes_in pieces) c.args.n) (whole_cut c.args.n pieces) c.args.self.now
-    c.in-Some.cut c.in-Some.ensures.value
-
-pub returns-in-None : goal.returns-in-None
-returns-in-None c =
-    let pieces = blocks_left c.args.self.now.line in
-    none_by (ltb (bytes_in pieces) c.args.n) (whole_cut c.args.n pieces) c.args.self.now c.in-None.ensures.value
+    c.unvoided.ensures ∙ some_by (ltb (bytes_in pieces) c.args.n) (whole_cut c.args.n pieces) c.in-Some.cut
+    c.args.self.now c.in-Some.ensures.value
