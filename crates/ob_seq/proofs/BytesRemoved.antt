@@ -1,6 +1,6 @@
 -- A buffer after a removal of bytes stands for the history with the removal.
 use Rattle.ob_seq.proofs.Words.{arith, ◌≡◌, ℕ, ◌-◌, ◌≤◌, Bool, true, false, List, [], ◌∷◌, ◌++◌, length, map, take}
-use Rattle.ob_seq.proofs.Words.{drop, sym, ap, ◌∙◌, cond, append_assoc, ltb, Option, Some, None, AllByRecursion}
+use Rattle.ob_seq.proofs.Words.{refl, drop, sym, ap, ◌∙◌, cond, append_assoc, ltb, Option, Some, None, AllByRecursion}
 use Rattle.ob_seq.proofs.Words.{length-take-le, take-append-drop, map-append, length-map, RemoveBytes, Success, Refusal}
 use Rattle.ob_seq.proofs.Words.{TooManyBytes, Count, Cut, Row, line, bytes_in, blocks_in_front, byte_run, whole_rows}
 use Rattle.ob_seq.proofs.Words.{bytes_left_over, effect, rows_after, taken_row, reply_of, blocks_left, entry_of}
@@ -64,7 +64,7 @@ module _ (buffer : Pending) (commands : List Command) (n : ℕ) (stands : Stands
       taken_away buffer commands (RemoveBytes n) stands unclosed true (assumption) Success cut.rest cut.whole gone first
       rest fresh count rows_are held each.0 effect_is
       (moments_of_sent first gone behind left (moments_of_skipped cut.rest passed rest fresh)) (rw run found.0)
-      (ap Count (sym whole_is)) (ap (entry_settlements Success (front_id buffer)) line_is)
+      (ap Count (sym whole_is)) (ap (entry_settlements Success (front_id buffer)) line_is) refl
 
   -- the buffer stands for the history with the removal, and replies as it does
   pub bytes_removed_stand : buffer.closed ≡ false → cut.whole ≤ length buffer.line →

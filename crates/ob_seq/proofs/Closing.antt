@@ -12,7 +12,7 @@ use Rattle.ob_seq.proofs.Fronts.{Carries, carried, rows_of, some_front}
 use Rattle.ob_seq.proofs.Simulation.{Simulates}
 use Rattle.ob_seq.proofs.Held.{Held, held_of, line_count, promise_of, unflushed_id_is, word_by_moments}
 use Rattle.ob_seq.proofs.History.{moments_after}
-use Rattle.ob_seq.proofs.Marks.{half_after, word_from, word_from_more, word_step}
+use Rattle.ob_seq.proofs.Marks.{half_after, word_from, word_from_more}
 use Rattle.ob_seq.proofs.Order.{IsGone, IsFresh, all_now_gone, each_append, layout_of, stay_by}
 
 -- a close leaves rows alone that are gone
@@ -39,8 +39,10 @@ settlements_of_closed cause id (row ∷ fresh) all =
     rw (settled_by_one cause id row all.0, settlements_of_closed cause (suc id) fresh all.1)
 
 -- a fall without notice leaves the word alone
-silent_step : (marks : Marks) (word size sum : ℕ) → word_step false marks word size 0 sum ≡ word
-silent_step marks word size sum = grind (arith, nat_tests)
+silent_more : (marks : Marks) (half size sum : ℕ) (moments : List Moment) →
+    word_from marks half (moments ++ moment_of false size 0 sum) ≡ word_from marks half moments
+silent_more marks half size sum moments =
+    rw (word_from_more false marks half moments size 0 sum) (grind (arith, nat_tests))
 
 silent_word : (cause : Cause) (marks : Marks) (half : ℕ) (fresh passed : List Row) (moments : List Moment) →
     word_from marks half (moments ++ moments_along false passed fresh (map (closed_row cause) fresh))
@@ -51,8 +53,7 @@ silent_word cause marks half (row ∷ fresh) passed moments =
     let sum = total (passed ++ next ∷ fresh) in
     let one = moment_of false (counted_size row) 0 sum in
     (rw append_assoc at (silent_word cause marks half fresh (passed ++ next ∷ []) (moments ++ one)))
-    ∙ word_from_more false marks half moments (counted_size row) 0 sum
-    ∙ silent_step marks (word_from marks half moments) (counted_size row) sum
+    ∙ silent_more marks half (counted_size row) sum moments
 
 module _ (cause : Cause) (old : Pending) (commands : List Command) (stands : StandsFor old commands) where
   -- a close is refused where something is in line
@@ -90,7 +91,7 @@ module _ (cause : Cause) (old : Pending) (commands : List Command) (stands : Sta
         (word_by_moments old commands stands
         ∙ sym (silent_word cause old.marks (half_after commands) fresh gone moments))
         (ap Count (ap length stands.unflushed ∙ length-map (unflushed (rows_of old commands)) entry_of))
-        (rw (left, id_is) (sym (settlements_of_closed cause (length gone) fresh held.all_fresh)))
+        (rw (left, id_is) (sym (settlements_of_closed cause (length gone) fresh held.all_fresh))) refl
 
     -- the buffer stands for the history with the close, and replies as it does
     closed_stands : Carries old commands (Close cause) (closed_pending cause old) (closing_reply cause old)

@@ -24,7 +24,7 @@ failed_line cause notice old commands stands unclosed =
     (sym (line_count old layout.gone layout.standing layout.fresh held)) (rw all layout.is) (rw all held)
     layout.all_standing (ap (map (failed_row cause)) layout.is ∙ failed) refl refl
     (ap Count (ap length stands.line ∙ length-map (line (rows_of old commands)) entry_of))
-    (ap (entry_settlements (Failed cause) (front_id old)) held.line)
+    (ap (entry_settlements (Failed cause) (front_id old)) held.line) refl
 
 -- the failing simulates the command
 pub failing_simulates : (cause : Cause) (notice : Bool) (old : Pending) →

@@ -1,12 +1,11 @@
 -- The front of the rows of a history, and what a command leaves behind rows that it lets stay.
 use Rattle.ob_seq.proofs.Words.{◌≡◌, ◌<◌, Bool, false, List, [], ◌∷◌, ◌++◌, length, ltb, refl, sym, ◌∙◌, cond, arith}
-use Rattle.ob_seq.proofs.Words.{Option, Some, None, is_some, nat_tests, length-map, change_between, Command, PromiseId}
-use Rattle.ob_seq.proofs.Words.{Outcome, Reply, Row, is_in_line, front, line, effect, rows_after, moments_along}
-use Rattle.ob_seq.proofs.Words.{is_close, refusal_of, settlements_from, reply_of, entry_of, Pending, StandsFor}
-use Rattle.ob_types.specs.declared.reply.Answer.{Answer}
+use Rattle.ob_seq.proofs.Words.{Option, Some, None, is_some, nat_tests, length-map, change_between, Command, Reply, Row}
+use Rattle.ob_seq.proofs.Words.{is_in_line, front, line, effect, rows_after, moments_along, is_close, refusal_of}
+use Rattle.ob_seq.proofs.Words.{settlements_from, reply_of, entry_of, Pending, StandsFor}
 use Rattle.ob_seq.specs.Answer.{answer_of}
 use Rattle.ob_seq.specs.Moment.{gives_notice}
-use Rattle.ob_seq.proofs.Acceptance.{reply_from, same_reply}
+use Rattle.ob_seq.proofs.Acceptance.{same_reply}
 use Rattle.ob_seq.proofs.Along.{moments_past, settlements_past}
 use Rattle.ob_seq.proofs.Held.{Held, held_of, line_count, opening, stands_after, word_at_end}
 use Rattle.ob_seq.proofs.History.{moments_after}
@@ -63,10 +62,7 @@ some_front buffer commands stands =
 pub no_front : (buffer : Pending) (commands : List Command) → StandsFor buffer commands → length buffer.line ≡ 0 →
     front (rows_after buffer.settings.estimate commands) ≡ None
 no_front buffer commands stands none =
-    none_by (front (rows_after buffer.settings.estimate commands)) (rw none at (some_front buffer commands stands))
-  where
-    none_by : (found : Option Row) → is_some found ≡ false → found ≡ None
-    none_by found fails = grind arith
+    let fails = rw none at (some_front buffer commands stands) in grind arith
 
 -- the rows of a history
 abbrev pub rows_of : Pending → List Command → List Row
@@ -87,11 +83,11 @@ pub carried : (old new : Pending) (commands : List Command) (command : Command) 
     (gone standing fresh : List Row) → same ++ now ≡ gone ++ (standing ++ fresh) → Held new gone standing fresh →
     new.word ≡ word_from old.marks (half_after commands)
     (moments_after old.settings.estimate commands ++ moments_along (gives_notice command) same was now) →
-    {answer : Answer} {settled : List (PromiseId × Outcome)} → answer ≡ answer_of (rows_of old commands) command →
-    settled ≡ settlements_from (length same) was now →
-    Carries old commands command new (reply_from answer settled (change_between old.word new.word))
+    {reply : Reply} → reply.answer ≡ answer_of (rows_of old commands) command →
+    reply.settled ≡ settlements_from (length same) was now → reply.change ≡ change_between old.word new.word →
+    Carries old commands command new reply
 carried old new commands command stands unclosed same was now rows_are after_is accepted quiet opened closed gone
-    standing fresh parts held word answers settles =
+    standing fresh parts held word answers settles changes =
     let notice = gives_notice command in
     let after = effect old.settings.estimate (rows_of old commands) command in
     let moments = moments_past (rows_of old commands) after same was now rows_are after_is notice in
@@ -99,5 +95,5 @@ carried old new commands command stands unclosed same was now rows_are after_is 
     let end = word ∙ word_at_end old commands stands command (moments_along notice same was now) quiet moments in (
       stands_after old new commands command stands unclosed accepted gone standing fresh opened closed held
           (after_is ∙ parts) end,
-      same_reply answers (settles ∙ sym settled) (rw (end, stands.word) refl),
+      same_reply answers (settles ∙ sym settled) (changes ∙ rw (end, stands.word) refl),
     )

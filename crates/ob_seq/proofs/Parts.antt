@@ -1,28 +1,25 @@
 -- What the parts of the rows are: the line, what is unflushed, the front.
-use Rattle.ob_seq.proofs.Words.{◌≡◌, Bool, true, false, List, [], ◌∷◌, ◌++◌, refl, append-nil, arith, AllByRecursion}
-use Rattle.ob_seq.proofs.Words.{filter, Some, filter-append, Row, is_unflushed, is_in_line, line, front, unflushed}
+use Rattle.ob_seq.proofs.Words.{◌≡◌, cond, Bool, true, false, List, [], ◌∷◌, ◌++◌, refl, append-nil, arith}
+use Rattle.ob_seq.proofs.Words.{AllByRecursion, filter, Some, filter-append, Row, is_unflushed, is_in_line, line, front}
+use Rattle.ob_seq.proofs.Words.{unflushed}
 use Rattle.ob_seq.proofs.Order.{IsGone, IsStanding, IsFresh, gone_not_in_line, standing_in_line, fresh_not_in_line}
 
--- a filter that no row passes
-filter_none : (P : Row → Type 0) (test : Row → Bool) (fails : (row : Row) → P row → test row ≡ false) (rows : List Row) →
-    AllByRecursion P rows → filter test rows ≡ []
-filter_none P test fails [] all = refl
-filter_none P test fails (row ∷ rows) all = rw (fails row all.0, filter_none P test fails rows all.1)
-
--- a filter that each row passes
-filter_all : (P : Row → Type 0) (test : Row → Bool) (passes : (row : Row) → P row → test row ≡ true) (rows : List Row) →
-    AllByRecursion P rows → filter test rows ≡ rows
-filter_all P test passes [] all = refl
-filter_all P test passes (row ∷ rows) all = rw (passes row all.0, filter_all P test passes rows all.1)
+-- a filter that each row passes, or none
+filter_each : (kept : Bool) (P : Row → Type 0) (test : Row → Bool) → ((row : Row) → P row → test row ≡ kept) →
+    (rows : List Row) → AllByRecursion P rows → filter test rows ≡ cond kept rows []
+filter_each true P test alike [] all = refl
+filter_each true P test alike (row ∷ rows) all = rw (alike row all.0, filter_each true P test alike rows all.1)
+filter_each false P test alike [] all = refl
+filter_each false P test alike (row ∷ rows) all = rw (alike row all.0, filter_each false P test alike rows all.1)
 
 module _ (gone standing fresh : List Row) (all_gone : AllByRecursion IsGone gone)
     (all_standing : AllByRecursion IsStanding standing) (all_fresh : AllByRecursion IsFresh fresh) where
   -- the line is the standing rows
   pub line_of_parts : line (gone ++ (standing ++ fresh)) ≡ standing
   line_of_parts =
-      let first = filter_none IsGone is_in_line gone_not_in_line gone all_gone in
-      let next = filter_all IsStanding is_in_line standing_in_line standing all_standing in
-      let last = filter_none IsFresh is_in_line fresh_not_in_line fresh all_fresh in
+      let first = filter_each false IsGone is_in_line gone_not_in_line gone all_gone in
+      let next = filter_each true IsStanding is_in_line standing_in_line standing all_standing in
+      let last = filter_each false IsFresh is_in_line fresh_not_in_line fresh all_fresh in
       rw (filter-append is_in_line gone (standing ++ fresh), first, filter-append is_in_line standing fresh, next, last)
       (append-nil standing)
 
@@ -30,9 +27,9 @@ module _ (gone standing fresh : List Row) (all_gone : AllByRecursion IsGone gone
   pub unflushed_of_parts : unflushed (gone ++ (standing ++ fresh)) ≡ fresh
   unflushed_of_parts =
       let test : Row → Bool = λ row. is_unflushed row.place in
-      let first = filter_none IsGone test (λ row is. grind arith) gone all_gone in
-      let next = filter_none IsStanding test (λ row is. grind arith) standing all_standing in
-      let last = filter_all IsFresh test (λ row is. grind arith) fresh all_fresh in
+      let first = filter_each false IsGone test (λ row is. grind arith) gone all_gone in
+      let next = filter_each false IsStanding test (λ row is. grind arith) standing all_standing in
+      let last = filter_each true IsFresh test (λ row is. grind arith) fresh all_fresh in
       rw (filter-append test gone (standing ++ fresh), first, filter-append test standing fresh, next, last)
 
 -- the front is the first standing row

@@ -9,7 +9,7 @@ greatest_step : (passes : Bool) (best other from : ℕ) (behind : List ℕ) → 
     fold max other (cond passes (from ∷ behind) behind) ≡ best
 greatest_step passes best other from behind is low near rest = grind (arith, nat_tests)
 
--- where just the numbers up to one pass a test, that is the greatest of another number and of those from one on that pass
+-- where just the numbers up to one pass a test, that is the greatest of those that pass and of another number
 greatest_is : (test : ℕ → Bool) (best end other from count : ℕ) → ((k : ℕ) → k < end → test k ≡ leb k best) →
     best < end → from + count ≡ end → other ≤ best → (other < best → from ≤ best) →
     fold max other (filter test (range_with_len from count)) ≡ best
@@ -57,12 +57,10 @@ cut_from whole rest (piece ∷ pieces) =
     (Some (record { whole = whole; rest = rest }))
 
 -- what it finds, by the count of the pieces that fit
-abbrev cut_by : ℕ → ℕ → List (List ℕ) → Option Cut
-cut_by whole n pieces =
-    cond (ltb (bytes_in pieces) n) None
-    (Some (record { whole = whole + fitting n pieces; rest = n - bytes_in (take (fitting n pieces) pieces) }))
-
-cut_from_is : (whole n : ℕ) (pieces : List (List ℕ)) → cut_from whole n pieces ≡ cut_by whole n pieces
+cut_from_is : (whole n : ℕ) (pieces : List (List ℕ)) →
+    (let fit = fitting n pieces in
+    let cut : Cut = record { whole = whole + fit; rest = n - bytes_in (take fit pieces) } in
+    cut_from whole n pieces ≡ cond (ltb (bytes_in pieces) n) None (Some cut))
 cut_from_is whole n [] = grind arith
 cut_from_is whole n (piece ∷ pieces) =
     let rest = cut_from_is (suc whole) (n - length piece) pieces in

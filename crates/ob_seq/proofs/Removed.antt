@@ -2,14 +2,12 @@
 use Rattle.ob_seq.proofs.Words.{◌≡◌, ℕ, Bool, true, false, List, [], ◌∷◌, ◌++◌, length, map, refl, sym, ap, ◌∙◌, ltb}
 use Rattle.ob_seq.proofs.Words.{◌+◌, append_assoc, append-nil, arith, None, is_some, AllByRecursion, nat_tests}
 use Rattle.ob_seq.proofs.Words.{change_between, Estimate, Command, Remove, RemoveWith, Outcome, Success, Failed, Cause}
-use Rattle.ob_seq.proofs.Words.{PromiseId, Yes, Row, front, effect, rows_after, taken_row, with_front, moments_along}
-use Rattle.ob_seq.proofs.Words.{is_close, refusal_of, entry_of, Pending, StandsFor, front_taken, front_id}
-use Rattle.ob_seq.proofs.Words.{entry_settlement, entry_settlements, times}
-use Rattle.ob_types.specs.declared.reply.Answer.{Answer}
+use Rattle.ob_seq.proofs.Words.{Reply, Yes, Row, front, effect, taken_row, with_front, moments_along, is_close}
+use Rattle.ob_seq.proofs.Words.{refusal_of, entry_of, Pending, StandsFor, front_taken, front_id, entry_settlement}
+use Rattle.ob_seq.proofs.Words.{entry_settlements, times}
 use Rattle.ob_seq.specs.Answer.{answer_of}
 use Rattle.ob_seq.specs.Moment.{gives_notice}
 use Rattle.ob_seq.specs.Steps.{front_removed, front_skipped, is_first_voided, removal_reply, removal_step}
-use Rattle.ob_seq.proofs.Acceptance.{reply_from}
 use Rattle.ob_seq.proofs.Fronts.{Carries, carried, rows_of, some_front}
 use Rattle.ob_seq.proofs.Held.{Held, front_id_is, held_of, word_by_moments}
 use Rattle.ob_seq.proofs.History.{moments_after}
@@ -25,8 +23,7 @@ pub record IsPlain (command : Command) (notice : Bool) : Type 0 where
   pub no_close : is_close command ≡ false
   pub notice_is : gives_notice command ≡ notice
 
--- where a command takes the first rows in line away and skips bytes of the next, so does the buffer, and the reply tells
--- what those entries settle
+-- a command that takes the first rows in line away and skips bytes of the next, where the buffer does so
 module _ (old : Pending) (commands : List Command) (command : Command) (stands : StandsFor old commands)
     (unclosed : old.closed ≡ false) (notice : Bool) (plain : IsPlain command notice) (outcome : Outcome)
     (skipped count : ℕ) (gone first rest fresh : List Row) where
@@ -42,10 +39,10 @@ module _ (old : Pending) (commands : List Command) (command : Command) (stands :
       moments_along notice gone (first ++ (rest ++ fresh)) left
       ≡ moments_along notice gone (first ++ (rest ++ fresh)) (map (taken_row outcome) first ++ (rest ++ fresh)) →
       refusal_of old.settings.estimate (rows_of old commands) command ≡ None →
-      {answer : Answer} {settled : List (PromiseId × Outcome)} → answer ≡ answer_of (rows_of old commands) command →
-      settled ≡ entry_settlements outcome (front_id old) (map entry_of first) →
-      Carries old commands command after (reply_from answer settled (change_between old.word after.word))
-  taken_away size rows_are held each effect_is alike accepted answers settles =
+      {reply : Reply} → reply.answer ≡ answer_of (rows_of old commands) command →
+      reply.settled ≡ entry_settlements outcome (front_id old) (map entry_of first) →
+      reply.change ≡ change_between old.word after.word → Carries old commands command after reply
+  taken_away size rows_are held each effect_is alike accepted answers settles changes =
       let taken = map (taken_row outcome) first in
       let behind = rest ++ fresh in
       let now = rows_skipped skipped rest in
@@ -61,7 +58,7 @@ module _ (old : Pending) (commands : List Command) (command : Command) (stands :
       fresh (sym (append_assoc gone taken (now ++ fresh)))
       (skipped_held skipped shorter (gone ++ taken) rest fresh all.0)
       (same.0 ∙ all.1 ∙ rw (plain.notice_is, alike) refl) answers
-      (settles ∙ rw (front_id_is old gone (first ++ rest) fresh held) (sym settled))
+      (settles ∙ rw (front_id_is old gone (first ++ rest) fresh held) (sym settled)) changes
 
 -- the command takes the front away with this outcome
 pub record IsRemoval (command : Command) (outcome : Outcome) : Type 0 where
@@ -90,7 +87,7 @@ module _ (command : Command) (outcome : Outcome) (is : IsRemoval command outcome
       held tt (is.effect_is old.settings.estimate (rows_of old commands)
       ∙ rw (rows_are, with_front_gone change gone fresh held.all_gone, front) refl) refl
       (is.accepted old.settings.estimate (rows_of old commands))
-      (sym (is.answer (rows_of old commands) ∙ ap Yes (some_front old commands stands ∙ none))) refl)
+      (sym (is.answer (rows_of old commands) ∙ ap Yes (some_front old commands stands ∙ none))) refl refl)
   by_line gone (row ∷ standing) fresh rows_are held =
       let some : ltb 0 (length old.line) ≡ true = rw held.line (grind (arith, nat_tests)) in
       let change = taken_row outcome in
@@ -100,7 +97,7 @@ module _ (command : Command) (outcome : Outcome) (is : IsRemoval command outcome
       ∙ rw (rows_are, with_front_gone change gone (row ∷ (standing ++ fresh)) held.all_gone, front) refl) refl
       (is.accepted old.settings.estimate (rows_of old commands))
       (sym (is.answer (rows_of old commands) ∙ ap Yes (some_front old commands stands ∙ some)))
-      (rw (append-nil (entry_settlement outcome (front_id old) (entry_of row)), ap is_first_voided held.line) refl))
+      (rw (append-nil (entry_settlement outcome (front_id old) (entry_of row)), ap is_first_voided held.line) refl) refl)
 
   removed : Carries old commands command (front_removed outcome old) (removal_reply outcome old)
   removed =
@@ -111,7 +108,7 @@ module _ (command : Command) (outcome : Outcome) (is : IsRemoval command outcome
 pub removal_simulates : (command : Command) (outcome : Outcome) → IsRemoval command outcome → (old : Pending) →
     Simulates command old (removal_step outcome old)
 removal_simulates command outcome is old = record {
-  refusal = λ commands stands. sym (is.accepted old.settings.estimate (rows_after old.settings.estimate commands));
+  refusal = λ commands stands. sym (is.accepted old.settings.estimate (rows_of old commands));
   reply = λ commands stands unclosed none. (removed command outcome is old commands stands unclosed).1;
   after = λ commands stands unclosed none. (removed command outcome is old commands stands unclosed).0;
   settings = grind arith;

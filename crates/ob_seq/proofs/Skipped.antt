@@ -1,8 +1,7 @@
 -- Bytes skipped in the front: the rows and the entries of a buffer change alike.
-use Rattle.ob_seq.proofs.Words.{◌≡◌, ℕ, ◌+◌, Bool, true, List, [], ◌∷◌, ◌++◌, map, ap, ◌∙◌, cond, ltb, arith}
-use Rattle.ob_seq.proofs.Words.{AllByRecursion, map-append, Message, Block, entry_of, Row, is_voided, without_skipped}
-use Rattle.ob_seq.proofs.Words.{nat_tests, skipped_row, with_skipped, moments_along, settlements_from, Pending}
-use Rattle.ob_seq.proofs.Words.{first_changed, front_changed}
+use Rattle.ob_seq.proofs.Words.{◌≡◌, ℕ, ◌+◌, true, List, [], ◌∷◌, ◌++◌, map, ap, ◌∙◌, cond, ltb, arith, AllByRecursion}
+use Rattle.ob_seq.proofs.Words.{map-append, entry_of, Row, nat_tests, skipped_row, with_skipped, moments_along}
+use Rattle.ob_seq.proofs.Words.{settlements_from, Pending, first_changed, front_changed}
 use Rattle.std.proofs.Math.Seq.{drop-nil}
 use Rattle.std.proofs.lemmas.List.{drop-drop}
 use Rattle.ob_seq.specs.Steps.{front_skipped, skipped_entry}
@@ -11,14 +10,9 @@ use Rattle.ob_seq.proofs.Held.{Held, promise_of, opening}
 use Rattle.ob_seq.proofs.Order.{IsGone, IsStanding, IsFresh, skipped_stands, with_front_gone, with_front_standing}
 use Rattle.ob_seq.proofs.Order.{with_front_fresh}
 
-skipped_of : (voided : Bool) (m n : ℕ) (message : Message) →
-    without_skipped n (cond voided (Block []) (without_skipped m message))
-    ≡ cond voided (Block []) (without_skipped (m + n) message)
-skipped_of voided m n message = grind (arith, drop-nil, drop-drop)
-
 -- a skipped row is a skipped entry
 skipped_entry_is : (n : ℕ) (row : Row) → skipped_entry n (entry_of row) ≡ entry_of (skipped_row n row)
-skipped_entry_is n row = rw (skipped_of (is_voided row.place) row.skipped n row.message)
+skipped_entry_is n row = grind (arith, drop-nil, drop-drop)
 
 -- the first of some rows, with so many bytes more skipped
 abbrev first_skipped : ℕ → List Row → List Row

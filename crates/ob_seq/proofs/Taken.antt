@@ -1,18 +1,12 @@
 -- A buffer whose front is taken away.
 use Rattle.ob_seq.proofs.Words.{◌≡◌, ℕ, ◌-◌, Bool, List, [], ◌∷◌, ◌++◌, length, map, drop, refl, sym, ap, ◌∙◌, cond}
 use Rattle.ob_seq.proofs.Words.{append_assoc, arith, slice_set, nat_tests, map-append, length-map, sum_by-append}
-use Rattle.ob_seq.proofs.Words.{sum_by-cons, set-append_seam, Marks, Settled, Outcome, PromiseState, Row, is_voided}
+use Rattle.ob_seq.proofs.Words.{sum_by-cons, set-append_seam, Settled, Outcome, PromiseState, Row, is_voided}
 use Rattle.ob_seq.proofs.Words.{counted_size, total, taken_row, Moment, moment_of, Pending, first_size, front_taken}
-use Rattle.ob_seq.proofs.Words.{word_after_fall}
 use Rattle.ob_seq.specs.Steps.{is_first_voided}
 use Rattle.ob_seq.proofs.Held.{Held, promise_of, front_id_is, pending_total_is}
-use Rattle.ob_seq.proofs.Marks.{word_step, word_from, word_from_more}
+use Rattle.ob_seq.proofs.Marks.{word_from, word_from_more}
 use Rattle.ob_seq.proofs.Order.{IsStanding, IsGone, each_append}
-
--- a fall, seen as the step of the word
-fall_step : (notice : Bool) (marks : Marks) (word size sum : ℕ) →
-    cond notice (word_after_fall marks word size sum) word ≡ word_step notice marks word size 0 sum
-fall_step notice marks word size sum = grind (arith, nat_tests)
 
 -- the bytes pending without one row
 pub total_without : (rows : List Row) (was row : Row) (behind : List Row) → counted_size row ≡ 0 →
@@ -56,12 +50,10 @@ module _ (notice : Bool) (outcome : Outcome) (buffer : Pending) (gone : List Row
       (front_taken notice outcome buffer).word ≡ word_from buffer.marks half
       (moments ++ moment_of notice (counted_size row) 0 (total (gone ++ taken ∷ (standing ++ fresh))))
   taken_word half moments was =
-      let size = counted_size row in
-      let sum = total (gone ++ taken ∷ (standing ++ fresh)) in
       rw (
         pending_total_is buffer gone (row ∷ standing) fresh held,
         ap first_size held.line,
         ← total_without gone row taken (standing ++ fresh) refl,
         was,
-      ) (fall_step notice buffer.marks (word_from buffer.marks half moments) size sum
-      ∙ sym (word_from_more notice buffer.marks half moments size 0 sum))
+        word_from_more notice buffer.marks half moments,
+      ) (grind (arith, nat_tests))

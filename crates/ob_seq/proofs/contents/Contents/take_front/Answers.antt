@@ -9,7 +9,8 @@ use Rattle.ob_seq.proofs.contents.Contents.take_front.Goals as goal
 
 -- what is held once the first entry is off
 taken : (now : Pending) (inside : Inside) → pending_of inside ≡ now → IsSound inside → 0 < length now.line →
-    (notice : Bool) (outcome : Outcome) (entry : Entry) (entries : List Entry) → inside.entries.items ≡ entry ∷ entries →
+    (notice : Bool) (outcome : Outcome) (entry : Entry) (entries : List Entry) →
+    inside.entries.items ≡ entry ∷ entries →
     kept (record { marks = inside.marks; estimate = inside.estimate }) (pending_entries entries) (inside.flushed - 1)
     (if entry.voided then inside.promises.items
     else slice_set inside.promises.items (inside.promises.len - inside.entries.len) (Settled outcome))
