@@ -17,8 +17,7 @@ failures_settle cause = assumption
 -- as many as there are promises that wait
 pub count_of_failures : (cause : Cause) (id : ℕ) (states : List PromiseState) →
     length (failures cause id states) ≡ count_by (λ state. is_waiting state) states
-count_of_failures cause =
-    settled_count (failures_settle cause) (λ state. is_waiting state) (λ id state. grind arith)
+count_of_failures cause = settled_count (failures_settle cause) (λ state. is_waiting state) (λ id state. grind arith)
 
 -- a promise that waits fails, and no other changes
 pub failed_by : (cause : Cause) (state : PromiseState) (waits : Bool) → is_waiting state ≡ waits →
@@ -42,12 +41,7 @@ one_more_failed cause old now first id past inside is =
     let state = get_or more count Waiting in
     let left = length-drop first old in
     let size = length-take-le first old (omega arith) in
-    let whole : length more ≡ length rest = rw (
-      length-append (map (failed cause) (take count rest)) (drop count rest),
-      length-map (take count rest) (failed cause),
-      ← length-append (take count rest) (drop count rest),
-      take-append-drop count rest,
-    ) in
+    let whole : length more ≡ length rest = rw (length-append, length-map, ← length-append, take-append-drop) in
     let read = get_or_default more count Waiting state (omega arith) in
     let step = map_over_more (failed cause) rest more count state (omega arith) refl read in
     let next : id + 1 - first ≡ count + 1 = omega arith in

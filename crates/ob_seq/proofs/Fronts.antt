@@ -13,18 +13,22 @@ use Rattle.ob_seq.proofs.Marks.{IsQuiet, half_after, word_from}
 use Rattle.ob_seq.proofs.Order.{layout_of}
 use Rattle.ob_seq.proofs.Parts.{front_of_parts}
 
+-- the rows of a history
+abbrev pub rows_of : Pending → List Command → List Row
+rows_of buffer commands = rows_after buffer.settings.estimate commands
+
 -- the rows of a history with their front
 pub record Fronted (buffer : Pending) (commands : List Command) : Type 0 where
   pub gone : List Row
   pub row : Row
   pub standing : List Row
   pub fresh : List Row
-  pub rows_are : rows_after buffer.settings.estimate commands ≡ gone ++ row ∷ (standing ++ fresh)
+  pub rows_are : rows_of buffer commands ≡ gone ++ row ∷ (standing ++ fresh)
   pub held : Held buffer gone (row ∷ standing) fresh
 
 fronted_by : (buffer : Pending) (commands : List Command) (gone standing fresh : List Row) →
-    rows_after buffer.settings.estimate commands ≡ gone ++ (standing ++ fresh) →
-    Held buffer gone standing fresh → 0 < length standing → Fronted buffer commands
+    rows_of buffer commands ≡ gone ++ (standing ++ fresh) → Held buffer gone standing fresh → 0 < length standing →
+    Fronted buffer commands
 fronted_by buffer commands gone [] fresh rows_are held some = absurd (omega arith)
 fronted_by buffer commands gone (row ∷ standing) fresh rows_are held some =
     record { gone = gone; row = row; standing = standing; fresh = fresh; rows_are = rows_are; held = held }
@@ -39,7 +43,7 @@ fronted buffer commands stands some =
     (rw (line_count buffer layout.gone layout.standing layout.fresh held) at some)
 
 pub front_is : (buffer : Pending) (commands : List Command) (f : Fronted buffer commands) →
-    front (rows_after buffer.settings.estimate commands) ≡ Some f.row
+    front (rows_of buffer commands) ≡ Some f.row
 front_is buffer commands f =
     rw f.rows_are (front_of_parts f.gone f.row (f.standing ++ f.fresh) f.held.all_gone f.held.all_standing.0)
 
@@ -53,28 +57,22 @@ is_front (row ∷ rows) = front_step (is_in_line row) row (front rows) (line row
 
 -- there is a front just where something is in line
 pub some_front : (buffer : Pending) (commands : List Command) → StandsFor buffer commands →
-    is_some (front (rows_after buffer.settings.estimate commands)) ≡ ltb 0 (length buffer.line)
+    is_some (front (rows_of buffer commands)) ≡ ltb 0 (length buffer.line)
 some_front buffer commands stands =
-    let rows = rows_after buffer.settings.estimate commands in
-    rw (stands.line, length-map (line rows) entry_of) (is_front rows)
+    rw (stands.line, length-map (line (rows_of buffer commands)) entry_of) (is_front (rows_of buffer commands))
 
 -- with nothing in line there is none
 pub no_front : (buffer : Pending) (commands : List Command) → StandsFor buffer commands → length buffer.line ≡ 0 →
-    front (rows_after buffer.settings.estimate commands) ≡ None
+    front (rows_of buffer commands) ≡ None
 no_front buffer commands stands none =
     let fails = rw none at (some_front buffer commands stands) in grind arith
-
--- the rows of a history
-abbrev pub rows_of : Pending → List Command → List Row
-rows_of buffer commands = rows_after buffer.settings.estimate commands
 
 -- a buffer stands for the history with one more command, and the reply is the one to it
 abbrev pub Carries : Pending → List Command → Command → Pending → Reply → Type 0
 Carries old commands command new reply =
     StandsFor new (commands ++ command ∷ []) × (reply ≡ reply_of old.settings commands command)
 
--- where a buffer holds the rows after one more command and has the word after its moments, it stands for the history
--- with the command, and a reply with its answer and its settlements is the one to it
+-- a buffer carries a command out that holds the rows after it and has the word after its moments
 pub carried : (old new : Pending) (commands : List Command) (command : Command) → StandsFor old commands →
     old.closed ≡ false → (same was now : List Row) → rows_of old commands ≡ same ++ was →
     effect old.settings.estimate (rows_of old commands) command ≡ same ++ now →

@@ -3,8 +3,8 @@ use Rattle.ob_seq.proofs.Words.{◌≡◌, ℕ, Bool, true, false, List, [], ◌
 use Rattle.ob_seq.proofs.Words.{◌+◌, append_assoc, append-nil, arith, None, is_some, AllByRecursion, nat_tests}
 use Rattle.ob_seq.proofs.Words.{change_between, Estimate, Command, Remove, RemoveWith, Outcome, Success, Failed, Cause}
 use Rattle.ob_seq.proofs.Words.{Reply, Yes, Row, front, effect, taken_row, with_front, moments_along, is_close}
-use Rattle.ob_seq.proofs.Words.{refusal_of, entry_of, Pending, StandsFor, front_taken, front_id, entry_settlement}
-use Rattle.ob_seq.proofs.Words.{entry_settlements, times}
+use Rattle.ob_seq.proofs.Words.{refusal_of, entry_of, Pending, StandsFor, front_taken, front_id, entry_settlements}
+use Rattle.ob_seq.proofs.Words.{times}
 use Rattle.ob_seq.specs.Answer.{answer_of}
 use Rattle.ob_seq.specs.Moment.{gives_notice}
 use Rattle.ob_seq.specs.Steps.{front_removed, front_skipped, is_first_voided, removal_reply, removal_step}
@@ -97,7 +97,7 @@ module _ (command : Command) (outcome : Outcome) (is : IsRemoval command outcome
       ∙ rw (rows_are, with_front_gone change gone (row ∷ (standing ++ fresh)) held.all_gone, front) refl) refl
       (is.accepted old.settings.estimate (rows_of old commands))
       (sym (is.answer (rows_of old commands) ∙ ap Yes (some_front old commands stands ∙ some)))
-      (rw (append-nil (entry_settlement outcome (front_id old) (entry_of row)), ap is_first_voided held.line) refl) refl)
+      (rw (append-nil, ap is_first_voided held.line)) refl)
 
   removed : Carries old commands command (front_removed outcome old) (removal_reply outcome old)
   removed =

@@ -50,10 +50,6 @@ module _ (notice : Bool) (outcome : Outcome) (buffer : Pending) (gone : List Row
       (front_taken notice outcome buffer).word ≡ word_from buffer.marks half
       (moments ++ moment_of notice (counted_size row) 0 (total (gone ++ taken ∷ (standing ++ fresh))))
   taken_word half moments was =
-      rw (
-        pending_total_is buffer gone (row ∷ standing) fresh held,
-        ap first_size held.line,
-        ← total_without gone row taken (standing ++ fresh) refl,
-        was,
-        word_from_more notice buffer.marks half moments,
-      ) (grind (arith, nat_tests))
+      let without = total_without gone row taken (standing ++ fresh) refl in
+      rw (pending_total_is buffer gone (row ∷ standing) fresh held, ap first_size held.line, ← without, was)
+      (rw (word_from_more notice buffer.marks half moments) (grind (arith, nat_tests)))

@@ -12,8 +12,7 @@ entries_of_times part step one (suc n) old =
     rw (one (times n step old), entries_of_times part step one n old, drop-drop 1 n (part old), add-one)
 
 -- each step takes one of the unflushed entries
-pub unflushed_left : (n : ℕ) (old : Pending) →
-    length (times n next_flushed old).unflushed ≡ length old.unflushed - n
+pub unflushed_left : (n : ℕ) (old : Pending) → length (times n next_flushed old).unflushed ≡ length old.unflushed - n
 unflushed_left n old =
     ap length (entries_of_times (λ (held : Pending). held.unflushed) next_flushed (λ before. refl) n old)
     ∙ length-drop n old.unflushed
