@@ -52,15 +52,14 @@ module _ (buffer : Pending) (commands : List Command) (n : ℕ) (stands : Stands
       let behind = rest ++ fresh in
       let left = rows_skipped cut.rest rest ++ fresh in
       let all_passed = each_append IsGone gone sent held.all_gone (all_taken_gone Success first) in
-      let split : rows ≡ gone ++ (first ++ behind) =
-      rows_are ∙ ap (λ more. gone ++ more) (append_assoc first rest fresh) in
+      let split = rw (append_assoc first rest fresh) at rows_are in
       let effect_is : effect buffer.settings.estimate rows (RemoveBytes n) ≡ gone ++ (sent ++ left) =
       let sent_is = with_first_sent first gone behind held.all_gone each.0 in
       rw (rest_is, whole_is, ← count, split, sent_is, ← append_assoc gone sent behind)
       (with_skipped_is cut.rest passed fresh all_passed held.all_fresh rest each.1 ∙ append_assoc gone sent left) in
-      let size = length-map first entry_of ∙ count in
+      let seam = take_at (map entry_of first) (map entry_of rest) cut.whole (length-map first entry_of ∙ count) in
       let line_is : take cut.whole buffer.line ≡ map entry_of first =
-      rw (held.line, map-append entry_of first rest) (take_at (map entry_of first) (map entry_of rest) cut.whole size) in
+      rw (held.line, map-append entry_of first rest) seam in
       taken_away buffer commands (RemoveBytes n) stands unclosed true (assumption) Success cut.rest cut.whole gone first
       rest fresh count rows_are held each.0 effect_is
       (moments_of_sent first gone behind left (moments_of_skipped cut.rest passed rest fresh)) (rw run found.0)

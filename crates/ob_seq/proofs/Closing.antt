@@ -2,9 +2,9 @@
 use Rattle.ob_seq.proofs.Words.{◌≡◌, ℕ, suc, false, List, [], ◌∷◌, ◌++◌, length, map, take, drop, refl, sym, ap, ◌∙◌}
 use Rattle.ob_seq.proofs.Words.{append_assoc, append-nil, arith, None, AllByRecursion, nat_tests, length-map}
 use Rattle.ob_seq.proofs.Words.{map-append, Marks, Command, Close, Cause, Count, Row, is_unflushed, unflushed}
-use Rattle.ob_seq.proofs.Words.{counted_size, total, rows_after, failed, closed_row, Moment, moment_of, moments_along}
-use Rattle.ob_seq.proofs.Words.{outcome_of, refusal_of, settlement, settlements_from, entry_of, Pending, StandsFor}
-use Rattle.ob_seq.proofs.Words.{closed_pending, closing_reply, failures, unflushed_id}
+use Rattle.ob_seq.proofs.Words.{counted_size, total, failed, closed_row, Moment, moment_of, moments_along, outcome_of}
+use Rattle.ob_seq.proofs.Words.{refusal_of, settlement, settlements_from, entry_of, Pending, StandsFor, closed_pending}
+use Rattle.ob_seq.proofs.Words.{closing_reply, failures, unflushed_id}
 use Rattle.std.proofs.lemmas.List.{take_at, drop_at}
 use Rattle.ob_seq.specs.Steps.{closing_step}
 use Rattle.ob_seq.proofs.Failures.{failure}
@@ -57,8 +57,7 @@ silent_word cause marks half (row ∷ fresh) passed moments =
 
 module _ (cause : Cause) (old : Pending) (commands : List Command) (stands : StandsFor old commands) where
   -- a close is refused where something is in line
-  refusal_is : (closing_step cause old).refusal
-      ≡ refusal_of old.settings.estimate (rows_after old.settings.estimate commands) (Close cause)
+  refusal_is : (closing_step cause old).refusal ≡ refusal_of old.settings.estimate (rows_of old commands) (Close cause)
   refusal_is = rw (some_front old commands stands)
 
   module _ (unclosed : old.closed ≡ false) (accepted : (closing_step cause old).refusal ≡ None) where

@@ -53,7 +53,7 @@ module _ (old : Pending) (commands : List Command) (command : Command) (stands :
       (moments_after old.settings.estimate commands) held (word_by_moments old commands stands)) in
       let same = skipped_same skipped shorter in
       carried old after commands command stands unclosed gone (first ++ behind) left
-      (rows_are ∙ ap (λ more. gone ++ more) (append_assoc first rest fresh)) effect_is accepted plain.quiet
+      (rw (append_assoc first rest fresh) at rows_are) effect_is accepted plain.quiet
       (skipped_opening skipped shorter ∙ all.2) (same.1 ∙ all.3 ∙ unclosed ∙ sym plain.no_close) (gone ++ taken) now
       fresh (sym (append_assoc gone taken (now ++ fresh)))
       (skipped_held skipped shorter (gone ++ taken) rest fresh all.0)

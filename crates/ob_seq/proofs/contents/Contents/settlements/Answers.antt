@@ -1,5 +1,5 @@
-use Rattle.ob_seq.proofs.Words.{◌≡◌, ◌+◌, ◌-◌, ◌<◌, true, false, length, refl, sym, ap, ◌∙◌, append-nil, arith}
-use Rattle.ob_seq.proofs.Words.{pending_entry, front_id, entry_settlement}
+use Rattle.ob_seq.proofs.Words.{◌≡◌, ◌+◌, ◌-◌, ◌<◌, true, false, length, sym, ap, ◌∙◌, append-nil, arith, pending_entry}
+use Rattle.ob_seq.proofs.Words.{front_id}
 use Rattle.ob_seq.proofs.EntrySettlements.{entries_settle, settled_more, settled_room}
 use Rattle.ob_seq.proofs.Fields.{in_line, line_count, promise_count, unflushed_count}
 use Rattle.ob_seq.proofs.contents.Contents.settlements.Goals.{then-not-index+in_ok-push, else-not-index}
@@ -14,10 +14,8 @@ returns-in_err-push-clause-frugal c few =
     let inside : place < length now.line = omega (arith, c.loop-place-test.true, c.requires) in
     let read = in_line now c.self.inside c.self.view_is c.self.invariant place c.index.result.now (omega arith)
     c.index.ensures in
-    let single : length (entry_settlement c.args.outcome (front_id now + place) entry) ≡ 1 =
-    rw c.if-not-index.true refl in
     let room = settled_room (entries_settle c.args.outcome) (front_id now) now.line place c.args.count entry entry
-    c.loop-place-test.true inside read single in
+    c.loop-place-test.true inside read (rw c.if-not-index.true) in
     let so_far = ap length c.loop-place.invariant in
     let wrong : false ≡ true = c.in_err-push.ensures.succeeds (omega arith) in
     absurd (cc)

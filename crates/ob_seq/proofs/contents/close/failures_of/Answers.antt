@@ -1,7 +1,7 @@
 use Rattle.ob_seq.proofs.Words.{◌≡◌, ◌+◌, true, false, length, get_or, refl, sym, ap, ◌∙◌, append-nil, arith, take_all}
 use Rattle.ob_seq.proofs.Words.{Waiting}
 use Rattle.ob_seq.proofs.EntrySettlements.{settled_more, settled_room}
-use Rattle.ob_seq.proofs.Failures.{failures_settle, failure}
+use Rattle.ob_seq.proofs.Failures.{failures_settle}
 use Rattle.ob_seq.proofs.contents.close.failures_of.Goals.{then-is_waiting+in_ok-push, else-is_waiting}
 use Rattle.ob_seq.proofs.contents.close.failures_of.Goals as goal
 
@@ -11,9 +11,8 @@ returns-in_err-push-clause-frugal c few =
     let place = c.loop-place.place in
     let state = get_or states place Waiting in
     let waits = sym c.is_waiting.ensures ∙ c.if-is_waiting.true in
-    let single : length (failure c.args.cause (c.args.first + place) state) ≡ 1 = rw waits refl in
     let room = settled_room (failures_settle c.args.cause) c.args.first states place (length states) state Waiting
-    c.loop-place-test.true c.loop-place-test.true refl single in
+    c.loop-place-test.true c.loop-place-test.true refl (rw waits) in
     let whole = rw (take_all (length states) states (omega arith)) at room in
     let so_far = ap length c.loop-place.invariant in
     let wrong : false ≡ true = c.in_err-push.ensures.succeeds (omega (arith, few)) in
