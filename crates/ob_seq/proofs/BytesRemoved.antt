@@ -1,6 +1,6 @@
 -- A buffer after a removal of bytes stands for the history with the removal.
-use Rattle.ob_seq.proofs.Words.{arith, ◌≡◌, ℕ, ◌-◌, ◌≤◌, Bool, true, false, List, [], ◌∷◌, ◌++◌, length, map, take}
-use Rattle.ob_seq.proofs.Words.{refl, drop, sym, ap, ◌∙◌, cond, append_assoc, ltb, Option, Some, None, AllByRecursion}
+use Rattle.ob_seq.proofs.Words.{arith, ◌≡◌, ℕ, ◌≤◌, Bool, true, false, List, [], ◌∷◌, ◌++◌, length, map, take, refl}
+use Rattle.ob_seq.proofs.Words.{drop, sym, ap, ◌∙◌, cond, append_assoc, ltb, Option, Some, None, AllByRecursion}
 use Rattle.ob_seq.proofs.Words.{length-take-le, take-append-drop, map-append, length-map, RemoveBytes, Success, Refusal}
 use Rattle.ob_seq.proofs.Words.{TooManyBytes, Count, Cut, Row, line, bytes_in, blocks_in_front, byte_run, whole_rows}
 use Rattle.ob_seq.proofs.Words.{bytes_left_over, effect, rows_after, taken_row, reply_of, blocks_left, entry_of}

@@ -1,5 +1,5 @@
 -- Bytes skipped in the front: the rows and the entries of a buffer change alike.
-use Rattle.ob_seq.proofs.Words.{◌≡◌, ℕ, ◌+◌, true, List, [], ◌∷◌, ◌++◌, map, ap, ◌∙◌, cond, ltb, arith, AllByRecursion}
+use Rattle.ob_seq.proofs.Words.{◌≡◌, ℕ, true, List, [], ◌∷◌, ◌++◌, map, ap, ◌∙◌, cond, ltb, arith, AllByRecursion}
 use Rattle.ob_seq.proofs.Words.{map-append, entry_of, Row, nat_tests, skipped_row, with_skipped, moments_along}
 use Rattle.ob_seq.proofs.Words.{settlements_from, Pending, first_changed, front_changed}
 use Rattle.std.proofs.Math.Seq.{drop-nil}

@@ -1,4 +1,4 @@
-use Rattle.ob_seq.proofs.Words.{◌≡◌, ◌+◌, ◌-◌, ◌<◌, true, false, length, sym, ap, ◌∙◌, append-nil, arith, pending_entry}
+use Rattle.ob_seq.proofs.Words.{◌≡◌, ◌-◌, ◌<◌, true, false, length, sym, ap, ◌∙◌, append-nil, arith, pending_entry}
 use Rattle.ob_seq.proofs.Words.{front_id}
 use Rattle.ob_seq.proofs.EntrySettlements.{entries_settle, settled_more, settled_room}
 use Rattle.ob_seq.proofs.Fields.{in_line, line_count, promise_count, unflushed_count}

@@ -1,4 +1,4 @@
-use Rattle.ob_seq.proofs.Words.{◌≡◌, ◌+◌, true, false, length, get_or, refl, sym, ap, ◌∙◌, append-nil, arith, take_all}
+use Rattle.ob_seq.proofs.Words.{◌≡◌, true, false, length, get_or, refl, sym, ap, ◌∙◌, append-nil, arith, take_all}
 use Rattle.ob_seq.proofs.Words.{Waiting}
 use Rattle.ob_seq.proofs.EntrySettlements.{settled_more, settled_room}
 use Rattle.ob_seq.proofs.Failures.{failures_settle}
