@@ -28,6 +28,7 @@ accepted_by : (few : Bool) (cut found : Cut) → (let one : Option Cut = cond fe
     (let refusal : Option Refusal = cond few (Some TooManyBytes) None in refusal ≡ None) × (cut ≡ found)
 accepted_by few cut found some = grind arith
 
+-- rows of which both parts stand in line
 split_each : (xs ys : List Row) → AllByRecursion IsStanding (xs ++ ys) →
     AllByRecursion IsStanding xs × AllByRecursion IsStanding ys
 split_each [] ys all = (tt, all)

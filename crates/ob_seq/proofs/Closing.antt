@@ -5,12 +5,12 @@ use Rattle.ob_seq.proofs.Words.{map-append, Marks, Command, Close, Cause, Count,
 use Rattle.ob_seq.proofs.Words.{counted_size, total, failed, closed_row, Moment, moment_of, moments_along, outcome_of}
 use Rattle.ob_seq.proofs.Words.{refusal_of, settlement, settlements_from, entry_of, Pending, StandsFor, closed_pending}
 use Rattle.ob_seq.proofs.Words.{closing_reply, failures, unflushed_id}
-use Rattle.std.proofs.lemmas.List.{take_at, drop_at}
+use Rattle.std.proofs.lemmas.List.{drop_at, nil_from_length, take_at}
 use Rattle.ob_seq.specs.Steps.{closing_step}
 use Rattle.ob_seq.proofs.Failures.{failure}
 use Rattle.ob_seq.proofs.Fronts.{Carries, carried, rows_of, some_front}
 use Rattle.ob_seq.proofs.Simulation.{Simulates}
-use Rattle.ob_seq.proofs.Held.{Held, held_of, line_count, promise_of, unflushed_id_is, word_by_moments}
+use Rattle.ob_seq.proofs.Held.{held_of, line_count, promise_of, unflushed_id_is, word_by_moments}
 use Rattle.ob_seq.proofs.History.{moments_after}
 use Rattle.ob_seq.proofs.Marks.{half_after, word_from, word_from_more}
 use Rattle.ob_seq.proofs.Order.{IsGone, IsFresh, all_now_gone, each_append, layout_of, stay_by}
@@ -60,46 +60,42 @@ module _ (cause : Cause) (old : Pending) (commands : List Command) (stands : Sta
   refusal_is : (closing_step cause old).refusal ≡ refusal_of old.settings.estimate (rows_of old commands) (Close cause)
   refusal_is = rw (some_front old commands stands)
 
-  module _ (unclosed : old.closed ≡ false) (accepted : (closing_step cause old).refusal ≡ None) where
-    closed_by : (gone standing fresh : List Row) → rows_of old commands ≡ gone ++ (standing ++ fresh) →
-        Held old gone standing fresh → length standing ≡ 0 →
-        Carries old commands (Close cause) (closed_pending cause old) (closing_reply cause old)
-    closed_by gone (row ∷ standing) fresh rows_are held none = absurd (omega arith)
-    closed_by gone [] fresh rows_are held none =
-        let closed = map (closed_row cause) fresh in
-        let before = map promise_of gone in
-        let waiting = map promise_of fresh in
-        let id = unflushed_id old in
-        let id_is : id ≡ length gone = unflushed_id_is old gone [] fresh held ∙ ap length (append-nil gone) in
-        let size : length before ≡ id = length-map gone promise_of ∙ sym id_is in
-        let promises : old.promises ≡ before ++ waiting = held.promises ∙ map-append promise_of gone fresh in
-        let left : drop id old.promises ≡ waiting = ap (drop id) promises ∙ drop_at before waiting id size in
-        let first : take id old.promises ≡ before = ap (take id) promises ∙ take_at before waiting id size in
-        let promised : (closed_pending cause old).promises ≡ map promise_of ((gone ++ closed) ++ []) =
-        rw (first, left, append-nil (gone ++ closed), map-append promise_of gone closed)
-        (rw (closed_promises cause fresh held.all_fresh)) in
-        let all_closed = all_now_gone (closed_row cause) (λ row. refl) fresh in
-        let all_gone = each_append IsGone gone closed held.all_gone all_closed in
-        let new_held : Held (closed_pending cause old) (gone ++ closed) [] [] =
-        assumption (held.line, promised, all_gone) in
-        let stay = stay_by (closed_row cause) IsGone (closed_gone cause) gone held.all_gone in
-        let moments = moments_after old.settings.estimate commands in
-        carried old (closed_pending cause old) commands (Close cause) stands unclosed gone fresh closed rows_are
-        (rw (rows_are, map-append (closed_row cause) gone fresh, stay)) (sym refusal_is ∙ accepted) (λ index. refl) refl
-        refl (gone ++ closed) [] [] (sym (append-nil (gone ++ closed))) new_held
-        (word_by_moments old commands stands
-        ∙ sym (silent_word cause old.marks (half_after commands) fresh gone moments))
-        (ap Count (ap length stands.unflushed ∙ length-map (unflushed (rows_of old commands)) entry_of))
-        (rw (left, id_is) (sym (settlements_of_closed cause (length gone) fresh held.all_fresh))) refl
-
-    -- the buffer stands for the history with the close, and replies as it does
-    closed_stands : Carries old commands (Close cause) (closed_pending cause old) (closing_reply cause old)
-    closed_stands =
-        let layout = layout_of old.settings.estimate commands in
-        let held = held_of old commands stands in
-        let nothing : length old.line ≡ 0 = grind (arith, nat_tests) in
-        closed_by layout.gone layout.standing layout.fresh layout.is held
-        (sym (line_count old layout.gone layout.standing layout.fresh held) ∙ nothing)
+  -- and else the closed buffer carries it out
+  closed_stands : old.closed ≡ false → (closing_step cause old).refusal ≡ None →
+      Carries old commands (Close cause) (closed_pending cause old) (closing_reply cause old)
+  closed_stands unclosed accepted =
+      let layout = layout_of old.settings.estimate commands in
+      let gone = layout.gone in
+      let fresh = layout.fresh in
+      let parts = held_of old commands stands in
+      let nothing : length old.line ≡ 0 = grind (arith, nat_tests) in
+      let size = line_count old gone layout.standing fresh parts in
+      let none = nil_from_length layout.standing (sym size ∙ nothing) in
+      let rows_are = rw none at layout.is in
+      let held = rw none at parts in
+      let closed = map (closed_row cause) fresh in
+      let before = map promise_of gone in
+      let waiting = map promise_of fresh in
+      let id = unflushed_id old in
+      let id_is : id ≡ length gone = unflushed_id_is old gone [] fresh held ∙ ap length (append-nil gone) in
+      let first_size : length before ≡ id = length-map gone promise_of ∙ sym id_is in
+      let promises : old.promises ≡ before ++ waiting = held.promises ∙ map-append promise_of gone fresh in
+      let left : drop id old.promises ≡ waiting = ap (drop id) promises ∙ drop_at before waiting id first_size in
+      let first : take id old.promises ≡ before = ap (take id) promises ∙ take_at before waiting id first_size in
+      let promised : (closed_pending cause old).promises ≡ map promise_of ((gone ++ closed) ++ []) =
+      rw (first, left, append-nil (gone ++ closed), map-append promise_of gone closed)
+      (rw (closed_promises cause fresh held.all_fresh)) in
+      let all_closed = all_now_gone (closed_row cause) (λ row. refl) fresh in
+      let all_gone = each_append IsGone gone closed held.all_gone all_closed in
+      let stay = stay_by (closed_row cause) IsGone (closed_gone cause) gone held.all_gone in
+      let moments = moments_after old.settings.estimate commands in
+      let silent = silent_word cause old.marks (half_after commands) fresh gone moments in
+      carried old (closed_pending cause old) commands (Close cause) stands unclosed gone fresh closed rows_are
+      (rw (rows_are, map-append (closed_row cause) gone fresh, stay)) (sym refusal_is ∙ accepted) (λ index. refl) refl
+      refl (gone ++ closed) [] [] (sym (append-nil (gone ++ closed))) (assumption (held.line, promised, all_gone))
+      (word_by_moments old commands stands ∙ sym silent)
+      (ap Count (ap length stands.unflushed ∙ length-map (unflushed (rows_of old commands)) entry_of))
+      (rw (left, id_is) (sym (settlements_of_closed cause (length gone) fresh held.all_fresh))) refl
 
 -- the close simulates the command
 pub closing_simulates : (cause : Cause) (old : Pending) → Simulates (Close cause) old (closing_step cause old)

@@ -10,6 +10,7 @@ use Rattle.ob_seq.proofs.Removed.{taken_away}
 use Rattle.ob_seq.proofs.Simulation.{Simulates}
 use Rattle.ob_seq.proofs.Times.{settings_of_times}
 
+-- a buffer without its line carries the failing out
 failed_line : (cause : Cause) (notice : Bool) (old : Pending) (commands : List Command) → StandsFor old commands →
     old.closed ≡ false →
     Carries old commands (FailFlushed cause notice) (line_failed cause notice old) (failing_reply cause notice old)

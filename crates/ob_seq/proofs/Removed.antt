@@ -23,7 +23,7 @@ pub record IsPlain (command : Command) (notice : Bool) : Type 0 where
   pub no_close : is_close command ≡ false
   pub notice_is : gives_notice command ≡ notice
 
--- a command that takes the first rows in line away and skips bytes of the next, where the buffer does so
+-- a buffer that takes entries off its line and skips bytes of the next carries out a command that does so to the rows
 module _ (old : Pending) (commands : List Command) (command : Command) (stands : StandsFor old commands)
     (unclosed : old.closed ≡ false) (notice : Bool) (plain : IsPlain command notice) (outcome : Outcome)
     (skipped count : ℕ) (gone first rest fresh : List Row) where
@@ -76,6 +76,7 @@ removal_with cause = assumption
 
 module _ (command : Command) (outcome : Outcome) (is : IsRemoval command outcome) (old : Pending)
     (commands : List Command) (stands : StandsFor old commands) (unclosed : old.closed ≡ false) where
+  -- a buffer without its front, if it has one, carries the removal out
   by_line : (gone standing fresh : List Row) → rows_of old commands ≡ gone ++ (standing ++ fresh) →
       Held old gone standing fresh →
       Carries old commands command (front_removed outcome old) (removal_reply outcome old)
