@@ -1,48 +1,57 @@
--- What entries settle when they are taken away.
-use Rattle.ob_seq.proofs.Words.{◌≡◌, ℕ, zero, suc, ◌+◌, ◌<◌, ◌≤◌, Bool, true, false, not, List, [], ◌∷◌, ◌++◌, length}
-use Rattle.ob_seq.proofs.Words.{take, get_or, refl, sym, ap, ◌∙◌, cond, append_assoc, append-nil, length-append}
-use Rattle.ob_seq.proofs.Words.{add-zero, arith, count_by, length-take-le, take_more, sum_by-cons, PromiseId, Outcome}
+-- What is settled along a list, one id after another; what entries settle when they are taken away.
+use Rattle.ob_seq.proofs.Words.{◌≡◌, ℕ, suc, ◌+◌, ◌<◌, Bool, not, List, [], ◌∷◌, ◌++◌, length, take, drop, get_or, sym}
+use Rattle.ob_seq.proofs.Words.{◌∙◌, ap, cond, append_assoc, append-nil, length-append, add-zero, arith, count_by}
+use Rattle.ob_seq.proofs.Words.{length-take-le, take_more, take-append-drop, sum_by-cons, PromiseId, Outcome}
 use Rattle.ob_seq.proofs.Words.{PendingEntry, entry_settlement, entry_settlements}
+use Rattle.std.proofs.lemmas.List.{take-take}
 
-settlements_append : (outcome : Outcome) (id : ℕ) (xs ys : List PendingEntry) → entry_settlements outcome id (xs ++ ys) ≡ entry_settlements outcome id xs ++ entry_settlements outcome (id + length xs) ys
-settlements_append outcome id [] ys = ap (λ at. entry_settlements outcome at ys) (sym (add-zero id))
-settlements_append outcome id (x ∷ xs) ys =
-    ap (λ rest. entry_settlement outcome id x ++ rest) (settlements_append outcome (suc id) xs ys ∙ ap (λ at. entry_settlements outcome (suc id) xs ++ entry_settlements outcome at ys) (omega arith))
-    ∙ sym (append_assoc (entry_settlement outcome id x) (entry_settlements outcome (suc id) xs) (entry_settlements outcome (id + suc (length xs)) ys))
+-- a list settles what each of its elements does, where their ids go on from a first one
+pub record SettlesEach {A : Type 0} (one : ℕ → A → List (PromiseId × Outcome))
+    (all : ℕ → List A → List (PromiseId × Outcome)) : Type 0 where
+  pub none : (id : ℕ) → all id [] ≡ []
+  pub more : (id : ℕ) (x : A) (xs : List A) → all id (x ∷ xs) ≡ one id x ++ all (suc id) xs
 
--- with one entry more
-pub settlements_more : (outcome : Outcome) (id : ℕ) (entries : List PendingEntry) (i : ℕ) (entry : PendingEntry) → i < length entries → entry ≡ get_or entries i entry →
-    entry_settlements outcome id (take (i + 1) entries) ≡ entry_settlements outcome id (take i entries) ++ entry_settlement outcome (id + i) entry
-settlements_more outcome id entries i entry inside is =
-    rw (take_more entries i entry inside, settlements_append outcome id (take i entries) (get_or entries i entry ∷ []), length-take-le i entries (omega arith), ← is)
-    (ap (λ one. entry_settlements outcome id (take i entries) ++ one) (append-nil (entry_settlement outcome (id + i) entry)))
+module _ {A : Type 0} {one : ℕ → A → List (PromiseId × Outcome)} {all : ℕ → List A → List (PromiseId × Outcome)}
+    (is : SettlesEach one all) where
+  append : (id : ℕ) (xs ys : List A) → all id (xs ++ ys) ≡ all id xs ++ all (id + length xs) ys
+  append id [] ys = rw (is.none id, add-zero)
+  append id (x ∷ xs) ys =
+      let next : id + length (x ∷ xs) ≡ suc id + length xs = omega arith in
+      rw (is.more id x (xs ++ ys), is.more id x xs, append (suc id) xs ys, next, append_assoc)
 
--- fewer entries settle no more
-pub settlements_few : (outcome : Outcome) (id n m : ℕ) (entries : List PendingEntry) → n ≤ m → length (entry_settlements outcome id (take n entries)) ≤ length (entry_settlements outcome id (take m entries))
-settlements_few outcome id zero m entries fewer = omega arith
-settlements_few outcome id (suc n) zero entries fewer = absurd (omega arith)
-settlements_few outcome id (suc n) (suc m) [] fewer = omega arith
-settlements_few outcome id (suc n) (suc m) (entry ∷ entries) fewer =
-    let rest = settlements_few outcome (suc id) n m entries (omega arith) in
-    let one = length-append (entry_settlement outcome id entry) (entry_settlements outcome (suc id) (take n entries)) in
-    let other = length-append (entry_settlement outcome id entry) (entry_settlements outcome (suc id) (take m entries)) in
-    omega arith
+  -- with one element more
+  pub settled_more : (id : ℕ) (xs : List A) (i : ℕ) (x d : A) → i < length xs → x ≡ get_or xs i d →
+      all id (take (i + 1) xs) ≡ all id (take i xs) ++ one (id + i) x
+  settled_more id xs i x d inside read =
+      let size = length-take-le i xs (omega arith) in
+      rw (take_more xs i d inside, ← read, append id (take i xs) (x ∷ []), size, is.more (id + i) x [])
+      (rw (is.none (suc (id + i)), append-nil (one (id + i) x)))
 
--- an entry that was not voided settles one promise, and a voided one none
-pub settlement_of_unvoided : (outcome : Outcome) (id : ℕ) (entry : PendingEntry) → entry.voided ≡ false → entry_settlement outcome id entry ≡ (record { 0 = id }, outcome) ∷ []
-settlement_of_unvoided outcome id entry sent = ap (λ voided. let settled : List (PromiseId × Outcome) = cond voided [] ((record { 0 = id }, outcome) ∷ []) in settled) sent
+  -- fewer elements settle fewer promises, where one that is left out settles one
+  pub settled_room : (id : ℕ) (xs : List A) (i m : ℕ) (x d : A) → i < m → i < length xs → x ≡ get_or xs i d →
+      length (one (id + i) x) ≡ 1 → length (all id (take i xs)) < length (all id (take m xs))
+  settled_room id xs i m x d before inside read single =
+      let more = settled_more id xs i x d inside read in
+      let first = take (i + 1) (take m xs) in
+      let behind = drop (i + 1) (take m xs) in
+      let whole = rw take-append-drop at (append id first behind) in
+      let fewer = take-take (i + 1) m xs (omega arith) in
+      let both = rw fewer at (ap length whole ∙ length-append (all id first) (all (id + length first) behind)) in
+      omega (arith, ap length more, length-append (all id (take i xs)) (one (id + i) x))
 
-pub settlement_of_voided : (outcome : Outcome) (id : ℕ) (entry : PendingEntry) → entry.voided ≡ true → entry_settlement outcome id entry ≡ []
-settlement_of_voided outcome id entry voided = ap (λ gone. let settled : List (PromiseId × Outcome) = cond gone [] ((record { 0 = id }, outcome) ∷ []) in settled) voided
+  -- as many promises as elements that settle theirs
+  pub settled_count : (test : A → Bool) → ((id : ℕ) (x : A) → length (one id x) ≡ cond (test x) 1 0) → (id : ℕ)
+      (xs : List A) → length (all id xs) ≡ count_by test xs
+  settled_count test each id [] = rw (is.none id)
+  settled_count test each id (x ∷ xs) =
+      rw (is.more id x xs, length-append (one id x) (all (suc id) xs), each id x, settled_count test each (suc id) xs)
+      (sym (sum_by-cons (λ y. cond (test y) 1 0) x xs))
 
-length_by : (outcome : Outcome) (id : ℕ) (voided : Bool) (entries : List PendingEntry) →
-    length ((let settled : List (PromiseId × Outcome) = cond voided [] ((record { 0 = id }, outcome) ∷ []) in settled) ++ entry_settlements outcome (suc id) entries) ≡ cond (not voided) 1 0 + length (entry_settlements outcome (suc id) entries)
-length_by outcome id true entries = omega arith
-length_by outcome id false entries = omega arith
+pub entries_settle : (outcome : Outcome) → SettlesEach (entry_settlement outcome) (entry_settlements outcome)
+entries_settle outcome = assumption
 
 -- as many promises as entries that were not voided
-pub count_of_settlements : (outcome : Outcome) (id : ℕ) (entries : List PendingEntry) → length (entry_settlements outcome id entries) ≡ count_by (λ entry. not entry.voided) entries
-count_of_settlements outcome id [] = refl
-count_of_settlements outcome id (entry ∷ entries) =
-    length_by outcome id entry.voided entries ∙ ap (λ n. cond (not entry.voided) 1 0 + n) (count_of_settlements outcome (suc id) entries)
-    ∙ sym (sum_by-cons (λ e. cond (not e.voided) 1 0) entry entries)
+pub count_of_settlements : (outcome : Outcome) (id : ℕ) (entries : List PendingEntry) →
+    length (entry_settlements outcome id entries) ≡ count_by (λ entry. not entry.voided) entries
+count_of_settlements outcome =
+    settled_count (entries_settle outcome) (λ (entry : PendingEntry). not entry.voided) (λ id entry. grind arith)

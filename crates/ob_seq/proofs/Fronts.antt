@@ -1,9 +1,21 @@
--- The front of the rows of a history.
-use Rattle.ob_seq.proofs.Words.{◌≡◌, ℕ, ◌<◌, List, [], ◌∷◌, ◌++◌, length, sym, ap, ◌∙◌, subst, arith, Some, None}
-use Rattle.ob_seq.proofs.Words.{Command, Row, front, rows_after, Pending, StandsFor}
-use Rattle.ob_seq.proofs.Held.{Held, held_of, line_count}
+-- The front of the rows of a history, and what a command leaves behind rows that it lets stay.
+use Rattle.ob_seq.proofs.Words.{◌≡◌, ◌<◌, Bool, false, List, [], ◌∷◌, ◌++◌, length, ltb, refl, sym, ◌∙◌, cond, arith}
+use Rattle.ob_seq.proofs.Words.{Option, Some, None, is_some, nat_tests, length-map, change_between, Command, Reply, Row}
+use Rattle.ob_seq.proofs.Words.{is_in_line, front, line, effect, rows_after, moments_along, is_close, refusal_of}
+use Rattle.ob_seq.proofs.Words.{settlements_from, reply_of, entry_of, Pending, StandsFor}
+use Rattle.ob_seq.specs.Answer.{answer_of}
+use Rattle.ob_seq.specs.Moment.{gives_notice}
+use Rattle.ob_seq.proofs.Acceptance.{same_reply}
+use Rattle.ob_seq.proofs.Along.{moments_past, settlements_past}
+use Rattle.ob_seq.proofs.Held.{Held, held_of, line_count, opening, stands_after, word_at_end}
+use Rattle.ob_seq.proofs.History.{moments_after}
+use Rattle.ob_seq.proofs.Marks.{IsQuiet, half_after, word_from}
 use Rattle.ob_seq.proofs.Order.{layout_of}
-use Rattle.ob_seq.proofs.Parts.{front_of_parts, no_front_of_parts}
+use Rattle.ob_seq.proofs.Parts.{front_of_parts}
+
+-- the rows of a history
+abbrev pub rows_of : Pending → List Command → List Row
+rows_of buffer commands = rows_after buffer.settings.estimate commands
 
 -- the rows of a history with their front
 pub record Fronted (buffer : Pending) (commands : List Command) : Type 0 where
@@ -11,32 +23,75 @@ pub record Fronted (buffer : Pending) (commands : List Command) : Type 0 where
   pub row : Row
   pub standing : List Row
   pub fresh : List Row
-  pub rows_are : rows_after buffer.settings.estimate commands ≡ gone ++ row ∷ (standing ++ fresh)
+  pub rows_are : rows_of buffer commands ≡ gone ++ row ∷ (standing ++ fresh)
   pub held : Held buffer gone (row ∷ standing) fresh
 
-fronted_by : (buffer : Pending) (commands : List Command) (gone standing fresh : List Row) → rows_after buffer.settings.estimate commands ≡ gone ++ (standing ++ fresh) →
-    Held buffer gone standing fresh → 0 < length standing → Fronted buffer commands
+fronted_by : (buffer : Pending) (commands : List Command) (gone standing fresh : List Row) →
+    rows_of buffer commands ≡ gone ++ (standing ++ fresh) → Held buffer gone standing fresh → 0 < length standing →
+    Fronted buffer commands
 fronted_by buffer commands gone [] fresh rows_are held some = absurd (omega arith)
-fronted_by buffer commands gone (row ∷ standing) fresh rows_are held some = record { gone = gone; row = row; standing = standing; fresh = fresh; rows_are = rows_are; held = held }
+fronted_by buffer commands gone (row ∷ standing) fresh rows_are held some =
+    record { gone = gone; row = row; standing = standing; fresh = fresh; rows_are = rows_are; held = held }
 
 -- with something in line there is a front
-pub fronted : (buffer : Pending) (commands : List Command) → StandsFor buffer commands → 0 < length buffer.line → Fronted buffer commands
+pub fronted : (buffer : Pending) (commands : List Command) → StandsFor buffer commands → 0 < length buffer.line →
+    Fronted buffer commands
 fronted buffer commands stands some =
     let layout = layout_of buffer.settings.estimate commands in
     let held = held_of buffer commands stands in
     fronted_by buffer commands layout.gone layout.standing layout.fresh layout.is held
-    (subst (λ (count : ℕ). 0 < count) (line_count buffer layout.gone layout.standing layout.fresh held) some)
+    (rw (line_count buffer layout.gone layout.standing layout.fresh held) at some)
 
-pub front_is : (buffer : Pending) (commands : List Command) (f : Fronted buffer commands) → front (rows_after buffer.settings.estimate commands) ≡ Some f.row
-front_is buffer commands f = ap front f.rows_are ∙ front_of_parts f.gone f.row (f.standing ++ f.fresh) f.held.all_gone f.held.all_standing.0
+pub front_is : (buffer : Pending) (commands : List Command) (f : Fronted buffer commands) →
+    front (rows_of buffer commands) ≡ Some f.row
+front_is buffer commands f =
+    rw f.rows_are (front_of_parts f.gone f.row (f.standing ++ f.fresh) f.held.all_gone f.held.all_standing.0)
 
-no_front_by : (rows gone standing fresh : List Row) → rows ≡ gone ++ (standing ++ fresh) → (buffer : Pending) → Held buffer gone standing fresh → length standing ≡ 0 → front rows ≡ None
-no_front_by rows gone [] fresh rows_are buffer held none = ap front rows_are ∙ no_front_of_parts gone fresh held.all_gone held.all_fresh
-no_front_by rows gone (row ∷ standing) fresh rows_are buffer held none = absurd (omega arith)
+front_step : (here : Bool) (row : Row) (found : Option Row) (rest : List Row) → is_some found ≡ ltb 0 (length rest) →
+    is_some (cond here (Some row) found) ≡ ltb 0 (length (cond here (row ∷ rest) rest))
+front_step here row found rest is = grind (arith, nat_tests)
+
+is_front : (rows : List Row) → is_some (front rows) ≡ ltb 0 (length (line rows))
+is_front [] = refl
+is_front (row ∷ rows) = front_step (is_in_line row) row (front rows) (line rows) (is_front rows)
+
+-- there is a front just where something is in line
+pub some_front : (buffer : Pending) (commands : List Command) → StandsFor buffer commands →
+    is_some (front (rows_of buffer commands)) ≡ ltb 0 (length buffer.line)
+some_front buffer commands stands =
+    rw (stands.line, length-map (line (rows_of buffer commands)) entry_of) (is_front (rows_of buffer commands))
 
 -- with nothing in line there is none
-pub no_front : (buffer : Pending) (commands : List Command) → StandsFor buffer commands → length buffer.line ≡ 0 → front (rows_after buffer.settings.estimate commands) ≡ None
+pub no_front : (buffer : Pending) (commands : List Command) → StandsFor buffer commands → length buffer.line ≡ 0 →
+    front (rows_of buffer commands) ≡ None
 no_front buffer commands stands none =
-    let layout = layout_of buffer.settings.estimate commands in
-    let held = held_of buffer commands stands in
-    no_front_by (rows_after buffer.settings.estimate commands) layout.gone layout.standing layout.fresh layout.is buffer held (sym (line_count buffer layout.gone layout.standing layout.fresh held) ∙ none)
+    let fails = rw none at (some_front buffer commands stands) in grind arith
+
+-- a buffer stands for the history with one more command, and the reply is the one to it
+abbrev pub Carries : Pending → List Command → Command → Pending → Reply → Type 0
+Carries old commands command new reply =
+    StandsFor new (commands ++ command ∷ []) × (reply ≡ reply_of old.settings commands command)
+
+-- a buffer carries a command out that holds the rows after it and has the word after its moments
+pub carried : (old new : Pending) (commands : List Command) (command : Command) → StandsFor old commands →
+    old.closed ≡ false → (same was now : List Row) → rows_of old commands ≡ same ++ was →
+    effect old.settings.estimate (rows_of old commands) command ≡ same ++ now →
+    refusal_of old.settings.estimate (rows_of old commands) command ≡ None → IsQuiet command →
+    opening new ≡ opening old → new.closed ≡ is_close command →
+    (gone standing fresh : List Row) → same ++ now ≡ gone ++ (standing ++ fresh) → Held new gone standing fresh →
+    new.word ≡ word_from old.marks (half_after commands)
+    (moments_after old.settings.estimate commands ++ moments_along (gives_notice command) same was now) →
+    {reply : Reply} → reply.answer ≡ answer_of (rows_of old commands) command →
+    reply.settled ≡ settlements_from (length same) was now → reply.change ≡ change_between old.word new.word →
+    Carries old commands command new reply
+carried old new commands command stands unclosed same was now rows_are after_is accepted quiet opened closed gone
+    standing fresh parts held word answers settles changes =
+    let notice = gives_notice command in
+    let after = effect old.settings.estimate (rows_of old commands) command in
+    let moments = moments_past (rows_of old commands) after same was now rows_are after_is notice in
+    let settled = settlements_past (rows_of old commands) after same was now rows_are after_is in
+    let end = word ∙ word_at_end old commands stands command (moments_along notice same was now) quiet moments in (
+      stands_after old new commands command stands unclosed accepted gone standing fresh opened closed held
+          (after_is ∙ parts) end,
+      same_reply answers (settles ∙ sym settled) (changes ∙ rw (end, stands.word) refl),
+    )

@@ -1,50 +1,23 @@
 -- How many pieces from the front of a list fit a limit, one piece after another.
-use Rattle.ob_seq.proofs.Words.{◌≡◌, ℕ, zero, suc, ◌+◌, ◌-◌, ◌<◌, ◌≤◌, max, Bool, true, false, List, [], ◌∷◌, length}
-use Rattle.ob_seq.proofs.Words.{take, refl, cond, leb, ltb, eqb, zero-add, arith, inl, inr, Option, Some, None, fold}
-use Rattle.ob_seq.proofs.Words.{filter, range_with_len, nat_tests, sum_by-cons, Cut, bytes_in, pieces_within, cut_of}
-use Rattle.std.proofs.Math.Nat.{max-le}
-use Rattle.std.proofs.lemmas.Bool.{cases_Bool}
+use Rattle.ob_seq.proofs.Words.{◌≡◌, ℕ, zero, suc, ◌+◌, ◌-◌, ◌<◌, ◌≤◌, max, Bool, List, [], ◌∷◌, length, take, cond}
+use Rattle.ob_seq.proofs.Words.{leb, ltb, zero-add, arith, Option, Some, None, fold, filter, range_with_len, nat_tests}
+use Rattle.ob_seq.proofs.Words.{sum_by-cons, Cut, bytes_in, pieces_within, cut_of}
 
--- the greatest of another number and of those from one on that pass a test
-abbrev greatest_from : (ℕ → Bool) → ℕ → ℕ → ℕ → ℕ
-greatest_from test other from count = fold max other (filter test (range_with_len from count))
+greatest_step : (passes : Bool) (best other from : ℕ) (behind : List ℕ) → passes ≡ leb from best → other ≤ best →
+    (other < best → from ≤ best) →
+    ((another : ℕ) → another ≤ best → (another < best → from + 1 ≤ best) → fold max another behind ≡ best) →
+    fold max other (cond passes (from ∷ behind) behind) ≡ best
+greatest_step passes best other from behind is low near rest = grind (arith, nat_tests)
 
--- the same, where it is known whether the first passes
-abbrev greatest_by : (ℕ → Bool) → Bool → ℕ → ℕ → ℕ → ℕ
-greatest_by test passes other from count =
-    let behind = filter test (range_with_len (from + 1) count) in fold max other (cond passes (from ∷ behind) behind)
-
-at_most : (test : ℕ → Bool) (other from count most : ℕ) → other ≤ most →
-    ((k : ℕ) → from ≤ k → k < from + count → test k ≡ true → k ≤ most) → greatest_from test other from count ≤ most
-at_most test other from zero most first each = first
-at_most test other from (suc count) most first each =
-    by_test (test from) refl (λ another few. at_most test another (from + 1) count most few
-    (λ k above below. each k (omega arith) (omega arith)))
-  where
-    by_test : (passes : Bool) → test from ≡ passes →
-        ((another : ℕ) → another ≤ most → greatest_from test another (from + 1) count ≤ most) →
-        greatest_by test passes other from count ≤ most
-    by_test true is rest = rest (max other from) (max-le first (each from (omega arith) (omega arith) is))
-    by_test false is rest = rest other first
-
--- one of those numbers, or one that the other number is not less than
-at_least : (test : ℕ → Bool) (other from count k : ℕ) → (other < k → from ≤ k) → (other < k → k < from + count) →
-    test k ≡ true → k ≤ greatest_from test other from count
-at_least test other from zero k above below passes = grind arith
-at_least test other from (suc count) k above below passes =
-    by_test (test from) refl (λ another. at_least test another (from + 1) count k)
-  where
-    later : test from ≡ false → other < k → from + 1 ≤ k
-    later fails more = elim (cases_Bool (eqb from k)) [
-      | inl same ↦ absurd (let here : from ≡ k = grind (arith, nat_tests) in cc)
-      | inr differs ↦ let low = above more in grind (arith, nat_tests)
-    ]
-
-    by_test : (first : Bool) → test from ≡ first → ((another : ℕ) → (another < k → from + 1 ≤ k) →
-        (another < k → k < from + 1 + count) → test k ≡ true → k ≤ greatest_from test another (from + 1) count) →
-        k ≤ greatest_by test first other from count
-    by_test true is rest = rest (max other from) (λ more. omega arith) (λ more. omega arith) passes
-    by_test false is rest = rest other (later is) (λ more. omega (arith, below more)) passes
+-- where just the numbers up to one pass a test, that is the greatest of those that pass and of another number
+greatest_is : (test : ℕ → Bool) (best end other from count : ℕ) → ((k : ℕ) → k < end → test k ≡ leb k best) →
+    best < end → from + count ≡ end → other ≤ best → (other < best → from ≤ best) →
+    fold max other (filter test (range_with_len from count)) ≡ best
+greatest_is test best end other from zero each few size low near = grind arith
+greatest_is test best end other from (suc count) each few size low near =
+    greatest_step (test from) best other from (filter test (range_with_len (from + 1) count))
+    (each from (omega arith)) low near
+    (λ another lower nearer. greatest_is test best end another (from + 1) count each few (omega arith) lower nearer)
 
 -- how many pieces fit, counted one after another
 abbrev pub fitting : ℕ → List (List ℕ) → ℕ
@@ -55,34 +28,26 @@ pub fitting_few : (limit : ℕ) (pieces : List (List ℕ)) → fitting limit pie
 fitting_few limit [] = omega arith
 fitting_few limit (piece ∷ pieces) = let rest = fitting_few (limit - length piece) pieces in grind arith
 
-fitting_fits : (limit : ℕ) (pieces : List (List ℕ)) → bytes_in (take (fitting limit pieces) pieces) ≤ limit
-fitting_fits limit [] = omega arith
-fitting_fits limit (piece ∷ pieces) =
-    let rest = fitting_fits (limit - length piece) pieces in
-    let sum = sum_by-cons (λ p. length p) piece (take (fitting (limit - length piece) pieces) pieces) in
-    grind (arith, nat_tests)
+fitting_step : (piece bytes limit k fit : ℕ) → leb bytes (limit - piece) ≡ leb k fit →
+    leb (piece + bytes) limit ≡ leb (suc k) (cond (leb piece limit) (suc fit) 0)
+fitting_step piece bytes limit k fit is = grind (arith, nat_tests)
 
-fitting_most : (limit : ℕ) (pieces : List (List ℕ)) (k : ℕ) → k ≤ length pieces → bytes_in (take k pieces) ≤ limit →
-    k ≤ fitting limit pieces
-fitting_most limit [] k few fits = few
-fitting_most limit (piece ∷ pieces) zero few fits = omega arith
-fitting_most limit (piece ∷ pieces) (suc k) few fits =
-    let sum : bytes_in (take (suc k) (piece ∷ pieces)) ≡ length piece + bytes_in (take k pieces) =
-    sum_by-cons (λ p. length p) piece (take k pieces) in
-    let rest = fitting_most (limit - length piece) pieces k (omega arith) (omega arith) in
-    grind (arith, nat_tests)
+fitting_is : (limit : ℕ) (pieces : List (List ℕ)) (k : ℕ) → k ≤ length pieces →
+    leb (bytes_in (take k pieces)) limit ≡ leb k (fitting limit pieces)
+fitting_is limit pieces zero few = grind (arith, nat_tests)
+fitting_is limit [] (suc k) few = absurd (omega arith)
+fitting_is limit (piece ∷ pieces) (suc k) few =
+    let rest = fitting_is (limit - length piece) pieces k (omega arith) in
+    rw (sum_by-cons (λ p. length p) piece (take k pieces))
+    (fitting_step (length piece) (bytes_in (take k pieces)) limit k (fitting (limit - length piece) pieces) rest)
 
 -- the greatest number of pieces that fit is the one that counting finds
 pub within_is_fitting : (limit : ℕ) (pieces : List (List ℕ)) → pieces_within limit pieces ≡ fitting limit pieces
 within_is_fitting limit pieces =
-    let test : ℕ → Bool = λ count. leb (bytes_in (take count pieces)) limit in
     let few = fitting_few limit pieces in
-    let fits = fitting_fits limit pieces in
-    let above = at_most test 0 0 (suc (length pieces)) (fitting limit pieces) (omega arith)
-    (λ k a b t. fitting_most limit pieces k (omega arith) (grind (arith, nat_tests))) in
-    let below = at_least test 0 0 (suc (length pieces)) (fitting limit pieces) (omega arith) (omega arith)
-    (grind (arith, nat_tests)) in
-    omega arith
+    greatest_is (λ count. leb (bytes_in (take count pieces)) limit) (fitting limit pieces) (suc (length pieces)) 0 0
+    (suc (length pieces)) (λ k below. fitting_is limit pieces k (omega arith)) (omega arith) (omega arith) (omega arith)
+    (omega arith)
 
 -- where a removal of bytes ends, looked for one piece after another from so many whole ones on
 abbrev pub cut_from : ℕ → ℕ → List (List ℕ) → Option Cut
@@ -92,12 +57,10 @@ cut_from whole rest (piece ∷ pieces) =
     (Some (record { whole = whole; rest = rest }))
 
 -- what it finds, by the count of the pieces that fit
-abbrev cut_by : ℕ → ℕ → List (List ℕ) → Option Cut
-cut_by whole n pieces =
-    cond (ltb (bytes_in pieces) n) None
-    (Some (record { whole = whole + fitting n pieces; rest = n - bytes_in (take (fitting n pieces) pieces) }))
-
-cut_from_is : (whole n : ℕ) (pieces : List (List ℕ)) → cut_from whole n pieces ≡ cut_by whole n pieces
+cut_from_is : (whole n : ℕ) (pieces : List (List ℕ)) →
+    (let fit = fitting n pieces in
+    let cut : Cut = record { whole = whole + fit; rest = n - bytes_in (take fit pieces) } in
+    cut_from whole n pieces ≡ cond (ltb (bytes_in pieces) n) None (Some cut))
 cut_from_is whole n [] = grind arith
 cut_from_is whole n (piece ∷ pieces) =
     let rest = cut_from_is (suc whole) (n - length piece) pieces in

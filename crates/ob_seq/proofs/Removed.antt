@@ -1,127 +1,116 @@
--- A buffer without its front stands for the history with the removal, by success or by failure.
-use Rattle.ob_seq.proofs.Words.{◌≡◌, ℕ, suc, Bool, true, false, List, [], ◌∷◌, ◌++◌, length, refl, sym, ap, ◌∙◌, cond}
-use Rattle.ob_seq.proofs.Words.{ltb, append_assoc, arith, None, is_some, AllByRecursion, nat_tests, change_between}
-use Rattle.ob_seq.proofs.Words.{Estimate, Command, Remove, RemoveWith, Outcome, Success, Failed, Cause, Reply, Yes, Row}
-use Rattle.ob_seq.proofs.Words.{front, counted_size, total, effect, rows_after, taken_row, with_front, moment_of}
-use Rattle.ob_seq.proofs.Words.{moments_along, moments_of, is_close, word_after, refusal_of, settlements_from, reply_of}
-use Rattle.ob_seq.proofs.Words.{Pending, StandsFor, front_taken, front_settlement}
-use Rattle.ob_seq.specs.Moment.{gives_notice}
+-- Rows taken away from the front of the line; a buffer without its front stands for the history with the removal.
+use Rattle.ob_seq.proofs.Words.{◌≡◌, ℕ, Bool, true, false, List, [], ◌∷◌, ◌++◌, length, map, refl, sym, ap, ◌∙◌, ltb}
+use Rattle.ob_seq.proofs.Words.{◌+◌, append_assoc, append-nil, arith, None, is_some, AllByRecursion, nat_tests}
+use Rattle.ob_seq.proofs.Words.{change_between, Estimate, Command, Remove, RemoveWith, Outcome, Success, Failed, Cause}
+use Rattle.ob_seq.proofs.Words.{Reply, Yes, Row, front, effect, taken_row, with_front, moments_along, is_close}
+use Rattle.ob_seq.proofs.Words.{refusal_of, entry_of, Pending, StandsFor, front_taken, front_id, entry_settlements}
+use Rattle.ob_seq.proofs.Words.{times}
 use Rattle.ob_seq.specs.Answer.{answer_of}
-use Rattle.ob_seq.specs.Steps.{front_removed, removal_reply, removal_step}
-use Rattle.ob_seq.proofs.Acceptance.{same_reply}
-use Rattle.ob_seq.proofs.Along.{moments_in_one, moments_of_same, settlements_in_one, settlements_of_same}
-use Rattle.ob_seq.proofs.Held.{word_at_end, Held, held_of, line_count, stands_after, stands_same, word_by_moments}
-use Rattle.ob_seq.proofs.History.{moments_after, rows_after_more}
-use Rattle.ob_seq.proofs.Marks.{IsQuiet, half_after, word_after_same}
-use Rattle.ob_seq.proofs.Order.{IsGone, IsFresh, with_front_gone, with_front_fresh, with_front_standing, layout_of}
-use Rattle.ob_seq.proofs.Parts.{front_of_parts, no_front_of_parts}
+use Rattle.ob_seq.specs.Moment.{gives_notice}
+use Rattle.ob_seq.specs.Steps.{front_removed, front_skipped, is_first_voided, removal_reply, removal_step}
+use Rattle.ob_seq.proofs.Fronts.{Carries, carried, rows_of, some_front}
+use Rattle.ob_seq.proofs.Held.{Held, front_id_is, held_of, word_by_moments}
+use Rattle.ob_seq.proofs.History.{moments_after}
+use Rattle.ob_seq.proofs.Marks.{IsQuiet, half_after}
+use Rattle.ob_seq.proofs.Order.{IsStanding, with_front_gone, with_front_fresh, with_front_standing, layout_of}
+use Rattle.ob_seq.proofs.Sent.{all_taken, settlements_of_taken}
 use Rattle.ob_seq.proofs.Simulation.{Simulates}
-use Rattle.ob_seq.proofs.Taken.{taken_held, taken_word, taken_settlement}
+use Rattle.ob_seq.proofs.Skipped.{rows_skipped, settlements_of_skipped, skipped_held, skipped_opening, skipped_same}
+
+-- the command asks nothing of a user bit and does not close, and its falls are with or without notice
+pub record IsPlain (command : Command) (notice : Bool) : Type 0 where
+  pub quiet : IsQuiet command
+  pub no_close : is_close command ≡ false
+  pub notice_is : gives_notice command ≡ notice
+
+-- a buffer that takes entries off its line and skips bytes of the next carries out a command that does so to the rows
+module _ (old : Pending) (commands : List Command) (command : Command) (stands : StandsFor old commands)
+    (unclosed : old.closed ≡ false) (notice : Bool) (plain : IsPlain command notice) (outcome : Outcome)
+    (skipped count : ℕ) (gone first rest fresh : List Row) where
+  abbrev left : List Row
+  left = map (taken_row outcome) first ++ (rows_skipped skipped rest ++ fresh)
+
+  abbrev after : Pending
+  after = front_skipped skipped (times count (front_taken notice outcome) old)
+
+  pub taken_away : length first ≡ count → rows_of old commands ≡ gone ++ ((first ++ rest) ++ fresh) →
+      Held old gone (first ++ rest) fresh → AllByRecursion IsStanding first →
+      effect old.settings.estimate (rows_of old commands) command ≡ gone ++ left →
+      moments_along notice gone (first ++ (rest ++ fresh)) left
+      ≡ moments_along notice gone (first ++ (rest ++ fresh)) (map (taken_row outcome) first ++ (rest ++ fresh)) →
+      refusal_of old.settings.estimate (rows_of old commands) command ≡ None →
+      {reply : Reply} → reply.answer ≡ answer_of (rows_of old commands) command →
+      reply.settled ≡ entry_settlements outcome (front_id old) (map entry_of first) →
+      reply.change ≡ change_between old.word after.word → Carries old commands command after reply
+  taken_away size rows_are held each effect_is alike accepted answers settles changes =
+      let taken = map (taken_row outcome) first in
+      let behind = rest ++ fresh in
+      let now = rows_skipped skipped rest in
+      let shorter = times count (front_taken notice outcome) old in
+      let nothing = settlements_of_skipped skipped (length gone + length first) rest fresh in
+      let settled = settlements_of_taken outcome (length gone) first behind (now ++ fresh) each nothing in
+      let all = rw size at (all_taken notice outcome first old gone rest fresh (half_after commands)
+      (moments_after old.settings.estimate commands) held (word_by_moments old commands stands)) in
+      let same = skipped_same skipped shorter in
+      carried old after commands command stands unclosed gone (first ++ behind) left
+      (rw (append_assoc first rest fresh) at rows_are) effect_is accepted plain.quiet
+      (skipped_opening skipped shorter ∙ all.2) (same.1 ∙ all.3 ∙ unclosed ∙ sym plain.no_close) (gone ++ taken) now
+      fresh (sym (append_assoc gone taken (now ++ fresh)))
+      (skipped_held skipped shorter (gone ++ taken) rest fresh all.0)
+      (same.0 ∙ all.1 ∙ rw (plain.notice_is, alike) refl) answers
+      (settles ∙ rw (front_id_is old gone (first ++ rest) fresh held) (sym settled)) changes
 
 -- the command takes the front away with this outcome
 pub record IsRemoval (command : Command) (outcome : Outcome) : Type 0 where
-  pub effect_is : (estimate : Estimate) (rows : List Row) → effect estimate rows command ≡ with_front (taken_row outcome) rows
-  pub notice : gives_notice command ≡ true
-  pub quiet : IsQuiet command
-  pub no_close : is_close command ≡ false
+  pub plain : IsPlain command true
+  pub effect_is : (estimate : Estimate) (rows : List Row) →
+      effect estimate rows command ≡ with_front (taken_row outcome) rows
   pub accepted : (estimate : Estimate) (rows : List Row) → refusal_of estimate rows command ≡ None
   pub answer : (rows : List Row) → answer_of rows command ≡ Yes (is_some (front rows))
 
 pub removal : IsRemoval Remove Success
-removal = record { effect_is = λ estimate rows. refl; notice = refl; quiet = λ index. refl; no_close = refl; accepted = λ estimate rows. refl; answer = λ rows. refl }
+removal = assumption
 
 pub removal_with : (cause : Cause) → IsRemoval (RemoveWith cause) (Failed cause)
-removal_with cause = record { effect_is = λ estimate rows. refl; notice = refl; quiet = λ index. refl; no_close = refl; accepted = λ estimate rows. refl; answer = λ rows. refl }
+removal_with cause = assumption
 
-module _ (command : Command) (outcome : Outcome) (is : IsRemoval command outcome) (buffer : Pending) (commands : List Command) (stands : StandsFor buffer commands) (unclosed : buffer.closed ≡ false) where
-  abbrev rows : List Row
-  rows = rows_after buffer.settings.estimate commands
+module _ (command : Command) (outcome : Outcome) (is : IsRemoval command outcome) (old : Pending)
+    (commands : List Command) (stands : StandsFor old commands) (unclosed : old.closed ≡ false) where
+  -- a buffer without its front, if it has one, carries the removal out
+  by_line : (gone standing fresh : List Row) → rows_of old commands ≡ gone ++ (standing ++ fresh) →
+      Held old gone standing fresh →
+      Carries old commands command (front_removed outcome old) (removal_reply outcome old)
+  by_line gone [] fresh rows_are held =
+      let none : ltb 0 (length old.line) ≡ false = rw held.line in
+      let change = taken_row outcome in
+      let front = with_front_fresh change fresh held.all_fresh in
+      rw none (taken_away old commands command stands unclosed true is.plain outcome 0 0 gone [] [] fresh refl rows_are
+      held tt (is.effect_is old.settings.estimate (rows_of old commands)
+      ∙ rw (rows_are, with_front_gone change gone fresh held.all_gone, front) refl) refl
+      (is.accepted old.settings.estimate (rows_of old commands))
+      (sym (is.answer (rows_of old commands) ∙ ap Yes (some_front old commands stands ∙ none))) refl refl)
+  by_line gone (row ∷ standing) fresh rows_are held =
+      let some : ltb 0 (length old.line) ≡ true = rw held.line (grind (arith, nat_tests)) in
+      let change = taken_row outcome in
+      let front = with_front_standing change row (standing ++ fresh) held.all_standing.0 in
+      rw some (taken_away old commands command stands unclosed true is.plain outcome 0 1 gone (row ∷ []) standing fresh
+      refl rows_are held (held.all_standing.0, tt) (is.effect_is old.settings.estimate (rows_of old commands)
+      ∙ rw (rows_are, with_front_gone change gone (row ∷ (standing ++ fresh)) held.all_gone, front) refl) refl
+      (is.accepted old.settings.estimate (rows_of old commands))
+      (sym (is.answer (rows_of old commands) ∙ ap Yes (some_front old commands stands ∙ some)))
+      (rw (append-nil, ap is_first_voided held.line)) refl)
 
-  -- with a front
-  module _ (gone : List Row) (row : Row) (standing fresh : List Row) (rows_are : rows ≡ gone ++ row ∷ (standing ++ fresh)) (held : Held buffer gone (row ∷ standing) fresh) where
-    abbrev taken : Row
-    taken = taken_row outcome row
-
-    effect_of_removal : effect buffer.settings.estimate rows command ≡ gone ++ taken ∷ (standing ++ fresh)
-    effect_of_removal = is.effect_is buffer.settings.estimate rows ∙ ap (with_front (taken_row outcome)) rows_are
-        ∙ with_front_gone (taken_row outcome) gone (row ∷ (standing ++ fresh)) held.all_gone
-        ∙ ap (λ rest. gone ++ rest) (with_front_standing (taken_row outcome) row (standing ++ fresh) held.all_standing.0)
-
-    moments_of_removal : moments_of buffer.settings.estimate rows command ≡ moment_of true (counted_size row) 0 (total (gone ++ taken ∷ (standing ++ fresh)))
-    moments_of_removal =
-        rw is.notice (moments_in_one rows (effect buffer.settings.estimate rows command) gone row taken (standing ++ fresh) rows_are effect_of_removal true)
-
-    word_of_removal : (front_taken true outcome buffer).word ≡ word_after buffer.settings (commands ++ command ∷ [])
-    word_of_removal =
-        taken_word true outcome buffer gone row standing fresh held (half_after commands) (moments_after buffer.settings.estimate commands) (word_by_moments buffer commands stands)
-        ∙ word_at_end buffer commands stands command (moment_of true (counted_size row) 0 (total (gone ++ taken ∷ (standing ++ fresh)))) is.quiet moments_of_removal
-
-    taken_stands : StandsFor (front_taken true outcome buffer) (commands ++ command ∷ [])
-    taken_stands =
-        stands_after buffer (front_taken true outcome buffer) commands command stands unclosed (is.accepted buffer.settings.estimate rows) (gone ++ taken ∷ []) standing fresh refl
-        (unclosed ∙ sym is.no_close) (taken_held true outcome buffer gone row standing fresh held) (effect_of_removal ∙ sym (append_assoc gone (taken ∷ []) (standing ++ fresh))) word_of_removal
-
-    taken_reply : (let reply : Reply = record { answer = Yes true; settled = front_settlement buffer outcome; change = change_between buffer.word (front_taken true outcome buffer).word } in
-        reply ≡ reply_of buffer.settings commands command)
-    taken_reply =
-        same_reply
-        (sym (is.answer rows ∙ ap (λ all. Yes (is_some (front all))) rows_are ∙ ap (λ found. Yes (is_some found)) (front_of_parts gone row (standing ++ fresh) held.all_gone held.all_standing.0)))
-        (taken_settlement true outcome buffer gone row standing fresh held
-        ∙ sym (settlements_in_one rows (effect buffer.settings.estimate rows command) gone row taken (standing ++ fresh) rows_are effect_of_removal))
-        (rw (word_of_removal, stands.word) refl)
-
-  -- with nothing in line
-  module _ (gone fresh : List Row) (rows_are : rows ≡ gone ++ fresh) (all_gone : AllByRecursion IsGone gone) (all_fresh : AllByRecursion IsFresh fresh) where
-    effect_of_nothing : effect buffer.settings.estimate rows command ≡ rows
-    effect_of_nothing = is.effect_is buffer.settings.estimate rows ∙ ap (with_front (taken_row outcome)) rows_are ∙ with_front_gone (taken_row outcome) gone fresh all_gone
-        ∙ ap (λ rest. gone ++ rest) (with_front_fresh (taken_row outcome) fresh all_fresh) ∙ sym rows_are
-
-    moments_of_nothing : moments_of buffer.settings.estimate rows command ≡ []
-    moments_of_nothing = ap (moments_along (gives_notice command) [] rows) effect_of_nothing ∙ moments_of_same (gives_notice command) rows
-
-    word_of_nothing : buffer.word ≡ word_after buffer.settings (commands ++ command ∷ [])
-    word_of_nothing = stands.word ∙ sym (word_after_same buffer.settings commands command is.quiet moments_of_nothing)
-
-    nothing_stands : StandsFor buffer (commands ++ command ∷ [])
-    nothing_stands =
-        let more : rows_after buffer.settings.estimate (commands ++ command ∷ []) ≡ rows = rows_after_more buffer.settings.estimate commands command ∙ effect_of_nothing in
-        stands_same buffer commands command stands unclosed is.no_close (is.accepted buffer.settings.estimate rows) more word_of_nothing
-
-    nothing_reply : (let reply : Reply = record { answer = Yes false; settled = []; change = change_between buffer.word buffer.word } in reply ≡ reply_of buffer.settings commands command)
-    nothing_reply =
-        same_reply
-        (sym (is.answer rows ∙ ap (λ all. Yes (is_some (front all))) rows_are ∙ ap (λ found. Yes (is_some found)) (no_front_of_parts gone fresh all_gone all_fresh)))
-        (sym (ap (settlements_from 0 rows) effect_of_nothing ∙ settlements_of_same rows))
-        (ap (change_between buffer.word) word_of_nothing ∙ rw stands.word refl)
-
-  -- either way
-  by_line : (gone standing fresh : List Row) → rows ≡ gone ++ (standing ++ fresh) → Held buffer gone standing fresh → (some : Bool) → ltb 0 (length standing) ≡ some →
-      StandsFor (cond some (front_taken true outcome buffer) buffer) (commands ++ command ∷ [])
-      × (let reply : Reply = record { answer = Yes some; settled = cond some (front_settlement buffer outcome) []; change = change_between buffer.word (cond some (front_taken true outcome buffer) buffer).word } in
-      reply ≡ reply_of buffer.settings commands command)
-  by_line gone [] fresh rows_are held true size = absurd (cc)
-  by_line gone [] fresh rows_are held false size = (nothing_stands gone fresh rows_are held.all_gone held.all_fresh, nothing_reply gone fresh rows_are held.all_gone held.all_fresh)
-  by_line gone (row ∷ standing) fresh rows_are held true size = (taken_stands gone row standing fresh rows_are held, taken_reply gone row standing fresh rows_are held)
-  by_line gone (row ∷ standing) fresh rows_are held false size = absurd (no_size (length standing) size)
-    where
-      no_size : (n : ℕ) → ltb 0 (suc n) ≡ false → ⊥
-      no_size n e = grind (arith, nat_tests)
-
-  pub removed : StandsFor (front_removed outcome buffer) (commands ++ command ∷ []) × (removal_reply outcome buffer ≡ reply_of buffer.settings commands command)
+  removed : Carries old commands command (front_removed outcome old) (removal_reply outcome old)
   removed =
-      let layout = layout_of buffer.settings.estimate commands in
-      let held = held_of buffer commands stands in
-      by_line layout.gone layout.standing layout.fresh layout.is held (ltb 0 (length buffer.line)) (ap (ltb 0) (sym (line_count buffer layout.gone layout.standing layout.fresh held)))
+      let layout = layout_of old.settings.estimate commands in
+      by_line layout.gone layout.standing layout.fresh layout.is (held_of old commands stands)
 
 -- the removal simulates the command
-pub removal_simulates : (command : Command) (outcome : Outcome) → IsRemoval command outcome → (old : Pending) → Simulates command old (removal_step outcome old)
+pub removal_simulates : (command : Command) (outcome : Outcome) → IsRemoval command outcome → (old : Pending) →
+    Simulates command old (removal_step outcome old)
 removal_simulates command outcome is old = record {
-  refusal = λ commands stands. sym (is.accepted old.settings.estimate (rows_after old.settings.estimate commands));
+  refusal = λ commands stands. sym (is.accepted old.settings.estimate (rows_of old commands));
   reply = λ commands stands unclosed none. (removed command outcome is old commands stands unclosed).1;
   after = λ commands stands unclosed none. (removed command outcome is old commands stands unclosed).0;
-  settings = by_test (ltb 0 (length old.line));
+  settings = grind arith;
 }
-  where
-    by_test : (some : Bool) → (let after : Pending = cond some (front_taken true outcome old) old in after.settings) ≡ old.settings
-    by_test true = refl
-    by_test false = refl

@@ -1,15 +1,10 @@
-use Rattle.ob_seq.proofs.Words.{◌≡◌, ℕ, ◌≤◌, false, length, drop, sym, ap, ◌∙◌, cond, ltb, arith, Option, Some, None}
-use Rattle.ob_seq.proofs.Words.{nat_tests, Refusal, FlushedLeft, unless_refused, settled_by, closing_reply}
-use Rattle.ob_seq.proofs.Words.{unflushed_id}
+use Rattle.ob_seq.proofs.Words.{◌≡◌, length, drop, sym, ◌∙◌, arith, unflushed_id}
 use Rattle.ob_seq.proofs.Failures.{count_of_failures}
 use Rattle.ob_seq.proofs.contents.Contents.closing_settles.Goals as goal
-
-none_there : (count : ℕ) → count ≤ 0 → ltb 0 count ≡ false
-none_there count few = grind (arith, nat_tests)
 
 pub returns : goal.returns
 returns c cause =
     let now = c.args.self.now in
-    let empty = none_there (length now.line) (omega (arith, c.line_count.ensures, c.if-line_count-gt0.false)) in
-    c.unflushed_waiting.ensures ∙ sym (count_of_failures cause (unflushed_id now) (drop (unflushed_id now) now.promises))
-    ∙ ap (λ some. length (settled_by (unless_refused (let refusal : Option Refusal = cond some (Some FlushedLeft) None in refusal) (closing_reply cause now)))) (sym empty)
+    let nothing : length now.line ≡ 0 = omega (arith, c.line_count.ensures, c.if-line_count-gt0.false) in
+    c.unflushed_waiting.ensures
+    ∙ rw nothing (sym (count_of_failures cause (unflushed_id now) (drop (unflushed_id now) now.promises)))

@@ -1,8 +1,7 @@
-use Rattle.ob_seq.proofs.Words.{◌≤◌, List, true, sym, ap, ◌∙◌, subst, Success, PendingEntry, Pending, first_length}
+use Rattle.ob_seq.proofs.Words.{true, Success}
 use Rattle.ob_seq.proofs.Times.{line_of_times}
 use Rattle.ob_seq.proofs.contents.Contents.remove_bytes.Goals as goal
 
 pub skip_in_front-requires : goal.skip_in_front-requires
 skip_in_front-requires c =
-    subst (λ (line : List PendingEntry). c.in-Some.cut.rest ≤ first_length line)
-    (sym (ap (λ (held : Pending). held.line) c.take_first.ensures ∙ line_of_times true Success c.in-Some.cut.whole c.args.self.now)) c.in-Some.ensures.rest
+    rw (c.take_first.ensures, line_of_times true Success c.in-Some.cut.whole c.args.self.now) c.in-Some.ensures.rest
