@@ -3,7 +3,15 @@ use Rattle.ob_seq.proofs.Words.{◌≡◌, ℕ, ◌≤◌, Bool, true, refl, sym
 use Rattle.ob_seq.proofs.Words.{Marks, Command, Write, Flush, Remove, RemoveWith, RemoveBytes, Progress, Cancel}
 use Rattle.ob_seq.proofs.Words.{FailFlushed, Close, UserBit, Success, Failed, Refusal, TooManyBytes, Cut, blocks_left}
 use Rattle.ob_seq.proofs.Words.{Pending, bytes_in, Settings, bit_step, front_taken, step_of, times, whole_cut}
-use Rattle.ob_seq.specs.Steps.{bytes_step}
+use Rattle.ob_seq.proofs.Words.{false, List, [], ◌∷◌, ◌++◌, ◌<◌, length, is_ok, Closed, Reply, answer_to, reply_of}
+use Rattle.ob_seq.proofs.Words.{unless_refused, Accepts, Answers, StandsFor, SparesMemory, settled_by_step}
+use Rattle.std.specs.Prelude.{Result, Ok, Err, IsErrOf, OnErr}
+use Rattle.ob_types.specs.Limits.{inline_settlements}
+use Rattle.ob_types.specs.declared.refusal.Refusal.TheVariants.{NoMemory}
+use Rattle.ob_seq.specs.Answer.{commands_with}
+use Rattle.ob_seq.specs.Pending.{Follows}
+use Rattle.ob_seq.specs.Settles.{Settles}
+use Rattle.ob_seq.specs.Steps.{Step, answer_by, bytes_step, first_of_step, held_by}
 use Rattle.ob_seq.proofs.Blocks.{few_entries}
 use Rattle.ob_seq.proofs.BytesRemoved.{bytes_removed_stand, run_is}
 use Rattle.ob_seq.proofs.Cancelled.{cancel_simulates}
@@ -70,3 +78,109 @@ simulated (Cancel id) old = cancel_simulates id old
 simulated (FailFlushed cause notice) old = failing_simulates cause notice old
 simulated (Close cause) old = closing_simulates cause old
 simulated (UserBit index writable) old = bit_simulates index writable old
+
+-- replies count only where nothing is refused
+same_answer : (closed closed' : Bool) (own own' : Option Refusal) (reply said : Reply) → closed ≡ closed' → own ≡ own' →
+    (closed ≡ false → own ≡ None → reply ≡ said) →
+    (let first : Option Refusal = cond closed (Some Closed) own in
+    let first' : Option Refusal = cond closed' (Some Closed) own' in
+    unless_refused first reply ≡ unless_refused first' said)
+same_answer closed closed' own own' reply said alike refused same = grind arith
+
+-- a reply comes only where nothing is refused
+none_of : (closed : Bool) (own : Option Refusal) (reply said : Reply) →
+    (let first : Option Refusal = cond closed (Some Closed) own in
+    unless_refused first reply ≡ Ok said → (closed ≡ false) × (own ≡ None))
+none_of closed own reply said = grind arith
+
+module _ (command : Command) (old : Pending) where
+  abbrev step : Step
+  step = step_of command old
+
+  answer_is : (commands : List Command) → StandsFor old commands →
+      answer_by old step ≡ answer_to old.settings commands command
+  answer_is commands stands =
+      let is = simulated command old in
+      same_answer old.closed _ step.refusal _ step.reply _ stands.closed (is.refusal commands stands)
+      (is.reply commands stands)
+
+  -- a call settles as many promises as its step
+  pub settles : Settles old command (settled_by_step old step)
+  settles commands stands = rw (answer_is commands stands)
+
+  follows : (result : Result Reply Refusal) → (¬ IsErrOf result NoMemory → result ≡ answer_by old step) →
+      Follows old command result (held_by old step result)
+  follows (Ok reply) same commands stands =
+      let opened = none_of old.closed step.refusal step.reply reply (sym (same (λ wants. absurd (cc)))) in
+      (simulated command old).after commands stands opened.0 opened.1
+  follows (Err refusal) same commands stands = stands
+
+  settings_stay : (result : Result Reply Refusal) → (held_by old step result).settings ≡ old.settings
+  settings_stay result = let stay = (simulated command old).settings in grind arith
+
+  refused : (result : Result Reply Refusal) → OnErr result (held_by old step result ≡ old)
+  refused result = grind arith
+
+  -- some history is still stood for
+  pub still_stands : {result : Result Reply Refusal} {new : Pending} → new ≡ held_by old step result →
+      (¬ IsErrOf result NoMemory → result ≡ answer_by old step) →
+      ((commands : List Command) × StandsFor old commands) → (commands : List Command) × StandsFor new commands
+  still_stands {result = result} held same some =
+      (commands_with some.0 command result, rw held (follows result same some.0 some.1))
+
+  module _ {told new : Pending} {result : Result Reply Refusal} (is : old ≡ told) (held : new ≡ held_by old step result) where
+    -- what a call promises that never wants memory
+    pub called : result ≡ answer_by old step → ¬ IsErrOf result NoMemory → record {
+      answer : Answers told command result;
+      stands : Follows told command result new;
+      settings : new.settings ≡ told.settings;
+      refused : OnErr result (new ≡ told);
+      frugal : ¬ IsErrOf result NoMemory;
+    }
+    called same frugal = rw (← is, held) record {
+      answer = λ commands stands. same ∙ answer_is commands stands;
+      stands = follows result (λ wants. same);
+      settings = settings_stay result;
+      refused = refused result;
+      frugal = frugal;
+    }
+
+    module _ (same : ¬ IsErrOf result NoMemory → result ≡ answer_by old step)
+        (last : IsErrOf result NoMemory → first_of_step old step ≡ None) where
+      -- what a call promises that may want memory
+      pub called_wanting : record {
+        answer : ¬ IsErrOf result NoMemory → Answers told command result;
+        stands : Follows told command result new;
+        settings : new.settings ≡ told.settings;
+        refused : OnErr result (new ≡ told);
+        no_memory_last : IsErrOf result NoMemory → Accepts told command;
+      }
+      called_wanting = rw (← is, held) record {
+        answer = λ other commands stands. same other ∙ answer_is commands stands;
+        stands = follows result same;
+        settings = settings_stay result;
+        refused = refused result;
+        no_memory_last = λ wants commands stands. rw (← answer_is commands stands, last wants);
+      }
+
+      -- and one that wants it only where it settles more promises than want none
+      pub called_sparing : (IsErrOf result NoMemory → inline_settlements < length step.reply.settled) → record {
+        answer : ¬ IsErrOf result NoMemory → Answers told command result;
+        stands : Follows told command result new;
+        settings : new.settings ≡ told.settings;
+        refused : OnErr result (new ≡ told);
+        no_memory_last : IsErrOf result NoMemory → Accepts told command;
+        spares : SparesMemory told command result;
+      }
+      called_sparing many = record {
+        answer = called_wanting.answer;
+        stands = called_wanting.stands;
+        settings = called_wanting.settings;
+        refused = called_wanting.refused;
+        no_memory_last = called_wanting.no_memory_last;
+        spares = rw (← is) (λ commands stands few wants.
+            let count : settled_by_step old step ≡ length step.reply.settled = rw (last wants) in
+            let same = settles commands stands in
+            let most = many wants in
+            absurd (omega arith));
+      }
