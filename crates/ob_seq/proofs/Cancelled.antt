@@ -1,19 +1,18 @@
 -- A buffer with a promise taken back stands for the history with the cancellation.
-use Rattle.ob_seq.proofs.Words.{◌≡◌, ℕ, zero, suc, ◌+◌, ◌<◌, Bool, true, false, List, [], ◌∷◌, ◌++◌, length, map}
-use Rattle.ob_seq.proofs.Words.{get_or, refl, sym, ◌∙◌, cond, append-nil, arith, Some, None, filter, slice_set}
-use Rattle.ob_seq.proofs.Words.{nat_tests, length-map, slice_get-map, Command, Cancel, Cancelled, PromiseId, PromiseState}
-use Rattle.ob_seq.proofs.Words.{Waiting, Settled, Outcome, is_waiting, Row, is_unflushed, is_in_line, counted_size, total}
-use Rattle.ob_seq.proofs.Words.{rows_after, cancelled, with_cancelled, moments_along, word_after, refusal_of, outcome_of}
-use Rattle.ob_seq.proofs.Words.{settlement, settlements_from, promise_at, reply_of, entry_of, Pending, StandsFor}
-use Rattle.ob_seq.proofs.Words.{promise_set}
+use Rattle.ob_seq.proofs.Words.{◌≡◌, ℕ, zero, suc, ◌+◌, ◌<◌, Bool, true, List, [], ◌∷◌, ◌++◌, length, map, get_or}
+use Rattle.ob_seq.proofs.Words.{refl, sym, ◌∙◌, cond, append-nil, arith, Some, None, filter, slice_set, nat_tests}
+use Rattle.ob_seq.proofs.Words.{length-map, slice_get-map, Cancel, Cancelled, PromiseId, PromiseState, Waiting, Settled}
+use Rattle.ob_seq.proofs.Words.{Outcome, is_waiting, Row, is_unflushed, is_in_line, counted_size, total, rows_after}
+use Rattle.ob_seq.proofs.Words.{cancelled, with_cancelled, moments_along, outcome_of, settlement, settlements_from}
+use Rattle.ob_seq.proofs.Words.{promise_at, entry_of, Pending, promise_set}
 use Rattle.std.proofs.lemmas.List.{set-get_or}
 use Rattle.std.proofs.lemmas.Option.{slice_get-get_or}
 use Rattle.ob_seq.specs.Steps.{cancel_step, state_at}
 use Rattle.ob_seq.proofs.Along.{moment_of_same, moments_behind, settlement_same, settlements_behind}
 use Rattle.ob_seq.proofs.EachRow.{taken_back}
-use Rattle.ob_seq.proofs.Held.{promise_of, stands_more}
+use Rattle.ob_seq.proofs.Held.{promise_of}
 use Rattle.ob_seq.proofs.Marks.{word_after_same}
-use Rattle.ob_seq.proofs.Simulation.{Simulates}
+use Rattle.ob_seq.proofs.Simulation.{Simulates, simulates_by}
 
 -- the state of the promise at an index
 abbrev state_of : List Row → ℕ → PromiseState
@@ -56,6 +55,14 @@ settlements_of_back zero at place is (row ∷ rows) known =
 settlements_of_back (suc id) at place is (row ∷ rows) known =
     rw (settlement_same, settlements_of_back id (suc at) place (omega arith) rows (omega arith))
 
+promise_found : (rows : List Row) (id : ℕ) → id < length rows → promise_at rows id ≡ Some (state_of rows id)
+promise_found rows id known =
+    let count = length-map rows promise_of in
+    rw (← slice_get-map promise_of rows id, slice_get-get_or (map promise_of rows) id Waiting (omega arith))
+
+known : (id : ℕ) (old : Pending) → (cancel_step id old).refusal ≡ None → id < length old.promises
+known id old none = grind (arith, nat_tests)
+
 settlement_is : (id : ℕ) (state : PromiseState) →
     (let settled : List (PromiseId × Outcome) = cond (is_waiting state) ((record { 0 = id }, Cancelled) ∷ []) [] in
     settled ≡ settlement id (outcome_of state) (outcome_of (cancelled state)))
@@ -66,47 +73,29 @@ after_is : (old : Pending) (id : ℕ) (state : PromiseState) → state_at old id
     cond (is_waiting state) (promise_set id (Settled Cancelled) old) old ≡ promise_set id (cancelled state) old
 after_is old id state is = let same = set-get_or old.promises id Waiting in grind arith
 
-module _ (id : PromiseId) (old : Pending) (commands : List Command) (stands : StandsFor old commands) where
-  abbrev rows : List Row
-  rows = rows_after old.settings.estimate commands
-
-  abbrev state : PromiseState
-  state = state_at old id.0
-
-  refusal_is : (cancel_step id.0 old).refusal ≡ refusal_of old.settings.estimate rows (Cancel id)
-  refusal_is = rw (stands.promises, length-map)
-
-  word_stays : old.word ≡ word_after old.settings (commands ++ Cancel id ∷ [])
-  word_stays = stands.word
-      ∙ sym (word_after_same old.settings commands (Cancel id) (λ index. refl) (moments_of_back id.0 [] rows))
-
-  stands_back : old.closed ≡ false → (cancel_step id.0 old).refusal ≡ None →
-      StandsFor (cancel_step id.0 old).after (commands ++ Cancel id ∷ [])
-  stands_back unclosed none = rw (after_is old id.0 state refl)
-      (stands_more old (promise_set id.0 (cancelled state) old) commands (Cancel id) stands unclosed
-      (sym refusal_is ∙ none) refl unclosed
-      record {
+-- the cancellation simulates the command
+pub cancel_simulates : (id : PromiseId) (old : Pending) → Simulates (Cancel id) old (cancel_step id.0 old)
+cancel_simulates id old =
+    simulates_by (rw (after_is old id.0 (state_at old id.0) refl)) (λ commands stands. rw (stands.promises, length-map))
+    (λ commands stands unclosed none.
+    let rows : List Row = rows_after old.settings.estimate commands in
+    let state : PromiseState = state_at old id.0 in
+    let count : length old.promises ≡ length rows = rw (stands.promises, length-map) in
+    let some : id.0 < length old.promises = known id.0 old none in
+    let here : state_of rows id.0 ≡ state = rw stands.promises in
+    let found = promise_found rows id.0 (omega arith) in
+    let settled = settlements_of_back id.0 0 id.0 (omega arith) rows (omega arith) in
+    rw (after_is old id.0 state refl) record {
+      opened = refl;
+      closed = unclosed;
+      holds = record {
         line = rw (entries_of_back is_in_line (λ row. refl) id.0 rows) stands.line;
         unflushed = rw (entries_of_back (λ row. is_unflushed row.place) (λ row. refl) id.0 rows) stands.unflushed;
         promises = rw (promises_of_back id.0 rows, stands.promises);
-      } word_stays)
-
-  reply_of_cancel : (cancel_step id.0 old).refusal ≡ None →
-      (cancel_step id.0 old).reply ≡ reply_of old.settings commands (Cancel id)
-  reply_of_cancel none =
-      let count : length (map promise_of rows) ≡ length rows = length-map rows promise_of in
-      let refusal = refusal_is in
-      let known : id.0 < length rows = grind (arith, nat_tests) in
-      let here : state_of rows id.0 ≡ state = rw stands.promises in
-      let found = slice_get-map promise_of rows id.0 in
-      let there = slice_get-get_or (map promise_of rows) id.0 Waiting (omega arith) in
-      cc (settlement_is id.0 state, settlements_of_back id.0 0 id.0 (omega arith) rows known, word_stays, stands.word)
-
--- the cancellation simulates the command
-pub cancel_simulates : (id : PromiseId) (old : Pending) → Simulates (Cancel id) old (cancel_step id.0 old)
-cancel_simulates id old = record {
-  refusal = refusal_is id old;
-  reply = λ commands stands unclosed none. reply_of_cancel id old commands stands none;
-  after = stands_back id old;
-  settings = rw (after_is old id.0 (state_at old id.0) refl);
-}
+      };
+      word = stands.word
+          ∙ sym (word_after_same old.settings commands (Cancel id) (λ index. refl) (moments_of_back id.0 [] rows));
+      answer = rw (found, here);
+      settled = rw (settled, here) (settlement_is id.0 state);
+      change = refl;
+    })

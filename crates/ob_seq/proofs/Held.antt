@@ -3,12 +3,31 @@ use Rattle.ob_seq.proofs.Words.{◌≡◌, true, false, List, [], ◌∷◌, ◌
 use Rattle.ob_seq.proofs.Words.{AllByRecursion, length-append, length-map, Marks, Command, PromiseState, Settings, Row, line}
 use Rattle.ob_seq.proofs.Words.{unflushed, total, effect, rows_after, is_close, is_closed, Moment, moments_of, word_after}
 use Rattle.ob_seq.proofs.Words.{are_accepted, refusal_of, None, entry_of, Pending, StandsFor, pending_total, unflushed_id}
-use Rattle.ob_seq.proofs.Words.{front_id}
-use Rattle.ob_seq.proofs.Rows.{sum_of_rows}
+use Rattle.ob_seq.proofs.Words.{front_id, ℕ, ◌+◌, cond, sum_by-cons, is_unflushed, is_in_line, counted_size, sum_of}
+use Rattle.ob_seq.proofs.Words.{PendingEntry}
 use Rattle.ob_seq.proofs.History.{accepted_more, closed_more, moments_after, rows_after_more}
 use Rattle.ob_seq.proofs.Marks.{IsQuiet, half_after, word_from, word_is_from, word_is_from_more}
 use Rattle.ob_seq.proofs.Order.{Layout, IsGone, IsStanding, IsFresh, layout_of}
 use Rattle.ob_seq.proofs.Parts.{line_of_parts, unflushed_of_parts}
+
+-- one more row
+sum_of_row : (row : Row) (flushed fresh : List Row) (sum : ℕ) →
+    sum_of (map entry_of flushed) + sum_of (map entry_of fresh) ≡ sum →
+    sum_of (map entry_of (cond (is_in_line row) (row ∷ flushed) flushed))
+    + sum_of (map entry_of (cond (is_unflushed row.place) (row ∷ fresh) fresh))
+    ≡ counted_size row + sum
+sum_of_row row flushed fresh sum same =
+    let first = sum_by-cons (λ (entry : PendingEntry). entry.size) (entry_of row) (map entry_of flushed) in
+    let next = sum_by-cons (λ (entry : PendingEntry). entry.size) (entry_of row) (map entry_of fresh) in
+    grind arith
+
+-- the entries in line and those that no flush has reached count together what the rows count
+pub sum_of_rows : (rows : List Row) →
+    sum_of (map entry_of (line rows)) + sum_of (map entry_of (unflushed rows)) ≡ total rows
+sum_of_rows [] = refl
+sum_of_rows (row ∷ rows) =
+    rw (sum_by-cons counted_size row rows)
+    (sum_of_row row (line rows) (unflushed rows) (total rows) (sum_of_rows rows))
 
 -- the promise of a row
 abbrev pub promise_of : Row → PromiseState
@@ -52,7 +71,7 @@ held_of buffer commands stands =
     layout.is layout.all_gone layout.all_standing layout.all_fresh
 
 module _ (buffer : Pending) (gone standing fresh : List Row) (held : Held buffer gone standing fresh) where
-  held_rows : Holds buffer (gone ++ (standing ++ fresh))
+  pub held_rows : Holds buffer (gone ++ (standing ++ fresh))
   held_rows = record {
     line = rw (line_of_parts gone standing fresh held.all_gone held.all_standing held.all_fresh) held.line;
     unflushed =

@@ -30,7 +30,6 @@ mod Pieces
 mod Progressed
 mod Reached
 mod Removed
-mod Rows
 mod Sending
 mod Sent
 pub mod Shrinking

@@ -1,7 +1,11 @@
 -- What it is for a step to simulate a command, and how many promises a step settles.
-use Rattle.ob_seq.proofs.Words.{◌≡◌, false, List, [], ◌∷◌, ◌++◌, arith, None, Command, refusal_of, reply_of, rows_after}
-use Rattle.ob_seq.proofs.Words.{Pending, StandsFor, settled_by_step}
+use Rattle.ob_seq.proofs.Words.{◌≡◌, false, List, [], ◌∷◌, ◌++◌, arith, sym, ◌∙◌, None, Command, change_between}
+use Rattle.ob_seq.proofs.Words.{refusal_of, reply_of, rows_after, effect, is_close, word_after, settlements_of, Pending}
+use Rattle.ob_seq.proofs.Words.{StandsFor, settled_by_step}
+use Rattle.ob_seq.specs.Answer.{answer_of}
 use Rattle.ob_seq.specs.Steps.{Step, settled_open}
+use Rattle.ob_seq.proofs.Acceptance.{same_reply}
+use Rattle.ob_seq.proofs.Held.{Holds, opening, stands_more}
 
 -- whatever history a buffer stands for, its step is refused as the definition says, and else replies as it says and
 -- leaves what stands for the history with the command
@@ -13,6 +17,35 @@ pub record Simulates (command : Command) (old : Pending) (step : Step) : Type 0 
   pub after : (commands : List Command) → StandsFor old commands → old.closed ≡ false → step.refusal ≡ None →
       StandsFor step.after (commands ++ command ∷ [])
   pub settings : step.after.settings ≡ old.settings
+
+-- a step of a buffer that is not closed does what the definition says of the command after this history
+pub record Does (command : Command) (old : Pending) (step : Step) (commands : List Command) : Type 0 where
+  pub opened : opening step.after ≡ opening old
+  pub closed : step.after.closed ≡ is_close command
+  pub holds : Holds step.after (effect old.settings.estimate (rows_after old.settings.estimate commands) command)
+  pub word : step.after.word ≡ word_after old.settings (commands ++ command ∷ [])
+  pub answer : step.reply.answer ≡ answer_of (rows_after old.settings.estimate commands) command
+  pub settled : step.reply.settled
+      ≡ settlements_of old.settings.estimate (rows_after old.settings.estimate commands) command
+  pub change : step.reply.change ≡ change_between old.word step.after.word
+
+-- so it simulates the command
+pub simulates_by : {command : Command} {old : Pending} {step : Step} → step.after.settings ≡ old.settings →
+    ((commands : List Command) → StandsFor old commands →
+    step.refusal ≡ refusal_of old.settings.estimate (rows_after old.settings.estimate commands) command) →
+    ((commands : List Command) → StandsFor old commands → old.closed ≡ false → step.refusal ≡ None →
+    Does command old step commands) → Simulates command old step
+simulates_by {command = command} {old = old} {step = step} settings refusal does = record {
+  refusal = refusal;
+  reply = λ commands stands unclosed none.
+      let done = does commands stands unclosed none in
+      same_reply done.answer done.settled (done.change ∙ rw (stands.word, done.word));
+  after = λ commands stands unclosed none.
+      let done = does commands stands unclosed none in
+      stands_more old step.after commands command stands unclosed (sym (refusal commands stands) ∙ none)
+      done.opened done.closed done.holds done.word;
+  settings = settings;
+}
 
 -- what a step settles, by whether the buffer is closed
 pub settled_where_open : (old : Pending) (step : Step) → old.closed ≡ false →
