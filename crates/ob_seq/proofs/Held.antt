@@ -48,27 +48,22 @@ pub record Held (buffer : Pending) (gone standing fresh : List Row) : Type 0 whe
   pub all_standing : AllByRecursion IsStanding standing
   pub all_fresh : AllByRecursion IsFresh fresh
 
-held_by : (buffer : Pending) (rows gone standing fresh : List Row) → Holds buffer rows →
-    rows ≡ gone ++ (standing ++ fresh) → AllByRecursion IsGone gone → AllByRecursion IsStanding standing →
-    AllByRecursion IsFresh fresh → Held buffer gone standing fresh
-held_by buffer rows gone standing fresh holds are all_gone all_standing all_fresh = record {
-  line = rw (are, line_of_parts gone standing fresh all_gone all_standing all_fresh) at holds.line;
-  unflushed = rw (are, unflushed_of_parts gone standing fresh all_gone all_standing all_fresh) at holds.unflushed;
-  promises = rw are at holds.promises;
-  all_gone = all_gone;
-  all_standing = all_standing;
-  all_fresh = all_fresh;
-}
-
 -- what a buffer holds that stands for a history
 pub held_of : (buffer : Pending) (commands : List Command) → StandsFor buffer commands →
     (let layout = layout_of buffer.settings.estimate commands in
     Held buffer layout.gone layout.standing layout.fresh)
 held_of buffer commands stands =
-    let layout = layout_of buffer.settings.estimate commands in
-    held_by buffer (rows_after buffer.settings.estimate commands) layout.gone layout.standing layout.fresh
-    record { line = stands.line; unflushed = stands.unflushed; promises = stands.promises }
-    layout.is layout.all_gone layout.all_standing layout.all_fresh
+    let l = layout_of buffer.settings.estimate commands in record {
+      line = rw (l.is, line_of_parts l.gone l.standing l.fresh l.all_gone l.all_standing l.all_fresh) at stands.line;
+      unflushed = rw (
+        l.is,
+        unflushed_of_parts l.gone l.standing l.fresh l.all_gone l.all_standing l.all_fresh,
+      ) at stands.unflushed;
+      promises = rw l.is at stands.promises;
+      all_gone = l.all_gone;
+      all_standing = l.all_standing;
+      all_fresh = l.all_fresh;
+    }
 
 module _ (buffer : Pending) (gone standing fresh : List Row) (held : Held buffer gone standing fresh) where
   pub held_rows : Holds buffer (gone ++ (standing ++ fresh))
@@ -107,18 +102,18 @@ pub opening_of : (buffer : Pending) (commands : List Command) → StandsFor buff
 opening_of buffer commands stands = rw stands.marks
 
 -- a buffer that holds the rows of a history, and has their word, stands for it
-stands_by_rows : (buffer : Pending) (settings : Settings) (commands : List Command) (rows : List Row) →
+stands_by_rows : (buffer : Pending) (settings : Settings) (commands : List Command) →
     opening buffer ≡ (settings, settings.marks) → buffer.closed ≡ is_closed commands →
-    are_accepted settings [] commands ≡ true → rows_after settings.estimate commands ≡ rows → Holds buffer rows →
+    are_accepted settings [] commands ≡ true → Holds buffer (rows_after settings.estimate commands) →
     buffer.word ≡ word_after settings commands → StandsFor buffer commands
-stands_by_rows buffer settings commands rows opened closed accepted are holds word =
+stands_by_rows buffer settings commands opened closed accepted holds word =
     let same = ap (λ (parts : Settings × Marks). parts.0) opened in record {
       accepted = rw same accepted;
       closed = closed;
       marks = rw same (ap (λ (parts : Settings × Marks). parts.1) opened);
-      line = rw (same, are) holds.line;
-      unflushed = rw (same, are) holds.unflushed;
-      promises = rw (same, are) holds.promises;
+      line = rw same holds.line;
+      unflushed = rw same holds.unflushed;
+      promises = rw same holds.promises;
       word = rw same word;
     }
 
@@ -129,9 +124,10 @@ pub stands_by : (buffer : Pending) (settings : Settings) (commands : List Comman
     Held buffer gone standing fresh →
     rows_after settings.estimate (commands ++ command ∷ []) ≡ gone ++ (standing ++ fresh) →
     buffer.word ≡ word_after settings (commands ++ command ∷ []) → StandsFor buffer (commands ++ command ∷ [])
-stands_by buffer settings commands command gone standing fresh opened unclosed closed accepted held are word =
-    stands_by_rows buffer settings (commands ++ command ∷ []) (gone ++ (standing ++ fresh)) opened
-    (closed ∙ sym (closed_more commands command unclosed)) accepted are (held_rows buffer gone standing fresh held) word
+stands_by buffer settings commands command gone standing fresh opened unclosed closed accepted held are =
+    stands_by_rows buffer settings (commands ++ command ∷ []) opened
+    (closed ∙ sym (closed_more commands command unclosed)) accepted
+    (rw are (held_rows buffer gone standing fresh held))
 
 module _ (old new : Pending) (commands : List Command) (command : Command) (stands : StandsFor old commands)
     (unclosed : old.closed ≡ false)
@@ -140,21 +136,20 @@ module _ (old new : Pending) (commands : List Command) (command : Command) (stan
   pub stands_more : opening new ≡ opening old → new.closed ≡ is_close command →
       Holds new (effect old.settings.estimate (rows_after old.settings.estimate commands) command) →
       new.word ≡ word_after old.settings (commands ++ command ∷ []) → StandsFor new (commands ++ command ∷ [])
-  stands_more opened closed holds word =
+  stands_more opened closed holds =
       let before = sym stands.closed ∙ unclosed in
-      stands_by_rows new old.settings (commands ++ command ∷ [])
-      (effect old.settings.estimate (rows_after old.settings.estimate commands) command)
-      (opened ∙ opening_of old commands stands) (closed ∙ sym (closed_more commands command before))
+      stands_by_rows new old.settings (commands ++ command ∷ []) (opened ∙ opening_of old commands stands)
+      (closed ∙ sym (closed_more commands command before))
       (accepted_more old.settings commands command before stands.accepted accepted)
-      (rows_after_more old.settings.estimate commands command) holds word
+      (rw (rows_after_more old.settings.estimate commands command) holds)
 
   -- the same, by the parts of those rows
   pub stands_after : (gone standing fresh : List Row) → opening new ≡ opening old → new.closed ≡ is_close command →
       Held new gone standing fresh →
       effect old.settings.estimate (rows_after old.settings.estimate commands) command ≡ gone ++ (standing ++ fresh) →
       new.word ≡ word_after old.settings (commands ++ command ∷ []) → StandsFor new (commands ++ command ∷ [])
-  stands_after gone standing fresh opened closed held are word =
-      stands_more opened closed (rw are (held_rows new gone standing fresh held)) word
+  stands_after gone standing fresh opened closed held are =
+      stands_more opened closed (rw are (held_rows new gone standing fresh held))
 
 -- a buffer stands as it is for the history with a command that changes no row and not the word
 pub stands_same : (buffer : Pending) (commands : List Command) (command : Command) → StandsFor buffer commands →
@@ -162,10 +157,10 @@ pub stands_same : (buffer : Pending) (commands : List Command) (command : Comman
     refusal_of buffer.settings.estimate (rows_after buffer.settings.estimate commands) command ≡ None →
     rows_after buffer.settings.estimate (commands ++ command ∷ []) ≡ rows_after buffer.settings.estimate commands →
     buffer.word ≡ word_after buffer.settings (commands ++ command ∷ []) → StandsFor buffer (commands ++ command ∷ [])
-stands_same buffer commands command stands unclosed no_close accepted same word =
+stands_same buffer commands command stands unclosed no_close accepted same =
     let are = sym (rows_after_more buffer.settings.estimate commands command) ∙ same in
     stands_more buffer buffer commands command stands unclosed accepted refl (unclosed ∙ sym no_close)
-    (rw are record { line = stands.line; unflushed = stands.unflushed; promises = stands.promises }) word
+    (rw are record { line = stands.line; unflushed = stands.unflushed; promises = stands.promises })
 
 module _ (buffer : Pending) (commands : List Command) (stands : StandsFor buffer commands) where
   -- the word of a buffer that stands for a history, by its moments

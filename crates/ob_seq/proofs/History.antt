@@ -1,7 +1,8 @@
 -- One more command at the end of a history.
-use Rattle.ob_seq.proofs.Words.{◌≡◌, List, [], ◌∷◌, ◌++◌, append_assoc, append-nil, Bool, true, false, ◌&&◌, arith}
+use Rattle.ob_seq.proofs.Words.{◌≡◌, List, [], ◌∷◌, ◌++◌, append_assoc, append-nil, true, false, arith}
 use Rattle.ob_seq.proofs.Words.{fold, None, Estimate, Command, Settings, Row, effect, rows_after, Moment, moments_of}
 use Rattle.ob_seq.proofs.Words.{first_refusal, refusal_of, is_accepted, are_accepted, is_close, is_closed}
+use Rattle.std.proofs.lemmas.Bool.{and_parts}
 use Rattle.std.proofs.lemmas.List.Folds.{list_any-append}
 use Rattle.std.proofs.lemmas.List.Sums.{fold-append}
 
@@ -43,16 +44,13 @@ pub accepted_by : (settings : Settings) (commands : List Command) (command : Com
     first_refusal settings.estimate commands command ≡ None → is_accepted settings commands command ≡ true
 accepted_by settings commands command none = rw none
 
-both_true : (a b : Bool) → (a && b) ≡ true → (a ≡ true) × (b ≡ true)
-both_true a b both = grind arith
-
 pub accepted_from_more : (settings : Settings) (earlier commands : List Command) (command : Command) →
     are_accepted settings earlier commands ≡ true → is_accepted settings (earlier ++ commands) command ≡ true →
     are_accepted settings earlier (commands ++ command ∷ []) ≡ true
 accepted_from_more settings earlier [] command all last = rw (rw append-nil at last)
 accepted_from_more settings earlier (first ∷ commands) command all last =
     let next = earlier ++ first ∷ [] in
-    let both = both_true (is_accepted settings earlier first) (are_accepted settings next commands) all in
+    let both = and_parts (is_accepted settings earlier first) (are_accepted settings next commands) all in
     rw (both.0, accepted_from_more settings next commands command both.1 (rw append_assoc last))
 
 -- a history goes on with a command that is not refused

@@ -14,11 +14,6 @@ use Rattle.ob_seq.proofs.History.{moments_from, moments_after, moments_after_mor
 abbrev pub mark_of : Marks → List Moment → Bool
 mark_of marks moments = is_set_by (slice_get (reverse (filter (decides marks) moments)) 0)
 
--- the last deciding moment is the newest, if that decides
-mark_of_more : (marks : Marks) (moments : List Moment) (moment : Moment) →
-    mark_of marks (moments ++ moment ∷ []) ≡ cond (decides marks moment) (is_rise moment) (mark_of marks moments)
-mark_of_more marks moments moment = rw filter-append (grind (arith, reverse-append, append-nil))
-
 -- no command changes the marks, so what decides are the moments that decide under the marks of the opening
 deciding_is : (settings : Settings) (earlier : List Command) (rows : List Row) (commands : List Command) →
     deciding_from settings earlier rows commands
@@ -31,19 +26,15 @@ deciding_is settings earlier rows (command ∷ commands) =
 abbrev pub IsQuiet : Command → Type 0
 IsQuiet command = (index : ℕ) → bit_request index command ≡ None
 
--- so the user bits stay
-user_bit_stays : (commands : List Command) (command : Command) → IsQuiet command → (index : ℕ) →
-    user_bit (commands ++ command ∷ []) index ≡ user_bit commands index
-user_bit_stays commands command quiet index =
-    rw (filter_map-append (bit_request index) commands (command ∷ []), quiet index, append-nil)
-
 -- half of what the user bits count after a history
 abbrev pub half_after : List Command → ℕ
 half_after commands = half_bits (user_bit commands)
 
+-- so the user bits stay
 half_stays : (commands : List Command) (command : Command) → IsQuiet command →
     half_after (commands ++ command ∷ []) ≡ half_after commands
-half_stays commands command quiet = same_number _ _ (user_bit_stays commands command quiet) 1 31
+half_stays commands command quiet = same_number (user_bit (commands ++ command ∷ [])) (user_bit commands) (λ index.
+    rw (filter_map-append (bit_request index) commands (command ∷ []), quiet index, append-nil)) 1 31
 
 -- the word by the moments, and half of what the user bits count
 abbrev pub word_from : Marks → ℕ → List Moment → ℕ
@@ -78,15 +69,12 @@ word_step notice marks word before after sum =
     cond (ltb before after) (cond (ltb marks.high sum) (with_mark true word) word)
     (cond (ltb after before) (cond notice (cond (ltb sum marks.low) (with_mark false word) word) word) word)
 
--- bit 0 set or cleared
-marked : (mark was : Bool) (half : ℕ) → with_mark mark (bit_value 0 was + half * 2) ≡ bit_value 0 mark + half * 2
-marked mark was half = grind arith
-
+-- the last deciding moment is the newest, if that decides
 word_from_one : (marks : Marks) (half : ℕ) (moments : List Moment) (moment : Moment) →
     (let word = word_from marks half moments in
     word_from marks half (moments ++ moment ∷ [])
     ≡ cond (decides marks moment) (with_mark (is_rise moment) word) word)
-word_from_one marks half moments moment = rw mark_of_more (grind (arith, marked))
+word_from_one marks half moments moment = rw filter-append (grind (arith, reverse-append, append-nil))
 
 -- the word after one more moment
 pub word_from_more : (notice : Bool) (marks : Marks) (half : ℕ) (moments : List Moment) (before after sum : ℕ) →

@@ -87,12 +87,6 @@ same_answer : (closed closed' : Bool) (own own' : Option Refusal) (reply said : 
     unless_refused first reply ≡ unless_refused first' said)
 same_answer closed closed' own own' reply said alike refused same = grind arith
 
--- a reply comes only where nothing is refused
-none_of : (closed : Bool) (own : Option Refusal) (reply said : Reply) →
-    (let first : Option Refusal = cond closed (Some Closed) own in
-    unless_refused first reply ≡ Ok said → (closed ≡ false) × (own ≡ None))
-none_of closed own reply said = grind arith
-
 module _ (command : Command) (old : Pending) where
   abbrev step : Step
   step = step_of command old
@@ -111,41 +105,42 @@ module _ (command : Command) (old : Pending) where
   follows : (result : Result Reply Refusal) → (¬ IsErrOf result NoMemory → result ≡ answer_by old step) →
       Follows old command result (held_by old step result)
   follows (Ok reply) same commands stands =
-      let opened = none_of old.closed step.refusal step.reply reply (sym (same (λ wants. absurd (cc)))) in
+      let said = same (λ wants. absurd (cc)) in
+      let opened : (old.closed ≡ false) × (step.refusal ≡ None) = grind arith in
       (simulated command old).after commands stands opened.0 opened.1
   follows (Err refusal) same commands stands = stands
 
-  settings_stay : (result : Result Reply Refusal) → (held_by old step result).settings ≡ old.settings
-  settings_stay result = let stay = (simulated command old).settings in grind arith
+  module _ {new : Pending} {result : Result Reply Refusal} where
+    -- some history is still stood for
+    pub stays_wanting : new ≡ held_by old step result → (¬ IsErrOf result NoMemory → result ≡ answer_by old step) →
+        ((commands : List Command) × StandsFor old commands) → (commands : List Command) × StandsFor new commands
+    stays_wanting held same some =
+        (commands_with some.0 command result, rw held (follows result same some.0 some.1))
 
-  refused : (result : Result Reply Refusal) → OnErr result (held_by old step result ≡ old)
-  refused result = grind arith
+    pub stays : record { answer : result ≡ answer_by old step; after : new ≡ held_by old step result } →
+        ((commands : List Command) × StandsFor old commands) → (commands : List Command) × StandsFor new commands
+    stays done = stays_wanting done.after (λ wants. done.answer)
 
-  -- some history is still stood for
-  pub still_stands : {result : Result Reply Refusal} {new : Pending} → new ≡ held_by old step result →
-      (¬ IsErrOf result NoMemory → result ≡ answer_by old step) →
-      ((commands : List Command) × StandsFor old commands) → (commands : List Command) × StandsFor new commands
-  still_stands {result = result} held same some =
-      (commands_with some.0 command result, rw held (follows result same some.0 some.1))
-
-  module _ {told new : Pending} {result : Result Reply Refusal} (is : old ≡ told) (held : new ≡ held_by old step result) where
     -- what a call promises that never wants memory
-    pub called : result ≡ answer_by old step → ¬ IsErrOf result NoMemory → record {
-      answer : Answers told command result;
-      stands : Follows told command result new;
-      settings : new.settings ≡ told.settings;
-      refused : OnErr result (new ≡ told);
-      frugal : ¬ IsErrOf result NoMemory;
-    }
-    called same frugal = rw (← is, held) record {
-      answer = λ commands stands. same ∙ answer_is commands stands;
-      stands = follows result (λ wants. same);
-      settings = settings_stay result;
-      refused = refused result;
+    pub called : {told : Pending} → old ≡ told →
+        record { answer : result ≡ answer_by old step; after : new ≡ held_by old step result } →
+        ¬ IsErrOf result NoMemory → record {
+          answer : Answers told command result;
+          stands : Follows told command result new;
+          settings : new.settings ≡ told.settings;
+          refused : OnErr result (new ≡ told);
+          frugal : ¬ IsErrOf result NoMemory;
+        }
+    called is done frugal = let stay = (simulated command old).settings in rw (← is, done.after) record {
+      answer = λ commands stands. done.answer ∙ answer_is commands stands;
+      stands = follows result (λ wants. done.answer);
+      settings = grind arith;
+      refused = grind arith;
       frugal = frugal;
     }
 
-    module _ (same : ¬ IsErrOf result NoMemory → result ≡ answer_by old step)
+    module _ {told : Pending} (is : old ≡ told) (held : new ≡ held_by old step result)
+        (same : ¬ IsErrOf result NoMemory → result ≡ answer_by old step)
         (last : IsErrOf result NoMemory → first_of_step old step ≡ None) where
       -- what a call promises that may want memory
       pub called_wanting : record {
@@ -155,11 +150,11 @@ module _ (command : Command) (old : Pending) where
         refused : OnErr result (new ≡ told);
         no_memory_last : IsErrOf result NoMemory → Accepts told command;
       }
-      called_wanting = rw (← is, held) record {
+      called_wanting = let stay = (simulated command old).settings in rw (← is, held) record {
         answer = λ other commands stands. same other ∙ answer_is commands stands;
         stands = follows result same;
-        settings = settings_stay result;
-        refused = refused result;
+        settings = grind arith;
+        refused = grind arith;
         no_memory_last = λ wants commands stands. rw (← answer_is commands stands, last wants);
       }
 
@@ -172,15 +167,11 @@ module _ (command : Command) (old : Pending) where
         no_memory_last : IsErrOf result NoMemory → Accepts told command;
         spares : SparesMemory told command result;
       }
-      called_sparing many = record {
-        answer = called_wanting.answer;
-        stands = called_wanting.stands;
-        settings = called_wanting.settings;
-        refused = called_wanting.refused;
-        no_memory_last = called_wanting.no_memory_last;
-        spares = rw (← is) (λ commands stands few wants.
-            let count : settled_by_step old step ≡ length step.reply.settled = rw (last wants) in
-            let same = settles commands stands in
-            let most = many wants in
-            absurd (omega arith));
-      }
+      called_sparing many =
+          let all = called_wanting in
+          let sparing : SparesMemory told command result = rw (← is) (λ commands stands few wants.
+          let count : settled_by_step old step ≡ length step.reply.settled = rw (last wants) in
+          let same = settles commands stands in
+          let most = many wants in
+          absurd (omega arith)) in
+          assumption

@@ -1,10 +1,9 @@
-use Rattle.std.proofs.Common.{rules}
-use Rattle.ob_seq.proofs.Words.{Flush}
-use Rattle.ob_seq.proofs.Simulated.{called, still_stands}
+use Rattle.ob_seq.proofs.Words.{arith, Flush}
+use Rattle.ob_seq.proofs.Simulated.{called, stays}
 use Rattle.ob_seq.proofs.buffer.Buffer.flush.Goals as goal
 
 pub invariant_of-self : goal.invariant_of-self
-invariant_of-self c = still_stands Flush _ c.flush.ensures.after (λ wants. c.flush.ensures.answer) c.self.invariant
+invariant_of-self c = stays Flush _ c.flush.ensures c.self.invariant
 
 pub returns : goal.returns
-returns c = called Flush _ c.self.view_is c.flush.ensures.after c.flush.ensures.answer (search rules)
+returns c = called Flush _ c.self.view_is c.flush.ensures (grind arith)
