@@ -1,7 +1,7 @@
 -- The moments and the settlements read off rows before and after.
-use Rattle.ob_seq.proofs.Words.{◌≡◌, ℕ, suc, ◌+◌, Bool, List, [], ◌∷◌, ◌++◌, length, sym, ap, ◌∙◌, append_assoc}
-use Rattle.ob_seq.proofs.Words.{append-nil, add-zero, arith, zero-add, nat_tests, Option, Outcome, Row, counted_size}
-use Rattle.ob_seq.proofs.Words.{total, moment_of, moments_along, outcome_of, settlement, settlements_from}
+use Rattle.ob_seq.proofs.Words.{[], ◌≡◌, ℕ, suc, ◌+◌, Bool, List, ◌∷◌, ◌++◌, length, append_assoc, append-nil, add-zero}
+use Rattle.ob_seq.proofs.Words.{arith, zero-add, nat_tests, Option, Outcome, Row, counted_size, total, moment_of}
+use Rattle.ob_seq.proofs.Words.{moments_along, outcome_of, settlement, settlements_from}
 
 -- a count that stays gives no moment
 pub moment_of_same : (notice : Bool) (count sum : ℕ) → moment_of notice count count sum ≡ []
@@ -12,8 +12,7 @@ pub moments_along_same : (notice : Bool) (passed same before after : List Row) �
     moments_along notice passed (same ++ before) (same ++ after) ≡ moments_along notice (passed ++ same) before after
 moments_along_same notice passed [] before after = rw append-nil
 moments_along_same notice passed (row ∷ same) before after =
-    let none = moment_of_same notice (counted_size row) (total (passed ++ row ∷ (same ++ before))) in
-    rw (none, moments_along_same notice (passed ++ row ∷ []) same before after, append_assoc)
+    rw (moment_of_same, moments_along_same notice (passed ++ row ∷ []) same before after, append_assoc)
 
 -- a promise that stays is not settled anew
 pub settlement_same : (id : ℕ) (outcome : Option Outcome) → settlement id outcome outcome ≡ []
@@ -56,11 +55,9 @@ module _ (rows after before : List Row) (was row : Row) (behind : List Row) (row
   pub moments_in_one : (notice : Bool) → moments_along notice [] rows after
       ≡ moment_of notice (counted_size was) (counted_size row) (total (before ++ row ∷ behind))
   moments_in_one notice =
-      moments_past rows after before (was ∷ behind) (row ∷ behind) rows_are after_is notice
-      ∙ rw (moments_behind notice (before ++ row ∷ []) behind, append-nil)
+      rw (rows_are, after_is, moments_along_same, moments_behind notice (before ++ row ∷ []) behind, append-nil)
 
   pub settlements_in_one : settlements_from 0 rows after
       ≡ settlement (length before) (outcome_of was.promise) (outcome_of row.promise)
-  settlements_in_one =
-      settlements_past rows after before (was ∷ behind) (row ∷ behind) rows_are after_is
-      ∙ rw (settlements_behind (suc (length before)) behind, append-nil)
+  settlements_in_one = let none = settlements_behind (suc (length before)) behind in
+      rw (rows_are, after_is, settlements_from_same, zero-add, none, append-nil)

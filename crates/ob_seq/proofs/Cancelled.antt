@@ -1,10 +1,9 @@
 -- A buffer with a promise taken back stands for the history with the cancellation.
-use Rattle.ob_seq.proofs.Words.{◌≡◌, ℕ, zero, suc, ◌+◌, ◌<◌, Bool, true, List, [], ◌∷◌, ◌++◌, length, map, get_or}
-use Rattle.ob_seq.proofs.Words.{refl, sym, ◌∙◌, cond, append-nil, arith, Some, None, filter, slice_set, nat_tests}
-use Rattle.ob_seq.proofs.Words.{length-map, slice_get-map, Cancel, Cancelled, PromiseId, PromiseState, Waiting, Settled}
-use Rattle.ob_seq.proofs.Words.{Outcome, is_waiting, Row, is_unflushed, is_in_line, counted_size, total, rows_after}
-use Rattle.ob_seq.proofs.Words.{cancelled, with_cancelled, moments_along, outcome_of, settlement, settlements_from}
-use Rattle.ob_seq.proofs.Words.{promise_at, entry_of, Pending, promise_set}
+use Rattle.ob_seq.proofs.Words.{[], ◌≡◌, ℕ, zero, suc, ◌+◌, ◌<◌, Bool, true, List, ◌∷◌, ◌++◌, length, map, get_or, refl}
+use Rattle.ob_seq.proofs.Words.{sym, ◌∙◌, cond, append-nil, arith, filter, slice_set, nat_tests, length-map}
+use Rattle.ob_seq.proofs.Words.{slice_get-map, Cancel, Cancelled, PromiseId, PromiseState, Waiting, Settled, is_waiting}
+use Rattle.ob_seq.proofs.Words.{Row, is_unflushed, is_in_line, rows_after, cancelled, with_cancelled, moments_along}
+use Rattle.ob_seq.proofs.Words.{outcome_of, settlement, settlements_from, entry_of, Pending, promise_set}
 use Rattle.std.proofs.lemmas.List.{set-get_or}
 use Rattle.std.proofs.lemmas.Option.{slice_get-get_or}
 use Rattle.ob_seq.specs.Steps.{cancel_step, state_at}
@@ -26,24 +25,18 @@ promises_of_back zero (row ∷ rows) = refl
 promises_of_back (suc id) (row ∷ rows) = rw (promises_of_back id rows)
 
 -- a promise is no part of an entry
-entry_of_back : (test : Row → Bool) (row : Row) (rows : List Row) → test (taken_back row) ≡ test row →
-    map entry_of (filter test (taken_back row ∷ rows)) ≡ map entry_of (filter test (row ∷ rows))
-entry_of_back test row rows same = grind arith
-
 entries_of_back : (test : Row → Bool) → ((row : Row) → test (taken_back row) ≡ test row) → (id : ℕ) (rows : List Row) →
     map entry_of (filter test (with_cancelled id rows)) ≡ map entry_of (filter test rows)
 entries_of_back test alike id [] = refl
-entries_of_back test alike zero (row ∷ rows) = entry_of_back test row rows (alike row)
+entries_of_back test alike zero (row ∷ rows) = let same = alike row in grind arith
 entries_of_back test alike (suc id) (row ∷ rows) = let rest = entries_of_back test alike id rows in grind arith
 
 moments_of_back : (id : ℕ) (passed rows : List Row) → moments_along true passed rows (with_cancelled id rows) ≡ []
 moments_of_back id passed [] = refl
 moments_of_back zero passed (row ∷ rows) =
-    let none = moment_of_same true (counted_size row) (total (passed ++ taken_back row ∷ rows)) in
-    rw (none, moments_behind true (passed ++ taken_back row ∷ []) rows)
+    rw (moment_of_same, moments_behind true (passed ++ taken_back row ∷ []) rows)
 moments_of_back (suc id) passed (row ∷ rows) =
-    let none = moment_of_same true (counted_size row) (total (passed ++ row ∷ rows)) in
-    rw (none, moments_of_back id (passed ++ row ∷ []) rows)
+    rw (moment_of_same, moments_of_back id (passed ++ row ∷ []) rows)
 
 settlements_of_back : (id at place : ℕ) → place ≡ at + id → (rows : List Row) → id < length rows →
     settlements_from at rows (with_cancelled id rows)
@@ -54,19 +47,6 @@ settlements_of_back zero at place is (row ∷ rows) known =
     rw (settlements_behind (suc at) rows, append-nil, here)
 settlements_of_back (suc id) at place is (row ∷ rows) known =
     rw (settlement_same, settlements_of_back id (suc at) place (omega arith) rows (omega arith))
-
-promise_found : (rows : List Row) (id : ℕ) → id < length rows → promise_at rows id ≡ Some (state_of rows id)
-promise_found rows id known =
-    let count = length-map rows promise_of in
-    rw (← slice_get-map promise_of rows id, slice_get-get_or (map promise_of rows) id Waiting (omega arith))
-
-known : (id : ℕ) (old : Pending) → (cancel_step id old).refusal ≡ None → id < length old.promises
-known id old none = grind (arith, nat_tests)
-
-settlement_is : (id : ℕ) (state : PromiseState) →
-    (let settled : List (PromiseId × Outcome) = cond (is_waiting state) ((record { 0 = id }, Cancelled) ∷ []) [] in
-    settled ≡ settlement id (outcome_of state) (outcome_of (cancelled state)))
-settlement_is id state = grind arith
 
 -- a promise that does not wait stays as it is
 after_is : (old : Pending) (id : ℕ) (state : PromiseState) → state_at old id ≡ state →
@@ -81,9 +61,8 @@ cancel_simulates id old =
     let rows : List Row = rows_after old.settings.estimate commands in
     let state : PromiseState = state_at old id.0 in
     let count : length old.promises ≡ length rows = rw (stands.promises, length-map) in
-    let some : id.0 < length old.promises = known id.0 old none in
+    let some : id.0 < length old.promises = grind (arith, nat_tests) in
     let here : state_of rows id.0 ≡ state = rw stands.promises in
-    let found = promise_found rows id.0 (omega arith) in
     let settled = settlements_of_back id.0 0 id.0 (omega arith) rows (omega arith) in
     rw (after_is old id.0 state refl) record {
       opened = refl;
@@ -95,7 +74,11 @@ cancel_simulates id old =
       };
       word = stands.word
           ∙ sym (word_after_same old.settings commands (Cancel id) (λ index. refl) (moments_of_back id.0 [] rows));
-      answer = rw (found, here);
-      settled = rw (settled, here) (settlement_is id.0 state);
+      answer = rw (
+        ← slice_get-map promise_of rows id.0,
+        ← stands.promises,
+        slice_get-get_or old.promises id.0 Waiting some,
+      );
+      settled = rw (settled, here) (grind arith);
       change = refl;
     })

@@ -1,13 +1,13 @@
 -- What a buffer holds, by the rows and by their parts.
-use Rattle.ob_seq.proofs.Words.{◌≡◌, true, false, List, [], ◌∷◌, ◌++◌, length, map, sym, ap, ◌∙◌, refl, arith}
-use Rattle.ob_seq.proofs.Words.{AllByRecursion, length-append, length-map, Marks, Command, PromiseState, Settings, Row, line}
-use Rattle.ob_seq.proofs.Words.{unflushed, total, effect, rows_after, is_close, is_closed, Moment, moments_of, word_after}
-use Rattle.ob_seq.proofs.Words.{are_accepted, refusal_of, None, entry_of, Pending, StandsFor, pending_total, unflushed_id}
-use Rattle.ob_seq.proofs.Words.{front_id, ℕ, ◌+◌, cond, sum_by-cons, is_unflushed, is_in_line, counted_size, sum_of}
-use Rattle.ob_seq.proofs.Words.{PendingEntry}
+use Rattle.ob_seq.proofs.Words.{[], ◌≡◌, true, false, List, ◌∷◌, ◌++◌, length, map, sym, ap, ◌∙◌, refl, arith}
+use Rattle.ob_seq.proofs.Words.{AllByRecursion, length-append, length-map, Marks, Command, PromiseState, Settings, Row}
+use Rattle.ob_seq.proofs.Words.{line, unflushed, total, effect, rows_after, is_close, is_closed, Moment, moments_of}
+use Rattle.ob_seq.proofs.Words.{word_after, are_accepted, refusal_of, None, entry_of, Pending, StandsFor, pending_total}
+use Rattle.ob_seq.proofs.Words.{unflushed_id, front_id, ℕ, ◌+◌, cond, sum_by-cons, is_unflushed, is_in_line}
+use Rattle.ob_seq.proofs.Words.{counted_size, sum_of, PendingEntry}
 use Rattle.ob_seq.proofs.History.{accepted_more, closed_more, moments_after, rows_after_more}
 use Rattle.ob_seq.proofs.Marks.{IsQuiet, half_after, word_from, word_is_from, word_is_from_more}
-use Rattle.ob_seq.proofs.Order.{Layout, IsGone, IsStanding, IsFresh, layout_of}
+use Rattle.ob_seq.proofs.Order.{IsGone, IsStanding, IsFresh, layout_of}
 use Rattle.ob_seq.proofs.Parts.{line_of_parts, unflushed_of_parts}
 
 -- one more row

@@ -1,7 +1,7 @@
 -- One more command at the end of a history.
-use Rattle.ob_seq.proofs.Words.{◌≡◌, List, [], ◌∷◌, ◌++◌, append_assoc, append-nil, true, false, arith}
-use Rattle.ob_seq.proofs.Words.{fold, None, Estimate, Command, Settings, Row, effect, rows_after, Moment, moments_of}
-use Rattle.ob_seq.proofs.Words.{first_refusal, refusal_of, is_accepted, are_accepted, is_close, is_closed}
+use Rattle.ob_seq.proofs.Words.{[], ◌≡◌, List, ◌∷◌, ◌++◌, append_assoc, append-nil, true, false, arith, fold, None}
+use Rattle.ob_seq.proofs.Words.{Estimate, Command, Settings, Row, effect, rows_after, Moment, moments_of, first_refusal}
+use Rattle.ob_seq.proofs.Words.{refusal_of, is_accepted, are_accepted, is_close, is_closed}
 use Rattle.std.proofs.lemmas.Bool.{and_parts}
 use Rattle.std.proofs.lemmas.List.Folds.{list_any-append}
 use Rattle.std.proofs.lemmas.List.Sums.{fold-append}

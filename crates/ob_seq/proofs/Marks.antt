@@ -1,8 +1,8 @@
 -- The mark and the word after one more command.
-use Rattle.ob_seq.proofs.Words.{◌≡◌, ℕ, ◌+◌, ◌*◌, arith, Bool, true, false, List, [], ◌∷◌, ◌++◌, reverse, refl, sym}
-use Rattle.ob_seq.proofs.Words.{cond, ltb, append-nil, filter, None, slice_get, filter_map-append, nat_tests}
-use Rattle.ob_seq.proofs.Words.{reverse-append, filter-append, Marks, Command, Settings, Row, effect, rows_after}
-use Rattle.ob_seq.proofs.Words.{Moment, moment_of, moments_of, bit_request, user_bit, bit_value, word_after}
+use Rattle.ob_seq.proofs.Words.{[], ◌≡◌, ℕ, ◌+◌, ◌*◌, arith, Bool, true, false, List, ◌∷◌, ◌++◌, reverse, refl, sym}
+use Rattle.ob_seq.proofs.Words.{cond, ltb, append-nil, filter, None, slice_get, filter_map-append, reverse-append}
+use Rattle.ob_seq.proofs.Words.{filter-append, Marks, Command, Settings, Row, effect, rows_after, Moment, moment_of}
+use Rattle.ob_seq.proofs.Words.{moments_of, bit_request, user_bit, bit_value, word_after}
 use Rattle.ob_seq.specs.Moment.{Rise, NoticedFall, SilentFall}
 use Rattle.ob_seq.specs.Mark.{decides, deciding_from, is_rise, is_set_by}
 use Rattle.ob_seq.specs.Word.{user_bits}

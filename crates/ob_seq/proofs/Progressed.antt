@@ -1,10 +1,8 @@
 -- A buffer of whose front more progress was told stands for the history with the progress.
-use Rattle.ob_seq.proofs.Words.{◌≡◌, ℕ, ◌+◌, true, List, [], ◌∷◌, ◌++◌, length, refl, sym, ap, ◌∙◌, cond, leb, ltb}
-use Rattle.ob_seq.proofs.Words.{◌<◌, map, arith, Option, Some, None, nat_tests, map-append, Progress, Refusal, Row}
-use Rattle.ob_seq.proofs.Words.{counted_size, total, front, line, is_in_line, entry_of, PendingEntry, rows_after}
-use Rattle.ob_seq.proofs.Words.{progressed_row, with_front, outcome_of, Pending, first_progress, first_changed}
+use Rattle.ob_seq.proofs.Words.{[], ◌≡◌, ℕ, ◌+◌, true, List, ◌∷◌, ◌++◌, length, refl, sym, ap, ◌∙◌, ◌<◌, map, arith}
+use Rattle.ob_seq.proofs.Words.{None, nat_tests, map-append, Progress, Row, counted_size, total, front, line, entry_of}
+use Rattle.ob_seq.proofs.Words.{rows_after, progressed_row, with_front, outcome_of, Pending, first_changed}
 use Rattle.ob_seq.proofs.Words.{progress_step}
-use Rattle.ob_types.specs.declared.refusal.Refusal.TheVariants.{NothingFlushed, TooFar}
 use Rattle.ob_seq.specs.Answer.{refusal_of_progress}
 use Rattle.ob_seq.specs.Steps.{progressed_entry}
 use Rattle.ob_seq.proofs.Along.{moment_of_same, moments_in_one, settlement_same, settlements_in_one}
@@ -14,34 +12,23 @@ use Rattle.ob_seq.proofs.Marks.{word_after_same}
 use Rattle.ob_seq.proofs.Simulation.{Simulates, simulates_by}
 use Rattle.ob_seq.proofs.Order.{with_front_gone, with_front_standing, progressed_stands}
 
--- the refusal by the entries in line
-abbrev refusal_by : ℕ → List PendingEntry → Option Refusal
-refusal_by n entries =
-    cond (ltb 0 (length entries)) (cond (leb (first_progress entries + n) 9223372036854775807) None (Some TooFar))
-    (Some NothingFlushed)
+-- progress is refused by the first entry in line as by the front
+refusal_is : (n : ℕ) (old : Pending) (rows : List Row) →
+    (progress_step n record old { line = map entry_of (line rows) }).refusal ≡ refusal_of_progress (front rows) n
+refusal_is n old [] = refl
+refusal_is n old (row ∷ rows) = let rest = refusal_is n old rows in grind (arith, nat_tests)
 
-refusal_more : (n : ℕ) (row : Row) (rows : List Row) →
-    refusal_by n (map entry_of (line rows)) ≡ refusal_of_progress (front rows) n →
-    refusal_by n (map entry_of (cond (is_in_line row) (row ∷ line rows) (line rows)))
-    ≡ refusal_of_progress (cond (is_in_line row) (Some row) (front rows)) n
-refusal_more n row rows same = grind (arith, nat_tests)
-
-refusal_is : (n : ℕ) (rows : List Row) →
-    refusal_by n (map entry_of (line rows)) ≡ refusal_of_progress (front rows) n
-refusal_is n [] = refl
-refusal_is n (row ∷ rows) = refusal_more n row rows (refusal_is n rows)
-
-some_line : (n : ℕ) (entries : List PendingEntry) → refusal_by n entries ≡ None → 0 < length entries
-some_line n entries none = grind (arith, nat_tests)
+some_line : (n : ℕ) (old : Pending) → (progress_step n old).refusal ≡ None → 0 < length old.line
+some_line n old none = grind (arith, nat_tests)
 
 -- progress simulates the command
 pub progress_simulates : (n : ℕ) (old : Pending) → Simulates (Progress n) old (progress_step n old)
 progress_simulates n old =
     simulates_by refl
-    (λ commands stands. rw stands.line (refusal_is n (rows_after old.settings.estimate commands)))
+    (λ commands stands. rw stands.line (refusal_is n old (rows_after old.settings.estimate commands)))
     (λ commands stands unclosed none.
     let rows : List Row = rows_after old.settings.estimate commands in
-    let f = fronted old commands stands (some_line n old.line none) in
+    let f = fronted old commands stands (some_line n old none) in
     let told : Row = progressed_row n f.row in
     let behind : List Row = f.standing ++ f.fresh in
     let after : List Row = with_front (progressed_row n) rows in

@@ -1,5 +1,5 @@
 -- What is left of the entries in line is the unread parts of the flushed rows.
-use Rattle.ob_seq.proofs.Words.{◌≡◌, List, [], ◌∷◌, map, refl, cond, arith, filter, entry_of, messages_to_send, Row}
+use Rattle.ob_seq.proofs.Words.{[], ◌≡◌, List, ◌∷◌, map, refl, cond, arith, filter, entry_of, messages_to_send, Row}
 use Rattle.ob_seq.proofs.Words.{is_flushed, is_in_line, unread_part, line}
 
 -- one more row

@@ -1,10 +1,10 @@
 -- Each command is simulated by its step.
-use Rattle.ob_seq.proofs.Words.{◌≡◌, ℕ, ◌≤◌, Bool, true, refl, sym, ap, ◌∙◌, cond, ltb, arith, Option, Some, None, nat_tests}
+use Rattle.ob_seq.proofs.Words.{◌≡◌, ℕ, ◌≤◌, Bool, true, refl, ap, ◌∙◌, cond, ltb, arith, Option, Some, None, nat_tests}
 use Rattle.ob_seq.proofs.Words.{Marks, Command, Write, Flush, Remove, RemoveWith, RemoveBytes, Progress, Cancel}
 use Rattle.ob_seq.proofs.Words.{FailFlushed, Close, UserBit, Success, Failed, Refusal, TooManyBytes, Cut, blocks_left}
-use Rattle.ob_seq.proofs.Words.{Pending, bytes_in, Settings, bit_step, front_taken, step_of, times, whole_cut}
-use Rattle.ob_seq.proofs.Words.{false, List, [], ◌∷◌, ◌++◌, ◌<◌, length, is_ok, Closed, Reply, answer_to, reply_of}
-use Rattle.ob_seq.proofs.Words.{unless_refused, Accepts, Answers, StandsFor, SparesMemory, settled_by_step}
+use Rattle.ob_seq.proofs.Words.{Pending, bytes_in, Settings, bit_step, front_taken, step_of, times, whole_cut, false}
+use Rattle.ob_seq.proofs.Words.{List, ◌<◌, length, Closed, Reply, answer_to, unless_refused, Accepts, Answers}
+use Rattle.ob_seq.proofs.Words.{StandsFor, SparesMemory, settled_by_step}
 use Rattle.std.specs.Prelude.{Result, Ok, Err, IsErrOf, OnErr}
 use Rattle.ob_types.specs.Limits.{inline_settlements}
 use Rattle.ob_types.specs.declared.refusal.Refusal.TheVariants.{NoMemory}
@@ -121,24 +121,6 @@ module _ (command : Command) (old : Pending) where
         ((commands : List Command) × StandsFor old commands) → (commands : List Command) × StandsFor new commands
     stays done = stays_wanting done.after (λ wants. done.answer)
 
-    -- what a call promises that never wants memory
-    pub called : {told : Pending} → old ≡ told →
-        record { answer : result ≡ answer_by old step; after : new ≡ held_by old step result } →
-        ¬ IsErrOf result NoMemory → record {
-          answer : Answers told command result;
-          stands : Follows told command result new;
-          settings : new.settings ≡ told.settings;
-          refused : OnErr result (new ≡ told);
-          frugal : ¬ IsErrOf result NoMemory;
-        }
-    called is done frugal = let stay = (simulated command old).settings in rw (← is, done.after) record {
-      answer = λ commands stands. done.answer ∙ answer_is commands stands;
-      stands = follows result (λ wants. done.answer);
-      settings = grind arith;
-      refused = grind arith;
-      frugal = frugal;
-    }
-
     module _ {told : Pending} (is : old ≡ told) (held : new ≡ held_by old step result)
         (same : ¬ IsErrOf result NoMemory → result ≡ answer_by old step)
         (last : IsErrOf result NoMemory → first_of_step old step ≡ None) where
@@ -158,7 +140,7 @@ module _ (command : Command) (old : Pending) where
         no_memory_last = λ wants commands stands. rw (← answer_is commands stands, last wants);
       }
 
-      -- and one that wants it only where it settles more promises than want none
+      -- one that wants it only where it settles more promises than want none
       pub called_sparing : (IsErrOf result NoMemory → inline_settlements < length step.reply.settled) → record {
         answer : ¬ IsErrOf result NoMemory → Answers told command result;
         stands : Follows told command result new;
@@ -175,3 +157,18 @@ module _ (command : Command) (old : Pending) where
           let most = many wants in
           absurd (omega arith)) in
           assumption
+
+    -- and one that never does
+    pub called : {told : Pending} → old ≡ told →
+        record { answer : result ≡ answer_by old step; after : new ≡ held_by old step result } →
+        ¬ IsErrOf result NoMemory → record {
+          answer : Answers told command result;
+          stands : Follows told command result new;
+          settings : new.settings ≡ told.settings;
+          refused : OnErr result (new ≡ told);
+          frugal : ¬ IsErrOf result NoMemory;
+        }
+    called is done frugal =
+        let all = called_wanting is done.after (λ wants. done.answer) (λ wants. absurd (frugal wants)) in
+        let answer = all.answer frugal in
+        assumption

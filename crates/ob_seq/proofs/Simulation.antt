@@ -1,5 +1,5 @@
 -- What it is for a step to simulate a command, and how many promises a step settles.
-use Rattle.ob_seq.proofs.Words.{◌≡◌, false, List, [], ◌∷◌, ◌++◌, arith, sym, ◌∙◌, None, Command, change_between}
+use Rattle.ob_seq.proofs.Words.{[], ◌≡◌, false, List, ◌∷◌, ◌++◌, arith, sym, ◌∙◌, None, Command, change_between}
 use Rattle.ob_seq.proofs.Words.{refusal_of, reply_of, rows_after, effect, is_close, word_after, settlements_of, Pending}
 use Rattle.ob_seq.proofs.Words.{StandsFor, settled_by_step}
 use Rattle.ob_seq.specs.Answer.{answer_of}

@@ -1,5 +1,5 @@
 -- A buffer with one more message stands for the history with the write.
-use Rattle.ob_seq.proofs.Words.{◌≡◌, ℕ, ◌+◌, true, List, [], ◌∷◌, ◌++◌, length, refl, sym, ap, ◌∙◌, append-nil, arith}
+use Rattle.ob_seq.proofs.Words.{[], ◌≡◌, ℕ, ◌+◌, true, List, ◌∷◌, ◌++◌, length, refl, sym, ap, ◌∙◌, append-nil, arith}
 use Rattle.ob_seq.proofs.Words.{nat_tests, map-append, length-map, filter-append, sum_by_push, Marks, counted_bytes}
 use Rattle.ob_seq.proofs.Words.{Message, Command, Write, entry_of, Row, new_row, without_skipped, is_unflushed}
 use Rattle.ob_seq.proofs.Words.{is_in_line, unflushed, total, rows_after, moment_of, moments_of, refusal_of, Pending}
