@@ -13,7 +13,6 @@ mod Failing
 mod Failures
 mod Fields
 mod Fitting
-mod Flushing
 mod Fronts
 mod Gathered
 mod Held
@@ -27,7 +26,6 @@ mod Order
 mod Ordered
 mod Parts
 mod Pieces
-mod Progressed
 mod Reached
 mod Removed
 mod Sending

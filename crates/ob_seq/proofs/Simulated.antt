@@ -4,27 +4,110 @@ use Rattle.ob_seq.proofs.Words.{Marks, Command, Write, Flush, Remove, RemoveWith
 use Rattle.ob_seq.proofs.Words.{FailFlushed, Close, UserBit, Success, Failed, Refusal, TooManyBytes, Cut, blocks_left}
 use Rattle.ob_seq.proofs.Words.{Pending, bytes_in, Settings, bit_step, front_taken, step_of, times, whole_cut, false}
 use Rattle.ob_seq.proofs.Words.{List, ◌<◌, length, Closed, Reply, answer_to, unless_refused, Accepts, Answers}
-use Rattle.ob_seq.proofs.Words.{StandsFor, SparesMemory, settled_by_step}
+use Rattle.ob_seq.proofs.Words.{StandsFor, SparesMemory, settled_by_step, ◌++◌, map, sym, append_assoc, append-nil}
+use Rattle.ob_seq.proofs.Words.{length-map, Count, Row, unflushed, flushed_row, reached_row, rows_after, flush_step}
+use Rattle.ob_seq.proofs.Words.{next_flushed, [], ◌+◌, ◌∷◌, map-append, counted_size, total, front, line, entry_of}
+use Rattle.ob_seq.proofs.Words.{progressed_row, with_front, outcome_of, first_changed, progress_step}
 use Rattle.std.specs.Prelude.{Result, Ok, Err, IsErrOf, OnErr}
 use Rattle.ob_types.specs.Limits.{inline_settlements}
 use Rattle.ob_types.specs.declared.refusal.Refusal.TheVariants.{NoMemory}
-use Rattle.ob_seq.specs.Answer.{commands_with}
+use Rattle.ob_seq.specs.Answer.{commands_with, refusal_of_progress}
 use Rattle.ob_seq.specs.Pending.{Follows}
 use Rattle.ob_seq.specs.Settles.{Settles}
-use Rattle.ob_seq.specs.Steps.{Step, answer_by, bytes_step, first_of_step, held_by}
+use Rattle.ob_seq.specs.Steps.{Step, answer_by, bytes_step, first_of_step, held_by, progressed_entry}
 use Rattle.ob_seq.proofs.Blocks.{few_entries}
 use Rattle.ob_seq.proofs.BytesRemoved.{bytes_removed_stand, run_is}
 use Rattle.ob_seq.proofs.Cancelled.{cancel_simulates}
 use Rattle.ob_seq.proofs.Closing.{closing_simulates}
 use Rattle.ob_seq.proofs.Failing.{failing_simulates}
-use Rattle.ob_seq.proofs.Flushing.{flush_simulates}
-use Rattle.ob_seq.proofs.Progressed.{progress_simulates}
 use Rattle.ob_seq.proofs.Removed.{removal, removal_simulates, removal_with}
-use Rattle.ob_seq.proofs.Simulation.{Simulates}
+use Rattle.ob_seq.proofs.Simulation.{Simulates, simulates_by}
 use Rattle.ob_seq.proofs.Skipped.{skipped_opening}
 use Rattle.ob_seq.proofs.Times.{settings_of_times}
 use Rattle.ob_seq.proofs.UserBits.{bit_changed_stands, reply_of_bit}
 use Rattle.ob_seq.proofs.Written.{write_simulates}
+use Rattle.ob_seq.proofs.Along.{moments_past, settlements_past, moment_of_same, moments_in_one, settlement_same}
+use Rattle.ob_seq.proofs.Along.{settlements_in_one}
+use Rattle.ob_seq.proofs.Held.{word_at_end, held_of, held_rows, fresh_count, word_by_moments}
+use Rattle.ob_seq.proofs.History.{moments_after}
+use Rattle.ob_seq.proofs.Marks.{half_after, word_after_same}
+use Rattle.ob_seq.proofs.Order.{Layout, layout_of, flush_parts, with_front_gone, with_front_standing, progressed_stands}
+use Rattle.ob_seq.proofs.Reached.{all_reached, settlements_of_reached}
+use Rattle.ob_seq.proofs.Fronts.{fronted}
+
+-- the flush simulates the command
+flush_simulates : (old : Pending) → Simulates Flush old (flush_step old)
+flush_simulates old =
+    simulates_by (settings_of_times next_flushed (λ before. refl) (length old.unflushed) old) (λ commands stands. refl)
+    (λ commands stands unclosed none.
+    let rows : List Row = rows_after old.settings.estimate commands in
+    let layout : Layout rows = layout_of old.settings.estimate commands in
+    let passed : List Row = layout.gone ++ layout.standing in
+    let reached : List Row = map reached_row layout.fresh in
+    let held = held_of old commands stands in
+    let count = fresh_count old layout.gone layout.standing layout.fresh held in
+    let rows_are : rows ≡ passed ++ layout.fresh = rw append_assoc layout.is in
+    let effect_is : map flushed_row rows ≡ layout.gone ++ (layout.standing ++ reached) =
+    ap (map flushed_row) layout.is ∙ flush_parts layout.gone layout.standing layout.fresh layout.all_gone
+    layout.all_standing layout.all_fresh in
+    let behind : map flushed_row rows ≡ passed ++ reached = rw append_assoc effect_is in
+    let moments = moments_past rows (map flushed_row rows) passed layout.fresh reached rows_are behind true in
+    let all = all_reached layout.fresh old layout.gone layout.standing (half_after commands)
+    (moments_after old.settings.estimate commands) held (word_by_moments old commands stands) in
+    rw count record {
+      opened = all.2;
+      closed = all.3 ∙ unclosed;
+      holds = rw (effect_is, ← append-nil (layout.standing ++ reached)) (held_rows _ _ _ _ all.0);
+      word = all.1 ∙ word_at_end old commands stands Flush _ (λ index. refl) moments;
+      answer = ap Count (sym count ∙ rw (stands.unflushed, length-map));
+      settled = sym (settlements_past rows (map flushed_row rows) passed layout.fresh reached rows_are behind
+          ∙ settlements_of_reached (length passed) layout.fresh);
+      change = refl;
+    })
+
+-- progress is refused by the first entry in line as by the front
+progress_refusal : (n : ℕ) (old : Pending) (rows : List Row) →
+    (progress_step n record old { line = map entry_of (line rows) }).refusal ≡ refusal_of_progress (front rows) n
+progress_refusal n old [] = refl
+progress_refusal n old (row ∷ rows) = let rest = progress_refusal n old rows in grind (arith, nat_tests)
+
+some_line : (n : ℕ) (old : Pending) → (progress_step n old).refusal ≡ None → 0 < length old.line
+some_line n old none = grind (arith, nat_tests)
+
+-- progress simulates the command
+progress_simulates : (n : ℕ) (old : Pending) → Simulates (Progress n) old (progress_step n old)
+progress_simulates n old =
+    simulates_by refl
+    (λ commands stands. rw stands.line (progress_refusal n old (rows_after old.settings.estimate commands)))
+    (λ commands stands unclosed none.
+    let rows : List Row = rows_after old.settings.estimate commands in
+    let f = fronted old commands stands (some_line n old none) in
+    let told : Row = progressed_row n f.row in
+    let behind : List Row = f.standing ++ f.fresh in
+    let after : List Row = with_front (progressed_row n) rows in
+    let effect_is : after ≡ f.gone ++ told ∷ behind = rw (
+      f.rows_are,
+      with_front_gone (progressed_row n) f.gone (f.row ∷ behind) f.held.all_gone,
+      with_front_standing (progressed_row n) f.row behind f.held.all_standing.0,
+    ) in
+    let moments = moments_in_one rows after f.gone f.row told behind f.rows_are effect_is true
+    ∙ moment_of_same true (counted_size f.row) (total (f.gone ++ told ∷ behind)) in record {
+      opened = refl;
+      closed = unclosed;
+      holds = rw effect_is (held_rows _ f.gone (told ∷ f.standing) f.fresh record {
+        line = ap (first_changed (progressed_entry n)) f.held.line;
+        unflushed = f.held.unflushed;
+        promises = rw map-append (rw map-append at f.held.promises);
+        all_gone = f.held.all_gone;
+        all_standing = (progressed_stands n f.row f.held.all_standing.0, f.held.all_standing.1);
+        all_fresh = f.held.all_fresh;
+      });
+      word = stands.word ∙ sym (word_after_same old.settings commands (Progress n) (λ index. refl) moments);
+      answer = refl;
+      settled = sym (settlements_in_one rows after f.gone f.row told behind f.rows_are effect_is
+          ∙ settlement_same (length f.gone) (outcome_of f.row.promise));
+      change = refl;
+    })
 
 -- where enough bytes are in line the removal ends at this place
 cut_found : (few : Bool) (cut : Cut) →
