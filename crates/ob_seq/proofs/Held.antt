@@ -3,31 +3,23 @@ use Rattle.ob_seq.proofs.Words.{[], ◌≡◌, true, false, List, ◌∷◌, ◌
 use Rattle.ob_seq.proofs.Words.{AllByRecursion, length-append, length-map, Marks, Command, PromiseState, Settings, Row}
 use Rattle.ob_seq.proofs.Words.{line, unflushed, total, effect, rows_after, is_close, is_closed, Moment, moments_of}
 use Rattle.ob_seq.proofs.Words.{word_after, are_accepted, refusal_of, None, entry_of, Pending, StandsFor, pending_total}
-use Rattle.ob_seq.proofs.Words.{unflushed_id, front_id, ℕ, ◌+◌, cond, sum_by-cons, is_unflushed, is_in_line}
-use Rattle.ob_seq.proofs.Words.{counted_size, sum_of, PendingEntry}
+use Rattle.ob_seq.proofs.Words.{unflushed_id, front_id, ℕ, ◌+◌, sum_by-cons, counted_size, sum_of, PendingEntry}
 use Rattle.ob_seq.proofs.History.{accepted_more, closed_more, moments_after, rows_after_more}
 use Rattle.ob_seq.proofs.Marks.{IsQuiet, half_after, word_from, word_is_from, word_is_from_more}
 use Rattle.ob_seq.proofs.Order.{IsGone, IsStanding, IsFresh, layout_of}
 use Rattle.ob_seq.proofs.Parts.{line_of_parts, unflushed_of_parts}
-
--- one more row
-sum_of_row : (row : Row) (flushed fresh : List Row) (sum : ℕ) →
-    sum_of (map entry_of flushed) + sum_of (map entry_of fresh) ≡ sum →
-    sum_of (map entry_of (cond (is_in_line row) (row ∷ flushed) flushed))
-    + sum_of (map entry_of (cond (is_unflushed row.place) (row ∷ fresh) fresh))
-    ≡ counted_size row + sum
-sum_of_row row flushed fresh sum same =
-    let first = sum_by-cons (λ (entry : PendingEntry). entry.size) (entry_of row) (map entry_of flushed) in
-    let next = sum_by-cons (λ (entry : PendingEntry). entry.size) (entry_of row) (map entry_of fresh) in
-    grind arith
 
 -- the entries in line and those that no flush has reached count together what the rows count
 pub sum_of_rows : (rows : List Row) →
     sum_of (map entry_of (line rows)) + sum_of (map entry_of (unflushed rows)) ≡ total rows
 sum_of_rows [] = refl
 sum_of_rows (row ∷ rows) =
-    rw (sum_by-cons counted_size row rows)
-    (sum_of_row row (line rows) (unflushed rows) (total rows) (sum_of_rows rows))
+    let size : PendingEntry → ℕ = λ entry. entry.size in
+    let rest = sum_of_rows rows in
+    let in_line = sum_by-cons size (entry_of row) (map entry_of (line rows)) in
+    let fresh = sum_by-cons size (entry_of row) (map entry_of (unflushed rows)) in
+    let all = sum_by-cons counted_size row rows in
+    grind arith
 
 -- the promise of a row
 abbrev pub promise_of : Row → PromiseState

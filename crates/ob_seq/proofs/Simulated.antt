@@ -1,9 +1,8 @@
 -- Each command is simulated by its step.
-use Rattle.ob_seq.proofs.Words.{◌≡◌, ℕ, ◌≤◌, Bool, true, refl, ap, ◌∙◌, cond, ltb, arith, Option, Some, None, nat_tests}
-use Rattle.ob_seq.proofs.Words.{Marks, Command, Write, Flush, Remove, RemoveWith, RemoveBytes, Progress, Cancel}
-use Rattle.ob_seq.proofs.Words.{FailFlushed, Close, UserBit, Success, Failed, Refusal, TooManyBytes, Cut, blocks_left}
-use Rattle.ob_seq.proofs.Words.{Pending, bytes_in, Settings, bit_step, front_taken, step_of, times, whole_cut, false}
-use Rattle.ob_seq.proofs.Words.{List, ◌<◌, length, Closed, Reply, answer_to, unless_refused, Accepts, Answers}
+use Rattle.ob_seq.proofs.Words.{◌≡◌, ℕ, Bool, true, refl, ap, ◌∙◌, arith, None, nat_tests, Marks, Command, Write, Flush}
+use Rattle.ob_seq.proofs.Words.{Remove, RemoveWith, RemoveBytes, Progress, Cancel, FailFlushed, Close, UserBit, Success}
+use Rattle.ob_seq.proofs.Words.{Failed, Refusal, Cut, blocks_left, Pending, Settings, bit_step, front_taken, step_of}
+use Rattle.ob_seq.proofs.Words.{times, whole_cut, false, List, ◌<◌, length, Reply, answer_to, Accepts, Answers}
 use Rattle.ob_seq.proofs.Words.{StandsFor, SparesMemory, settled_by_step, ◌++◌, map, sym, append_assoc, append-nil}
 use Rattle.ob_seq.proofs.Words.{length-map, Count, Row, unflushed, flushed_row, reached_row, rows_after, flush_step}
 use Rattle.ob_seq.proofs.Words.{next_flushed, [], ◌+◌, ◌∷◌, map-append, counted_size, total, front, line, entry_of}
@@ -109,45 +108,32 @@ progress_simulates n old =
       change = refl;
     })
 
--- where enough bytes are in line the removal ends at this place
-cut_found : (few : Bool) (cut : Cut) →
-    (let refusal : Option Refusal = cond few (Some TooManyBytes) None in
-    let found : Option Cut = cond few None (Some cut) in
-    refusal ≡ None → found ≡ Some cut)
-cut_found few cut none = grind arith
-
 bytes_simulate : (n : ℕ) (old : Pending) → Simulates (RemoveBytes n) old (bytes_step n old)
 bytes_simulate n old =
     let cut : Cut = whole_cut n (blocks_left old.line) in
-    let found = cut_found (ltb (bytes_in (blocks_left old.line)) n) cut in
     let few = few_entries n old.line in record {
       refusal = λ commands stands. rw (run_is old commands stands);
       reply = λ commands stands unclosed none.
-          (bytes_removed_stand old commands n stands cut (found none) unclosed few).1;
+          (bytes_removed_stand old commands n stands cut (grind arith) unclosed few).1;
       after = λ commands stands unclosed none.
-          (bytes_removed_stand old commands n stands cut (found none) unclosed few).0;
+          (bytes_removed_stand old commands n stands cut (grind arith) unclosed few).0;
       settings =
           ap (λ (parts : Settings × Marks). parts.0)
           (skipped_opening cut.rest (times cut.whole (front_taken true Success) old))
           ∙ settings_of_times (front_taken true Success) (λ before. refl) cut.whole old;
     }
 
--- a user bit that is not refused is one of 1 to 31
-index_within : (index : ℕ) (writable : Bool) (old : Pending) → (bit_step index writable old).refusal ≡ None →
-    (1 ≤ index) × (index ≤ 31)
-index_within index writable old none = grind (arith, nat_tests)
-
 bit_simulates : (index : ℕ) (writable : Bool) (old : Pending) →
     Simulates (UserBit index writable) old (bit_step index writable old)
-bit_simulates index writable old =
-    let within = index_within index writable old in record {
-      refusal = λ commands stands. refl;
-      reply = λ commands stands unclosed none.
-          reply_of_bit old commands index writable stands unclosed (within none).0 (within none).1;
-      after = λ commands stands unclosed none.
-          bit_changed_stands old commands index writable stands unclosed (within none).0 (within none).1;
-      settings = refl;
-    }
+bit_simulates index writable old = record {
+  refusal = λ commands stands. refl;
+  reply = λ commands stands unclosed none.
+      reply_of_bit old commands index writable stands unclosed (grind (arith, nat_tests)) (grind (arith, nat_tests));
+  after = λ commands stands unclosed none.
+      bit_changed_stands old commands index writable stands unclosed (grind (arith, nat_tests))
+      (grind (arith, nat_tests));
+  settings = refl;
+}
 
 -- whatever command a buffer is given, its step is what the definition says
 pub simulated : (command : Command) (old : Pending) → Simulates command old (step_of command old)
@@ -162,14 +148,6 @@ simulated (FailFlushed cause notice) old = failing_simulates cause notice old
 simulated (Close cause) old = closing_simulates cause old
 simulated (UserBit index writable) old = bit_simulates index writable old
 
--- replies count only where nothing is refused
-same_answer : (closed closed' : Bool) (own own' : Option Refusal) (reply said : Reply) → closed ≡ closed' → own ≡ own' →
-    (closed ≡ false → own ≡ None → reply ≡ said) →
-    (let first : Option Refusal = cond closed (Some Closed) own in
-    let first' : Option Refusal = cond closed' (Some Closed) own' in
-    unless_refused first reply ≡ unless_refused first' said)
-same_answer closed closed' own own' reply said alike refused same = grind arith
-
 module _ (command : Command) (old : Pending) where
   abbrev step : Step
   step = step_of command old
@@ -177,9 +155,9 @@ module _ (command : Command) (old : Pending) where
   answer_is : (commands : List Command) → StandsFor old commands →
       answer_by old step ≡ answer_to old.settings commands command
   answer_is commands stands =
-      let is = simulated command old in
-      same_answer old.closed _ step.refusal _ step.reply _ stands.closed (is.refusal commands stands)
-      (is.reply commands stands)
+      let refused = (simulated command old).refusal commands stands in
+      let same = (simulated command old).reply commands stands in
+      grind arith
 
   -- a call settles as many promises as its step
   pub settles : Settles old command (settled_by_step old step)

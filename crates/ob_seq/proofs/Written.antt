@@ -2,8 +2,8 @@
 use Rattle.ob_seq.proofs.Words.{[], ◌≡◌, ℕ, ◌+◌, true, List, ◌∷◌, ◌++◌, length, refl, sym, ap, ◌∙◌, append-nil, arith}
 use Rattle.ob_seq.proofs.Words.{nat_tests, map-append, length-map, filter-append, sum_by_push, Marks, counted_bytes}
 use Rattle.ob_seq.proofs.Words.{Message, Command, Write, entry_of, Row, new_row, without_skipped, is_unflushed}
-use Rattle.ob_seq.proofs.Words.{is_in_line, unflushed, total, rows_after, moment_of, moments_of, refusal_of, Pending}
-use Rattle.ob_seq.proofs.Words.{StandsFor, pending_total, word_after_rise, write_step}
+use Rattle.ob_seq.proofs.Words.{is_in_line, unflushed, total, rows_after, moment_of, moments_of, Pending, StandsFor}
+use Rattle.ob_seq.proofs.Words.{pending_total, word_after_rise, write_step}
 use Rattle.ob_types.specs.declared.reply.Answer.TheVariants.{Id}
 use Rattle.ob_seq.proofs.Simulation.{Simulates, simulates_by}
 use Rattle.ob_seq.proofs.Along.{moments_past, settlements_past}
@@ -30,17 +30,15 @@ count_is : (buffer : Pending) (commands : List Command) → StandsFor buffer com
     length buffer.promises ≡ length (rows_after buffer.settings.estimate commands)
 count_is buffer commands stands = rw (stands.promises, length-map)
 
-refusal_is : (message : Message) (old : Pending) (commands : List Command) → StandsFor old commands →
-    (write_step message old).refusal
-    ≡ refusal_of old.settings.estimate (rows_after old.settings.estimate commands) (Write message)
-refusal_is message old commands stands =
-    let sum = pending_total_stands old commands stands in
-    let count = count_is old commands stands in
-    grind (arith, nat_tests)
-
 -- the write simulates the command
 pub write_simulates : (message : Message) (old : Pending) → Simulates (Write message) old (write_step message old)
-write_simulates message old = simulates_by refl (refusal_is message old) (λ commands stands unclosed none.
+write_simulates message old =
+    simulates_by refl
+    (λ commands stands.
+    let sum = pending_total_stands old commands stands in
+    let count = count_is old commands stands in
+    grind (arith, nat_tests))
+    (λ commands stands unclosed none.
     let rows : List Row = rows_after old.settings.estimate commands in
     let row : Row = new_row old.settings.estimate message in
     let size : ℕ = counted_bytes old.settings.estimate message in
