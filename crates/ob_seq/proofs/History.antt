@@ -51,8 +51,11 @@ accepted_from_more settings earlier [] command all last = rw (rw append-nil at l
 accepted_from_more settings earlier (first ∷ commands) command all last =
     let next = earlier ++ first ∷ [] in
     let both = and_parts (is_accepted settings earlier first) (are_accepted settings next commands) all in
-    rw (both.0, accepted_from_more settings next commands command both.1
-    (rw (append_assoc earlier (first ∷ []) commands) last))
+    rw (
+      both.0,
+      accepted_from_more settings next commands command both.1
+          (rw (append_assoc earlier (first ∷ []) commands) last),
+    )
 
 -- a history goes on with a command that is not refused
 pub accepted_more : (settings : Settings) (commands : List Command) (command : Command) → is_closed commands ≡ false →

@@ -1,10 +1,9 @@
 -- A buffer with one more message stands for the history with the write.
-use Rattle.ob_seq.proofs.Words.{[], ◌≡◌, ℕ, ◌+◌, true, List, ◌∷◌, ◌++◌, length, refl, sym, ap, ◌∙◌, append-nil, arith}
+use Rattle.ob_seq.proofs.Words.{[], ◌≡◌, ℕ, ◌+◌, true, List, ◌∷◌, ◌++◌, length, refl, sym, ◌∙◌, append-nil, arith}
 use Rattle.ob_seq.proofs.Words.{nat_tests, map-append, length-map, filter-append, sum_by_push, Marks, counted_bytes}
 use Rattle.ob_seq.proofs.Words.{Message, Command, Write, entry_of, Row, new_row, without_skipped, is_unflushed}
 use Rattle.ob_seq.proofs.Words.{is_in_line, unflushed, total, rows_after, moment_of, moments_of, Pending, StandsFor}
 use Rattle.ob_seq.proofs.Words.{pending_total, word_after_rise, write_step}
-use Rattle.ob_types.specs.declared.reply.Answer.TheVariants.{Id}
 use Rattle.ob_seq.proofs.Simulation.{Simulates, simulates_by}
 use Rattle.ob_seq.proofs.Along.{moments_past, settlements_past}
 use Rattle.ob_seq.proofs.Held.{promise_of, sum_of_rows, word_at_end, word_by_moments}
@@ -26,17 +25,14 @@ rise_step : (marks : Marks) (word size sum : ℕ) →
     word_after_rise marks word size sum ≡ word_step true marks word 0 size sum
 rise_step marks word size sum = grind (arith, nat_tests)
 
-count_is : (buffer : Pending) (commands : List Command) → StandsFor buffer commands →
-    length buffer.promises ≡ length (rows_after buffer.settings.estimate commands)
-count_is buffer commands stands = rw (stands.promises, length-map)
-
 -- the write simulates the command
 pub write_simulates : (message : Message) (old : Pending) → Simulates (Write message) old (write_step message old)
 write_simulates message old =
     simulates_by refl
     (λ commands stands.
     let sum = pending_total_stands old commands stands in
-    let count = count_is old commands stands in
+    let count : length old.promises ≡ length (rows_after old.settings.estimate commands) =
+    rw (stands.promises, length-map) in
     grind (arith, nat_tests))
     (λ commands stands unclosed none.
     let rows : List Row = rows_after old.settings.estimate commands in
@@ -61,7 +57,7 @@ write_simulates message old =
           (sym (word_from_more true old.marks (half_after commands) (moments_after old.settings.estimate commands)
           0 size (total rows + size)))
           ∙ word_at_end old commands stands (Write message) _ (λ index. refl) now;
-      answer = ap (λ id. Id (record { 0 = id })) (count_is old commands stands);
+      answer = rw (stands.promises, length-map);
       settled = sym
           (settlements_past rows (rows ++ row ∷ []) rows [] (row ∷ []) (sym (append-nil rows)) refl);
       change = refl;
