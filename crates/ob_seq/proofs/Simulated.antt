@@ -4,9 +4,9 @@ use Rattle.ob_seq.proofs.Words.{Remove, RemoveWith, RemoveBytes, Progress, Cance
 use Rattle.ob_seq.proofs.Words.{Failed, Refusal, Cut, blocks_left, Pending, Settings, bit_step, front_taken, step_of}
 use Rattle.ob_seq.proofs.Words.{times, whole_cut, false, List, ◌<◌, length, Reply, answer_to, Accepts, Answers}
 use Rattle.ob_seq.proofs.Words.{StandsFor, SparesMemory, settled_by_step, ◌++◌, map, sym, append_assoc, append-nil}
-use Rattle.ob_seq.proofs.Words.{length-map, Count, Row, unflushed, flushed_row, reached_row, rows_after, flush_step}
-use Rattle.ob_seq.proofs.Words.{next_flushed, [], ◌+◌, ◌∷◌, map-append, counted_size, total, front, line, entry_of}
-use Rattle.ob_seq.proofs.Words.{progressed_row, with_front, outcome_of, first_changed, progress_step}
+use Rattle.ob_seq.proofs.Words.{length-map, Count, Row, flushed_row, reached_row, rows_after, flush_step, next_flushed}
+use Rattle.ob_seq.proofs.Words.{[], ◌∷◌, map-append, counted_size, total, front, line, entry_of, progressed_row}
+use Rattle.ob_seq.proofs.Words.{with_front, outcome_of, first_changed, progress_step}
 use Rattle.std.specs.Prelude.{Result, Ok, Err, IsErrOf, OnErr}
 use Rattle.ob_types.specs.Limits.{inline_settlements}
 use Rattle.ob_types.specs.declared.refusal.Refusal.TheVariants.{NoMemory}
@@ -108,6 +108,7 @@ progress_simulates n old =
       change = refl;
     })
 
+-- the removal of bytes simulates the command
 bytes_simulate : (n : ℕ) (old : Pending) → Simulates (RemoveBytes n) old (bytes_step n old)
 bytes_simulate n old =
     let cut : Cut = whole_cut n (blocks_left old.line) in
@@ -123,6 +124,7 @@ bytes_simulate n old =
           ∙ settings_of_times (front_taken true Success) (λ before. refl) cut.whole old;
     }
 
+-- the user bit simulates the command
 bit_simulates : (index : ℕ) (writable : Bool) (old : Pending) →
     Simulates (UserBit index writable) old (bit_step index writable old)
 bit_simulates index writable old = record {
