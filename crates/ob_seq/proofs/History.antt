@@ -1,67 +1,66 @@
 -- One more command at the end of a history.
-use Rattle.ob_seq.proofs.Words.{◌≡◌, List, [], ◌∷◌, ◌++◌, sym, ap, ◌∙◌, append_assoc, append-nil, Bool, true, false}
-use Rattle.ob_seq.proofs.Words.{◌&&◌, ◌||◌, cond, refl, fold, Some, None, is_ok, Estimate, Command, Settings, Row}
-use Rattle.ob_seq.proofs.Words.{effect, rows_after, Moment, moments_of, Closed, first_refusal, refusal_of, reply_of}
-use Rattle.ob_seq.proofs.Words.{unless_refused, is_accepted, are_accepted, is_close, is_closed}
+use Rattle.ob_seq.proofs.Words.{[], ◌≡◌, List, ◌∷◌, ◌++◌, append_assoc, append-nil, true, false, arith, fold, None}
+use Rattle.ob_seq.proofs.Words.{Estimate, Command, Settings, Row, effect, rows_after, Moment, moments_of, first_refusal}
+use Rattle.ob_seq.proofs.Words.{refusal_of, is_accepted, are_accepted, is_close, is_closed}
+use Rattle.std.proofs.lemmas.Bool.{and_parts}
 use Rattle.std.proofs.lemmas.List.Folds.{list_any-append}
 use Rattle.std.proofs.lemmas.List.Sums.{fold-append}
 
 -- the rows after one more command
-pub rows_after_more : (estimate : Estimate) (commands : List Command) (command : Command) → rows_after estimate (commands ++ command ∷ []) ≡ effect estimate (rows_after estimate commands) command
+pub rows_after_more : (estimate : Estimate) (commands : List Command) (command : Command) →
+    rows_after estimate (commands ++ command ∷ []) ≡ effect estimate (rows_after estimate commands) command
 rows_after_more estimate commands command = fold-append (effect estimate) [] commands (command ∷ [])
-
-and_true : (a b : Bool) → (a && b) ≡ true → (a ≡ true) × (b ≡ true)
-and_true true true both = (refl, refl)
-and_true true false both = absurd (cc)
-and_true false b both = absurd (cc)
 
 -- the moments of accepted commands that find these rows, oldest first
 abbrev pub moments_from : Estimate → List Row → List Command → List Moment
 moments_from estimate rows [] = []
-moments_from estimate rows (command ∷ commands) = moments_of estimate rows command ++ moments_from estimate (effect estimate rows command) commands
+moments_from estimate rows (command ∷ commands) =
+    moments_of estimate rows command ++ moments_from estimate (effect estimate rows command) commands
 
 -- the moments of a whole history of accepted commands, oldest first
 abbrev pub moments_after : Estimate → List Command → List Moment
 moments_after estimate commands = moments_from estimate [] commands
 
 moments_from_more : (estimate : Estimate) (rows : List Row) (commands : List Command) (command : Command) →
-    moments_from estimate rows (commands ++ command ∷ []) ≡ moments_from estimate rows commands ++ moments_of estimate (fold (effect estimate) rows commands) command
+    moments_from estimate rows (commands ++ command ∷ [])
+    ≡ moments_from estimate rows commands ++ moments_of estimate (fold (effect estimate) rows commands) command
 moments_from_more estimate rows [] command = append-nil (moments_of estimate rows command)
 moments_from_more estimate rows (first ∷ commands) command =
-    ap (λ more. moments_of estimate rows first ++ more) (moments_from_more estimate (effect estimate rows first) commands command)
-    ∙ sym (append_assoc (moments_of estimate rows first) (moments_from estimate (effect estimate rows first) commands) (moments_of estimate (fold (effect estimate) (effect estimate rows first) commands) command))
+    rw (moments_from_more estimate (effect estimate rows first) commands command, append_assoc)
 
 -- the moments of one more command come behind the others
 pub moments_after_more : (estimate : Estimate) (commands : List Command) (command : Command) →
-    moments_after estimate (commands ++ command ∷ []) ≡ moments_after estimate commands ++ moments_of estimate (rows_after estimate commands) command
+    moments_after estimate (commands ++ command ∷ [])
+    ≡ moments_after estimate commands ++ moments_of estimate (rows_after estimate commands) command
 moments_after_more estimate commands command = moments_from_more estimate [] commands command
 
 -- a command after a history closes it where it is a close
-pub closed_more : (commands : List Command) (command : Command) → is_closed commands ≡ false → is_closed (commands ++ command ∷ []) ≡ is_close command
-closed_more commands command unclosed = list_any-append is_close commands (command ∷ []) ∙ ap (λ earlier. earlier || (is_close command || false)) unclosed ∙ or_false (is_close command)
-  where
-    or_false : (b : Bool) → (b || false) ≡ b
-    or_false true = refl
-    or_false false = refl
-
--- no refusal comes to a buffer that is not closed but its own
-pub refusal_of_open : (estimate : Estimate) (commands : List Command) (command : Command) → is_closed commands ≡ false → first_refusal estimate commands command ≡ refusal_of estimate (rows_after estimate commands) command
-refusal_of_open estimate commands command unclosed = ap (λ closed. cond closed (Some Closed) (refusal_of estimate (rows_after estimate commands) command)) unclosed
+pub closed_more : (commands : List Command) (command : Command) → is_closed commands ≡ false →
+    is_closed (commands ++ command ∷ []) ≡ is_close command
+closed_more commands command unclosed = let more = list_any-append is_close commands (command ∷ []) in grind arith
 
 -- a command with no refusal is accepted
-pub accepted_by : (settings : Settings) (commands : List Command) (command : Command) → first_refusal settings.estimate commands command ≡ None → is_accepted settings commands command ≡ true
-accepted_by settings commands command none = ap (λ refusal. is_ok (unless_refused refusal (reply_of settings commands command))) none
+pub accepted_by : (settings : Settings) (commands : List Command) (command : Command) →
+    first_refusal settings.estimate commands command ≡ None → is_accepted settings commands command ≡ true
+accepted_by settings commands command none = rw none
 
 pub accepted_from_more : (settings : Settings) (earlier commands : List Command) (command : Command) →
-    are_accepted settings earlier commands ≡ true → is_accepted settings (earlier ++ commands) command ≡ true → are_accepted settings earlier (commands ++ command ∷ []) ≡ true
-accepted_from_more settings earlier [] command all last = ap (λ test. test && true) (ap (λ all. is_accepted settings all command) (sym (append-nil earlier)) ∙ last)
+    are_accepted settings earlier commands ≡ true → is_accepted settings (earlier ++ commands) command ≡ true →
+    are_accepted settings earlier (commands ++ command ∷ []) ≡ true
+accepted_from_more settings earlier [] command all last = rw (rw append-nil at last)
 accepted_from_more settings earlier (first ∷ commands) command all last =
-    let both = and_true (is_accepted settings earlier first) (are_accepted settings (earlier ++ first ∷ []) commands) all in
-    ap (λ test. test && are_accepted settings (earlier ++ first ∷ []) (commands ++ command ∷ [])) both.0
-    ∙ accepted_from_more settings (earlier ++ first ∷ []) commands command both.1 (ap (λ all. is_accepted settings all command) (append_assoc earlier (first ∷ []) commands) ∙ last)
+    let next = earlier ++ first ∷ [] in
+    let both = and_parts (is_accepted settings earlier first) (are_accepted settings next commands) all in
+    rw (
+      both.0,
+      accepted_from_more settings next commands command both.1
+          (rw (append_assoc earlier (first ∷ []) commands) last),
+    )
 
 -- a history goes on with a command that is not refused
 pub accepted_more : (settings : Settings) (commands : List Command) (command : Command) → is_closed commands ≡ false →
-    are_accepted settings [] commands ≡ true → refusal_of settings.estimate (rows_after settings.estimate commands) command ≡ None → are_accepted settings [] (commands ++ command ∷ []) ≡ true
+    are_accepted settings [] commands ≡ true →
+    refusal_of settings.estimate (rows_after settings.estimate commands) command ≡ None →
+    are_accepted settings [] (commands ++ command ∷ []) ≡ true
 accepted_more settings commands command unclosed all last =
-    accepted_from_more settings [] commands command all (accepted_by settings commands command (refusal_of_open settings.estimate commands command unclosed ∙ last))
+    accepted_from_more settings [] commands command all (accepted_by settings commands command (rw unclosed last))

@@ -12,7 +12,6 @@ mod EntrySettlements
 mod Failing
 mod Failures
 mod Fields
-mod Flushing
 mod Fronts
 mod Gathered
 mod Held
@@ -24,10 +23,8 @@ mod Marks
 mod Order
 mod Parts
 mod Pieces
-mod Progressed
 mod Reached
 mod Removed
-mod Rows
 mod Sending
 mod Sent
 pub mod Shrinking

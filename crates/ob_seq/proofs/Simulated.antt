@@ -1,98 +1,141 @@
 -- Each command is simulated by its step.
-use Rattle.ob_seq.proofs.Words.{◌≡◌, ℕ, ◌<◌, ◌≤◌, Bool, true, false, List, [], ◌∷◌, ◌++◌, length, refl, sym, ap, ◌∙◌}
-use Rattle.ob_seq.proofs.Words.{cond, ltb, leb, ◌&&◌, arith, Option, Some, None, nat_tests, length-map, Marks}
-use Rattle.ob_seq.proofs.Words.{is_waiting, Command, Write, Flush, Remove, RemoveWith, RemoveBytes, Progress, Cancel}
-use Rattle.ob_seq.proofs.Words.{FailFlushed, Close, UserBit, Outcome, Success, Failed, Cancelled, PromiseId}
-use Rattle.ob_seq.proofs.Words.{PromiseState, Waiting, Fixed, Settled, Refusal, TooManyBytes, Cut, outcome_of}
-use Rattle.ob_seq.proofs.Words.{settlement, cancelled, rows_after, blocks_left, Pending, StandsFor, bytes_in, Row}
-use Rattle.ob_seq.proofs.Words.{Settings, bit_step, front_taken, promise_set, step_of, times, whole_cut}
-use Rattle.ob_types.specs.declared.refusal.Refusal.TheVariants.{BadIndex, UnknownPromise}
-use Rattle.ob_seq.specs.Steps.{bytes_step, cancel_step, state_at}
-use Rattle.ob_seq.proofs.Acceptance.{same_reply}
+use Rattle.ob_seq.proofs.Words.{◌≡◌, ℕ, Bool, true, refl, ap, ◌∙◌, arith, None, nat_tests, Marks, Command, Write, Flush}
+use Rattle.ob_seq.proofs.Words.{Remove, RemoveWith, RemoveBytes, Progress, Cancel, FailFlushed, Close, UserBit, Success}
+use Rattle.ob_seq.proofs.Words.{Failed, Refusal, Cut, blocks_left, Pending, Settings, bit_step, front_taken, step_of}
+use Rattle.ob_seq.proofs.Words.{times, whole_cut, false, List, ◌<◌, length, Reply, answer_to, Accepts, Answers}
+use Rattle.ob_seq.proofs.Words.{StandsFor, SparesMemory, settled_by_step, ◌++◌, map, sym, append_assoc, append-nil}
+use Rattle.ob_seq.proofs.Words.{length-map, Count, Row, flushed_row, reached_row, rows_after, flush_step, next_flushed}
+use Rattle.ob_seq.proofs.Words.{[], ◌∷◌, map-append, counted_size, total, front, line, entry_of, progressed_row}
+use Rattle.ob_seq.proofs.Words.{with_front, outcome_of, first_changed, progress_step}
+use Rattle.std.specs.Prelude.{Result, Ok, Err, IsErrOf, OnErr}
+use Rattle.ob_types.specs.Limits.{inline_settlements}
+use Rattle.ob_types.specs.declared.refusal.Refusal.TheVariants.{NoMemory}
+use Rattle.ob_seq.specs.Answer.{commands_with, refusal_of_progress}
+use Rattle.ob_seq.specs.Pending.{Follows}
+use Rattle.ob_seq.specs.Settles.{Settles}
+use Rattle.ob_seq.specs.Steps.{Step, answer_by, bytes_step, first_of_step, held_by, progressed_entry}
 use Rattle.ob_seq.proofs.Blocks.{few_entries}
 use Rattle.ob_seq.proofs.BytesRemoved.{bytes_removed_stand, run_is}
-use Rattle.ob_seq.proofs.Cancelled.{kept_stands, reply_of_cancel, taken_back_stands}
+use Rattle.ob_seq.proofs.Cancelled.{cancel_simulates}
 use Rattle.ob_seq.proofs.Closing.{closing_simulates}
 use Rattle.ob_seq.proofs.Failing.{failing_simulates}
-use Rattle.ob_seq.proofs.Flushing.{flush_simulates}
-use Rattle.ob_seq.proofs.Progressed.{progress_simulates}
 use Rattle.ob_seq.proofs.Removed.{removal, removal_simulates, removal_with}
-use Rattle.ob_seq.proofs.Simulation.{Simulates}
+use Rattle.ob_seq.proofs.Simulation.{Simulates, simulates_by}
 use Rattle.ob_seq.proofs.Skipped.{skipped_opening}
 use Rattle.ob_seq.proofs.Times.{settings_of_times}
 use Rattle.ob_seq.proofs.UserBits.{bit_changed_stands, reply_of_bit}
 use Rattle.ob_seq.proofs.Written.{write_simulates}
+use Rattle.ob_seq.proofs.Along.{moments_past, settlements_past, moment_of_same, moments_in_one, settlement_same}
+use Rattle.ob_seq.proofs.Along.{settlements_in_one}
+use Rattle.ob_seq.proofs.Held.{word_at_end, held_of, held_rows, fresh_count, word_by_moments}
+use Rattle.ob_seq.proofs.History.{moments_after}
+use Rattle.ob_seq.proofs.Marks.{half_after, word_after_same}
+use Rattle.ob_seq.proofs.Order.{Layout, layout_of, flush_parts, with_front_gone, with_front_standing, progressed_stands}
+use Rattle.ob_seq.proofs.Reached.{all_reached, settlements_of_reached}
+use Rattle.ob_seq.proofs.Fronts.{fronted}
 
-found : (few : Bool) (cut : Cut) → (let refusal : Option Refusal = cond few (Some TooManyBytes) None in refusal) ≡ None → (let one : Option Cut = cond few None (Some cut) in one) ≡ Some cut
-found true cut none = absurd (cc)
-found false cut none = refl
+-- the flush simulates the command
+flush_simulates : (old : Pending) → Simulates Flush old (flush_step old)
+flush_simulates old =
+    simulates_by (settings_of_times next_flushed (λ before. refl) (length old.unflushed) old) (λ commands stands. refl)
+    (λ commands stands unclosed none.
+    let rows : List Row = rows_after old.settings.estimate commands in
+    let layout : Layout rows = layout_of old.settings.estimate commands in
+    let passed : List Row = layout.gone ++ layout.standing in
+    let reached : List Row = map reached_row layout.fresh in
+    let held = held_of old commands stands in
+    let count = fresh_count old layout.gone layout.standing layout.fresh held in
+    let rows_are : rows ≡ passed ++ layout.fresh = rw append_assoc layout.is in
+    let effect_is : map flushed_row rows ≡ layout.gone ++ (layout.standing ++ reached) =
+    ap (map flushed_row) layout.is ∙ flush_parts layout.gone layout.standing layout.fresh layout.all_gone
+    layout.all_standing layout.all_fresh in
+    let behind : map flushed_row rows ≡ passed ++ reached = rw append_assoc effect_is in
+    let moments = moments_past rows (map flushed_row rows) passed layout.fresh reached rows_are behind true in
+    let all = all_reached layout.fresh old layout.gone layout.standing (half_after commands)
+    (moments_after old.settings.estimate commands) held (word_by_moments old commands stands) in
+    rw count record {
+      opened = all.2;
+      closed = all.3 ∙ unclosed;
+      holds = rw (effect_is, ← append-nil (layout.standing ++ reached)) (held_rows _ _ _ _ all.0);
+      word = all.1 ∙ word_at_end old commands stands Flush _ (λ index. refl) moments;
+      answer = ap Count (sym count ∙ rw (stands.unflushed, length-map));
+      settled = sym (settlements_past rows (map flushed_row rows) passed layout.fresh reached rows_are behind
+          ∙ settlements_of_reached (length passed) layout.fresh);
+      change = refl;
+    })
 
+-- progress is refused by the first entry in line as by the front
+progress_refusal : (n : ℕ) (old : Pending) (rows : List Row) →
+    (progress_step n record old { line = map entry_of (line rows) }).refusal ≡ refusal_of_progress (front rows) n
+progress_refusal n old [] = refl
+progress_refusal n old (row ∷ rows) = let rest = progress_refusal n old rows in grind (arith, nat_tests)
+
+some_line : (n : ℕ) (old : Pending) → (progress_step n old).refusal ≡ None → 0 < length old.line
+some_line n old none = grind (arith, nat_tests)
+
+-- progress simulates the command
+progress_simulates : (n : ℕ) (old : Pending) → Simulates (Progress n) old (progress_step n old)
+progress_simulates n old =
+    simulates_by refl
+    (λ commands stands. rw stands.line (progress_refusal n old (rows_after old.settings.estimate commands)))
+    (λ commands stands unclosed none.
+    let rows : List Row = rows_after old.settings.estimate commands in
+    let f = fronted old commands stands (some_line n old none) in
+    let told : Row = progressed_row n f.row in
+    let behind : List Row = f.standing ++ f.fresh in
+    let after : List Row = with_front (progressed_row n) rows in
+    let effect_is : after ≡ f.gone ++ told ∷ behind = rw (
+      f.rows_are,
+      with_front_gone (progressed_row n) f.gone (f.row ∷ behind) f.held.all_gone,
+      with_front_standing (progressed_row n) f.row behind f.held.all_standing.0,
+    ) in
+    let moments = moments_in_one rows after f.gone f.row told behind f.rows_are effect_is true
+    ∙ moment_of_same true (counted_size f.row) (total (f.gone ++ told ∷ behind)) in record {
+      opened = refl;
+      closed = unclosed;
+      holds = rw effect_is (held_rows _ f.gone (told ∷ f.standing) f.fresh record {
+        line = ap (first_changed (progressed_entry n)) f.held.line;
+        unflushed = f.held.unflushed;
+        promises = rw map-append (rw map-append at f.held.promises);
+        all_gone = f.held.all_gone;
+        all_standing = (progressed_stands n f.row f.held.all_standing.0, f.held.all_standing.1);
+        all_fresh = f.held.all_fresh;
+      });
+      word = stands.word ∙ sym (word_after_same old.settings commands (Progress n) (λ index. refl) moments);
+      answer = refl;
+      settled = sym (settlements_in_one rows after f.gone f.row told behind f.rows_are effect_is
+          ∙ settlement_same (length f.gone) (outcome_of f.row.promise));
+      change = refl;
+    })
+
+-- the removal of bytes simulates the command
 bytes_simulate : (n : ℕ) (old : Pending) → Simulates (RemoveBytes n) old (bytes_step n old)
-bytes_simulate n old = record {
-  refusal = λ commands stands. ap (λ run. let refusal : Option Refusal = cond (ltb (bytes_in run) n) (Some TooManyBytes) None in refusal) (sym (run_is old commands stands));
-  reply = λ commands stands unclosed none. (bytes_removed_stand old commands n stands cut (found (ltb (bytes_in pieces) n) cut none) unclosed (few_entries n old.line)).1;
-  after = λ commands stands unclosed none. (bytes_removed_stand old commands n stands cut (found (ltb (bytes_in pieces) n) cut none) unclosed (few_entries n old.line)).0;
-  settings = ap (λ (parts : Settings × Marks). parts.0) (skipped_opening cut.rest (times cut.whole (front_taken true Success) old)) ∙ settings_of_times (front_taken true Success) (λ before. refl) cut.whole old;
-}
-  where
-    pieces : List (List ℕ)
-    pieces = blocks_left old.line
+bytes_simulate n old =
+    let cut : Cut = whole_cut n (blocks_left old.line) in
+    let few = few_entries n old.line in record {
+      refusal = λ commands stands. rw (run_is old commands stands);
+      reply = λ commands stands unclosed none.
+          (bytes_removed_stand old commands n stands cut (grind arith) unclosed few).1;
+      after = λ commands stands unclosed none.
+          (bytes_removed_stand old commands n stands cut (grind arith) unclosed few).0;
+      settings =
+          ap (λ (parts : Settings × Marks). parts.0)
+          (skipped_opening cut.rest (times cut.whole (front_taken true Success) old))
+          ∙ settings_of_times (front_taken true Success) (λ before. refl) cut.whole old;
+    }
 
-    cut : Cut
-    cut = whole_cut n (blocks_left old.line)
-
-known_by : (known : Bool) → (let refusal : Option Refusal = cond known None (Some UnknownPromise) in refusal) ≡ None → known ≡ true
-known_by true none = refl
-known_by false none = absurd (cc)
-
-settled_alike : (id : ℕ) (state : PromiseState) →
-    (let settled : List (PromiseId × Outcome) = cond (is_waiting state) ((record { 0 = id }, Cancelled) ∷ []) [] in settled) ≡ settlement id (outcome_of state) (outcome_of (cancelled state))
-settled_alike id Waiting = refl
-settled_alike id Fixed = refl
-settled_alike id (Settled outcome) = refl
-
-cancel_simulates : (id : PromiseId) (old : Pending) → Simulates (Cancel id) old (cancel_step id.0 old)
-cancel_simulates id old = record {
-  refusal = λ commands stands. ap (λ count. let refusal : Option Refusal = cond (ltb id.0 count) None (Some UnknownPromise) in refusal)
-      (ap length stands.promises ∙ length-map (rows_after old.settings.estimate commands) (λ (row : Row). row.promise));
-  reply = λ commands stands unclosed none. same_reply refl (settled_alike id.0 (state_at old id.0)) refl
-      ∙ reply_of_cancel old commands id stands unclosed (known none) (state_at old id.0) refl;
-  after = λ commands stands unclosed none. by_state commands stands unclosed (known none) (state_at old id.0) refl;
-  settings = by_test (is_waiting (state_at old id.0));
-}
-  where
-    known : (cancel_step id.0 old).refusal ≡ None → id.0 < length old.promises
-    known none = let test = known_by (ltb id.0 (length old.promises)) none in grind (arith, nat_tests)
-
-    by_state : (commands : List Command) → StandsFor old commands → old.closed ≡ false → id.0 < length old.promises → (state : PromiseState) → state_at old id.0 ≡ state →
-        StandsFor (cond (is_waiting state) (promise_set id.0 (Settled Cancelled) old) old) (commands ++ Cancel id ∷ [])
-    by_state commands stands unclosed known Waiting is = taken_back_stands old commands id stands unclosed known Waiting is
-    by_state commands stands unclosed known Fixed is = kept_stands old commands id stands unclosed known Fixed is refl
-    by_state commands stands unclosed known (Settled outcome) is = kept_stands old commands id stands unclosed known (Settled outcome) is refl
-
-    by_test : (waits : Bool) → (let after : Pending = cond waits (promise_set id.0 (Settled Cancelled) old) old in after.settings) ≡ old.settings
-    by_test true = refl
-    by_test false = refl
-
-bit_simulates : (index : ℕ) (writable : Bool) (old : Pending) → Simulates (UserBit index writable) old (bit_step index writable old)
+-- the user bit simulates the command
+bit_simulates : (index : ℕ) (writable : Bool) (old : Pending) →
+    Simulates (UserBit index writable) old (bit_step index writable old)
 bit_simulates index writable old = record {
   refusal = λ commands stands. refl;
-  reply = λ commands stands unclosed none. reply_of_bit old commands index writable stands unclosed (least none) (most none);
-  after = λ commands stands unclosed none. bit_changed_stands old commands index writable stands unclosed (least none) (most none);
+  reply = λ commands stands unclosed none.
+      reply_of_bit old commands index writable stands unclosed (grind (arith, nat_tests)) (grind (arith, nat_tests));
+  after = λ commands stands unclosed none.
+      bit_changed_stands old commands index writable stands unclosed (grind (arith, nat_tests))
+      (grind (arith, nat_tests));
   settings = refl;
 }
-  where
-    least : (bit_step index writable old).refusal ≡ None → 1 ≤ index
-    least none = at_least index none
-      where
-        at_least : (n : ℕ) → (let refusal : Option Refusal = cond (leb 1 n && leb n 31) None (Some BadIndex) in refusal) ≡ None → 1 ≤ n
-        at_least n is = grind (arith, nat_tests)
-
-    most : (bit_step index writable old).refusal ≡ None → index ≤ 31
-    most none = at_most index none
-      where
-        at_most : (n : ℕ) → (let refusal : Option Refusal = cond (leb 1 n && leb n 31) None (Some BadIndex) in refusal) ≡ None → n ≤ 31
-        at_most n is = grind (arith, nat_tests)
 
 -- whatever command a buffer is given, its step is what the definition says
 pub simulated : (command : Command) (old : Pending) → Simulates command old (step_of command old)
@@ -106,3 +149,89 @@ simulated (Cancel id) old = cancel_simulates id old
 simulated (FailFlushed cause notice) old = failing_simulates cause notice old
 simulated (Close cause) old = closing_simulates cause old
 simulated (UserBit index writable) old = bit_simulates index writable old
+
+module _ (command : Command) (old : Pending) where
+  abbrev step : Step
+  step = step_of command old
+
+  answer_is : (commands : List Command) → StandsFor old commands →
+      answer_by old step ≡ answer_to old.settings commands command
+  answer_is commands stands =
+      let refused = (simulated command old).refusal commands stands in
+      let same = (simulated command old).reply commands stands in
+      grind arith
+
+  -- a call settles as many promises as its step
+  pub settles : Settles old command (settled_by_step old step)
+  settles commands stands = rw (answer_is commands stands)
+
+  follows : (result : Result Reply Refusal) → (¬ IsErrOf result NoMemory → result ≡ answer_by old step) →
+      Follows old command result (held_by old step result)
+  follows (Ok reply) same commands stands =
+      let said = same (λ wants. absurd (cc)) in
+      let opened : (old.closed ≡ false) × (step.refusal ≡ None) = grind arith in
+      (simulated command old).after commands stands opened.0 opened.1
+  follows (Err refusal) same commands stands = stands
+
+  module _ {new : Pending} {result : Result Reply Refusal} where
+    -- some history is still stood for
+    pub stays_wanting : new ≡ held_by old step result → (¬ IsErrOf result NoMemory → result ≡ answer_by old step) →
+        ((commands : List Command) × StandsFor old commands) → (commands : List Command) × StandsFor new commands
+    stays_wanting held same some =
+        (commands_with some.0 command result, rw held (follows result same some.0 some.1))
+
+    pub stays : record { answer : result ≡ answer_by old step; after : new ≡ held_by old step result } →
+        ((commands : List Command) × StandsFor old commands) → (commands : List Command) × StandsFor new commands
+    stays done = stays_wanting done.after (λ wants. done.answer)
+
+    module _ {told : Pending} (is : old ≡ told) (held : new ≡ held_by old step result)
+        (same : ¬ IsErrOf result NoMemory → result ≡ answer_by old step)
+        (last : IsErrOf result NoMemory → first_of_step old step ≡ None) where
+      -- what a call promises that may want memory
+      pub called_wanting : record {
+        answer : ¬ IsErrOf result NoMemory → Answers told command result;
+        stands : Follows told command result new;
+        settings : new.settings ≡ told.settings;
+        refused : OnErr result (new ≡ told);
+        no_memory_last : IsErrOf result NoMemory → Accepts told command;
+      }
+      called_wanting = let stay = (simulated command old).settings in rw (← is, held) record {
+        answer = λ other commands stands. same other ∙ answer_is commands stands;
+        stands = follows result same;
+        settings = grind arith;
+        refused = grind arith;
+        no_memory_last = λ wants commands stands. rw (← answer_is commands stands, last wants);
+      }
+
+      -- one that wants it only where it settles more promises than want none
+      pub called_sparing : (IsErrOf result NoMemory → inline_settlements < length step.reply.settled) → record {
+        answer : ¬ IsErrOf result NoMemory → Answers told command result;
+        stands : Follows told command result new;
+        settings : new.settings ≡ told.settings;
+        refused : OnErr result (new ≡ told);
+        no_memory_last : IsErrOf result NoMemory → Accepts told command;
+        spares : SparesMemory told command result;
+      }
+      called_sparing many =
+          let all = called_wanting in
+          let sparing : SparesMemory told command result = rw (← is) (λ commands stands few wants.
+          let count : settled_by_step old step ≡ length step.reply.settled = rw (last wants) in
+          let same = settles commands stands in
+          let most = many wants in
+          absurd (omega arith)) in
+          assumption
+
+    -- and one that never does
+    pub called : {told : Pending} → old ≡ told →
+        record { answer : result ≡ answer_by old step; after : new ≡ held_by old step result } →
+        ¬ IsErrOf result NoMemory → record {
+          answer : Answers told command result;
+          stands : Follows told command result new;
+          settings : new.settings ≡ told.settings;
+          refused : OnErr result (new ≡ told);
+          frugal : ¬ IsErrOf result NoMemory;
+        }
+    called is done frugal =
+        let all = called_wanting is done.after (λ wants. done.answer) (λ wants. absurd (frugal wants)) in
+        let answer = all.answer frugal in
+        assumption

@@ -1,16 +1,9 @@
-use Rattle.ob_seq.proofs.Words.{Cancel}
-use Rattle.ob_seq.proofs.Simulated.{simulated}
-use Rattle.ob_seq.proofs.Simulation.{answers, follows, settings_stay, still_stands}
+use Rattle.ob_seq.proofs.Words.{arith, Cancel}
+use Rattle.ob_seq.proofs.Simulated.{called, stays}
 use Rattle.ob_seq.proofs.buffer.Buffer.cancel.Goals as goal
 
 pub invariant_of-self : goal.invariant_of-self
-invariant_of-self c = still_stands (simulated (Cancel c.args.id) c.self.inside.contents) (λ wants. c.cancel.ensures.answer) c.cancel.ensures.after c.self.invariant
+invariant_of-self c = stays (Cancel c.args.id) _ c.cancel.ensures c.self.invariant
 
-pub returns-clause-answer : goal.returns-clause-answer
-returns-clause-answer c = rw (← c.self.view_is) (answers (simulated (Cancel c.args.id) c.self.inside.contents) c.cancel.ensures.answer)
-
-pub returns-clause-stands : goal.returns-clause-stands
-returns-clause-stands c = rw (← c.self.view_is) (follows (simulated (Cancel c.args.id) c.self.inside.contents) (λ wants. c.cancel.ensures.answer) c.cancel.ensures.after)
-
-pub returns-clause-settings : goal.returns-clause-settings
-returns-clause-settings c = rw (← c.self.view_is) (settings_stay (simulated (Cancel c.args.id) c.self.inside.contents) _ _ c.cancel.ensures.after)
+pub returns : goal.returns
+returns c = called (Cancel c.args.id) _ c.self.view_is c.cancel.ensures (grind arith)

@@ -1,16 +1,9 @@
-use Rattle.ob_seq.proofs.Words.{Remove}
-use Rattle.ob_seq.proofs.Simulated.{simulated}
-use Rattle.ob_seq.proofs.Simulation.{answers, follows, settings_stay, still_stands}
+use Rattle.ob_seq.proofs.Words.{arith, Remove}
+use Rattle.ob_seq.proofs.Simulated.{called, stays}
 use Rattle.ob_seq.proofs.buffer.Buffer.remove.Goals as goal
 
 pub invariant_of-self : goal.invariant_of-self
-invariant_of-self c = still_stands (simulated Remove c.self.inside.contents) (λ wants. c.remove.ensures.answer) c.remove.ensures.after c.self.invariant
+invariant_of-self c = stays Remove _ c.remove.ensures c.self.invariant
 
-pub returns-clause-answer : goal.returns-clause-answer
-returns-clause-answer c = rw (← c.self.view_is) (answers (simulated Remove c.self.inside.contents) c.remove.ensures.answer)
-
-pub returns-clause-stands : goal.returns-clause-stands
-returns-clause-stands c = rw (← c.self.view_is) (follows (simulated Remove c.self.inside.contents) (λ wants. c.remove.ensures.answer) c.remove.ensures.after)
-
-pub returns-clause-settings : goal.returns-clause-settings
-returns-clause-settings c = rw (← c.self.view_is) (settings_stay (simulated Remove c.self.inside.contents) _ _ c.remove.ensures.after)
+pub returns : goal.returns
+returns c = called Remove _ c.self.view_is c.remove.ensures (grind arith)

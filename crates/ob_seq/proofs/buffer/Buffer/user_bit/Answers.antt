@@ -1,16 +1,9 @@
-use Rattle.ob_seq.proofs.Words.{UserBit}
-use Rattle.ob_seq.proofs.Simulated.{simulated}
-use Rattle.ob_seq.proofs.Simulation.{answers, follows, settings_stay, still_stands}
+use Rattle.ob_seq.proofs.Words.{arith, UserBit}
+use Rattle.ob_seq.proofs.Simulated.{called, stays}
 use Rattle.ob_seq.proofs.buffer.Buffer.user_bit.Goals as goal
 
 pub invariant_of-self : goal.invariant_of-self
-invariant_of-self c = still_stands (simulated (UserBit c.args.index c.args.writable) c.self.inside.contents) (λ wants. c.user_bit.ensures.answer) c.user_bit.ensures.after c.self.invariant
+invariant_of-self c = stays (UserBit c.args.index c.args.writable) _ c.user_bit.ensures c.self.invariant
 
-pub returns-clause-answer : goal.returns-clause-answer
-returns-clause-answer c = rw (← c.self.view_is) (answers (simulated (UserBit c.args.index c.args.writable) c.self.inside.contents) c.user_bit.ensures.answer)
-
-pub returns-clause-stands : goal.returns-clause-stands
-returns-clause-stands c = rw (← c.self.view_is) (follows (simulated (UserBit c.args.index c.args.writable) c.self.inside.contents) (λ wants. c.user_bit.ensures.answer) c.user_bit.ensures.after)
-
-pub returns-clause-settings : goal.returns-clause-settings
-returns-clause-settings c = rw (← c.self.view_is) (settings_stay (simulated (UserBit c.args.index c.args.writable) c.self.inside.contents) _ _ c.user_bit.ensures.after)
+pub returns : goal.returns
+returns c = called (UserBit c.args.index c.args.writable) _ c.self.view_is c.user_bit.ensures (grind arith)
