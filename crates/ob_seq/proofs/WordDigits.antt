@@ -1,19 +1,17 @@
 -- The bits of the word.
-use Rattle.ob_seq.proofs.Words.{◌≡◌, ℕ, zero, suc, ◌+◌, ◌<◌, ◌≤◌, Bool, true, false, List, refl, ap, ◌∙◌, ltb, arith}
-use Rattle.ob_seq.proofs.Words.{◌↔◌, bit_at, nat_tests, Command, mark_after, Settings, user_bit, word_after}
+use Rattle.ob_seq.proofs.Words.{◌≡◌, ℕ, zero, suc, ◌+◌, ◌<◌, ◌≤◌, Bool, true, List, ltb, arith, ◌↔◌, bit_at, nat_tests}
+use Rattle.ob_seq.proofs.Words.{Command, mark_after, Settings, user_bit, word_after}
 use Rattle.ob_seq.proofs.Digits.{digit, digit_of, user_bits_even, word_digits, word_of, word_of_digits, word_small}
 
 digit_is : (bit : Bool) → digit bit ≡ 1 ↔ bit ≡ true
-digit_is true = (λ one. refl, λ set. refl)
-digit_is false = (λ one. absurd (omega (arith, one)), λ set. absurd (cc))
+digit_is bit = (λ one. grind arith, λ set. rw set)
 
 module _ (settings : Settings) (commands : List Command) where
   abbrev digits : ℕ → Bool
   digits = word_digits (mark_after settings commands) (user_bit commands)
 
   word_is : word_after settings commands ≡ word_of digits
-  word_is = ap (λ bits. digit (mark_after settings commands) + bits) (user_bits_even (user_bit commands))
-      ∙ word_of_digits (mark_after settings commands) (user_bit commands)
+  word_is = rw (user_bits_even (user_bit commands)) (word_of_digits (mark_after settings commands) (user_bit commands))
 
   -- bit 0 is the mark
   pub bit_0_is_mark : bit_at (word_after settings commands) 0 ≡ 1 ↔ mark_after settings commands ≡ true
