@@ -1,4 +1,4 @@
-use Rattle.ob_seq.proofs.Words.{length, refl, sym, ◌∙◌, arith, take_all, Failed, bit_step, failing_step, flush_step}
+use Rattle.ob_seq.proofs.Words.{length, refl, sym, ap, ◌∙◌, arith, take_all, Failed, Pending, bit_step, failing_step, flush_step}
 use Rattle.ob_seq.proofs.Words.{front_id, progress_step, write_step}
 use Rattle.ob_seq.proofs.EntrySettlements.{count_of_settlements}
 use Rattle.ob_seq.proofs.Simulation.{settled_nothing, settled_where_open}
@@ -26,7 +26,7 @@ pub returns-in-FailFlushed : goal.returns-in-FailFlushed
 returns-in-FailFlushed c =
     let now = c.args.self.now in
     let cause = c.in-FailFlushed.field-0 in
-    let unclosed = rw c.self.view_is at c.if-self.false in
+    let unclosed = ap (λ (held : Pending). held.closed) (sym c.self.view_is) ∙ c.if-self.false in
     rw (c.in-FailFlushed.is, c.unvoided.ensures, c.line_count.ensures, take_all (length now.line) now.line (omega arith),
     ← count_of_settlements (Failed cause) (front_id now) now.line)
     (settled_where_open now (failing_step cause c.in-FailFlushed.field-1 now) unclosed)

@@ -13,6 +13,7 @@ bit_by (suc (suc bit)) power small some = absurd (omega arith)
 pub returns : goal.returns
 returns c =
     let index = c.args.index in
-    let small : 2 ^ index < 4294967296 = pow-lt (omega (arith, c.requires)) in
+    let within : index < 32 = omega (arith, c.requires) in
+    let small : 2 ^ index < 4294967296 = pow-lt within in
     rw (one-mul (2 ^ index), mod-eq_of_lt small, and_pow c.args.word index)
     (bit_by _ (2 ^ index) (bit_at-lt c.args.word index) (pow_pos index))
