@@ -1,9 +1,9 @@
 -- The user bits as a number in binary.
-use Rattle.ob_seq.proofs.Words.{◌≡◌, ℕ, zero, suc, ◌+◌, ◌*◌, ◌^◌, ◌/◌, ◌%◌, ◌<◌, Bool, true, false, refl, sym, ◌∙◌, cond, arith, ltb}
-use Rattle.ob_seq.proofs.Words.{sum_by, nat_tests, range_with_len, bit_at, sum_by-cons, bit_at_lowest, bit_at-suc}
-use Rattle.ob_seq.proofs.Words.{bit_at-zero, bit_value}
+use Rattle.ob_seq.proofs.Words.{◌≡◌, ℕ, zero, suc, ◌+◌, ◌*◌, ◌^◌, ◌/◌, ◌%◌, ◌<◌, Bool, true, false, refl, sym, ap, ◌∙◌}
+use Rattle.ob_seq.proofs.Words.{cond, arith, ltb, sum_by, nat_tests, range_with_len, bit_at, sum_by-cons, bit_at_lowest}
+use Rattle.ob_seq.proofs.Words.{bit_at-suc, bit_at-zero, bit_value}
 use Rattle.std.proofs.Common.{add-one}
-use Rattle.std.proofs.Math.Nat.{pow-suc, mul_assoc, mul-add, mul-zero}
+use Rattle.std.proofs.Math.Nat.{pow-suc, mul_assoc, mul_comm, mul-add, mul-zero}
 use Rattle.ob_seq.specs.Word.{user_bits}
 
 -- a digit of the binary system
@@ -16,10 +16,7 @@ number bit from zero = 0
 number bit from (suc count) = digit (bit from) + 2 * number bit (from + 1) count
 
 value_is : (set : Bool) (power more : ℕ) → cond set power 0 + power * 2 * more ≡ power * (digit set + 2 * more)
-value_is set power more =
-    let whole = mul-add power (digit set) (2 * more) in
-    let part = mul_assoc power 2 more in
-    grind arith
+value_is set power more = grind (arith, mul-add power (digit set) (2 * more), mul_assoc power 2 more)
 
 -- the bits of these indexes count as much as that number, moved up to the first index
 sum_is : (bit : ℕ → Bool) (from count : ℕ) →
@@ -36,13 +33,13 @@ half_bits bit = number bit 1 31
 -- user bits are even
 pub user_bits_even : (bit : ℕ → Bool) → user_bits bit ≡ half_bits bit * 2
 unfolding user_bits
-user_bits_even bit = sum_is bit 1 31 ∙ twice (half_bits bit)
-  where
-    twice : (n : ℕ) → 2 * n ≡ n * 2
-    twice n = omega arith
+user_bits_even bit = sum_is bit 1 31 ∙ mul_comm 2 (half_bits bit)
 
-halves : (bit : Bool) (more : ℕ) → ((digit bit + 2 * more) % 2 ≡ digit bit) × ((digit bit + 2 * more) / 2 ≡ more)
-halves bit more = (grind arith, grind arith)
+lowest : (bit : Bool) (more : ℕ) → (digit bit + 2 * more) % 2 ≡ digit bit
+lowest bit more = grind arith
+
+others : (bit : Bool) (more : ℕ) → (digit bit + 2 * more) / 2 ≡ more
+others bit more = grind arith
 
 -- each digit of it
 digits_are : (bit : ℕ → Bool) (from count i at : ℕ) → at ≡ from + i →
@@ -51,10 +48,10 @@ digits_are bit from zero i at is = let none : ltb i 0 ≡ false = grind (arith, 
 digits_are bit from (suc count) zero at is =
     let here : at ≡ from = omega arith in
     let some : ltb 0 (suc count) ≡ true = grind (arith, nat_tests) in
-    rw (bit_at_lowest, (halves (bit from) (number bit (from + 1) count)).0, here, some)
+    rw (bit_at_lowest, lowest (bit from) (number bit (from + 1) count), here, some)
 digits_are bit from (suc count) (suc i) at is =
     let same : ltb (suc i) (suc count) ≡ ltb i count = grind (arith, nat_tests) in
-    rw (bit_at-suc, (halves (bit from) (number bit (from + 1) count)).1, same, digits_are bit (from + 1) count i at (omega arith))
+    rw (bit_at-suc, others (bit from) (number bit (from + 1) count), same, digits_are bit (from + 1) count i at (omega arith))
 
 -- the number with these 32 digits
 pub word_of : (ℕ → Bool) → ℕ
@@ -82,10 +79,7 @@ word_digits first bit (suc i) = bit (suc i)
 
 pub word_of_digits : (first : Bool) (bit : ℕ → Bool) → digit first + half_bits bit * 2 ≡ word_of (word_digits first bit)
 unfolding word_of
-word_of_digits first bit = twice (digit first) (half_bits bit)
-  where
-    twice : (low half : ℕ) → low + half * 2 ≡ low + 2 * half
-    twice low half = omega arith
+word_of_digits first bit = ap (λ half. digit first + half) (mul_comm (half_bits bit) 2)
 
 -- numbers of the same digits are the same
 pub same_number : (bit other : ℕ → Bool) → ((index : ℕ) → bit index ≡ other index) → (from count : ℕ) →

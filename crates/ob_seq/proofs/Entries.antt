@@ -1,5 +1,5 @@
 -- Entries, as the code keeps them and as contracts see them.
-use Rattle.ob_seq.proofs.Words.{◌≡◌, ℕ, ◌+◌, ◌-◌, ◌<◌, min, List, [], ◌∷◌, ◌++◌, length, take, drop, get_or, refl, sym}
+use Rattle.ob_seq.proofs.Words.{[], ◌≡◌, ℕ, ◌+◌, ◌-◌, ◌<◌, min, List, ◌∷◌, ◌++◌, length, take, drop, get_or, refl, sym}
 use Rattle.ob_seq.proofs.Words.{ap, ◌∙◌, cond, count_by, not, sum_by, length-map, map-append, take-append-drop}
 use Rattle.ob_seq.proofs.Words.{sum_by-append, sum_by-cons, Entry, PendingEntry, pending_entry, pending_entries, sum_of}
 use Rattle.std.proofs.lemmas.List.{get_or-map, length-drop, length-take}

@@ -1,9 +1,9 @@
 -- What the fields of a buffer say of what it holds.
-use Rattle.ob_seq.proofs.Words.{◌≡◌, ℕ, ◌+◌, ◌-◌, ◌<◌, ◌≤◌, List, [], ◌∷◌, length, take, drop, get_or, sym}
-use Rattle.ob_seq.proofs.Words.{arith, Block, Entry, Inside, blocks_left, IsSound, pending_entry, pending_entries}
-use Rattle.ob_seq.proofs.Words.{pending_of, Pending, first_length, pending_total}
-use Rattle.std.proofs.lemmas.List.{get_or-take, take-take}
-use Rattle.ob_seq.proofs.Blocks.{left_from_block, left_from_other, first_length_is}
+use Rattle.ob_seq.proofs.Words.{[], ◌≡◌, ℕ, ◌+◌, ◌-◌, ◌<◌, ◌≤◌, List, ◌∷◌, length, take, drop, get_or, sym, arith}
+use Rattle.ob_seq.proofs.Words.{Block, Entry, Inside, blocks_left, IsSound, pending_entry, pending_entries, drop_all}
+use Rattle.ob_seq.proofs.Words.{pending_of, Pending, pending_total}
+use Rattle.std.proofs.lemmas.List.{drop_more, get_or-take, take-take}
+use Rattle.ob_seq.proofs.Blocks.{left_from_block, left_from_other}
 use Rattle.ob_seq.proofs.Entries.{entry_at, line_size, rest_size, sum_of_entries, sum_of_parts}
 
 module _ (held : Pending) (inside : Inside) (view : pending_of inside ≡ held) (sound : IsSound inside) where
@@ -39,21 +39,23 @@ module _ (held : Pending) (inside : Inside) (view : pending_of inside ≡ held) 
       rw (← view, get_or-take inside.flushed (pending_entries inside.entries.items) place (pending_entry entry) before)
       (entry_at inside.entries.items place entry (pending_entry entry) (omega (arith, sound.line_within, inside.entries.ok)) is)
 
+-- what stands in line from that place on
 module _ {held : Pending} {inside : Inside} (view : pending_of inside ≡ held) (sound : IsSound inside) (place : ℕ)
     {entry : Entry} (before : place < inside.flushed) (is : entry ≡ get_or inside.entries.items place entry) where
-  within : place < length held.line
-  within = omega (arith, line_count held inside view sound)
+  pub line_from : drop place held.line ≡ pending_entry entry ∷ drop (place + 1) held.line
+  line_from = rw (← in_line held inside view sound place entry before is)
+      at (drop_more held.line place (pending_entry entry) (omega (arith, line_count held inside view sound)))
 
   -- what is left from a block on, and from another message on
   pub left_at_block : {bytes : List ℕ} → entry.message ≡ Block bytes →
       blocks_left (drop place held.line) ≡ bytes ∷ blocks_left (drop (place + 1) held.line)
-  left_at_block {bytes} block =
-      left_from_block held.line place (pending_entry entry) within (in_line held inside view sound place entry before is) bytes block
-
-  pub length_at_block : {bytes : List ℕ} → entry.message ≡ Block bytes → first_length (drop place held.line) ≡ length bytes
-  length_at_block {bytes} block =
-      first_length_is held.line place (pending_entry entry) within (in_line held inside view sound place entry before is) bytes block
+  left_at_block block = rw line_from (left_from_block (pending_entry entry) (drop (place + 1) held.line) block)
 
   pub left_at_other : ((bytes : List ℕ) → entry.message ≡ Block bytes → ⊥) → blocks_left (drop place held.line) ≡ []
-  left_at_other other =
-      left_from_other held.line place (pending_entry entry) within (in_line held inside view sound place entry before is) other
+  left_at_other other = rw line_from (left_from_other (pending_entry entry) (drop (place + 1) held.line) other)
+
+-- and at the end
+pub left_at_end : {held : Pending} {inside : Inside} → pending_of inside ≡ held → IsSound inside → (place : ℕ) →
+    inside.flushed ≤ place → blocks_left (drop place held.line) ≡ []
+left_at_end {held} {inside} view sound place past =
+    rw (drop_all place held.line (omega (arith, line_count held inside view sound)))

@@ -1,5 +1,5 @@
 -- What is gathered, one block after another.
-use Rattle.ob_seq.proofs.Words.{◌≡◌, ℕ, suc, ◌+◌, ◌-◌, ◌<◌, ◌≤◌, min, max, Bool, true, false, ◌&&◌, ◌||◌, List, [], ◌∷◌}
+use Rattle.ob_seq.proofs.Words.{[], ◌≡◌, ℕ, suc, ◌+◌, ◌-◌, ◌<◌, ◌≤◌, min, max, Bool, true, false, ◌&&◌, ◌||◌, List, ◌∷◌}
 use Rattle.ob_seq.proofs.Words.{◌++◌, length, take, refl, sym, ap, ◌∙◌, cond, leb, ltb, arith, nat_tests, append_assoc}
 use Rattle.ob_seq.proofs.Words.{length-append, with_bytes, first_blocks}
 use Rattle.std.proofs.Math.Seq.{take-nil}
@@ -31,51 +31,46 @@ first_blocks_are limit most blocks =
 pub none_left : (limit count room : ℕ) → more_blocks limit count room [] ≡ []
 none_left limit count room = take-nil (share limit count 0)
 
-one_more : (limit count room size fits : ℕ) → (ltb count limit && (leb count 0 || leb size room)) ≡ true →
-    (room ≤ size → fits ≡ 0) → share limit count (cond (leb size room) (suc fits) 0) ≡ suc (share limit (count + 1) fits)
+-- whether one more block of this size goes along
+abbrev goes_along : ℕ → ℕ → ℕ → ℕ → Bool
+goes_along limit count room size = ltb count limit && (leb count 0 || leb size room)
+
+one_more : (limit count room size fits : ℕ) → goes_along limit count room size ≡ true → (room ≤ size → fits ≡ 0) →
+    share limit count (cond (leb size room) (suc fits) 0) ≡ suc (share limit (count + 1) fits)
 one_more limit count room size fits goes none = grind (arith, nat_tests)
 
-no_more : (limit count room size fits : ℕ) → (ltb count limit && (leb count 0 || leb size room)) ≡ false →
+no_more : (limit count room size fits : ℕ) → goes_along limit count room size ≡ false →
     share limit count (cond (leb size room) (suc fits) 0) ≡ 0
 no_more limit count room size fits over = grind (arith, nat_tests)
 
-module _ (limit count room : ℕ) (block : List ℕ) (blocks : List (List ℕ)) where
-  abbrev pub goes_along : Bool
-  goes_along = ltb count limit && (leb count 0 || leb (length block) room)
+module _ (limit room : ℕ) (items : List (List ℕ)) (block : List ℕ) (blocks : List (List ℕ)) {count size : ℕ}
+    (many : count ≡ length items) (long : size ≡ length block) where
+  abbrev fits_behind : ℕ
+  fits_behind = fitting (room - length block) (with_bytes blocks)
 
   -- an empty block is passed over
-  pub passed : length block ≤ 0 → more_blocks limit count room (block ∷ blocks) ≡ more_blocks limit count room blocks
+  pub passed : size ≤ 0 →
+      more_blocks limit (length items) room (block ∷ blocks) ≡ more_blocks limit (length items) room blocks
   passed none = let empty : ltb 0 (length block) ≡ false = grind (arith, nat_tests) in rw empty
 
-  -- another goes along or ends the walk
-  pub ended : 0 < length block → goes_along ≡ false → more_blocks limit count room (block ∷ blocks) ≡ []
+  -- another ends the walk or goes along
+  pub ended : 0 < size → goes_along limit count room size ≡ false → more_blocks limit (length items) room (block ∷ blocks) ≡ []
   ended some over =
       let full : ltb 0 (length block) ≡ true = grind (arith, nat_tests) in
-      rw (full, no_more limit count room (length block) (fitting (room - length block) (with_bytes blocks)) over)
+      rw (full, no_more limit (length items) room (length block) fits_behind (rw (many, long) at over))
 
-  goes : 0 < length block → goes_along ≡ true →
-      more_blocks limit count room (block ∷ blocks) ≡ block ∷ more_blocks limit (count + 1) (room - length block) blocks
-  goes some fits =
+  pub pushed : {room' : ℕ} {items' : List (List ℕ)} → 0 < size → goes_along limit count room size ≡ true →
+      items' ≡ items ++ block ∷ [] → room' ≡ room - size →
+      items ++ more_blocks limit (length items) room (block ∷ blocks) ≡ items' ++ more_blocks limit (length items') room' blocks
+  pushed some goes more left =
       let full : ltb 0 (length block) ≡ true = grind (arith, nat_tests) in
-      let none : room ≤ length block → fitting (room - length block) (with_bytes blocks) ≡ 0 = λ small.
+      let none : room ≤ length block → fits_behind ≡ 0 = λ small.
       let used : room - length block ≡ 0 = omega arith in rw (used, no_room blocks) in
-      rw (full, one_more limit count room (length block) (fitting (room - length block) (with_bytes blocks)) fits none)
+      rw (full, one_more limit (length items) room (length block) fits_behind (rw (many, long) at goes) none,
+      more, left, long, length-append items (block ∷ []), append_assoc)
 
--- what is gathered in all once one more block goes along
-pub pushed : (limit room room' : ℕ) (items items' : List (List ℕ)) (block : List ℕ) (blocks : List (List ℕ)) →
-    0 < length block → goes_along limit (length items) room block [] ≡ true → items' ≡ items ++ block ∷ [] →
-    room' ≡ room - length block →
-    items ++ more_blocks limit (length items) room (block ∷ blocks) ≡ items' ++ more_blocks limit (length items') room' blocks
-pushed limit room room' items items' block blocks some fits more left =
-    rw (more, left, length-append items (block ∷ []), goes limit (length items) room block blocks some fits, append_assoc)
-
--- which is something
-pub something : (limit room : ℕ) (items : List (List ℕ)) (block : List ℕ) (blocks : List (List ℕ)) →
-    0 < length block → goes_along limit (length items) room block [] ≡ true →
-    items ++ more_blocks limit (length items) room (block ∷ blocks) ≡ [] → ⊥
-something limit room items block blocks some fits nothing =
-    let more = sym (ap length (pushed limit room (room - length block) items (items ++ block ∷ []) block blocks some fits refl refl)) in
-    let all = length-append (items ++ block ∷ []) (more_blocks limit (length (items ++ block ∷ [])) (room - length block) blocks) in
-    let one = length-append items (block ∷ []) in
-    let none = ap length nothing in
-    omega arith
+  -- so that something is gathered
+  pub something : 0 < size → goes_along limit count room size ≡ true →
+      items ++ more_blocks limit (length items) room (block ∷ blocks) ≡ [] → ⊥
+  something some goes nothing =
+      let more = pushed some goes refl refl in omega (arith, simp length-append at (ap length (sym more ∙ nothing)))

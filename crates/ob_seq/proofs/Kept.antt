@@ -1,9 +1,9 @@
 -- What the fields of a buffer say after a step, over plain lists.
-use Rattle.ob_seq.proofs.Words.{◌≡◌, ℕ, zero, suc, ◌+◌, ◌-◌, ◌<◌, ◌≤◌, List, [], ◌∷◌, ◌++◌, length, take, drop, get_or}
+use Rattle.ob_seq.proofs.Words.{[], ◌≡◌, ℕ, zero, suc, ◌+◌, ◌-◌, ◌<◌, ◌≤◌, List, ◌∷◌, ◌++◌, length, take, drop, get_or}
 use Rattle.ob_seq.proofs.Words.{refl, sym, ap, ◌∙◌, length-append, arith, false, Bool, slice_set, if◌then◌else◌}
-use Rattle.ob_seq.proofs.Words.{take-append-drop, Message, Outcome, PromiseState, Waiting, Fixed}
-use Rattle.ob_seq.proofs.Words.{Settled, PendingEntry, Settings, Pending, sum_of, written, front_taken, word_after_rise}
-use Rattle.ob_seq.proofs.Words.{word_after_fall, next_flushed, reached_entry, is_cancelled}
+use Rattle.ob_seq.proofs.Words.{take-append-drop, Message, Outcome, PromiseState, Waiting, Fixed, Settled, PendingEntry}
+use Rattle.ob_seq.proofs.Words.{Settings, Pending, sum_of, written, front_taken, word_after_rise, word_after_fall}
+use Rattle.ob_seq.proofs.Words.{next_flushed, reached_entry, is_cancelled}
 use Rattle.std.proofs.lemmas.List.{take-append-le, drop-append-le, drop-drop, drop-set-lt, drop_more, take_more_set}
 use Rattle.ob_seq.proofs.Entries.{sum_of_parts}
 

@@ -1,7 +1,7 @@
 -- A look at a buffer is the look after the history for which it stands.
-use Rattle.ob_seq.proofs.Words.{◌≡◌, ℕ, Bool, List, [], ◌∷◌, length, map, refl, cond, Some, length-map, Command, Marks}
-use Rattle.ob_seq.proofs.Words.{Row, is_in_line, line, front, rows_after, before_unwritable, before_writable, entry_of, Pending}
-use Rattle.ob_seq.proofs.Words.{StandsFor, pending_total, first_progress}
+use Rattle.ob_seq.proofs.Words.{[], ◌≡◌, ℕ, Bool, List, ◌∷◌, length, map, refl, cond, Some, length-map, Command, Marks}
+use Rattle.ob_seq.proofs.Words.{Row, is_in_line, line, front, rows_after, before_unwritable, before_writable, entry_of}
+use Rattle.ob_seq.proofs.Words.{Pending, StandsFor, pending_total, first_progress}
 use Rattle.std.proofs.Common.{arith}
 use Rattle.ob_seq.specs.declared.look.Look.{Look}
 use Rattle.ob_seq.specs.Looks.{progress_of, look_after}

@@ -1,9 +1,9 @@
 -- A user bit set or cleared in the word is the user bit after one more command.
-use Rattle.ob_seq.proofs.Words.{◌≡◌, ℕ, zero, suc, ◌^◌, ◌<◌, ◌≤◌, Bool, true, false, not, List, [], ◌∷◌, ◌++◌, reverse}
-use Rattle.ob_seq.proofs.Words.{refl, sym, ◌∙◌, cond, eqb, ltb, append-nil, arith, Option, Some, None, filter_map}
-use Rattle.ob_seq.proofs.Words.{slice_get, unwrap_or, bit_at, cons_option, nat_tests, reverse-append, filter_map-append}
-use Rattle.ob_seq.proofs.Words.{bit_at_or, same_from_bits, pow-lt, change_between, Command, UserBit, Reply, Done}
-use Rattle.ob_seq.proofs.Words.{Settings, rows_after, bit_request, user_bit, word_after, reply_of, Pending, StandsFor}
+use Rattle.ob_seq.proofs.Words.{[], ◌≡◌, ℕ, zero, suc, ◌^◌, ◌<◌, ◌≤◌, Bool, true, false, not, List, ◌∷◌, ◌++◌, reverse}
+use Rattle.ob_seq.proofs.Words.{sym, ◌∙◌, cond, eqb, append-nil, arith, Option, Some, None, filter_map, slice_get}
+use Rattle.ob_seq.proofs.Words.{unwrap_or, cons_option, nat_tests, reverse-append, filter_map-append, bit_at_or}
+use Rattle.ob_seq.proofs.Words.{same_from_bits, pow-lt, change_between, Command, UserBit, Reply, Done, Settings}
+use Rattle.ob_seq.proofs.Words.{rows_after, bit_request, user_bit, word_after, reply_of, Pending, StandsFor}
 use Rattle.std.specs.Int.{bit_not, w32}
 use Rattle.std.proofs.lemmas.Nat.Bits.{bit_at_and, bit_at_not, bit_at-pow_same, bit_at-pow_other}
 use Rattle.ob_seq.specs.Steps.{bit_changed, with_user_bit}
@@ -42,15 +42,6 @@ word_is : (settings : Settings) (commands : List Command) →
 word_is settings commands =
     word_is_from settings commands
     ∙ word_of_digits (mark_of settings.marks (moments_after settings.estimate commands)) (user_bit commands)
-
--- the word has the digit 1 at the index of a user bit where that is set
-pub user_bit_shows : (settings : Settings) (commands : List Command) (index : ℕ) → 0 < index → index ≤ 31 →
-    eqb (bit_at (word_after settings commands) index) 1 ≡ user_bit commands index
-user_bit_shows settings commands zero some few = absurd (omega arith)
-user_bit_shows settings commands (suc i) some few =
-    let within : ltb (suc i) 32 ≡ true = grind (arith, nat_tests) in
-    rw (word_is settings commands, digit_of (digits_after settings commands) (suc i), within)
-    (grind arith)
 
 digits_change : (settings : Settings) (commands : List Command) (at : ℕ) (writable : Bool) → 1 ≤ at → (i : ℕ) →
     digits_after settings (commands ++ UserBit at writable ∷ []) i

@@ -1,5 +1,5 @@
 -- Bit 0 of the word.
-use Rattle.ob_seq.proofs.Words.{◌≡◌, ℕ, zero, suc, ◌+◌, ◌*◌, ◌/◌, ◌%◌, max, arith, bit_at, bit_at_or, same_from_bits}
+use Rattle.ob_seq.proofs.Words.{◌≡◌, ℕ, zero, suc, ◌+◌, ◌*◌, ◌/◌, arith, bit_at, bit_at_or, same_from_bits}
 use Rattle.ob_seq.proofs.Words.{bit_at_lowest, bit_at-suc, bit_at-zero}
 use Rattle.std.proofs.Common.{bit_or}
 

@@ -1,4 +1,4 @@
-use Rattle.ob_seq.proofs.Words.{◌+◌, false, sym, ◌∙◌, arith, length-map, Entry, pending_entry, pending_entries, written}
+use Rattle.ob_seq.proofs.Words.{false, arith, length-map, Entry, pending_entry, pending_entries, written}
 use Rattle.ob_seq.proofs.Entries.{entries_pushed, sum_of_entries}
 use Rattle.ob_seq.proofs.Fields.{total_is}
 use Rattle.ob_seq.proofs.Kept.{kept_written}

@@ -1,11 +1,8 @@
-use Rattle.ob_seq.proofs.Words.{◌≡◌, ℕ, ◌+◌, ◌-◌, ◌<◌, ◌≤◌, true, false, List, [], ◌∷◌, length, drop, refl, sym}
-use Rattle.ob_seq.proofs.Words.{◌∙◌, cond, eqb, leb, ltb, Bool, arith, Some, None, nat_tests, Cut, blocks_left, cut_of}
+use Rattle.ob_seq.proofs.Words.{[], ◌≡◌, ℕ, ◌+◌, true, false, length, drop, eqb, leb, arith, nat_tests, blocks_left}
 use Rattle.std.proofs.Common.{add-one}
 use Rattle.std.specs.Bool.{then_some}
-use Rattle.ob_seq.proofs.Blocks.{left_at_end}
-use Rattle.ob_seq.proofs.Fields.{left_at_block, left_at_other, length_at_block, line_count}
+use Rattle.ob_seq.proofs.Fields.{left_at_block, left_at_end, left_at_other, line_count, line_from}
 use Rattle.ob_seq.proofs.Pieces.{cut_from, cut_is}
-use Rattle.ob_seq.proofs.contents.Contents.find_cut.Goals.{else-loop-whole-test, then-loop-whole-test+in_default}
 use Rattle.ob_seq.proofs.contents.Contents.find_cut.Goals as goal
 
 pub returns-then-left-rest-clause-value : goal.returns-then-left-rest-clause-value
@@ -16,8 +13,8 @@ returns-then-left-rest-clause-value c =
 
 pub returns-then-left-rest-clause-rest : goal.returns-then-left-rest-clause-rest
 returns-then-left-rest-clause-rest c =
-    let size = length_at_block c.self.view_is c.self.invariant c.loop-whole.whole c.loop-whole-test.true c.index.ensures c.in-Block.is in
-    omega (arith, c.if-left-rest.true, c.len-left.ensures.value)
+    rw (line_from c.self.view_is c.self.invariant c.loop-whole.whole c.loop-whole-test.true c.index.ensures, c.in-Block.is)
+    (omega (arith, c.if-left-rest.true, c.len-left.ensures.value))
 
 pub loop-whole-preserved : goal.loop-whole-preserved
 loop-whole-preserved c =
@@ -36,9 +33,9 @@ pub returns-clause-value : goal.returns-clause-value
 returns-clause-value c =
     let now = c.args.self.now in
     let none : blocks_left (drop c.loop-whole.whole now.line) ≡ [] = elim c.loop-whole-test.branch [
-      | else-loop-whole-test w ↦
-          left_at_end now.line c.loop-whole.whole (omega (arith, w.loop-whole-test.false, line_count now c.self.inside c.self.view_is c.self.invariant))
-      | then-loop-whole-test+in_default w ↦
+      | goal.else-loop-whole-test w ↦
+          left_at_end c.self.view_is c.self.invariant c.loop-whole.whole w.loop-whole-test.false
+      | goal.then-loop-whole-test+in_default w ↦
           left_at_other c.self.view_is c.self.invariant c.loop-whole.whole w.loop-whole-test.true w.index.ensures w.in_default.not-Block
     ] in
     rw (c.then_some.ensures, cut_is c.args.n (blocks_left now.line), c.loop-whole.invariant.so_far, none) (at_end c.loop-whole.whole c.loop-whole.rest)

@@ -1,10 +1,9 @@
-use Rattle.ob_seq.proofs.Words.{◌≡◌, ◌+◌, ◌-◌, ◌<◌, true, [], length, drop, get_or, refl, sym, ap, ◌∙◌, arith, slice_set}
-use Rattle.ob_seq.proofs.Words.{length-map, Block, Waiting, Fixed, Inside, PendingEntry, pending_entry, pending_entries}
-use Rattle.ob_seq.proofs.Words.{Pending, is_cancelled, Settings, next_flushed, reached_entry, pending_of}
+use Rattle.ob_seq.proofs.Words.{[], ◌≡◌, ◌-◌, ◌<◌, true, length, drop, sym, ap, ◌∙◌, arith, length-map, Block, Waiting}
+use Rattle.ob_seq.proofs.Words.{PendingEntry, pending_entry, pending_entries, Settings, next_flushed}
 use Rattle.std.proofs.lemmas.List.{get_or_read, map-set, set-get_or}
 use Rattle.ob_seq.proofs.Entries.{entry_at, rest_size, sum_of_entries}
 use Rattle.ob_seq.proofs.Fields.{promise_count, unflushed_count}
-use Rattle.ob_seq.proofs.Kept.{kept, kept_next}
+use Rattle.ob_seq.proofs.Kept.{kept_next}
 use Rattle.ob_seq.proofs.contents.Contents.flush_next.Goals.{then-is_cancelled, else-is_cancelled}
 use Rattle.ob_seq.proofs.contents.Contents.flush_next.Goals as goal
 

@@ -1,5 +1,4 @@
-use Rattle.ob_seq.proofs.Words.{◌≡◌, take, sym, ap, ◌∙◌, deque_iter_rest, take-map, rows_after, messages_to_send}
-use Rattle.ob_seq.proofs.Words.{Pending, pending_entry}
+use Rattle.ob_seq.proofs.Words.{◌≡◌, take, ap, ◌∙◌, deque_iter_rest, take-map, rows_after, Pending, pending_entry}
 use native.Mathlib.Numerals.{unary_clauses}
 use Rattle.ob_seq.proofs.Sending.{to_send_is}
 use Rattle.ob_seq.proofs.contents.Contents.flushed.Goals as goal

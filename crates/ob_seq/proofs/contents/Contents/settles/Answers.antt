@@ -1,5 +1,5 @@
-use Rattle.ob_seq.proofs.Words.{length, refl, sym, ap, ◌∙◌, arith, take_all, Failed, Pending, bit_step, failing_step, flush_step}
-use Rattle.ob_seq.proofs.Words.{front_id, progress_step, write_step}
+use Rattle.ob_seq.proofs.Words.{length, refl, sym, ap, ◌∙◌, arith, take_all, Failed, Pending, bit_step, failing_step}
+use Rattle.ob_seq.proofs.Words.{flush_step, front_id, progress_step, write_step}
 use Rattle.ob_seq.proofs.EntrySettlements.{count_of_settlements}
 use Rattle.ob_seq.proofs.Simulation.{settled_nothing, settled_where_open}
 use Rattle.ob_seq.proofs.contents.Contents.settles.Goals as goal

@@ -1,6 +1,6 @@
 use Rattle.ob_seq.proofs.Words.{◌≡◌, ℕ, ◌<◌, ◌≤◌, true, ap, ◌∙◌, arith, nat_tests, Pending}
 use Rattle.ob_seq.specs.UserBit.{is_user_index}
-use Rattle.ob_seq.proofs.UserBits.{user_bit_shows}
+use Rattle.ob_seq.proofs.WordDigits.{user_bit_shows}
 use Rattle.ob_seq.proofs.contents.Contents.user_defined_writability.Goals as goal
 
 -- there is a user bit with such an index

@@ -1,4 +1,4 @@
-use Rattle.ob_seq.proofs.Words.{◌≡◌, ℕ, zero, suc, ◌*◌, ◌<◌, ◌^◌, ◌%◌, not, eqb, arith, nat_tests, pow-lt}
+use Rattle.ob_seq.proofs.Words.{◌≡◌, ℕ, zero, suc, ◌*◌, ◌<◌, ◌^◌, not, eqb, arith, nat_tests, pow-lt}
 use Rattle.std.proofs.Common.{mod-eq_of_lt, one-mul, zero-mul}
 use Rattle.std.proofs.lemmas.Nat.{pow_pos}
 use Rattle.std.proofs.lemmas.Nat.Bits.{and_pow, bit_at-lt}
