@@ -1,20 +1,19 @@
 -- What the fields of a buffer say of what it holds.
-use Rattle.ob_seq.proofs.Words.{[], ◌≡◌, ℕ, ◌+◌, ◌-◌, ◌<◌, ◌≤◌, List, ◌∷◌, length, take, drop, get_or, sym, arith}
-use Rattle.ob_seq.proofs.Words.{Block, Entry, Inside, blocks_left, IsSound, pending_entry, pending_entries, drop_all}
-use Rattle.ob_seq.proofs.Words.{pending_of, Pending, pending_total}
-use Rattle.std.proofs.lemmas.List.{drop_more, get_or-take, take-take}
+use Rattle.ob_seq.proofs.Words.{◌∙◌, length-map, [], ◌≡◌, ℕ, ◌+◌, ◌-◌, ◌<◌, ◌≤◌, List, ◌∷◌, length, take, drop, get_or}
+use Rattle.ob_seq.proofs.Words.{sym, arith, Block, Entry, Inside, blocks_left, IsSound, pending_entry, pending_entries}
+use Rattle.ob_seq.proofs.Words.{drop_all, pending_of, Pending, pending_total}
+use Rattle.std.proofs.lemmas.List.{drop_more, get_or-take, length-drop, length-take, take-take}
 use Rattle.ob_seq.proofs.Blocks.{left_from_block, left_from_other}
-use Rattle.ob_seq.proofs.Entries.{entry_at, line_size, rest_size, sum_of_entries, sum_of_parts}
+use Rattle.ob_seq.proofs.Entries.{entry_at, sum_of_entries, sum_of_parts}
 
 module _ (held : Pending) (inside : Inside) (view : pending_of inside ≡ held) (sound : IsSound inside) where
   -- as many stand in line as the cursor says, and as many behind it as there are more
   pub line_count : length held.line ≡ inside.flushed
   line_count =
-      let size = line_size inside.flushed inside.entries.items in
-      rw (← view) (omega (arith, sound.line_within, inside.entries.ok))
+      rw (← view, length-take, length-map) (omega (arith, sound.line_within, inside.entries.ok))
 
   pub unflushed_count : length held.unflushed ≡ inside.entries.len - inside.flushed
-  unflushed_count = rw (← view, rest_size inside.flushed inside.entries.items, inside.entries.ok.0)
+  unflushed_count = rw (← view, length-drop, length-map, inside.entries.ok.0)
 
   pub promise_count : length held.promises ≡ inside.promises.len
   promise_count = rw (← view) (sym inside.promises.ok.0)
@@ -22,8 +21,7 @@ module _ (held : Pending) (inside : Inside) (view : pending_of inside ≡ held) 
   -- the total that is kept is that of what is held
   pub total_is : inside.total ≡ pending_total held
   total_is =
-      rw (← view, sum_of_parts inside.flushed (pending_entries inside.entries.items), sum_of_entries inside.entries.items)
-      sound.total
+      rw (← view, sum_of_parts inside.flushed (pending_entries inside.entries.items)) (sound.total ∙ sym (sum_of_entries inside.entries.items))
 
   -- the first entries are the first in line
   pub first_in_line : (count : ℕ) → count ≤ length held.line →

@@ -66,8 +66,15 @@ module _ (limit room : ℕ) (items : List (List ℕ)) (block : List ℕ) (blocks
       let full : ltb 0 (length block) ≡ true = grind (arith, nat_tests) in
       let none : room ≤ length block → fits_behind ≡ 0 = λ small.
       let used : room - length block ≡ 0 = omega arith in rw (used, no_room blocks) in
-      rw (full, one_more limit (length items) room (length block) fits_behind (rw (many, long) at goes) none,
-      more, left, long, length-append items (block ∷ []), append_assoc)
+      rw (
+        full,
+        one_more limit (length items) room (length block) fits_behind (rw (many, long) at goes) none,
+        more,
+        left,
+        long,
+        length-append items (block ∷ []),
+        append_assoc,
+      )
 
   -- so that something is gathered
   pub something : 0 < size → goes_along limit count room size ≡ true →

@@ -1,10 +1,9 @@
 -- What the fields of a buffer say after a step, over plain lists.
-use Rattle.ob_seq.proofs.Words.{[], ◌≡◌, ℕ, zero, suc, ◌+◌, ◌-◌, ◌<◌, ◌≤◌, List, ◌∷◌, ◌++◌, length, take, drop, get_or}
-use Rattle.ob_seq.proofs.Words.{refl, sym, ap, ◌∙◌, length-append, arith, false, Bool, slice_set, if◌then◌else◌}
-use Rattle.ob_seq.proofs.Words.{take-append-drop, Message, Outcome, PromiseState, Waiting, Fixed, Settled, PendingEntry}
-use Rattle.ob_seq.proofs.Words.{Settings, Pending, sum_of, written, front_taken, word_after_rise, word_after_fall}
-use Rattle.ob_seq.proofs.Words.{next_flushed, reached_entry, is_cancelled}
-use Rattle.std.proofs.lemmas.List.{take-append-le, drop-append-le, drop-drop, drop-set-lt, drop_more, take_more_set}
+use Rattle.ob_seq.proofs.Words.{◌≡◌, ℕ, zero, suc, ◌+◌, ◌-◌, ◌<◌, List, ◌∷◌, length, take, drop, get_or, refl, sym, ap}
+use Rattle.ob_seq.proofs.Words.{◌∙◌, length-append, arith, Bool, slice_set, if◌then◌else◌, take-append-drop, Outcome}
+use Rattle.ob_seq.proofs.Words.{PromiseState, Waiting, Fixed, Settled, PendingEntry, Settings, Pending, sum_of}
+use Rattle.ob_seq.proofs.Words.{front_taken, word_after_fall, next_flushed, reached_entry, is_cancelled}
+use Rattle.std.proofs.lemmas.List.{drop-drop, drop-set-lt, drop_more, take_more_set}
 use Rattle.ob_seq.proofs.Entries.{sum_of_parts}
 
 -- what a buffer holds, by its parts
@@ -30,17 +29,6 @@ same_pending settings closed {line} {line'} {unflushed} {unflushed'} {promises} 
 abbrev pub kept : Settings → List PendingEntry → ℕ → List PromiseState → ℕ → Bool → Pending
 kept settings entries flushed promises word closed =
     pending_from settings (take flushed entries) (drop flushed entries) promises word closed
-
--- an entry behind the others is unflushed
-pub kept_written : (settings : Settings) (entries : List PendingEntry) (flushed : ℕ) (promises : List PromiseState)
-    (word : ℕ) (closed : Bool) (size : ℕ) (message : Message) → flushed ≤ length entries →
-    kept settings (entries ++ record { message = message; size = size; progress = 0; voided = false } ∷ []) flushed
-    (promises ++ Waiting ∷ []) (word_after_rise settings.marks word size (sum_of entries + size)) closed
-    ≡ written (kept settings entries flushed promises word closed) message size
-kept_written settings entries flushed promises word closed size message within =
-    let entry : PendingEntry = record { message = message; size = size; progress = 0; voided = false } in
-    same_pending settings closed (take-append-le flushed entries (entry ∷ []) within)
-    (drop-append-le flushed entries (entry ∷ []) within) refl (rw (sum_of_parts flushed entries))
 
 -- without the first entry the line is shorter by one
 pub kept_taken : (settings : Settings) (entry : PendingEntry) (entries : List PendingEntry) (flushed : ℕ)

@@ -20,7 +20,6 @@ mod Held
 mod History
 mod Kept
 mod Limits
-mod Looks
 mod Marks
 mod Once
 mod Order

@@ -1,9 +1,9 @@
 -- A user bit set or cleared in the word is the user bit after one more command.
-use Rattle.ob_seq.proofs.Words.{[], ◌≡◌, ℕ, zero, suc, ◌^◌, ◌<◌, ◌≤◌, Bool, true, false, not, List, ◌∷◌, ◌++◌, reverse}
-use Rattle.ob_seq.proofs.Words.{sym, ◌∙◌, cond, eqb, append-nil, arith, Option, Some, None, filter_map, slice_get}
-use Rattle.ob_seq.proofs.Words.{unwrap_or, cons_option, nat_tests, reverse-append, filter_map-append, bit_at_or}
-use Rattle.ob_seq.proofs.Words.{same_from_bits, pow-lt, change_between, Command, UserBit, Reply, Done, Settings}
-use Rattle.ob_seq.proofs.Words.{rows_after, bit_request, user_bit, word_after, reply_of, Pending, StandsFor}
+use Rattle.ob_seq.proofs.Words.{bit_step, [], ◌≡◌, ℕ, zero, suc, ◌^◌, ◌<◌, ◌≤◌, Bool, true, false, not, List, ◌∷◌, ◌++◌}
+use Rattle.ob_seq.proofs.Words.{reverse, sym, ◌∙◌, cond, eqb, append-nil, arith, Option, Some, None, filter_map}
+use Rattle.ob_seq.proofs.Words.{slice_get, unwrap_or, cons_option, nat_tests, reverse-append, filter_map-append}
+use Rattle.ob_seq.proofs.Words.{bit_at_or, same_from_bits, pow-lt, Command, UserBit, Settings, rows_after, bit_request}
+use Rattle.ob_seq.proofs.Words.{user_bit, word_after, reply_of, Pending, StandsFor}
 use Rattle.std.specs.Int.{bit_not, w32}
 use Rattle.std.proofs.lemmas.Nat.Bits.{bit_at_and, bit_at_not, bit_at-pow_same, bit_at-pow_other}
 use Rattle.ob_seq.specs.Steps.{bit_changed, with_user_bit}
@@ -77,10 +77,5 @@ module _ (buffer : Pending) (commands : List Command) (at : ℕ) (writable : Boo
       }
 
   -- its reply
-  pub reply_of_bit : (let reply : Reply = record {
-    answer = Done;
-    settled = [];
-    change = change_between buffer.word (bit_changed at writable buffer).word;
-  } in
-      reply ≡ reply_of buffer.settings commands (UserBit at writable))
+  pub reply_of_bit : (bit_step at writable buffer).reply ≡ reply_of buffer.settings commands (UserBit at writable)
   reply_of_bit = rw (changed_word, stands.word, settlements_of_same (rows_after buffer.settings.estimate commands))

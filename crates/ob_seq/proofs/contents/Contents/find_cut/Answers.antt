@@ -1,4 +1,4 @@
-use Rattle.ob_seq.proofs.Words.{[], ◌≡◌, ℕ, ◌+◌, true, false, length, drop, eqb, leb, arith, nat_tests, blocks_left}
+use Rattle.ob_seq.proofs.Words.{[], ◌≡◌, ℕ, true, false, length, drop, eqb, leb, arith, nat_tests, blocks_left}
 use Rattle.std.proofs.Common.{add-one}
 use Rattle.std.specs.Bool.{then_some}
 use Rattle.ob_seq.proofs.Fields.{left_at_block, left_at_end, left_at_other, line_count, line_from}

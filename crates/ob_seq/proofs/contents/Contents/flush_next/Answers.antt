@@ -1,10 +1,9 @@
 use Rattle.ob_seq.proofs.Words.{[], ◌≡◌, ◌-◌, ◌<◌, true, length, drop, sym, ap, ◌∙◌, arith, length-map, Block, Waiting}
 use Rattle.ob_seq.proofs.Words.{PendingEntry, pending_entry, pending_entries, Settings, next_flushed}
-use Rattle.std.proofs.lemmas.List.{get_or_read, map-set, set-get_or}
-use Rattle.ob_seq.proofs.Entries.{entry_at, rest_size, sum_of_entries}
+use Rattle.std.proofs.lemmas.List.{get_or_read, length-drop, map-set, set-get_or}
+use Rattle.ob_seq.proofs.Entries.{entry_at, sum_of_entries}
 use Rattle.ob_seq.proofs.Fields.{promise_count, unflushed_count}
 use Rattle.ob_seq.proofs.Kept.{kept_next}
-use Rattle.ob_seq.proofs.contents.Contents.flush_next.Goals.{then-is_cancelled, else-is_cancelled}
 use Rattle.ob_seq.proofs.contents.Contents.flush_next.Goals as goal
 
 pub returns : goal.returns
@@ -18,7 +17,7 @@ returns c =
     let none : PendingEntry = record { message = Block []; size = 0; progress = 0; voided = true } in
     let left = unflushed_count c.args.self.now inside c.self.view_is c.self.invariant in
     let count = promise_count c.args.self.now inside c.self.view_is c.self.invariant in
-    let rest = rest_size n items in
+    let rest = length-drop n entries in
     let size = length-map items pending_entry in
     let inner : n < length items = omega (arith, c.requires, inside.entries.ok) in
     let id : c.first_unflushed-id.result ≡ length promises - length (drop n entries) =
@@ -30,11 +29,12 @@ returns c =
     let whole = c.self.invariant.total ∙ sym (sum_of_entries items) in
     let step = kept_next settings entries n none promises inside.word inside.closed (omega arith) ∙ ap next_flushed c.self.view_is in
     elim c.if-is_cancelled.branch [
-      | then-is_cancelled w ↦
+      | goal.then-is_cancelled w ↦
           let voided = w.void-size in
           let entry = entry_at items n w.index_mut.result.now none inner w.index_mut.ensures.value in
-          rw w.self-inside-is (rw (sym back ∙ w.if-is_cancelled.true, ← entry, ← voided.ensures.after,
-          ← map-set pending_entry items n voided.new.entry, ← voided.ensures.size, ← whole, ← w.after_fall-self-inside.ensures) at step)
-      | else-is_cancelled w ↦
+          let flag = sym back ∙ w.if-is_cancelled.true in
+          let reached = rw (flag, ← entry, ← voided.ensures.after, ← map-set pending_entry items n voided.new.entry) at step in
+          rw w.self-inside-is (rw (← voided.ensures.size, ← whole, ← w.after_fall-self-inside.ensures) at reached)
+      | goal.else-is_cancelled w ↦
           rw w.self-inside-is (rw (sym back ∙ w.if-is_cancelled.false, set-get_or entries n none, ← id) at step)
     ]

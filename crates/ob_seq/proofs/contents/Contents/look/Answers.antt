@@ -1,15 +1,27 @@
-use Rattle.ob_seq.proofs.Words.{ap, Pending}
+use Rattle.ob_seq.proofs.Words.{◌≡◌, Bool, List, [], ◌∷◌, map, refl, ap, cond, arith, Some, length-map, Row, is_in_line}
+use Rattle.ob_seq.proofs.Words.{line, front, rows_after, entry_of, Pending, first_progress}
+use Rattle.ob_seq.specs.Looks.{progress_of}
 use Rattle.ob_seq.proofs.Fields.{line_count, total_is}
-use Rattle.ob_seq.proofs.Looks.{look_stands}
+use Rattle.ob_seq.proofs.Written.{pending_total_stands}
 use Rattle.ob_seq.proofs.contents.Contents.look.Goals as goal
+
+first_if : (b : Bool) (row : Row) (rows : List Row) → first_progress (map entry_of (line rows)) ≡ progress_of (front rows) →
+    first_progress (map entry_of (cond b (row ∷ line rows) (line rows))) ≡ progress_of (cond b (Some row) (front rows))
+first_if b row rows same = grind arith
+
+-- the progress of the first entry is that of the front
+first_progress_is : (rows : List Row) → first_progress (map entry_of (line rows)) ≡ progress_of (front rows)
+first_progress_is [] = refl
+first_progress_is (row ∷ rows) = first_if (is_in_line row) row rows (first_progress_is rows)
 
 pub returns : goal.returns
 returns c commands stands =
-    let inside = c.self.inside in
     let now = c.args.self.now in
-    let size = line_count now inside c.self.view_is c.self.invariant in
-    let sum = total_is now inside c.self.view_is c.self.invariant in
+    let rows = rows_after now.settings.estimate commands in
+    let size = line_count now c.self.inside c.self.view_is c.self.invariant in
+    let sum = total_is now c.self.inside c.self.view_is c.self.invariant in
     let marks = ap (λ (held : Pending). held.marks) c.self.view_is in
     let word = ap (λ (held : Pending). held.word) c.self.view_is in
     rw (c.before_unwritable.ensures, c.before_writable.ensures, c.current_progress.ensures, sum, ← size, marks, word)
-    (look_stands now commands stands)
+    (rw (pending_total_stands now commands stands, stands.marks, stands.word, stands.line, length-map (line rows) entry_of)
+    (rw (first_progress_is rows)))

@@ -1,4 +1,4 @@
-use Rattle.ob_seq.proofs.Words.{◌≡◌, ℕ, zero, suc, ◌*◌, ◌<◌, ◌^◌, not, eqb, arith, nat_tests, pow-lt}
+use Rattle.ob_seq.proofs.Words.{◌≡◌, ℕ, ◌*◌, ◌<◌, ◌^◌, not, eqb, arith, nat_tests, pow-lt}
 use Rattle.std.proofs.Common.{mod-eq_of_lt, one-mul, zero-mul}
 use Rattle.std.proofs.lemmas.Nat.{pow_pos}
 use Rattle.std.proofs.lemmas.Nat.Bits.{and_pow, bit_at-lt}
@@ -6,9 +6,7 @@ use Rattle.ob_seq.proofs.contents.word.has_bit.Goals as goal
 
 -- a bit times a power is 0 only where the bit is
 bit_by : (bit power : ℕ) → bit < 2 → 0 < power → not (eqb (bit * power) 0) ≡ eqb bit 1
-bit_by zero power small some = rw (zero-mul power)
-bit_by (suc zero) power small some = rw (one-mul power) (grind (arith, nat_tests))
-bit_by (suc (suc bit)) power small some = absurd (omega arith)
+bit_by bit power small some = grind (arith, nat_tests, zero-mul power, one-mul power)
 
 pub returns : goal.returns
 returns c =
