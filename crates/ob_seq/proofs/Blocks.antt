@@ -11,11 +11,13 @@ abbrev message_of : PendingEntry → Message
 message_of entry = entry.message
 
 module _ (entry : PendingEntry) (entries : List PendingEntry) where
-  left_first : blocks_left (entry ∷ entries) ≡ cond (is_block entry.message) (block_bytes entry.message ∷ blocks_left entries) []
+  left_first :
+      blocks_left (entry ∷ entries) ≡ cond (is_block entry.message) (block_bytes entry.message ∷ blocks_left entries) []
   left_first = rw (take_while-cons is_block entry.message (map message_of entries)) (grind arith)
 
   -- from a block on
-  pub left_from_block : {bytes : List ℕ} → entry.message ≡ Block bytes → blocks_left (entry ∷ entries) ≡ bytes ∷ blocks_left entries
+  pub left_from_block : {bytes : List ℕ} → entry.message ≡ Block bytes →
+      blocks_left (entry ∷ entries) ≡ bytes ∷ blocks_left entries
   left_from_block block = rw (left_first, block)
 
   -- from another message on

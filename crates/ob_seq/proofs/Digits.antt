@@ -23,8 +23,8 @@ sum_is : (bit : ℕ → Bool) (from count : ℕ) →
     sum_by (λ index. bit_value index (bit index)) (range_with_len from count) ≡ 2 ^ from * number bit from count
 sum_is bit from zero = sym (mul-zero (2 ^ from))
 sum_is bit from (suc count) =
-    rw (sum_by-cons (λ index. bit_value index (bit index)) from (range_with_len (from + 1) count), sum_is bit (from + 1) count, add-one, pow-suc)
-    (value_is (bit from) (2 ^ from) (number bit (suc from) count))
+    rw (sum_by-cons (λ index. bit_value index (bit index)) from (range_with_len (from + 1) count))
+    (rw (sum_is bit (from + 1) count, add-one, pow-suc) (value_is (bit from) (2 ^ from) (number bit (suc from) count)))
 
 -- the user bits without the mark's place
 abbrev pub half_bits : (ℕ → Bool) → ℕ
@@ -51,7 +51,8 @@ digits_are bit from (suc count) zero at is =
     rw (bit_at_lowest, lowest (bit from) (number bit (from + 1) count), here, some)
 digits_are bit from (suc count) (suc i) at is =
     let same : ltb (suc i) (suc count) ≡ ltb i count = grind (arith, nat_tests) in
-    rw (bit_at-suc, others (bit from) (number bit (from + 1) count), same, digits_are bit (from + 1) count i at (omega arith))
+    rw (bit_at-suc, others (bit from) (number bit (from + 1) count), same)
+    (digits_are bit (from + 1) count i at (omega arith))
 
 -- the number with these 32 digits
 pub word_of : (ℕ → Bool) → ℕ

@@ -21,7 +21,8 @@ module _ (held : Pending) (inside : Inside) (view : pending_of inside ≡ held) 
   -- the total that is kept is that of what is held
   pub total_is : inside.total ≡ pending_total held
   total_is =
-      rw (← view, sum_of_parts inside.flushed (pending_entries inside.entries.items)) (sound.total ∙ sym (sum_of_entries inside.entries.items))
+      rw (← view, sum_of_parts inside.flushed (pending_entries inside.entries.items))
+      (sound.total ∙ sym (sum_of_entries inside.entries.items))
 
   -- the first entries are the first in line
   pub first_in_line : (count : ℕ) → count ≤ length held.line →
@@ -35,7 +36,8 @@ module _ (held : Pending) (inside : Inside) (view : pending_of inside ≡ held) 
       pending_entry entry ≡ get_or held.line place (pending_entry entry)
   in_line place entry before is =
       rw (← view, get_or-take inside.flushed (pending_entries inside.entries.items) place (pending_entry entry) before)
-      (entry_at inside.entries.items place entry (pending_entry entry) (omega (arith, sound.line_within, inside.entries.ok)) is)
+      (let within : place < length inside.entries.items = omega (arith, sound.line_within, inside.entries.ok) in
+      entry_at inside.entries.items place entry (pending_entry entry) within is)
 
 -- what stands in line from that place on
 module _ {held : Pending} {inside : Inside} (view : pending_of inside ≡ held) (sound : IsSound inside) (place : ℕ)

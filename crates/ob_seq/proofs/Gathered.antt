@@ -54,14 +54,16 @@ module _ (limit room : ℕ) (items : List (List ℕ)) (block : List ℕ) (blocks
   passed none = let empty : ltb 0 (length block) ≡ false = grind (arith, nat_tests) in rw empty
 
   -- another ends the walk or goes along
-  pub ended : 0 < size → goes_along limit count room size ≡ false → more_blocks limit (length items) room (block ∷ blocks) ≡ []
+  pub ended : 0 < size → goes_along limit count room size ≡ false →
+      more_blocks limit (length items) room (block ∷ blocks) ≡ []
   ended some over =
       let full : ltb 0 (length block) ≡ true = grind (arith, nat_tests) in
       rw (full, no_more limit (length items) room (length block) fits_behind (rw (many, long) at over))
 
   pub pushed : {room' : ℕ} {items' : List (List ℕ)} → 0 < size → goes_along limit count room size ≡ true →
       items' ≡ items ++ block ∷ [] → room' ≡ room - size →
-      items ++ more_blocks limit (length items) room (block ∷ blocks) ≡ items' ++ more_blocks limit (length items') room' blocks
+      items ++ more_blocks limit (length items) room (block ∷ blocks)
+      ≡ items' ++ more_blocks limit (length items') room' blocks
   pushed some goes more left =
       let full : ltb 0 (length block) ≡ true = grind (arith, nat_tests) in
       let none : room ≤ length block → fits_behind ≡ 0 = λ small.

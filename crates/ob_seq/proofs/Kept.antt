@@ -22,7 +22,8 @@ pending_from settings line unflushed promises word closed = record {
 pub same_pending : (settings : Settings) (closed : Bool) {line line' unflushed unflushed' : List PendingEntry}
     {promises promises' : List PromiseState} {word word' : ℕ} →
     line ≡ line' → unflushed ≡ unflushed' → promises ≡ promises' → word ≡ word' →
-    pending_from settings line unflushed promises word closed ≡ pending_from settings line' unflushed' promises' word' closed
+    pending_from settings line unflushed promises word closed
+    ≡ pending_from settings line' unflushed' promises' word' closed
 same_pending settings closed {line} {line'} {unflushed} {unflushed'} {promises} {promises'} {word} {word'} l u p w = cc
 
 -- what is held with the first entries in line
@@ -35,7 +36,8 @@ pub kept_taken : (settings : Settings) (entry : PendingEntry) (entries : List Pe
     (promises promises' : List PromiseState) (word word' : ℕ) (closed notice : Bool) (outcome : Outcome) → 0 < flushed →
     promises' ≡ (if entry.voided then promises
     else slice_set promises (length promises - length (entry ∷ entries)) (Settled outcome)) →
-    word' ≡ (if notice then word_after_fall settings.marks word entry.size (sum_of (entry ∷ entries) - entry.size) else word) →
+    word' ≡ (if notice then word_after_fall settings.marks word entry.size (sum_of (entry ∷ entries) - entry.size)
+    else word) →
     kept settings entries (flushed - 1) promises' word' closed
     ≡ front_taken notice outcome (kept settings (entry ∷ entries) flushed promises word closed)
 kept_taken settings entry entries zero promises promises' word word' closed notice outcome some settled fallen =

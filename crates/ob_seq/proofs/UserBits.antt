@@ -56,7 +56,8 @@ digits_change settings commands at writable some (suc i) =
 
 module _ (buffer : Pending) (commands : List Command) (at : ℕ) (writable : Bool) (stands : StandsFor buffer commands)
     (unclosed : buffer.closed ≡ false) (some : 1 ≤ at) (few : at ≤ 31) where
-  changed_word : with_user_bit at writable buffer.word ≡ word_after buffer.settings (commands ++ UserBit at writable ∷ [])
+  changed_word :
+      with_user_bit at writable buffer.word ≡ word_after buffer.settings (commands ++ UserBit at writable ∷ [])
   changed_word =
       rw (stands.word, word_is buffer.settings commands, word_is buffer.settings (commands ++ UserBit at writable ∷ []))
       (changed_number writable _ _ at (omega arith) (digits_change buffer.settings commands at writable some))

@@ -21,5 +21,7 @@ returns-clause-ok c =
     let front = take-append-le inside.flushed entries more within in
     let behind = drop-append-le inside.flushed entries more within in
     let total = c.self.invariant.total ∙ sym (sum_of_entries items) ∙ sym (sum_of_parts inside.flushed entries) in
-    rw (c.push_back_reserved.ensures.items, c.in_ok-reserve.ensures.items, map-append pending_entry items (entry ∷ []), front, behind)
-    (rw (c.push_reserved.ensures.items, c.in_ok-reserve-2.ensures.items, c.after_rise-self-inside.ensures, total, ← c.self.view_is))
+    let pushed = map-append pending_entry items (entry ∷ []) in
+    rw (c.push_back_reserved.ensures.items, c.in_ok-reserve.ensures.items, pushed, front, behind)
+    (rw (c.push_reserved.ensures.items, c.in_ok-reserve-2.ensures.items, c.after_rise-self-inside.ensures, total)
+    (rw (← c.self.view_is)))

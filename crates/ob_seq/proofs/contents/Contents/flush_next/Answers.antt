@@ -27,13 +27,15 @@ returns c =
     let read = get_or_read promises c.first_unflushed-id.result c.index.result.now room c.index.ensures Waiting in
     let back = rw (read, id) at c.is_cancelled.ensures in
     let whole = c.self.invariant.total ∙ sym (sum_of_entries items) in
-    let step = kept_next settings entries n none promises inside.word inside.closed (omega arith) ∙ ap next_flushed c.self.view_is in
+    let next = kept_next settings entries n none promises inside.word inside.closed (omega arith) in
+    let step = next ∙ ap next_flushed c.self.view_is in
     elim c.if-is_cancelled.branch [
       | goal.then-is_cancelled w ↦
           let voided = w.void-size in
           let entry = entry_at items n w.index_mut.result.now none inner w.index_mut.ensures.value in
           let flag = sym back ∙ w.if-is_cancelled.true in
-          let reached = rw (flag, ← entry, ← voided.ensures.after, ← map-set pending_entry items n voided.new.entry) at step in
+          let set = map-set pending_entry items n voided.new.entry in
+          let reached = rw (flag, ← entry, ← voided.ensures.after, ← set) at step in
           rw w.self-inside-is (rw (← voided.ensures.size, ← whole, ← w.after_fall-self-inside.ensures) at reached)
       | goal.else-is_cancelled w ↦
           rw w.self-inside-is (rw (sym back ∙ w.if-is_cancelled.false, set-get_or entries n none, ← id) at step)

@@ -6,7 +6,8 @@ use Rattle.ob_seq.proofs.contents.Contents.flushed.Goals as goal
 pub returns : goal.returns
 returns c commands stands =
     let inside = c.self.inside in
-    let rest : deque_iter_rest c.range.result ≡ take inside.flushed inside.entries.items = simp unary_clauses at c.range.ensures.rest in
+    let rest : deque_iter_rest c.range.result ≡ take inside.flushed inside.entries.items =
+    simp unary_clauses at c.range.ensures.rest in
     let line = ap (λ (held : Pending). held.line) c.self.view_is ∙ stands.line in
     rw (c.new.ensures, rest, ← take-map pending_entry inside.flushed inside.entries.items, line)
     (to_send_is (rows_after c.args.self.now.settings.estimate commands))

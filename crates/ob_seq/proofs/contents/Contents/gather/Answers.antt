@@ -17,26 +17,28 @@ pub returns-in_err-push_copy-clause-frugal : goal.returns-in_err-push_copy-claus
 returns-in_err-push_copy-clause-frugal c commands stands nothing =
     let now = c.args.self.now in
     let at = c.loop-place in
-    let left = left_at_block c.self.view_is c.self.invariant at.place c.loop-place-test.true c.index.ensures c.in-Block.is in
-    absurd (something c.args.max_count at.room at.gathered.items c.in-Block.bytes (blocks_left (drop (at.place + 1) now.line))
-    (c.len.ensures ∙ at.gathered.ok.0) c.len-length.ensures.value c.if-length-gt0.true
-    (sym c.has_room.ensures ∙ c.if-not-has_room.false)
+    let self = c.self in
+    let left = left_at_block self.view_is self.invariant at.place c.loop-place-test.true c.index.ensures c.in-Block.is in
+    let behind = blocks_left (drop (at.place + 1) now.line) in
+    absurd (something c.args.max_count at.room at.gathered.items c.in-Block.bytes behind (c.len.ensures ∙ at.gathered.ok.0)
+    c.len-length.ensures.value c.if-length-gt0.true (sym c.has_room.ensures ∙ c.if-not-has_room.false)
     (sym (rw left at at.invariant) ∙ whole now commands stands c.args.max_count c.args.max_bytes ∙ nothing))
 
 pub loop-place-preserved : goal.loop-place-preserved
 loop-place-preserved c =
     let at = c.loop-place in
-    let left = left_at_block c.self.view_is c.self.invariant at.place c.loop-place-test.true c.index.ensures c.in-Block.is in
+    let self = c.self in
+    let left = left_at_block self.view_is self.invariant at.place c.loop-place-test.true c.index.ensures c.in-Block.is in
     let behind = blocks_left (drop (at.place + 1) c.args.self.now.line) in
     elim c.if-length-gt0.branch [
       | goal.then-length-gt0+else-not-has_room+in_ok-push_copy w ↦
           rw left at at.invariant
           ∙ pushed c.args.max_count at.room at.gathered.items c.in-Block.bytes behind (w.len.ensures ∙ at.gathered.ok.0)
           c.len-length.ensures.value w.if-length-gt0.true (sym w.has_room.ensures ∙ w.if-not-has_room.false)
-          (ap (λ held. held.items) w.gathered-is ∙ w.in_ok-push_copy.ensures) (w.room-is ∙ w.saturating_sub-room.ensures)
+          (ap (λ v. v.items) w.gathered-is ∙ w.in_ok-push_copy.ensures) (w.room-is ∙ w.saturating_sub-room.ensures)
       | goal.else-length-gt0 w ↦
-          let over = passed c.args.max_count at.room at.gathered.items c.in-Block.bytes behind refl c.len-length.ensures.value
-          w.if-length-gt0.false in
+          let size = c.len-length.ensures.value in
+          let over = passed c.args.max_count at.room at.gathered.items c.in-Block.bytes behind refl size w.if-length-gt0.false in
           rw (w.room-is, w.gathered-is) (rw (left, over) at at.invariant)
     ]
 
@@ -51,10 +53,11 @@ returns-clause-blocks c commands stands =
       | goal.else-loop-place-test w ↦
           rw (left_at_end c.self.view_is c.self.invariant at.place w.loop-place-test.false) none
       | goal.then-loop-place-test+in_default w ↦
-          rw (left_at_other c.self.view_is c.self.invariant at.place w.loop-place-test.true w.index.ensures w.in_default.not-Block)
-          none
+          let test = w.loop-place-test.true in
+          rw (left_at_other c.self.view_is c.self.invariant at.place test w.index.ensures w.in_default.not-Block) none
       | goal.then-loop-place-test+in-Block+then-length-gt0+then-not-has_room w ↦
-          rw (left_at_block c.self.view_is c.self.invariant at.place w.loop-place-test.true w.index.ensures w.in-Block.is)
+          let test = w.loop-place-test.true in
+          rw (left_at_block c.self.view_is c.self.invariant at.place test w.index.ensures w.in-Block.is)
           (ended limit at.room at.gathered.items w.in-Block.bytes (blocks_left (drop (at.place + 1) now.line))
           (w.len.ensures ∙ at.gathered.ok.0) w.len-length.ensures.value w.if-length-gt0.true
           (sym w.has_room.ensures ∙ w.if-not-has_room.true))

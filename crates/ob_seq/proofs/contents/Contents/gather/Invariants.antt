@@ -5,4 +5,5 @@ use Rattle.ob_seq.proofs.contents.Contents.gather.Given as goal
 abbrev pub invariant-loop-place : goal.invariant-loop-place
 invariant-loop-place l =
     more_blocks l.max_count 0 l.max_bytes (blocks_left l.self.line)
-    ≡ l.gathered.items ++ more_blocks l.max_count (length l.gathered.items) l.room (blocks_left (drop l.place l.self.line))
+    ≡ l.gathered.items
+    ++ more_blocks l.max_count (length l.gathered.items) l.room (blocks_left (drop l.place l.self.line))

@@ -5,7 +5,8 @@ use Rattle.ob_seq.proofs.Fields.{line_count, total_is}
 use Rattle.ob_seq.proofs.Written.{pending_total_stands}
 use Rattle.ob_seq.proofs.contents.Contents.look.Goals as goal
 
-first_if : (b : Bool) (row : Row) (rows : List Row) → first_progress (map entry_of (line rows)) ≡ progress_of (front rows) →
+first_if : (b : Bool) (row : Row) (rows : List Row) →
+    first_progress (map entry_of (line rows)) ≡ progress_of (front rows) →
     first_progress (map entry_of (cond b (row ∷ line rows) (line rows))) ≡ progress_of (cond b (Some row) (front rows))
 first_if b row rows same = grind arith
 
@@ -23,5 +24,5 @@ returns c commands stands =
     let marks = ap (λ (held : Pending). held.marks) c.self.view_is in
     let word = ap (λ (held : Pending). held.word) c.self.view_is in
     rw (c.before_unwritable.ensures, c.before_writable.ensures, c.current_progress.ensures, sum, ← size, marks, word)
-    (rw (pending_total_stands now commands stands, stands.marks, stands.word, stands.line, length-map (line rows) entry_of)
-    (rw (first_progress_is rows)))
+    (rw (pending_total_stands now commands stands, stands.marks, stands.word, stands.line)
+    (rw (length-map (line rows) entry_of, first_progress_is rows)))

@@ -10,7 +10,8 @@ pub returns-in-Flush : goal.returns-in-Flush
 returns-in-Flush c = settled_nothing c.args.self.now (step_of c.args.command.now c.args.self.now) (rw c.in-Flush.is)
 
 pub returns-in-Progress : goal.returns-in-Progress
-returns-in-Progress c = settled_nothing c.args.self.now (step_of c.args.command.now c.args.self.now) (rw c.in-Progress.is)
+returns-in-Progress c =
+    settled_nothing c.args.self.now (step_of c.args.command.now c.args.self.now) (rw c.in-Progress.is)
 
 pub returns-in-UserBit : goal.returns-in-UserBit
 returns-in-UserBit c = settled_nothing c.args.self.now (step_of c.args.command.now c.args.self.now) (rw c.in-UserBit.is)
@@ -21,5 +22,6 @@ returns-in-FailFlushed c =
     let cause = c.in-FailFlushed.field-0 in
     let unclosed = ap (λ (held : Pending). held.closed) (sym c.self.view_is) ∙ c.if-self.false in
     let all = take_all (length now.line) now.line (omega arith) in
-    rw (c.in-FailFlushed.is, c.unvoided.ensures, c.line_count.ensures, all, ← count_of_settlements (Failed cause) (front_id now) now.line)
+    let count = count_of_settlements (Failed cause) (front_id now) now.line in
+    rw (c.in-FailFlushed.is, c.unvoided.ensures, c.line_count.ensures, all, ← count)
     (settled_where_open now (failing_step cause c.in-FailFlushed.field-1 now) unclosed)

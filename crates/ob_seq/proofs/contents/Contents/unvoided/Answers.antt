@@ -5,7 +5,8 @@ use Rattle.ob_seq.proofs.contents.Contents.unvoided.Goals as goal
 
 pub unvoided-requires : goal.unvoided-requires
 unvoided-requires c =
-    omega (arith, line_count c.args.self.now c.self.inside c.self.view_is c.self.invariant, c.self.invariant.line_within, c.requires)
+    let count = line_count c.args.self.now c.self.inside c.self.view_is c.self.invariant in
+    omega (arith, c.self.invariant.line_within, c.requires)
 
 pub returns : goal.returns
 returns c =
