@@ -40,7 +40,7 @@ module _ (held : Pending) (inside : Inside) (view : pending_of inside ≡ held) 
       entry_at inside.entries.items place entry (pending_entry entry) within is)
 
 -- what stands in line from that place on
-module _ {held : Pending} {inside : Inside} (view : pending_of inside ≡ held) (sound : IsSound inside) (place : ℕ)
+module _ {held : Pending} {inside : Inside} (view : pending_of inside ≡ held) (sound : IsSound inside) {place : ℕ}
     {entry : Entry} (before : place < inside.flushed) (is : entry ≡ get_or inside.entries.items place entry) where
   pub line_from : drop place held.line ≡ pending_entry entry ∷ drop (place + 1) held.line
   line_from = rw (← in_line held inside view sound place entry before is)
@@ -55,7 +55,7 @@ module _ {held : Pending} {inside : Inside} (view : pending_of inside ≡ held) 
   left_at_other other = rw line_from (left_from_other (pending_entry entry) (drop (place + 1) held.line) other)
 
 -- and at the end
-pub left_at_end : {held : Pending} {inside : Inside} → pending_of inside ≡ held → IsSound inside → (place : ℕ) →
+pub left_at_end : {held : Pending} {inside : Inside} {place : ℕ} → pending_of inside ≡ held → IsSound inside →
     inside.flushed ≤ place → blocks_left (drop place held.line) ≡ []
-left_at_end {held} {inside} view sound place past =
+left_at_end {held} {inside} {place} view sound past =
     rw (drop_all place held.line (omega (arith, line_count held inside view sound)))

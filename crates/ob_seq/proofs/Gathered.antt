@@ -5,14 +5,10 @@ use Rattle.ob_seq.proofs.Words.{length-append, with_bytes, first_blocks}
 use Rattle.std.proofs.Math.Seq.{take-nil}
 use Rattle.ob_seq.proofs.Pieces.{fitting, within_is_fitting}
 
-no_room_by : (block : List ℕ) (rest : List (List ℕ)) → fitting 0 rest ≡ 0 →
-    fitting 0 (cond (ltb 0 (length block)) (block ∷ rest) rest) ≡ 0
-no_room_by block rest none = grind (arith, nat_tests)
-
 -- with no room no block fits that holds a byte
 no_room : (blocks : List (List ℕ)) → fitting 0 (with_bytes blocks) ≡ 0
 no_room [] = refl
-no_room (block ∷ blocks) = no_room_by block (with_bytes blocks) (no_room blocks)
+no_room (block ∷ blocks) = let none = no_room blocks in grind (arith, nat_tests)
 
 -- how many more blocks go along with so many others, where so many fit: the first does in any case
 abbrev share : ℕ → ℕ → ℕ → ℕ

@@ -8,25 +8,23 @@ use Rattle.ob_seq.proofs.contents.Contents.find_cut.Goals as goal
 pub returns-then-left-rest-clause-value : goal.returns-then-left-rest-clause-value
 returns-then-left-rest-clause-value c =
     let at = c.loop-whole in
-    let self = c.self in
-    let left = left_at_block self.view_is self.invariant at.whole c.loop-whole-test.true c.index.ensures c.in-Block.is in
+    let left = left_at_block c.self.view_is c.self.invariant c.loop-whole-test.true c.index.ensures c.in-Block.is in
     let size = c.len-left.ensures.value in
     let over : leb (length c.in-Block.bytes) at.rest ≡ false = grind (arith, nat_tests, size, c.if-left-rest.true) in
     rw (cut_is c.args.n (blocks_left c.args.self.now.line), at.invariant.so_far, left, over)
 
 pub returns-then-left-rest-clause-rest : goal.returns-then-left-rest-clause-rest
 returns-then-left-rest-clause-rest c =
-    let line = line_from c.self.view_is c.self.invariant c.loop-whole.whole c.loop-whole-test.true c.index.ensures in
+    let line = line_from c.self.view_is c.self.invariant c.loop-whole-test.true c.index.ensures in
     rw (line, c.in-Block.is) (omega (arith, c.if-left-rest.true, c.len-left.ensures.value))
 
 pub loop-whole-preserved : goal.loop-whole-preserved
 loop-whole-preserved c =
     let at = c.loop-whole in
-    let self = c.self in
-    let left = left_at_block self.view_is self.invariant at.whole c.loop-whole-test.true c.index.ensures c.in-Block.is in
+    let left = left_at_block c.self.view_is c.self.invariant c.loop-whole-test.true c.index.ensures c.in-Block.is in
     let size = c.len-left.ensures.value in
     let fits : leb (length c.in-Block.bytes) at.rest ≡ true = grind (arith, nat_tests, size, c.if-left-rest.false) in
-    let count = line_count c.args.self.now self.inside self.view_is self.invariant in
+    let count = line_count c.args.self.now c.self.inside c.self.view_is c.self.invariant in
     record {
       so_far = rw size (rw (left, fits, ← add-one at.whole) at at.invariant.so_far);
       within = omega (arith, c.loop-whole-test.true);
@@ -40,10 +38,9 @@ pub returns-clause-value : goal.returns-clause-value
 returns-clause-value c =
     let pieces = blocks_left c.args.self.now.line in
     let at = c.loop-whole in
-    let self = c.self in
     let none : blocks_left (drop at.whole c.args.self.now.line) ≡ [] = elim c.loop-whole-test.branch [
-      | goal.else-loop-whole-test w ↦ left_at_end self.view_is self.invariant at.whole w.loop-whole-test.false
+      | goal.else-loop-whole-test w ↦ left_at_end c.self.view_is c.self.invariant w.loop-whole-test.false
       | goal.then-loop-whole-test+in_default w ↦
-          left_at_other self.view_is self.invariant at.whole w.loop-whole-test.true w.index.ensures w.in_default.not-Block
+          left_at_other c.self.view_is c.self.invariant w.loop-whole-test.true w.index.ensures w.in_default.not-Block
     ] in
     rw (c.then_some.ensures, cut_is c.args.n pieces, at.invariant.so_far, none) (at_end at.whole at.rest)

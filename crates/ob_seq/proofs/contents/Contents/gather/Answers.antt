@@ -17,18 +17,17 @@ pub returns-in_err-push_copy-clause-frugal : goal.returns-in_err-push_copy-claus
 returns-in_err-push_copy-clause-frugal c commands stands nothing =
     let now = c.args.self.now in
     let at = c.loop-place in
-    let self = c.self in
-    let left = left_at_block self.view_is self.invariant at.place c.loop-place-test.true c.index.ensures c.in-Block.is in
+    let left = left_at_block c.self.view_is c.self.invariant c.loop-place-test.true c.index.ensures c.in-Block.is in
     let behind = blocks_left (drop (at.place + 1) now.line) in
-    absurd (something c.args.max_count at.room at.gathered.items c.in-Block.bytes behind (c.len.ensures ∙ at.gathered.ok.0)
-    c.len-length.ensures.value c.if-length-gt0.true (sym c.has_room.ensures ∙ c.if-not-has_room.false)
+    absurd (something c.args.max_count at.room at.gathered.items c.in-Block.bytes behind
+    (c.len.ensures ∙ at.gathered.ok.0) c.len-length.ensures.value c.if-length-gt0.true
+    (sym c.has_room.ensures ∙ c.if-not-has_room.false)
     (sym (rw left at at.invariant) ∙ whole now commands stands c.args.max_count c.args.max_bytes ∙ nothing))
 
 pub loop-place-preserved : goal.loop-place-preserved
 loop-place-preserved c =
     let at = c.loop-place in
-    let self = c.self in
-    let left = left_at_block self.view_is self.invariant at.place c.loop-place-test.true c.index.ensures c.in-Block.is in
+    let left = left_at_block c.self.view_is c.self.invariant c.loop-place-test.true c.index.ensures c.in-Block.is in
     let behind = blocks_left (drop (at.place + 1) c.args.self.now.line) in
     elim c.if-length-gt0.branch [
       | goal.then-length-gt0+else-not-has_room+in_ok-push_copy w ↦
@@ -38,7 +37,8 @@ loop-place-preserved c =
           (ap (λ v. v.items) w.gathered-is ∙ w.in_ok-push_copy.ensures) (w.room-is ∙ w.saturating_sub-room.ensures)
       | goal.else-length-gt0 w ↦
           let size = c.len-length.ensures.value in
-          let over = passed c.args.max_count at.room at.gathered.items c.in-Block.bytes behind refl size w.if-length-gt0.false in
+          let empty = w.if-length-gt0.false in
+          let over = passed c.args.max_count at.room at.gathered.items c.in-Block.bytes behind refl size empty in
           rw (w.room-is, w.gathered-is) (rw (left, over) at at.invariant)
     ]
 
@@ -51,13 +51,12 @@ returns-clause-blocks c commands stands =
     let end : more_blocks limit (length at.gathered.items) at.room (blocks_left (drop at.place now.line)) ≡ [] =
     elim c.loop-place-test.branch [
       | goal.else-loop-place-test w ↦
-          rw (left_at_end c.self.view_is c.self.invariant at.place w.loop-place-test.false) none
+          rw (left_at_end c.self.view_is c.self.invariant w.loop-place-test.false) none
       | goal.then-loop-place-test+in_default w ↦
-          let test = w.loop-place-test.true in
-          rw (left_at_other c.self.view_is c.self.invariant at.place test w.index.ensures w.in_default.not-Block) none
+          let other = w.in_default.not-Block in
+          rw (left_at_other c.self.view_is c.self.invariant w.loop-place-test.true w.index.ensures other) none
       | goal.then-loop-place-test+in-Block+then-length-gt0+then-not-has_room w ↦
-          let test = w.loop-place-test.true in
-          rw (left_at_block c.self.view_is c.self.invariant at.place test w.index.ensures w.in-Block.is)
+          rw (left_at_block c.self.view_is c.self.invariant w.loop-place-test.true w.index.ensures w.in-Block.is)
           (ended limit at.room at.gathered.items w.in-Block.bytes (blocks_left (drop (at.place + 1) now.line))
           (w.len.ensures ∙ at.gathered.ok.0) w.len-length.ensures.value w.if-length-gt0.true
           (sym w.has_room.ensures ∙ w.if-not-has_room.true))

@@ -6,7 +6,8 @@ use Rattle.ob_seq.proofs.contents.Contents.promise.Goals as goal
 
 -- the state that is kept of a promise is what the history tells of it
 told : (held : Pending) (commands : List Command) → StandsFor held commands → (inside : Inside) →
-    pending_of inside ≡ held → (id : ℕ) → slice_get inside.promises.items id ≡ promise_at (rows_after held.settings.estimate commands) id
+    pending_of inside ≡ held → (id : ℕ) →
+    slice_get inside.promises.items id ≡ promise_at (rows_after held.settings.estimate commands) id
 told held commands stands inside view id =
     ap (λ (buffer : Pending). slice_get buffer.promises id) view
     ∙ rw (stands.promises, slice_get-map promise_of (rows_after held.settings.estimate commands) id)
