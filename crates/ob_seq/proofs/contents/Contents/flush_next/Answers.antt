@@ -1,8 +1,7 @@
-use Rattle.ob_seq.proofs.Words.{[], ◌≡◌, ◌-◌, ◌<◌, true, length, drop, sym, ap, ◌∙◌, arith, length-map, Block, Waiting}
-use Rattle.ob_seq.proofs.Words.{PendingEntry, pending_entry, pending_entries, Settings, next_flushed}
+use Rattle.ob_seq.proofs.Words.{[], ◌<◌, true, length, sym, ap, ◌∙◌, arith, length-map, Block, Waiting, PendingEntry}
+use Rattle.ob_seq.proofs.Words.{pending_entry, pending_entries, Settings, next_flushed}
 use Rattle.std.proofs.lemmas.List.{get_or_read, length-drop, map-set, set-get_or}
 use Rattle.ob_seq.proofs.Entries.{entry_at, sum_of_entries}
-use Rattle.ob_seq.proofs.Fields.{promise_count, unflushed_count}
 use Rattle.ob_seq.proofs.Kept.{kept_next}
 use Rattle.ob_seq.proofs.contents.Contents.flush_next.Goals as goal
 
@@ -15,13 +14,11 @@ returns c =
     let promises = inside.promises.items in
     let n = inside.flushed in
     let none : PendingEntry = record { message = Block []; size = 0; progress = 0; voided = true } in
-    let left = unflushed_count c.args.self.now inside c.self.view_is c.self.invariant in
-    let count = promise_count c.args.self.now inside c.self.view_is c.self.invariant in
+    let some = rw (← c.self.view_is) at c.requires in
+    let id = rw (← c.self.view_is) at c.first_unflushed-id.ensures in
     let rest = length-drop n entries in
     let size = length-map items pending_entry in
-    let inner : n < length items = omega (arith, c.requires, inside.entries.ok) in
-    let id : c.first_unflushed-id.result ≡ length promises - length (drop n entries) =
-    omega (arith, c.first_unflushed-id.ensures, inside.promises.ok, inside.entries.ok) in
+    let inner : n < length items = omega arith in
     let room : c.first_unflushed-id.result < length promises =
     omega (arith, c.self.invariant.each_promised, inside.entries.ok, inside.promises.ok) in
     let read = get_or_read promises c.first_unflushed-id.result c.index.result.now room c.index.ensures Waiting in
