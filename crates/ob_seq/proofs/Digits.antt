@@ -1,6 +1,6 @@
 -- The user bits as a number in binary.
-use Rattle.ob_seq.proofs.Words.{◌≡◌, ℕ, zero, suc, ◌+◌, ◌*◌, ◌^◌, ◌/◌, ◌%◌, ◌<◌, Bool, true, false, refl, sym, ap, ◌∙◌}
-use Rattle.ob_seq.proofs.Words.{cond, arith, ltb, sum_by, nat_tests, range_with_len, bit_at, sum_by-cons, bit_at_lowest}
+use Rattle.ob_seq.proofs.Words.{◌≡◌, ℕ, zero, suc, ◌+◌, ◌*◌, ◌^◌, ◌/◌, ◌<◌, Bool, false, refl, sym, ap, ◌∙◌, cond}
+use Rattle.ob_seq.proofs.Words.{arith, ltb, sum_by, nat_tests, range_with_len, bit_at, sum_by-cons, bit_at_lowest}
 use Rattle.ob_seq.proofs.Words.{bit_at-suc, bit_at-zero, bit_value}
 use Rattle.std.proofs.Common.{add-one}
 use Rattle.std.proofs.Math.Nat.{pow-suc, mul_assoc, mul_comm, mul-add, mul-zero}
@@ -15,16 +15,14 @@ abbrev pub number : (ℕ → Bool) → ℕ → ℕ → ℕ
 number bit from zero = 0
 number bit from (suc count) = digit (bit from) + 2 * number bit (from + 1) count
 
-value_is : (set : Bool) (power more : ℕ) → cond set power 0 + power * 2 * more ≡ power * (digit set + 2 * more)
-value_is set power more = grind (arith, mul-add power (digit set) (2 * more), mul_assoc power 2 more)
-
 -- the bits of these indexes count as much as that number, moved up to the first index
 sum_is : (bit : ℕ → Bool) (from count : ℕ) →
     sum_by (λ index. bit_value index (bit index)) (range_with_len from count) ≡ 2 ^ from * number bit from count
 sum_is bit from zero = sym (mul-zero (2 ^ from))
 sum_is bit from (suc count) =
     rw (sum_by-cons (λ index. bit_value index (bit index)) from (range_with_len (from + 1) count))
-    (rw (sum_is bit (from + 1) count, add-one, pow-suc) (value_is (bit from) (2 ^ from) (number bit (suc from) count)))
+    (rw (sum_is bit (from + 1) count, add-one, pow-suc)
+    (rw (mul-add (2 ^ from) (digit (bit from)) (2 * number bit (suc from) count), ← mul_assoc) (grind arith)))
 
 -- the user bits without the mark's place
 abbrev pub half_bits : (ℕ → Bool) → ℕ
@@ -35,24 +33,15 @@ pub user_bits_even : (bit : ℕ → Bool) → user_bits bit ≡ half_bits bit * 
 unfolding user_bits
 user_bits_even bit = sum_is bit 1 31 ∙ mul_comm 2 (half_bits bit)
 
-lowest : (bit : Bool) (more : ℕ) → (digit bit + 2 * more) % 2 ≡ digit bit
-lowest bit more = grind arith
-
-others : (bit : Bool) (more : ℕ) → (digit bit + 2 * more) / 2 ≡ more
-others bit more = grind arith
-
 -- each digit of it
 digits_are : (bit : ℕ → Bool) (from count i at : ℕ) → at ≡ from + i →
     bit_at (number bit from count) i ≡ cond (ltb i count) (digit (bit at)) 0
 digits_are bit from zero i at is = let none : ltb i 0 ≡ false = grind (arith, nat_tests) in rw (none, bit_at-zero)
 digits_are bit from (suc count) zero at is =
-    let here : at ≡ from = omega arith in
-    let some : ltb 0 (suc count) ≡ true = grind (arith, nat_tests) in
-    rw (bit_at_lowest, lowest (bit from) (number bit (from + 1) count), here, some)
+    let here : at ≡ from = omega arith in rw (bit_at_lowest, here) (grind (arith, nat_tests))
 digits_are bit from (suc count) (suc i) at is =
-    let same : ltb (suc i) (suc count) ≡ ltb i count = grind (arith, nat_tests) in
-    rw (bit_at-suc, others (bit from) (number bit (from + 1) count), same)
-    (digits_are bit (from + 1) count i at (omega arith))
+    let half : number bit from (suc count) / 2 ≡ number bit (from + 1) count = grind arith in
+    rw (bit_at-suc, half, digits_are bit (from + 1) count i at (omega arith)) (grind (arith, nat_tests))
 
 -- the number with these 32 digits
 pub word_of : (ℕ → Bool) → ℕ
