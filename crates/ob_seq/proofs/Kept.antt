@@ -24,7 +24,7 @@ pub same_pending : (settings : Settings) (closed : Bool) {line line' unflushed u
     line ≡ line' → unflushed ≡ unflushed' → promises ≡ promises' → word ≡ word' →
     pending_from settings line unflushed promises word closed
     ≡ pending_from settings line' unflushed' promises' word' closed
-same_pending settings closed {line} {line'} {unflushed} {unflushed'} {promises} {promises'} {word} {word'} l u p w = cc
+same_pending settings closed l u p w = cc
 
 -- what is held with the first entries in line
 abbrev pub kept : Settings → List PendingEntry → ℕ → List PromiseState → ℕ → Bool → Pending

@@ -18,8 +18,7 @@ bit_by : (requests : List Bool) (here now : Bool) →
     (let asked : Option Bool = cond here (Some now) None in
     unwrap_or (slice_get (reverse (requests ++ cons_option asked [])) 0) false
     ≡ cond here now (unwrap_or (slice_get (reverse requests) 0) false))
-bit_by requests true now = rw (reverse-append requests (now ∷ []))
-bit_by requests false now = rw (append-nil requests)
+bit_by requests here now = grind (arith, reverse-append requests (now ∷ []), append-nil requests)
 
 -- a number of 32 digits with one of them set, or clear
 changed_number : (writable : Bool) (bit after : ℕ → Bool) (at : ℕ) → at < 32 →
