@@ -1,7 +1,7 @@
 -- Entries, as the code keeps them and as contracts see them.
-use Rattle.ob_seq.proofs.Words.{[], ◌≡◌, ℕ, ◌+◌, ◌<◌, List, ◌∷◌, length, take, drop, get_or, refl, sym, ap, ◌∙◌, cond}
-use Rattle.ob_seq.proofs.Words.{count_by, not, sum_by, take-append-drop, sum_by-append, sum_by-cons, Entry}
-use Rattle.ob_seq.proofs.Words.{PendingEntry, pending_entry, pending_entries, sum_of}
+use Rattle.ob_seq.proofs.Words.{[], ◌≡◌, ℕ, ◌+◌, ◌<◌, List, ◌∷◌, length, take, drop, get_or, refl, sym, ap, ◌∙◌, sum_by}
+use Rattle.ob_seq.proofs.Words.{take-append-drop, sum_by-append, sum_by-cons, Entry, PendingEntry, pending_entry}
+use Rattle.ob_seq.proofs.Words.{pending_entries, sum_of}
 use Rattle.std.proofs.lemmas.List.{get_or-map}
 
 -- two parts of a list count together what the list counts
@@ -11,7 +11,7 @@ sum_of_parts n entries =
     rw (← sum_by-append (λ entry. entry.size) (take n entries) (drop n entries), take-append-drop n entries)
 
 -- what is counted of entries as contracts see them is counted of them as the code keeps them
-sum_seen : (f : PendingEntry → ℕ) (items : List Entry) →
+pub sum_seen : (f : PendingEntry → ℕ) (items : List Entry) →
     sum_by f (pending_entries items) ≡ sum_by (λ entry. f (pending_entry entry)) items
 sum_seen f [] = refl
 sum_seen f (entry ∷ items) =
@@ -20,11 +20,6 @@ sum_seen f (entry ∷ items) =
 
 pub sum_of_entries : (items : List Entry) → sum_of (pending_entries items) ≡ sum_by (λ entry. entry.size) items
 sum_of_entries items = sum_seen (λ entry. entry.size) items
-
-pub unvoided_seen : (items : List Entry) →
-    count_by (λ (entry : Entry). not entry.voided) items
-    ≡ count_by (λ (entry : PendingEntry). not entry.voided) (pending_entries items)
-unvoided_seen items = sym (sum_seen (λ entry. cond (not entry.voided) 1 0) items)
 
 -- the entry at a place
 pub entry_at : (items : List Entry) (i : ℕ) (entry : Entry) (d : PendingEntry) → i < length items →

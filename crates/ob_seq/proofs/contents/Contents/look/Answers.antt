@@ -1,19 +1,14 @@
-use Rattle.ob_seq.proofs.Words.{◌≡◌, Bool, List, [], ◌∷◌, map, refl, ap, cond, arith, Some, length-map, Row, is_in_line}
-use Rattle.ob_seq.proofs.Words.{line, front, rows_after, entry_of, Pending, first_progress}
+use Rattle.ob_seq.proofs.Words.{◌≡◌, List, [], ◌∷◌, map, refl, ap, arith, length-map, Row, line, front, rows_after}
+use Rattle.ob_seq.proofs.Words.{entry_of, Pending, first_progress}
 use Rattle.ob_seq.specs.Looks.{progress_of}
 use Rattle.ob_seq.proofs.Fields.{line_count, total_is}
 use Rattle.ob_seq.proofs.Written.{pending_total_stands}
 use Rattle.ob_seq.proofs.contents.Contents.look.Goals as goal
 
-first_if : (b : Bool) (row : Row) (rows : List Row) →
-    first_progress (map entry_of (line rows)) ≡ progress_of (front rows) →
-    first_progress (map entry_of (cond b (row ∷ line rows) (line rows))) ≡ progress_of (cond b (Some row) (front rows))
-first_if b row rows same = grind arith
-
 -- the progress of the first entry is that of the front
 first_progress_is : (rows : List Row) → first_progress (map entry_of (line rows)) ≡ progress_of (front rows)
 first_progress_is [] = refl
-first_progress_is (row ∷ rows) = first_if (is_in_line row) row rows (first_progress_is rows)
+first_progress_is (row ∷ rows) = let same = first_progress_is rows in grind arith
 
 pub returns : goal.returns
 returns c commands stands =

@@ -1,5 +1,5 @@
-use Rattle.ob_seq.proofs.Words.{take, arith, take-map, pending_entry}
-use Rattle.ob_seq.proofs.Entries.{unvoided_seen}
+use Rattle.ob_seq.proofs.Words.{cond, not, take, arith, take-map, pending_entry}
+use Rattle.ob_seq.proofs.Entries.{sum_seen}
 use Rattle.ob_seq.proofs.Fields.{first_in_line, line_count}
 use Rattle.ob_seq.proofs.contents.Contents.unvoided.Goals as goal
 
@@ -10,6 +10,6 @@ unvoided-requires c =
 
 pub returns : goal.returns
 returns c =
-    let items = c.self.inside.entries.items in
     let front = first_in_line c.args.self.now c.self.inside c.self.view_is c.self.invariant c.args.count c.requires in
-    rw (c.unvoided.ensures, unvoided_seen (take c.args.count items), ← take-map pending_entry c.args.count items, front)
+    let seen = sum_seen (λ entry. cond (not entry.voided) 1 0) (take c.args.count c.self.inside.entries.items) in
+    rw (c.unvoided.ensures, ← seen, ← take-map pending_entry c.args.count c.self.inside.entries.items, front)
