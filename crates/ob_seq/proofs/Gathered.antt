@@ -1,6 +1,6 @@
 -- What is gathered, one block after another.
 use Rattle.ob_seq.proofs.Words.{[], ◌≡◌, ℕ, suc, ◌+◌, ◌-◌, ◌<◌, ◌≤◌, min, max, Bool, true, false, ◌&&◌, ◌||◌, List, ◌∷◌}
-use Rattle.ob_seq.proofs.Words.{◌++◌, length, take, refl, sym, ap, ◌∙◌, cond, leb, ltb, arith, nat_tests, append_assoc}
+use Rattle.ob_seq.proofs.Words.{◌++◌, length, take, refl, sym, ap, ◌∙◌, leb, ltb, arith, nat_tests, append_assoc}
 use Rattle.ob_seq.proofs.Words.{length-append, with_bytes, first_blocks}
 use Rattle.std.proofs.Math.Seq.{take-nil}
 use Rattle.ob_seq.proofs.Pieces.{fitting, within_is_fitting}
@@ -31,18 +31,14 @@ none_left limit count room = take-nil (share limit count 0)
 abbrev goes_along : ℕ → ℕ → ℕ → ℕ → Bool
 goes_along limit count room size = ltb count limit && (leb count 0 || leb size room)
 
-one_more : (limit count room size fits : ℕ) → goes_along limit count room size ≡ true → (room ≤ size → fits ≡ 0) →
-    share limit count (cond (leb size room) (suc fits) 0) ≡ suc (share limit (count + 1) fits)
-one_more limit count room size fits goes none = grind (arith, nat_tests)
-
-no_more : (limit count room size fits : ℕ) → goes_along limit count room size ≡ false →
-    share limit count (cond (leb size room) (suc fits) 0) ≡ 0
-no_more limit count room size fits over = grind (arith, nat_tests)
-
 module _ (limit room : ℕ) (items : List (List ℕ)) (block : List ℕ) (blocks : List (List ℕ)) {count size : ℕ}
     (many : count ≡ length items) (long : size ≡ length block) where
-  abbrev fits_behind : ℕ
-  fits_behind = fitting (room - length block) (with_bytes blocks)
+  -- how many go along from the block on, and behind it
+  abbrev here : ℕ
+  here = share limit (length items) (fitting room (block ∷ with_bytes blocks))
+
+  abbrev behind : ℕ
+  behind = share limit (length items + 1) (fitting (room - length block) (with_bytes blocks))
 
   -- an empty block is passed over
   pub passed : size ≤ 0 →
@@ -54,7 +50,7 @@ module _ (limit room : ℕ) (items : List (List ℕ)) (block : List ℕ) (blocks
       more_blocks limit (length items) room (block ∷ blocks) ≡ []
   ended some over =
       let full : ltb 0 (length block) ≡ true = grind (arith, nat_tests) in
-      rw (full, no_more limit (length items) room (length block) fits_behind (rw (many, long) at over))
+      let none : here ≡ 0 = grind (arith, nat_tests) in rw (full, none)
 
   pub pushed : {room' : ℕ} {items' : List (List ℕ)} → 0 < size → goes_along limit count room size ≡ true →
       items' ≡ items ++ block ∷ [] → room' ≡ room - size →
@@ -62,17 +58,10 @@ module _ (limit room : ℕ) (items : List (List ℕ)) (block : List ℕ) (blocks
       ≡ items' ++ more_blocks limit (length items') room' blocks
   pushed some goes more left =
       let full : ltb 0 (length block) ≡ true = grind (arith, nat_tests) in
-      let none : room ≤ length block → fits_behind ≡ 0 = λ small.
+      let none : room ≤ length block → fitting (room - length block) (with_bytes blocks) ≡ 0 = λ small.
       let used : room - length block ≡ 0 = omega arith in rw (used, no_room blocks) in
-      rw (
-        full,
-        one_more limit (length items) room (length block) fits_behind (rw (many, long) at goes) none,
-        more,
-        left,
-        long,
-        length-append items (block ∷ []),
-        append_assoc,
-      )
+      let one : here ≡ suc behind = grind (arith, nat_tests) in
+      rw (full, one, more, left, long, length-append items (block ∷ []), append_assoc)
 
   -- so that something is gathered
   pub something : 0 < size → goes_along limit count room size ≡ true →
