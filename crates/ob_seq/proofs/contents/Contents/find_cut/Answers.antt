@@ -1,8 +1,7 @@
-use Rattle.ob_seq.proofs.Words.{[], ◌≡◌, ℕ, true, false, length, drop, eqb, leb, arith, nat_tests, blocks_left}
+use Rattle.ob_seq.proofs.Words.{[], ◌≡◌, true, false, length, drop, leb, arith, nat_tests, blocks_left}
 use Rattle.std.proofs.Common.{add-one}
-use Rattle.std.specs.Bool.{then_some}
 use Rattle.ob_seq.proofs.Fields.{left_at_block, left_at_end, left_at_other, line_count, line_from}
-use Rattle.ob_seq.proofs.Pieces.{cut_from, cut_is}
+use Rattle.ob_seq.proofs.Pieces.{cut_is}
 use Rattle.ob_seq.proofs.contents.Contents.find_cut.Goals as goal
 
 pub returns-then-left-rest-clause-value : goal.returns-then-left-rest-clause-value
@@ -30,10 +29,6 @@ loop-whole-preserved c =
       within = omega (arith, c.loop-whole-test.true);
     }
 
--- with no piece left all bytes are used up, or there are too few
-at_end : (whole rest : ℕ) → then_some (eqb rest 0) (record { whole = whole; rest = rest }) ≡ cut_from whole rest []
-at_end whole rest = grind (arith, nat_tests)
-
 pub returns-clause-value : goal.returns-clause-value
 returns-clause-value c =
     let pieces = blocks_left c.args.self.now.line in
@@ -43,4 +38,4 @@ returns-clause-value c =
       | goal.then-loop-whole-test+in_default w ↦
           left_at_other c.self.view_is c.self.invariant w.loop-whole-test.true w.index.ensures w.in_default.not-Block
     ] in
-    rw (c.then_some.ensures, cut_is c.args.n pieces, at.invariant.so_far, none) (at_end at.whole at.rest)
+    rw (c.then_some.ensures, cut_is c.args.n pieces, at.invariant.so_far, none) (grind (arith, nat_tests))
