@@ -1,4 +1,4 @@
-use Rattle.ob_seq.proofs.Words.{[], ◌≡◌, true, false, length, drop, leb, arith, nat_tests, blocks_left}
+use Rattle.ob_seq.proofs.Words.{[], ◌≡◌, true, length, drop, leb, arith, nat_tests, blocks_left}
 use Rattle.std.proofs.Common.{add-one}
 use Rattle.ob_seq.proofs.Fields.{left_at_block, left_at_end, left_at_other, line_count, line_from}
 use Rattle.ob_seq.proofs.Pieces.{cut_is}
@@ -8,9 +8,8 @@ pub returns-then-left-rest-clause-value : goal.returns-then-left-rest-clause-val
 returns-then-left-rest-clause-value c =
     let at = c.loop-whole in
     let left = left_at_block c.self.view_is c.self.invariant c.loop-whole-test.true c.index.ensures c.in-Block.is in
-    let size = c.len-left.ensures.value in
-    let over : leb (length c.in-Block.bytes) at.rest ≡ false = grind (arith, nat_tests, size, c.if-left-rest.true) in
-    rw (cut_is c.args.n (blocks_left c.args.self.now.line), at.invariant.so_far, left, over)
+    rw (cut_is c.args.n (blocks_left c.args.self.now.line), at.invariant.so_far, left)
+    (grind (arith, nat_tests, c.len-left.ensures.value, c.if-left-rest.true))
 
 pub returns-then-left-rest-clause-rest : goal.returns-then-left-rest-clause-rest
 returns-then-left-rest-clause-rest c =
