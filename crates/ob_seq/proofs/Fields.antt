@@ -1,53 +1,61 @@
 -- What the fields of a buffer say of what it holds.
-use Rattle.ob_seq.proofs.Words.{◌≡◌, ℕ, ◌+◌, ◌-◌, ◌<◌, ◌≤◌, List, [], ◌∷◌, length, take, drop, get_or, sym, ap, ◌∙◌}
-use Rattle.ob_seq.proofs.Words.{arith, Block, Entry, Inside, blocks_left, IsSound, pending_entry, pending_entries}
-use Rattle.ob_seq.proofs.Words.{pending_of, Pending, first_length, pending_total}
-use Rattle.std.proofs.lemmas.List.{get_or-take, take-take}
-use Rattle.ob_seq.proofs.Blocks.{left_from_block, left_from_other, first_length_is}
-use Rattle.ob_seq.proofs.Entries.{entry_at, line_size, rest_size, sum_of_entries, sum_of_parts}
+use Rattle.ob_seq.proofs.Words.{◌∙◌, length-map, [], ◌≡◌, ℕ, ◌+◌, ◌-◌, ◌<◌, ◌≤◌, List, ◌∷◌, length, take, drop, get_or}
+use Rattle.ob_seq.proofs.Words.{sym, arith, Block, Entry, Inside, blocks_left, IsSound, pending_entry, pending_entries}
+use Rattle.ob_seq.proofs.Words.{drop_all, pending_of, Pending, pending_total}
+use Rattle.std.proofs.lemmas.List.{drop_more, get_or-take, length-drop, length-take, take-take}
+use Rattle.ob_seq.proofs.Blocks.{left_from_block, left_from_other}
+use Rattle.ob_seq.proofs.Entries.{entry_at, sum_of_entries, sum_of_parts}
 
 module _ (held : Pending) (inside : Inside) (view : pending_of inside ≡ held) (sound : IsSound inside) where
-  pub line_is : held.line ≡ take inside.flushed (pending_entries inside.entries.items)
-  line_is = ap (λ (buffer : Pending). buffer.line) (sym view)
-
   -- as many stand in line as the cursor says, and as many behind it as there are more
   pub line_count : length held.line ≡ inside.flushed
-  line_count = let line = ap length line_is ∙ line_size inside.flushed inside.entries.items in omega (arith, sound.line_within, inside.entries.ok)
+  line_count =
+      rw (← view, length-take, length-map) (omega (arith, sound.line_within, inside.entries.ok))
 
   pub unflushed_count : length held.unflushed ≡ inside.entries.len - inside.flushed
-  unflushed_count =
-      ap (λ (buffer : Pending). length buffer.unflushed) (sym view) ∙ rest_size inside.flushed inside.entries.items
-      ∙ ap (λ count. count - inside.flushed) (sym inside.entries.ok.0)
+  unflushed_count = rw (← view, length-drop, length-map, inside.entries.ok.0)
 
   pub promise_count : length held.promises ≡ inside.promises.len
-  promise_count = ap (λ (buffer : Pending). length buffer.promises) (sym view) ∙ sym inside.promises.ok.0
+  promise_count = rw (← view) (sym inside.promises.ok.0)
 
   -- the total that is kept is that of what is held
   pub total_is : inside.total ≡ pending_total held
-  total_is = sound.total ∙ sym (sum_of_entries inside.entries.items) ∙ sym (sum_of_parts inside.flushed (pending_entries inside.entries.items)) ∙ ap pending_total view
+  total_is =
+      rw (← view, sum_of_parts inside.flushed (pending_entries inside.entries.items))
+      (sound.total ∙ sym (sum_of_entries inside.entries.items))
 
   -- the first entries are the first in line
-  pub first_in_line : (count : ℕ) → count ≤ length held.line → take count (pending_entries inside.entries.items) ≡ take count held.line
+  pub first_in_line : (count : ℕ) → count ≤ length held.line →
+      take count (pending_entries inside.entries.items) ≡ take count held.line
   first_in_line count few =
-      let size = line_count in
-      sym (ap (take count) line_is ∙ take-take count inside.flushed (pending_entries inside.entries.items) (omega arith))
+      let within : count ≤ inside.flushed = omega (arith, line_count) in
+      rw (← view) (sym (take-take count inside.flushed (pending_entries inside.entries.items) within))
 
   -- the entry at a place before the cursor stands there in line
-  module _ (place : ℕ) (entry : Entry) (before : place < inside.flushed) (is : entry ≡ get_or inside.entries.items place entry) where
-    pub in_line : pending_entry entry ≡ get_or held.line place (pending_entry entry)
-    in_line =
-        entry_at inside.entries.items place entry (pending_entry entry) (omega (arith, sound.line_within, inside.entries.ok)) is
-        ∙ sym (ap (λ line. get_or line place (pending_entry entry)) line_is ∙ get_or-take inside.flushed (pending_entries inside.entries.items) place (pending_entry entry) before)
+  pub in_line : (place : ℕ) (entry : Entry) → place < inside.flushed → entry ≡ get_or inside.entries.items place entry →
+      pending_entry entry ≡ get_or held.line place (pending_entry entry)
+  in_line place entry before is =
+      rw (← view, get_or-take inside.flushed (pending_entries inside.entries.items) place (pending_entry entry) before)
+      (let within : place < length inside.entries.items = omega (arith, sound.line_within, inside.entries.ok) in
+      entry_at inside.entries.items place entry (pending_entry entry) within is)
 
-    within : place < length held.line
-    within = let count = line_count in omega arith
+-- what stands in line from that place on
+module _ {held : Pending} {inside : Inside} (view : pending_of inside ≡ held) (sound : IsSound inside) {place : ℕ}
+    {entry : Entry} (before : place < inside.flushed) (is : entry ≡ get_or inside.entries.items place entry) where
+  pub line_from : drop place held.line ≡ pending_entry entry ∷ drop (place + 1) held.line
+  line_from = rw (← in_line held inside view sound place entry before is)
+      at (drop_more held.line place (pending_entry entry) (omega (arith, line_count held inside view sound)))
 
-    -- what is left from a block on, and from another message on
-    pub left_at_block : (bytes : List ℕ) → entry.message ≡ Block bytes → blocks_left (drop place held.line) ≡ bytes ∷ blocks_left (drop (place + 1) held.line)
-    left_at_block bytes block = left_from_block held.line place (pending_entry entry) within in_line bytes block
+  -- what is left from a block on, and from another message on
+  pub left_at_block : {bytes : List ℕ} → entry.message ≡ Block bytes →
+      blocks_left (drop place held.line) ≡ bytes ∷ blocks_left (drop (place + 1) held.line)
+  left_at_block block = rw line_from (left_from_block (pending_entry entry) (drop (place + 1) held.line) block)
 
-    pub length_at_block : (bytes : List ℕ) → entry.message ≡ Block bytes → first_length (drop place held.line) ≡ length bytes
-    length_at_block bytes block = first_length_is held.line place (pending_entry entry) within in_line bytes block
+  pub left_at_other : ((bytes : List ℕ) → entry.message ≡ Block bytes → ⊥) → blocks_left (drop place held.line) ≡ []
+  left_at_other other = rw line_from (left_from_other (pending_entry entry) (drop (place + 1) held.line) other)
 
-    pub left_at_other : ((bytes : List ℕ) → entry.message ≡ Block bytes → ⊥) → blocks_left (drop place held.line) ≡ []
-    left_at_other other = left_from_other held.line place (pending_entry entry) within in_line other
+-- and at the end
+pub left_at_end : {held : Pending} {inside : Inside} {place : ℕ} → pending_of inside ≡ held → IsSound inside →
+    inside.flushed ≤ place → blocks_left (drop place held.line) ≡ []
+left_at_end {held} {inside} {place} view sound past =
+    rw (drop_all place held.line (omega (arith, line_count held inside view sound)))

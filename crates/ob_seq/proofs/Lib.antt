@@ -18,7 +18,6 @@ mod Held
 mod History
 mod Kept
 mod Limits
-mod Looks
 mod Marks
 mod Order
 mod Parts

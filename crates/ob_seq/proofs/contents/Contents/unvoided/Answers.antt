@@ -1,14 +1,15 @@
-use Rattle.ob_seq.proofs.Words.{take, sym, ap, ◌∙◌, arith, count_by, not, take-map, PendingEntry, pending_entry}
-use Rattle.ob_seq.proofs.Entries.{unvoided_seen}
+use Rattle.ob_seq.proofs.Words.{cond, not, take, arith, take-map, pending_entry}
+use Rattle.ob_seq.proofs.Entries.{sum_seen}
 use Rattle.ob_seq.proofs.Fields.{first_in_line, line_count}
 use Rattle.ob_seq.proofs.contents.Contents.unvoided.Goals as goal
 
 pub unvoided-requires : goal.unvoided-requires
-unvoided-requires c = omega (arith, line_count c.args.self.now c.self.inside c.self.view_is c.self.invariant, c.self.invariant.line_within, c.requires)
+unvoided-requires c =
+    let count = line_count c.args.self.now c.self.inside c.self.view_is c.self.invariant in
+    omega (arith, c.self.invariant.line_within, c.requires)
 
 pub returns : goal.returns
 returns c =
-    let items = c.self.inside.entries.items in
-    c.unvoided.ensures ∙ unvoided_seen (take c.args.count items)
-    ∙ ap (count_by (λ (entry : PendingEntry). not entry.voided))
-    (sym (take-map pending_entry c.args.count items) ∙ first_in_line c.args.self.now c.self.inside c.self.view_is c.self.invariant c.args.count c.requires)
+    let front = first_in_line c.args.self.now c.self.inside c.self.view_is c.self.invariant c.args.count c.requires in
+    let seen = sum_seen (λ entry. cond (not entry.voided) 1 0) (take c.args.count c.self.inside.entries.items) in
+    rw (c.unvoided.ensures, ← seen, ← take-map pending_entry c.args.count c.self.inside.entries.items, front)

@@ -1,23 +1,17 @@
-use Rattle.ob_seq.proofs.Words.{◌≡◌, ℕ, zero, suc, ◌*◌, ◌<◌, ◌^◌, ◌%◌, not, eqb, ap, ◌∙◌, arith, nat_tests, pow-lt}
-use Rattle.std.proofs.Common.{bit_and, mod-eq_of_lt, one-mul, zero-mul}
+use Rattle.ob_seq.proofs.Words.{◌≡◌, ℕ, ◌*◌, ◌<◌, ◌^◌, not, eqb, arith, nat_tests, pow-lt}
+use Rattle.std.proofs.Common.{mod-eq_of_lt, one-mul, zero-mul}
 use Rattle.std.proofs.lemmas.Nat.{pow_pos}
 use Rattle.std.proofs.lemmas.Nat.Bits.{and_pow, bit_at-lt}
 use Rattle.ob_seq.proofs.contents.word.has_bit.Goals as goal
 
 -- a bit times a power is 0 only where the bit is
 bit_by : (bit power : ℕ) → bit < 2 → 0 < power → not (eqb (bit * power) 0) ≡ eqb bit 1
-bit_by zero power small some = ap (λ n. not (eqb n 0)) (zero-mul power)
-bit_by (suc zero) power small some = ap (λ n. not (eqb n 0)) (one-mul power) ∙ positive power some
-  where
-    positive : (n : ℕ) → 0 < n → not (eqb n 0) ≡ eqb 1 1
-    positive n some = grind (arith, nat_tests)
-bit_by (suc (suc bit)) power small some = absurd (omega arith)
+bit_by bit power small some = grind (arith, nat_tests, zero-mul power, one-mul power)
 
 pub returns : goal.returns
 returns c =
     let index = c.args.index in
     let within : index < 32 = omega (arith, c.requires) in
     let small : 2 ^ index < 4294967296 = pow-lt within in
-    let one : 1 * 2 ^ index % 4294967296 ≡ 2 ^ index = ap (λ n. n % 4294967296) (one-mul (2 ^ index)) ∙ mod-eq_of_lt small in
-    ap (λ mask. not (eqb (bit_and c.args.word mask) 0)) one ∙ ap (λ n. not (eqb n 0)) (and_pow c.args.word index)
-    ∙ bit_by _ (2 ^ index) (bit_at-lt c.args.word index) (pow_pos index)
+    rw (one-mul (2 ^ index), mod-eq_of_lt small, and_pow c.args.word index)
+    (bit_by _ (2 ^ index) (bit_at-lt c.args.word index) (pow_pos index))
