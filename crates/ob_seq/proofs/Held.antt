@@ -109,18 +109,6 @@ stands_by_rows buffer settings commands opened closed accepted holds word =
       word = rw same word;
     }
 
--- the same by the parts of the rows, after one more command
-pub stands_by : (buffer : Pending) (settings : Settings) (commands : List Command) (command : Command)
-    (gone standing fresh : List Row) → opening buffer ≡ (settings, settings.marks) → is_closed commands ≡ false →
-    buffer.closed ≡ is_close command → are_accepted settings [] (commands ++ command ∷ []) ≡ true →
-    Held buffer gone standing fresh →
-    rows_after settings.estimate (commands ++ command ∷ []) ≡ gone ++ (standing ++ fresh) →
-    buffer.word ≡ word_after settings (commands ++ command ∷ []) → StandsFor buffer (commands ++ command ∷ [])
-stands_by buffer settings commands command gone standing fresh opened unclosed closed accepted held are =
-    stands_by_rows buffer settings (commands ++ command ∷ []) opened
-    (closed ∙ sym (closed_more commands command unclosed)) accepted
-    (rw are (held_rows buffer gone standing fresh held))
-
 module _ (old new : Pending) (commands : List Command) (command : Command) (stands : StandsFor old commands)
     (unclosed : old.closed ≡ false)
     (accepted : refusal_of old.settings.estimate (rows_after old.settings.estimate commands) command ≡ None) where
@@ -142,17 +130,6 @@ module _ (old new : Pending) (commands : List Command) (command : Command) (stan
       new.word ≡ word_after old.settings (commands ++ command ∷ []) → StandsFor new (commands ++ command ∷ [])
   stands_after gone standing fresh opened closed held are =
       stands_more opened closed (rw are (held_rows new gone standing fresh held))
-
--- a buffer stands as it is for the history with a command that changes no row and not the word
-pub stands_same : (buffer : Pending) (commands : List Command) (command : Command) → StandsFor buffer commands →
-    buffer.closed ≡ false → is_close command ≡ false →
-    refusal_of buffer.settings.estimate (rows_after buffer.settings.estimate commands) command ≡ None →
-    rows_after buffer.settings.estimate (commands ++ command ∷ []) ≡ rows_after buffer.settings.estimate commands →
-    buffer.word ≡ word_after buffer.settings (commands ++ command ∷ []) → StandsFor buffer (commands ++ command ∷ [])
-stands_same buffer commands command stands unclosed no_close accepted same =
-    let are = sym (rows_after_more buffer.settings.estimate commands command) ∙ same in
-    stands_more buffer buffer commands command stands unclosed accepted refl (unclosed ∙ sym no_close)
-    (rw are record { line = stands.line; unflushed = stands.unflushed; promises = stands.promises })
 
 module _ (buffer : Pending) (commands : List Command) (stands : StandsFor buffer commands) where
   -- the word of a buffer that stands for a history, by its moments

@@ -1,15 +1,15 @@
 -- The words that the proofs of this crate speak, passed on from one place. Declares nothing.
 pub use Rattle.std.proofs.Common.{◌≡◌, List, [], ◌∷◌, ◌++◌, sym, ap, ◌∙◌, append_assoc, append-nil, Bool, true, false}
 pub use Rattle.std.proofs.Common.{◌&&◌, ◌||◌, cond, refl, ℕ, zero, suc, ◌+◌, ◌<◌, ◌≤◌, drop, eqb, arith, inl, inr, ◌-◌}
-pub use Rattle.std.proofs.Common.{length, map, get_or, subst, max, take, leb, ltb, zero-add, ◌*◌, ◌^◌, ◌/◌, ◌%◌}
-pub use Rattle.std.proofs.Common.{add-zero, length-append, not, reverse, min, ◌⊎◌}
+pub use Rattle.std.proofs.Common.{length, map, get_or, subst, max, take, leb, ltb, zero-add, ◌*◌, ◌^◌, ◌/◌, add-zero}
+pub use Rattle.std.proofs.Common.{length-append, not, reverse, min, ◌⊎◌}
 pub use Rattle.std.specs.Int.{bit_at}
 pub use Rattle.std.specs.List.{AllByRecursion, range_with_len, cons_option}
 pub use Rattle.std.specs.Prelude.{fold, Some, None, is_ok, Option, slice_set, filter, if◌then◌else◌, sum_by, is_some}
-pub use Rattle.std.specs.Prelude.{◌↔◌, option_map, filter_map, slice_get, unwrap_or, count_by}
+pub use Rattle.std.specs.Prelude.{◌↔◌, filter_map, slice_get, unwrap_or, count_by}
 pub use Rattle.std.specs.VecDeque.Iter.{deque_iter_rest}
 pub use Rattle.std.proofs.Math.Pow.{pow-lt}
-pub use Rattle.std.proofs.Math.Seq.{get_or-append_seam, set-append_seam, take-append_seam, drop-append_seam}
+pub use Rattle.std.proofs.Math.Seq.{get_or-append_seam, set-append_seam}
 pub use Rattle.std.proofs.lemmas.Bool.Decides.{nat_tests}
 pub use Rattle.std.proofs.lemmas.List.{map-append, length-map, length-take-le, take-append-drop, drop_all}
 pub use Rattle.std.proofs.lemmas.List.{reverse-append, take_more, take_all, take-map}
@@ -18,8 +18,8 @@ pub use Rattle.std.proofs.lemmas.List.Sums.{sum_by-append, sum_by-cons, sum_by_p
 pub use Rattle.std.proofs.lemmas.Nat.Bits.{bit_at_lowest, bit_at-suc, bit_at-zero, bit_at_or, same_from_bits}
 pub use Rattle.std.proofs.lemmas.Option.{slice_get_past, slice_get-map}
 pub use Rattle.ob_types.specs.Block.{is_block}
-pub use Rattle.ob_types.specs.Change.{change_between, is_writable}
-pub use Rattle.ob_types.specs.PendingSize.{counted_bytes, is_oversize}
+pub use Rattle.ob_types.specs.Change.{change_between}
+pub use Rattle.ob_types.specs.PendingSize.{counted_bytes}
 pub use Rattle.ob_types.specs.Waiting.{is_waiting}
 pub use Rattle.ob_types.specs.WaterMark.{Marks}
 pub use Rattle.ob_types.specs.Write.{is_write}
@@ -28,7 +28,7 @@ pub use Rattle.ob_types.specs.declared.command.Command.TheVariants.{Close, Write
 pub use Rattle.ob_types.specs.declared.command.Command.TheVariants.{Progress, UserBit, Flush, FailFlushed, Cancel}
 pub use Rattle.ob_types.specs.declared.estimate.Estimate.{Estimate}
 pub use Rattle.ob_types.specs.declared.message.Message.{Message}
-pub use Rattle.ob_types.specs.declared.message.Message.TheVariants.{Block, Region, Other}
+pub use Rattle.ob_types.specs.declared.message.Message.TheVariants.{Block}
 pub use Rattle.ob_types.specs.declared.promise.Cause.{Cause}
 pub use Rattle.ob_types.specs.declared.promise.Outcome.{Outcome}
 pub use Rattle.ob_types.specs.declared.promise.Outcome.TheVariants.{Success, Failed, Cancelled}
@@ -36,9 +36,8 @@ pub use Rattle.ob_types.specs.declared.promise.PromiseId.{PromiseId}
 pub use Rattle.ob_types.specs.declared.promise.PromiseState.{PromiseState}
 pub use Rattle.ob_types.specs.declared.promise.PromiseState.TheVariants.{Settled, Waiting, Fixed}
 pub use Rattle.ob_types.specs.declared.refusal.Refusal.{Refusal}
-pub use Rattle.ob_types.specs.declared.refusal.Refusal.TheVariants.{Closed, Oversize, TooManyBytes, TooMuch}
-pub use Rattle.ob_types.specs.declared.refusal.Refusal.TheVariants.{FlushedLeft}
-pub use Rattle.ob_types.specs.declared.reply.Answer.TheVariants.{Yes, Count, Done}
+pub use Rattle.ob_types.specs.declared.refusal.Refusal.TheVariants.{Closed, TooManyBytes}
+pub use Rattle.ob_types.specs.declared.reply.Answer.TheVariants.{Yes, Count}
 pub use Rattle.ob_types.specs.declared.reply.Reply.{Reply}
 pub use Rattle.ob_seq.specs.Accepted.{accepted_among}
 pub use Rattle.ob_seq.specs.Answer.{first_refusal, refusal_of, reply_of, unless_refused, is_accepted, are_accepted}
@@ -53,25 +52,24 @@ pub use Rattle.ob_seq.specs.Entry.{entry_of, PendingEntry, blocks_left, messages
 pub use Rattle.ob_seq.specs.Gathering.{with_bytes, first_blocks}
 pub use Rattle.ob_seq.specs.Inside.{pending_entry, pending_entries, IsSound, pending_of}
 pub use Rattle.ob_seq.specs.Line.{is_in_line, line, unflushed, front}
-pub use Rattle.ob_seq.specs.Looks.{promise_after, before_unwritable, before_writable}
+pub use Rattle.ob_seq.specs.Looks.{promise_after}
 pub use Rattle.ob_seq.specs.Mark.{mark_after}
 pub use Rattle.ob_seq.specs.Moment.{Moment, moments_of, moment_of, moments_along}
 pub use Rattle.ob_seq.specs.Order.{gone, is_gone}
 pub use Rattle.ob_seq.specs.Pending.{Pending, StandsFor, Accepts, Answers}
 pub use Rattle.ob_seq.specs.Pieces.{bytes_in, pieces_within}
-pub use Rattle.ob_seq.specs.Row.{Row, is_cancelled, Place, is_voided, new_row, unread_part, without_skipped}
-pub use Rattle.ob_seq.specs.Row.{is_unflushed, Gone, Unflushed, Flushed, Voided, is_flushed}
+pub use Rattle.ob_seq.specs.Row.{Row, is_cancelled, is_voided, new_row, unread_part, without_skipped, is_unflushed}
+pub use Rattle.ob_seq.specs.Row.{Gone, Unflushed, Flushed, Voided, is_flushed}
 pub use Rattle.ob_seq.specs.Settings.{Settings}
 pub use Rattle.ob_seq.specs.Settles.{settled_along, settled_by, SparesMemory}
 pub use Rattle.ob_seq.specs.Steps.{pending_total, first_size, reached_entry, unflushed_id, next_flushed, times}
-pub use Rattle.ob_seq.specs.Steps.{word_after_fall, cut_of, front_id, front_settlement, front_taken, written}
-pub use Rattle.ob_seq.specs.Steps.{word_after_rise, write_step, bytes_reply, entry_settlements, sum_of, first_progress}
-pub use Rattle.ob_seq.specs.Steps.{first_changed, front_changed, progress_step, entry_settlement, first_length}
-pub use Rattle.ob_seq.specs.Steps.{failures, flush_step, failing_step, closed_pending, closing_reply, settled_by_step}
-pub use Rattle.ob_seq.specs.Steps.{bit_step, promise_set, step_of, whole_cut}
+pub use Rattle.ob_seq.specs.Steps.{word_after_fall, cut_of, front_id, front_taken, word_after_rise, write_step}
+pub use Rattle.ob_seq.specs.Steps.{bytes_reply, entry_settlements, sum_of, first_progress, first_changed, front_changed}
+pub use Rattle.ob_seq.specs.Steps.{progress_step, entry_settlement, failures, flush_step, failing_step, closed_pending}
+pub use Rattle.ob_seq.specs.Steps.{closing_reply, settled_by_step, bit_step, promise_set, step_of, whole_cut}
 pub use Rattle.ob_seq.specs.Total.{counted_size, total}
 pub use Rattle.ob_seq.specs.UserBit.{bit_request, user_bit}
-pub use Rattle.ob_seq.specs.Word.{bit_value, user_bits, word_after}
+pub use Rattle.ob_seq.specs.Word.{bit_value, word_after}
 pub use Rattle.ob_seq.specs.Writes.{writes_in}
 pub use Rattle.ob_seq.specs.declared.contents.Contents.TheInside.{Inside}
 pub use Rattle.ob_seq.specs.declared.contents.cut.Cut.{Cut}
