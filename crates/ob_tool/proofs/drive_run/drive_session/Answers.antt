@@ -14,11 +14,13 @@ pub returns-in-Ok-clause-told : goal.returns-in-Ok-clause-told
 returns-in-Ok-clause-told g c =
     let told = c.in-Ok.ensures in
     let given = c.config-config.ensures in
-    subst (λ plans. TellsOf c.args.options plans c.in-Ok.report) (c.in_ok-plans.ensures ∙ ap plans_in c.deref.ensures.value) (record {
+    subst (λ plans. TellsOf c.args.options plans c.in-Ok.report) (c.in_ok-plans.ensures
+    ∙ ap plans_in c.deref.ensures.value) (record {
       legal = told.legal;
       settings = told.settings ∙ ap settings_of given;
       limit = told.limit ∙ ap (λ (config : Config). config.limit) given;
       carried_out = told.plans;
+      callers = told.callers;
       writes = told.writes;
       flushes = told.flushes;
       cancels = told.cancels;
