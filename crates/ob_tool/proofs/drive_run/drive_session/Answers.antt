@@ -1,5 +1,4 @@
-use Rattle.std.proofs.Common.{◌≡◌, ◌<◌, ◌∙◌, ap, false, subst, sym}
-use Rattle.ob_core.specs.Bits.{is_set}
+use Rattle.std.proofs.Common.{◌<◌, ◌∙◌, ap, subst, sym}
 use Rattle.ob_pool.specs.declared.config.Config.{Config}
 use Rattle.ob_seq.specs.Settings.{Settings}
 use Rattle.ob_tool.specs.DriveReport.{TellsOf}
