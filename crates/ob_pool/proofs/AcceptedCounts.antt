@@ -1,5 +1,6 @@
 -- Counts of accepted commands, taken record by record.
-use Rattle.std.proofs.Common.{◌≡◌, ℕ, suc, ◌+◌, ◌*◌, ◌<◌, ◌≤◌, ◌^◌, Bool, true, false, List, [], ◌∷◌, ◌++◌, length, map, take, drop, cond, refl, sym, ap, ◌∙◌, arith}
+use Rattle.std.proofs.Common.{◌≡◌, ℕ, suc, ◌+◌, ◌*◌, ◌<◌, ◌≤◌, ◌^◌, Bool, true, false, List, [], ◌∷◌, ◌++◌, length, map}
+use Rattle.std.proofs.Common.{take, drop, cond, refl, sym, ap, ◌∙◌, arith}
 use Rattle.std.specs.Prelude.{◌&&◌, filter, count_by, slice_index_or, sum_by}
 use Rattle.std.specs.List.{All, Contains}
 use Rattle.std.proofs.lemmas.List.{drop_more, length-map, map-append, take-append-drop}
@@ -7,8 +8,10 @@ use Rattle.std.proofs.lemmas.List.Elements.{All-cons, All-nil, Contains-get_or, 
 use Rattle.std.proofs.lemmas.List.Sums.{sum_by-append, sum_by-cons, sum_by-le, length-filter, count_by-le-length}
 use Rattle.ob_types.specs.Limits.{greatest_total}
 use Rattle.ob_types.specs.declared.command.Command.{Command}
-use Rattle.ob_types.specs.declared.command.Command.TheVariants.{Write, Flush, Remove, RemoveWith, RemoveBytes, Progress, Cancel, FailFlushed, Close, UserBit}
+use Rattle.ob_types.specs.declared.command.Command.TheVariants.{Write, Flush, Remove, RemoveWith, RemoveBytes, Progress}
+use Rattle.ob_types.specs.declared.command.Command.TheVariants.{Cancel, FailFlushed, Close, UserBit}
 use Rattle.ob_history.specs.Accepted.{accepted_commands, is_accepted}
+use Rattle.ob_history.specs.History.{most_records}
 use Rattle.ob_history.specs.declared.record.Record.{Record}
 use Rattle.ob_pool.specs.Counts.{removed_by, taken_of}
 
@@ -110,8 +113,9 @@ removal_within most (UserBit index writable) law = omega arith
 
 -- where each accepted removal keeps to the greatest total, all of them fit 64 bits
 pub taken_fits_word : (records : List Record) →
-    ((one : Record) (n : ℕ) → Contains records one → is_accepted one ≡ true → one.command ≡ RemoveBytes n → n ≤ greatest_total) →
-    length records ≤ 1048576 → taken_of records < 2 ^ 64
+    ((one : Record) (n : ℕ) → Contains records one → is_accepted one ≡ true → one.command ≡ RemoveBytes n →
+    n ≤ greatest_total) →
+    length records ≤ most_records → taken_of records < 2 ^ 64
 taken_fits_word records law few =
     let fits = taken_fits greatest_total records (λ k d within accepted. removal_within greatest_total _
     (λ n is. law _ n (Contains-get_or records k d within) accepted is)) in

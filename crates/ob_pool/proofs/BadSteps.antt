@@ -1,6 +1,6 @@
 -- The first bad step of plans, plan by plan.
-use Rattle.std.proofs.Common.{◌≡◌, ℕ, zero, suc, ◌+◌, ◌<◌, List, [], ◌∷◌, length, drop, refl, sym, ap, ◌∙◌, add-one, arith}
-use Rattle.std.specs.Prelude.{slice_index_or, Option, None}
+use Rattle.std.proofs.Common.{◌≡◌, ℕ, zero, suc, ◌<◌, List, [], ◌∷◌, length, drop, sym, ap, arith}
+use Rattle.std.specs.Prelude.{slice_index_or}
 use Rattle.ob_types.specs.declared.command.Command.{Command}
 use Rattle.ob_pool.specs.Plan.{bad_step}
 use Rattle.ob_pool.specs.PlansFault.{bad_plan_from, fault_at}

@@ -1,11 +1,13 @@
 -- A finished history in which each caller has handed in what it has done.
-use Rattle.std.proofs.Common.{◌≡◌, ℕ, zero, suc, ◌+◌, ◌<◌, ◌≤◌, Bool, true, false, List, [], ◌∷◌, ◌++◌, length, map, cond, eqb, ltb, refl, sym, ap, ◌∙◌, subst, arith}
-use Rattle.std.specs.Prelude.{◌&&◌, nat_lt, count_by, filter, slice_get, slice_index_or, sum_by, Some}
+use Rattle.std.proofs.Common.{◌≡◌, ℕ, zero, suc, ◌+◌, ◌<◌, ◌≤◌, Bool, true, false, List, [], ◌∷◌, ◌++◌, length, map}
+use Rattle.std.proofs.Common.{cond, eqb, ltb, refl, sym, ap, ◌∙◌, subst, arith}
+use Rattle.std.specs.Prelude.{◌&&◌, nat_lt, count_by, slice_get, slice_index_or, sum_by, Some}
 use Rattle.std.specs.List.{All}
 use Rattle.std.proofs.Math.Seq.{take-append_seam}
 use Rattle.std.proofs.lemmas.Bool.Decides.{nat_tests}
 use Rattle.std.proofs.lemmas.List.{length-map}
-use Rattle.std.proofs.lemmas.List.Elements.{All-contains, All-head, All-map, All-tail, All-take, Contains-push}
+use Rattle.std.proofs.lemmas.List.Elements.{All-cons, All-contains, All-head, All-map, All-nil, All-tail, All-take}
+use Rattle.std.proofs.lemmas.List.Elements.{Contains-push}
 use Rattle.std.proofs.lemmas.List.Sums.{count_by-le-length, sum_by-cons, sum_by_push}
 use Rattle.ob_types.specs.declared.command.Command.{Command}
 use Rattle.ob_history.specs.Own.{records_of}
@@ -104,7 +106,8 @@ below_all : (kind : Command → Bool) (records : List Record) (caller : ℕ) (pl
 below_all kind records caller [] all =
     let here : caller + 0 ≡ caller = omega arith in omega (arith, ap (λ k. below kind k records) here)
 below_all kind records caller (plan ∷ plans) all =
-    let rest = below_all kind records (suc caller) plans (All-tail (Stands records) _ (deeds_from (suc caller) plans) all) in
+    let rest = below_all kind records (suc caller) plans
+    (All-tail (Stands records) _ (deeds_from (suc caller) plans) all) in
     let first : commands_of caller records ≡ plan = All-head (Stands records) _ (deeds_from (suc caller) plans) all in
     let there : caller + suc (length plans) ≡ suc caller + length plans = omega arith in
     omega (
@@ -131,17 +134,13 @@ all_counted : {X : Type 0} (xs : List X) → count_by (λ x. true) xs ≡ length
 all_counted [] = refl
 all_counted (x ∷ xs) = omega (arith, sum_by-cons (λ x. 1) x xs, all_counted xs)
 
--- where all records are of callers below one, all commands of a kind are
-below_full : (kind : Command → Bool) (caller : ℕ) (records : List Record) →
-    length records ≤ below any_kind caller records →
-    below kind caller records ≡ count_by (λ one. kind one.command) records
-below_full kind caller [] full = refl
-below_full kind caller (one ∷ records) full = by_caller (nat_lt one.caller caller) refl (below_full kind caller records)
+-- where as many records as there are have callers below one, all of them do
+all_below : (caller : ℕ) (records : List Record) → length records ≤ below any_kind caller records →
+    All (λ one. one.caller < caller) records
+all_below caller [] full = All-nil (λ (one : Record). one.caller < caller)
+all_below caller (one ∷ records) full =
+    All-cons (λ (one : Record). one.caller < caller) one records (its.0) (all_below caller records its.1)
   where
-    of_kind : (is : Bool) → cond {A = ℕ} (is && true) 1 0 ≡ cond is 1 0
-    of_kind true = refl
-    of_kind false = refl
-
     most : below any_kind caller records ≤ length records
     most = count_by-le-length (λ (one : Record). any_kind one.command && nat_lt one.caller caller) records
 
@@ -149,58 +148,80 @@ below_full kind caller (one ∷ records) full = by_caller (nat_lt one.caller cal
         ≡ cond (any_kind one.command && nat_lt one.caller caller) 1 0 + below any_kind caller records
     here = sum_by-cons (λ (one : Record). cond (any_kind one.command && nat_lt one.caller caller) 1 0) one records
 
-    by_caller : (its : Bool) → nat_lt one.caller caller ≡ its →
-        (length records ≤ below any_kind caller records →
-        below kind caller records ≡ count_by (λ one. kind one.command) records) →
-        below kind caller (one ∷ records) ≡ count_by (λ one. kind one.command) (one ∷ records)
-    by_caller true is rest =
-        omega (
-          arith,
-          sum_by-cons (λ (one : Record). cond (kind one.command && nat_lt one.caller caller) 1 0) one records,
-          ap (λ its. cond {A = ℕ} (kind one.command && its) 1 0) is,
-          of_kind (kind one.command),
-          sum_by-cons (λ (one : Record). cond (kind one.command) 1 0) one records,
-          rest (omega (arith, full, here, ap (λ its. cond {A = ℕ} its 1 0) is)),
-        )
-    by_caller false is rest = absurd (omega (arith, full, here, most, ap (λ its. cond {A = ℕ} its 1 0) is))
+    by_test : (a n few all : ℕ) → suc all ≤ cond {A = ℕ} (ltb a n) 1 0 + few → few ≤ all → (a < n) × (all ≤ few)
+    by_test a n few all whole least = grind (arith, nat_tests)
 
--- the records that fail what is flushed are the transport's, where as many were made as there are records
-pub failings_are_last : (records : List Record) (plans : List (List Command)) (mine : List Command) →
+    its : (one.caller < caller) × (length records ≤ below any_kind caller records)
+    its = by_test one.caller caller (below any_kind caller records) (length records) (omega (arith, full, here)) most
+
+-- and so do all of a kind
+below_full : (kind : Command → Bool) (caller : ℕ) (records : List Record) → All (λ one. one.caller < caller) records →
+    below kind caller records ≡ count_by (λ one. kind one.command) records
+below_full kind caller [] all = refl
+below_full kind caller (one ∷ records) all =
+    omega (
+      arith,
+      sum_by-cons (λ (one : Record). cond (kind one.command && nat_lt one.caller caller) 1 0) one records,
+      sum_by-cons (λ (one : Record). cond (kind one.command) 1 0) one records,
+      by_test (kind one.command) one.caller caller (All-head (λ (one : Record). one.caller < caller) one records all),
+      below_full kind caller records (All-tail (λ (one : Record). one.caller < caller) one records all),
+    )
+  where
+    by_test : (is : Bool) (a n : ℕ) → a < n → cond {A = ℕ} (is && ltb a n) 1 0 ≡ cond is 1 0
+    by_test true a n first = grind (arith, nat_tests, first)
+    by_test false a n first = refl
+
+lengths : (plans : List (List Command)) → sum_by (count_by any_kind) plans ≡ sum_by length plans
+lengths [] = refl
+lengths (plan ∷ plans) =
+    omega (
+      arith,
+      sum_by-cons (count_by any_kind) plan plans,
+      sum_by-cons length plan plans,
+      all_counted plan,
+      lengths plans,
+    )
+
+-- all records are of writers and of the caller behind them, where these made as many as there are
+callers_within : (records : List Record) (plans : List (List Command)) (mine : List Command) →
+    All (Stands records) (deeds_from 0 plans) → commands_of (length plans) records ≡ mine →
+    sum_by length plans + length mine ≡ length records →
+    All (λ one. one.caller < suc (length plans)) records
+callers_within records plans mine all last counted =
+    all_below (suc (length plans)) records
+    (omega (
+      arith,
+      counted,
+      below_next any_kind (length plans) records,
+      below_writers any_kind records plans all,
+      ap (count_by any_kind) last,
+      all_counted mine,
+      lengths plans,
+    ))
+
+-- the records that fail what is flushed are then the last caller's
+failings_are_last : (records : List Record) (plans : List (List Command)) (mine : List Command) →
     All (Stands records) (deeds_from 0 plans) → commands_of (length plans) records ≡ mine →
     sum_by length plans + length mine ≡ length records →
     sum_by (count_by is_failing) plans ≡ 0 →
     failings_of records ≡ count_by is_failing mine
 failings_are_last records plans mine all last counted none =
-    let writers = λ (kind : Command → Bool). below_writers kind records plans all in
-    let full : length records ≤ below any_kind (suc (length plans)) records = omega (
-      arith,
-      counted,
-      below_next any_kind (length plans) records,
-      writers any_kind,
-      ap (count_by any_kind) last,
-      all_counted mine,
-      lengths plans,
-    ) in
     omega (
       arith,
-      below_full is_failing (suc (length plans)) records full,
+      below_full is_failing (suc (length plans)) records (callers_within records plans mine all last counted),
       below_next is_failing (length plans) records,
-      writers is_failing,
+      below_writers is_failing records plans all,
       ap (count_by is_failing) last,
       none,
     )
-  where
-    lengths : (plans : List (List Command)) → sum_by (count_by any_kind) plans ≡ sum_by length plans
-    lengths [] = refl
-    lengths (plan ∷ plans) =
-        omega (arith, sum_by-cons (count_by any_kind) plan plans, sum_by-cons length plan plans, all_counted plan, lengths plans)
 
 -- callers that have done what was asked have deeds that stand
 pub deeds_stand : (records : List Record) (dones : List Handed) (plans : List (List Command)) →
     map done_by dones ≡ deeds_from 0 plans → All (HandsInAll records) dones → All (Stands records) (deeds_from 0 plans)
 deeds_stand records dones plans same all =
     subst (All (Stands records)) same
-    (All-map (Stands records) done_by dones (λ k d within. deed_stands records (slice_index_or dones k d) (all k d within)))
+    (All-map (Stands records) done_by dones
+    (λ k d within. deed_stands records (slice_index_or dones k d) (all k d within)))
 
 All-front : {X : Type 0} (P : X → Type 0) (xs ys : List X) → All P (xs ++ ys) → All P xs
 All-front P xs ys all = subst (All P) (take-append_seam xs ys) (All-take P (length xs) (xs ++ ys) all)
@@ -241,26 +262,43 @@ as_many_made dones plans same = of_dones dones ∙ ap made_in same ∙ of_plans 
           of_plans (suc caller) plans,
         )
 
--- what the history fails is what the transport failed, once all callers have handed in
-pub failings_told : (records : List Record) (dones : List Handed) (done : Handed) (plans : List (List Command)) →
-    map done_by dones ≡ deeds_from 0 plans → All (HandsInAll records) (dones ++ done ∷ []) →
-    length records ≡ made_by (dones ++ done ∷ []) → done.maker.caller ≡ length plans →
-    done.maker.made ≡ length done.receipts → sum_by (count_by is_failing) plans ≡ 0 →
-    failings_of records ≡ failings_in done.receipts
-failings_told records dones done plans same all counted last made none =
-    let stand = deeds_stand records dones plans same (All-front (HandsInAll records) dones (done ∷ []) all) in
-    let its : commands_of (length plans) records ≡ commands_in done.receipts =
-    ap (λ caller. commands_of caller records) (sym last)
-    ∙ deed_stands records done (All-last (HandsInAll records) dones done all) in
-    failings_are_last records plans (commands_in done.receipts) stand its
-    (omega (
-      arith,
-      counted,
-      made,
-      as_many_made dones plans same,
-      sum_by_push (λ (one : Handed). one.maker.made) dones done,
-      length-map done.receipts (λ (receipt : Receipt). receipt.command),
-    )) none
-  where
-    All-last : {X : Type 0} (P : X → Type 0) (xs : List X) (x : X) → All P (xs ++ x ∷ []) → P x
-    All-last P xs x all = All-contains P (xs ++ x ∷ []) x all (Contains-push xs x)
+-- writers and the caller behind them have handed in what they were asked, with the receipts of all records
+pub record HaveEnded (records : List Record) (dones : List Handed) (done : Handed)
+    (plans : List (List Command)) : Type 0 where
+  pub same : map done_by dones ≡ deeds_from 0 plans
+  pub all : All (HandsInAll records) (dones ++ done ∷ [])
+  pub counted : length records ≡ made_by (dones ++ done ∷ [])
+  pub last : done.maker.caller ≡ length plans
+  pub made : done.maker.made ≡ length done.receipts
+
+module _ (records : List Record) (dones : List Handed) (done : Handed) (plans : List (List Command))
+    (ended : HaveEnded records dones done plans) where
+  stand : All (Stands records) (deeds_from 0 plans)
+  stand = deeds_stand records dones plans ended.same (All-front (HandsInAll records) dones (done ∷ []) ended.all)
+
+  its : commands_of (length plans) records ≡ commands_in done.receipts
+  its =
+      ap (λ caller. commands_of caller records) (sym ended.last)
+      ∙ deed_stands records done
+      (All-contains (HandsInAll records) (dones ++ done ∷ []) done ended.all (Contains-push dones done))
+
+  as_many : sum_by length plans + length (commands_in done.receipts) ≡ length records
+  as_many =
+      omega (
+        arith,
+        ended.counted,
+        ended.made,
+        as_many_made dones plans ended.same,
+        sum_by_push (λ (one : Handed). one.maker.made) dones done,
+        length-map done.receipts (λ (receipt : Receipt). receipt.command),
+      )
+
+  -- each record is then of one of them
+  pub callers_told : All (λ one. one.caller ≤ length plans) records
+  callers_told = λ k d within.
+      let below = callers_within records plans (commands_in done.receipts) stand its as_many k d within in
+      omega (arith, below)
+
+  -- and what the history fails is what the last one failed
+  pub failings_told : sum_by (count_by is_failing) plans ≡ 0 → failings_of records ≡ failings_in done.receipts
+  failings_told none = failings_are_last records plans (commands_in done.receipts) stand its as_many none

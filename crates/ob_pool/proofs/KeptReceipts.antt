@@ -1,5 +1,6 @@
 -- One more call whose receipt is kept.
-use Rattle.std.proofs.Common.{◌≡◌, ℕ, ◌+◌, ◌≤◌, Bool, true, false, List, [], ◌∷◌, ◌++◌, length, map, cond, refl, sym, ap, ◌∙◌, append_assoc, arith}
+use Rattle.std.proofs.Common.{◌≡◌, ℕ, ◌+◌, Bool, true, false, List, [], ◌∷◌, ◌++◌, map, cond, refl, sym}
+use Rattle.std.proofs.Common.{ap, ◌∙◌, append_assoc, arith}
 use Rattle.std.specs.Prelude.{count_by, if◌then◌else◌, Ok, Err}
 use Rattle.std.proofs.lemmas.List.{length_push, map-append}
 use Rattle.std.proofs.lemmas.List.Sums.{sum_by-append, sum_by-cons}
@@ -42,10 +43,12 @@ failings_of_receipts (one ∷ records) =
 -- what failed since the beginning is told alike by the records and by the receipts
 pub failings_since : (beginning : Beginning) (held : Held) (receipts : List Receipt) →
     KeptSince beginning held receipts →
-    failings_in receipts + failings_of beginning.records ≡ failings_in beginning.receipts + failings_of held.history.records
+    failings_in receipts + failings_of beginning.records
+    ≡ failings_in beginning.receipts + failings_of held.history.records
 failings_since beginning held receipts kept =
     let of_receipts = ap failings_in kept.kept
-    ∙ ap (count_by is_failing) (map-append (λ (receipt : Receipt). receipt.command) beginning.receipts (map receipt_of kept.more))
+    ∙ ap (count_by is_failing)
+    (map-append (λ (receipt : Receipt). receipt.command) beginning.receipts (map receipt_of kept.more))
     ∙ sum_by-append (λ command. cond (is_failing command) 1 0) (commands_in beginning.receipts)
     (commands_in (map receipt_of kept.more)) in
     let of_records = ap failings_of kept.records

@@ -1,5 +1,6 @@
 -- A pass makes no record that fails what is flushed.
-use Rattle.std.proofs.Common.{◌≡◌, ◌≢◌, ℕ, ◌+◌, ◌<◌, ◌≤◌, Bool, true, false, List, [], ◌∷◌, ◌++◌, ◌-◌, ◌⊎◌, inl, inr, refl, sym, ap, ◌∙◌, subst, cond, arith}
+use Rattle.std.proofs.Common.{◌≡◌, ℕ, ◌+◌, ◌<◌, ◌≤◌, Bool, true, false, List, [], ◌∷◌, ◌-◌, ◌⊎◌, inl, inr}
+use Rattle.std.proofs.Common.{refl, sym, ap, ◌∙◌, subst, cond, arith}
 use Rattle.std.specs.Prelude.{IsErrOf, OnErr, Option, Some, None, Result, Ok, Err, ◌==◌, if◌then◌else◌}
 use Rattle.std.specs.List.{concat}
 use Rattle.std.proofs.lemmas.Bool.{cases_lt}
@@ -14,7 +15,7 @@ use Rattle.ob_history.specs.Call.{history_after, is_full, next_record, with_reco
 use Rattle.ob_history.specs.History.{History}
 use Rattle.ob_transport.specs.InFront.{current_in, gathered_in, progress_in}
 use Rattle.ob_transport.specs.IsPass.{IsPass}
-use Rattle.ob_transport.specs.Outcome.{Clears, SendsBytes, SendsUnits, booked_units, ready}
+use Rattle.ob_transport.specs.Outcome.{Clears, SendsBytes, SendsUnits, ready}
 use Rattle.ob_transport.specs.Content.{Content}
 use Rattle.ob_transport.specs.Failures.{failures_in}
 use Rattle.ob_transport.specs.Standing.{Standing, standing}
@@ -36,7 +37,8 @@ same_after history caller command harmless = by_full (is_full history)
     by_full : (full : Bool) → failings_of (after full).records ≡ failings_of history.records
     by_full true = refl
     by_full false =
-        let pushed = sum_by_push (λ one. cond (is_failing one.command) 1 0) history.records (next_record history caller command) in
+        let pushed = sum_by_push (λ one. cond (is_failing one.command) 1 0) history.records
+        (next_record history caller command) in
         rw (pushed, harmless) (omega arith)
 
 -- how many records of a standing fail what is flushed
@@ -99,12 +101,14 @@ module _ (caller : ℕ) (before : Standing) where
           gathered_in limits before.history ≡ blocks → failings_at after ≡ failings_at before
       by_blocks bytes is [] none = clears (RemoveBytes 0) refl result after (pass.no_bytes bytes is none)
       by_blocks bytes is (block ∷ blocks) some =
-          sends_bytes (concat (gathered_in limits before.history)) result after (pass.bytes bytes is (λ none. absurd (cc)))
+          sends_bytes (concat (gathered_in limits before.history)) result after
+          (pass.bytes bytes is (λ none. absurd (cc)))
 
       by_rest : (length : ℕ) → current_in before.history ≡ Some (Region length) →
           (progress_in before.history < length) ⊎ (length ≤ progress_in before.history) →
           failings_at after ≡ failings_at before
-      by_rest length is (inl some) = sends_units (length - progress_in before.history) result after (pass.units length is some)
+      by_rest length is (inl some) =
+          sends_units (length - progress_in before.history) result after (pass.units length is some)
       by_rest length is (inr none) = clears Remove refl result after (pass.no_units length is none)
 
       by_front : (front : Option Message) → current_in before.history ≡ front → failings_at after ≡ failings_at before
@@ -114,7 +118,8 @@ module _ (caller : ℕ) (before : Standing) where
       by_front (Some (Other value)) is = clears (RemoveWith (record { 0 = 1 })) refl result after (pass.other value is)
 
 -- where a pass counts its failures, what fails more is not more than these
-pub passed : (limits : Limits) (caller : ℕ) (before after : History) (sink now : Content) (result : Result Pass PassFault) →
+pub passed : (limits : Limits) (caller : ℕ) (before after : History) (sink now : Content)
+    (result : Result Pass PassFault) →
     IsPass limits caller (standing before sink) result (standing after now) →
     now.failures ≡ sink.failures + failures_in result →
     (failings_of after.records ≡ failings_of before.records) × (sink.failures ≤ now.failures)
@@ -136,7 +141,8 @@ failing_once history caller command = by_full (is_full history)
     by_full : (full : Bool) → failings_of (after full).records ≤ failings_of history.records + 1
     by_full true = omega arith
     by_full false =
-        let pushed = sum_by_push (λ one. cond (is_failing one.command) 1 0) history.records (next_record history caller command) in
+        let pushed = sum_by_push (λ one. cond (is_failing one.command) 1 0) history.records
+        (next_record history caller command) in
         omega (arith, pushed, at_most (is_failing command))
 
 -- the same of any call that is answered as a booked buffer answers it

@@ -1,11 +1,12 @@
 -- Plans without a fault fail nothing.
-use Rattle.std.proofs.Common.{◌≡◌, ℕ, suc, ◌+◌, ◌<◌, Bool, true, false, not, ltb, List, [], ◌∷◌, length, cond, refl, ap, ◌∙◌, arith}
-use Rattle.std.specs.Prelude.{count_by, nat_lt, sum_by, position, if◌then◌else◌, Option, Some, None}
-use Rattle.std.specs.List.{position_or_len, prefix_len}
+use Rattle.std.proofs.Common.{◌≡◌, ℕ, suc, ◌+◌, Bool, true, false, not, List, [], ◌∷◌, length, cond, refl, ap, arith}
+use Rattle.std.specs.Prelude.{count_by, nat_lt, sum_by, if◌then◌else◌, Option, Some, None}
+use Rattle.std.specs.List.{position_or_len}
 use Rattle.std.proofs.lemmas.Bool.Decides.{nat_tests}
 use Rattle.std.proofs.lemmas.List.Sums.{sum_by-cons}
 use Rattle.ob_types.specs.declared.command.Command.{Command}
-use Rattle.ob_types.specs.declared.command.Command.TheVariants.{Write, Flush, Remove, RemoveWith, RemoveBytes, Progress, Cancel, FailFlushed, Close, UserBit}
+use Rattle.ob_types.specs.declared.command.Command.TheVariants.{Write, Flush, Remove, RemoveWith, RemoveBytes, Progress}
+use Rattle.ob_types.specs.declared.command.Command.TheVariants.{Cancel, FailFlushed, Close, UserBit}
 use Rattle.ob_types.specs.declared.estimate.Estimate.{Estimate}
 use Rattle.ob_pool.specs.Counts.{is_failing}
 use Rattle.ob_pool.specs.Plan.{bad_step, is_planned}

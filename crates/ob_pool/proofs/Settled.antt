@@ -1,7 +1,8 @@
 -- Which promises of a history are settled, and how many.
-use Rattle.std.proofs.Common.{◌≡◌, ℕ, zero, suc, ◌+◌, ◌<◌, ◌≤◌, ◌↔◌, inl, inr, Bool, true, false, List, [], ◌∷◌, ◌++◌, length, take, drop, length-append, ◌^◌, cond, eqb, ltb, refl, sym, ap, ◌∙◌, arith}
-use Rattle.std.specs.Prelude.{◌==◌, nat_lt, count_by, slice_index_or, sum_by, Option, Some, None}
-use Rattle.std.specs.List.{All, Contains, range_with_len, flat_map}
+use Rattle.std.proofs.Common.{◌≡◌, ℕ, zero, suc, ◌+◌, ◌<◌, ◌≤◌, ◌↔◌, inl, inr, Bool, List, [], ◌∷◌, ◌++◌}
+use Rattle.std.proofs.Common.{length, take, drop, length-append, ◌^◌, cond, eqb, ltb, refl, sym, ap, ◌∙◌, arith}
+use Rattle.std.specs.Prelude.{◌==◌, nat_lt, count_by, slice_index_or, Option, Some, None}
+use Rattle.std.specs.List.{All, Contains, range_with_len}
 use Rattle.std.proofs.lemmas.Bool.{cases_lt}
 use Rattle.std.proofs.lemmas.Bool.Decides.{nat_tests}
 use Rattle.std.proofs.lemmas.List.{drop_more, take-append-drop}
@@ -18,7 +19,7 @@ use Rattle.ob_seq.specs.Settings.{Settings}
 use Rattle.ob_seq.specs.Settles.{settled_by, times_settled}
 use Rattle.ob_seq.specs.Writes.{writes_in}
 use Rattle.ob_history.specs.Accepted.{accepted_commands}
-use Rattle.ob_history.specs.History.{History, IsBounded}
+use Rattle.ob_history.specs.History.{History, IsBounded, most_records}
 use Rattle.ob_history.specs.Legal.{IsLegal}
 use Rattle.ob_history.specs.Settlements.{settlements_in}
 use Rattle.ob_types.specs.Write.{is_write}
@@ -109,7 +110,8 @@ all_below id (one ∷ settlements) each =
 
 -- each settlement has one of three outcomes
 pub by_outcome : (settlements : List (PromiseId × Outcome)) →
-    count_by (λ settlement. is_success settlement.1) settlements + count_by (λ settlement. is_failed settlement.1) settlements
+    count_by (λ settlement. is_success settlement.1) settlements
+    + count_by (λ settlement. is_failed settlement.1) settlements
     + count_by (λ settlement. is_cancelled settlement.1) settlements ≡ length settlements
 by_outcome [] = refl
 by_outcome (one ∷ settlements) =
@@ -135,13 +137,17 @@ settlements_of_both records more = flat_map-append (λ (one : Record). settled_b
 
 -- where promises are unknown from the writes on, and only known ones are settled, all settlements are of earlier ones
 pub settled_within : (settings : Settings) (records : List Record) →
-    ((id : PromiseId) (outcome : Outcome) → promise_after settings (accepted_commands records) id ≡ Some (Settled outcome)
+    ((id : PromiseId) (outcome : Outcome) →
+    promise_after settings (accepted_commands records) id ≡ Some (Settled outcome)
     ↔ Contains (settlements_in records) (id, outcome)) →
     ((id : PromiseId) → promise_after settings (accepted_commands records) id ≡ None
     ↔ writes_in (accepted_commands records) ≤ id.0) →
     All (λ one. one.0.0 < writes_of records) (settlements_in records)
 settled_within settings records told unknown k d within =
-    elim (cases_lt one.0.0 (writes_of records)) [ inl known ↦ known | inr past ↦ absurd (not_both is_settled ((unknown one.0).1 past)) ]
+    elim (cases_lt one.0.0 (writes_of records)) [
+      | inl known ↦ known
+      | inr past ↦ absurd (not_both is_settled ((unknown one.0).1 past))
+    ]
   where
     one : PromiseId × Outcome
     one = slice_index_or (settlements_in records) k d
@@ -194,7 +200,7 @@ pub record Tally (records : List Record) : Type 0 where
   pub sum : settled_as is_success records + settled_as is_failed records + settled_as is_cancelled records
       ≡ length (settlements_in records)
   pub left : left_of records + length (settlements_in records) ≡ writes_of records
-  pub few : writes_of records ≤ 1048576
+  pub few : writes_of records ≤ most_records
 
 -- by the laws of legal histories
 pub tallied : (settings : Settings) (history : History) →
@@ -211,7 +217,8 @@ tallied settings history once told unknown legal bounded =
     record {
       sum = by_outcome (settlements_in records);
       left = left_and_settled records (λ id. once settings records id legal)
-          (settled_within settings records (λ id outcome. told settings records id outcome legal) (unknown settings records));
+          (settled_within settings records (λ id outcome. told settings records id outcome legal)
+          (unknown settings records));
       few = omega (
         arith,
         count_by-le-length is_write (accepted_commands records),

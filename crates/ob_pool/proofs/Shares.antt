@@ -1,5 +1,6 @@
 -- The shares of a drive: one for each writer, and the last one.
-use Rattle.std.proofs.Common.{◌≡◌, ℕ, suc, ◌+◌, ◌≤◌, List, [], ◌∷◌, ◌++◌, length, map, sym, ap, ap₂, ◌∙◌, subst, append_assoc, arith}
+use Rattle.std.proofs.Common.{◌≡◌, ℕ, suc, ◌+◌, List, [], ◌∷◌, ◌++◌, length, map, sym, ap, ap₂, ◌∙◌, subst}
+use Rattle.std.proofs.Common.{append_assoc, arith}
 use Rattle.std.specs.List.{All, range_with_len}
 use Rattle.std.proofs.lemmas.List.{map-append, same_from_push}
 use Rattle.std.proofs.lemmas.List.Elements.{All-append, All-cons, All-nil}
@@ -20,7 +21,8 @@ last_maker writers callers shares first last new one_more split =
     (sym split ∙ new ∙ ap new_makers one_more ∙ map-range_with_len_more new_maker 0 writers writers same)
 
 -- the next share is the next caller's, and those behind it are of the callers behind that
-pub next_share : (next after : ℕ) (shares rest : List Maker) (share : Maker) (plan : List Command) (plans more : List (List Command)) →
+pub next_share : (next after : ℕ) (shares rest : List Maker) (share : Maker) (plan : List Command)
+    (plans more : List (List Command)) →
     shares ≡ map new_maker (range_with_len next (length plans)) → plans ≡ plan ∷ more → shares ≡ share ∷ rest →
     after ≡ next + 1 →
     (share ≡ new_maker next) × (rest ≡ map new_maker (range_with_len after (length more)))
@@ -42,7 +44,8 @@ abbrev deed : ℕ → ℕ → List Command → Deed
 deed caller made commands = record { caller = caller; made = made; commands = commands }
 
 -- what writers and the plans behind them are asked stays the same with one more writer
-pub asked_more : (next after : ℕ) (errands all : List Errand) (errand : Errand) (plans more : List (List Command)) (whole : List Deed) →
+pub asked_more : (next after : ℕ) (errands all : List Errand) (errand : Errand) (plans more : List (List Command))
+    (whole : List Deed) →
     map asked errands ++ deeds_from next plans ≡ whole → plans ≡ errand.plan ∷ more → errand.maker ≡ new_maker next →
     after ≡ next + 1 → all ≡ errands ++ errand ∷ [] → map asked all ++ deeds_from after more ≡ whole
 asked_more next after errands all errand plans more whole before begin share one_more pushed =
@@ -57,7 +60,8 @@ asked_more next after errands all errand plans more whole before begin share one
     ∙ ap (λ others. map asked errands ++ deeds_from next others) (sym begin) ∙ before
 
 -- the room of writers and of the plans behind them stays the same with one more writer
-pub rooms_more : (estimate : Estimate) (task : ℕ) (errands all : List Errand) (errand : Errand) (plans more : List (List Command)) (whole : ℕ) →
+pub rooms_more : (estimate : Estimate) (task : ℕ) (errands all : List Errand) (errand : Errand)
+    (plans more : List (List Command)) (whole : ℕ) →
     room_for errands + rooms_of estimate task plans ≡ whole → plans ≡ errand.plan ∷ more →
     errand.room ≡ room_of estimate task errand.plan → all ≡ errands ++ errand ∷ [] →
     room_for all + rooms_of estimate task more ≡ whole

@@ -1,6 +1,7 @@
 -- A report whose numbers are all counted. No public clause cites this module.
 use Rattle.std.specs.Prelude.{◌≡◌, ℕ}
-use Rattle.ob_pool.specs.Counts.{bits_of, cancels_of, flushes_of, is_cancelled, is_failed, is_success, left_of, refused_of, settled_as, taken_of, writes_of}
+use Rattle.ob_pool.specs.Counts.{bits_of, cancels_of, flushes_of, is_cancelled, is_failed, is_success, left_of}
+use Rattle.ob_pool.specs.Counts.{refused_of, settled_as, taken_of, writes_of}
 use Rattle.ob_pool.specs.declared.report.Report.{Report}
 
 -- each number of a report is the count of its line over the history, of which so many callers are writers

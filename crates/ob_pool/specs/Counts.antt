@@ -3,7 +3,8 @@ use Rattle.std.specs.Prelude.{ℕ, Bool, true, false, not, ◌&&◌, ◌==◌, n
 use Rattle.std.specs.List.{range_with_len}
 use Rattle.ob_types.specs.Write.{is_write}
 use Rattle.ob_types.specs.declared.command.Command.{Command}
-use Rattle.ob_types.specs.declared.command.Command.TheVariants.{Write, Flush, Remove, RemoveWith, RemoveBytes, Progress, Cancel, FailFlushed, Close, UserBit}
+use Rattle.ob_types.specs.declared.command.Command.TheVariants.{Write, Flush, Remove, RemoveWith, RemoveBytes, Progress}
+use Rattle.ob_types.specs.declared.command.Command.TheVariants.{Cancel, FailFlushed, Close, UserBit}
 use Rattle.ob_types.specs.declared.promise.Outcome.{Outcome}
 use Rattle.ob_types.specs.declared.promise.Outcome.TheVariants.{Success, Failed, Cancelled}
 use Rattle.ob_seq.specs.Settles.{times_settled}
@@ -11,70 +12,51 @@ use Rattle.ob_history.specs.Accepted.{accepted_commands, is_accepted}
 use Rattle.ob_history.specs.Settlements.{settlements_in}
 use Rattle.ob_history.specs.declared.record.Record.{Record}
 
+-- what a command is counted as: a flush, a cancellation, a user bit, a failing of what is flushed, and so many bytes
+-- removed
+pub record CountedAs : Type 0 where
+  pub flush : Bool
+  pub cancel : Bool
+  pub user_bit : Bool
+  pub failing : Bool
+  pub removed : ℕ
+
+-- as nothing of these
+abbrev pub uncounted : CountedAs
+uncounted = record { flush = false; cancel = false; user_bit = false; failing = false; removed = 0 }
+
+-- what each command is counted as
+abbrev pub counted_as : Command → CountedAs
+counted_as (Write message) = uncounted
+counted_as Flush = record uncounted { flush = true }
+counted_as Remove = uncounted
+counted_as (RemoveWith cause) = uncounted
+counted_as (RemoveBytes n) = record uncounted { removed = n }
+counted_as (Progress n) = uncounted
+counted_as (Cancel id) = record uncounted { cancel = true }
+counted_as (FailFlushed cause notify) = record uncounted { failing = true }
+counted_as (Close cause) = uncounted
+counted_as (UserBit index writable) = record uncounted { user_bit = true }
+
 -- whether a command is a flush
 abbrev pub is_flush : Command → Bool
-is_flush (Write message) = false
-is_flush Flush = true
-is_flush Remove = false
-is_flush (RemoveWith cause) = false
-is_flush (RemoveBytes n) = false
-is_flush (Progress n) = false
-is_flush (Cancel id) = false
-is_flush (FailFlushed cause notify) = false
-is_flush (Close cause) = false
-is_flush (UserBit index writable) = false
+is_flush command = (counted_as command).flush
 
 -- whether a command is a cancellation
 abbrev pub is_cancel : Command → Bool
-is_cancel (Write message) = false
-is_cancel Flush = false
-is_cancel Remove = false
-is_cancel (RemoveWith cause) = false
-is_cancel (RemoveBytes n) = false
-is_cancel (Progress n) = false
-is_cancel (Cancel id) = true
-is_cancel (FailFlushed cause notify) = false
-is_cancel (Close cause) = false
-is_cancel (UserBit index writable) = false
+is_cancel command = (counted_as command).cancel
 
 -- whether a command is a user bit
 abbrev pub is_user_bit : Command → Bool
-is_user_bit (Write message) = false
-is_user_bit Flush = false
-is_user_bit Remove = false
-is_user_bit (RemoveWith cause) = false
-is_user_bit (RemoveBytes n) = false
-is_user_bit (Progress n) = false
-is_user_bit (Cancel id) = false
-is_user_bit (FailFlushed cause notify) = false
-is_user_bit (Close cause) = false
-is_user_bit (UserBit index writable) = true
+is_user_bit command = (counted_as command).user_bit
 
 -- whether a command fails what is flushed
 abbrev pub is_failing : Command → Bool
-is_failing (Write message) = false
-is_failing Flush = false
-is_failing Remove = false
-is_failing (RemoveWith cause) = false
-is_failing (RemoveBytes n) = false
-is_failing (Progress n) = false
-is_failing (Cancel id) = false
-is_failing (FailFlushed cause notify) = true
-is_failing (Close cause) = false
-is_failing (UserBit index writable) = false
+is_failing command = (counted_as command).failing
 
 -- the bytes that a command removes
 abbrev pub removed_by : Command → ℕ
-removed_by (Write message) = 0
-removed_by Flush = 0
-removed_by Remove = 0
-removed_by (RemoveWith cause) = 0
-removed_by (RemoveBytes n) = n
-removed_by (Progress n) = 0
-removed_by (Cancel id) = 0
-removed_by (FailFlushed cause notify) = 0
-removed_by (Close cause) = 0
-removed_by (UserBit index writable) = 0
+removed_by command = (counted_as command).removed
 
 -- whether an outcome is a success
 abbrev pub is_success : Outcome → Bool

@@ -1,7 +1,8 @@
 -- What writers are given to do.
 use Rattle.std.specs.Prelude.{ℕ, Bool, true, false, not, List, position, Option}
 use Rattle.ob_types.specs.declared.command.Command.{Command}
-use Rattle.ob_types.specs.declared.command.Command.TheVariants.{Write, Flush, Remove, RemoveWith, RemoveBytes, Progress, Cancel, FailFlushed, Close, UserBit}
+use Rattle.ob_types.specs.declared.command.Command.TheVariants.{Write, Flush, Remove, RemoveWith, RemoveBytes, Progress}
+use Rattle.ob_types.specs.declared.command.Command.TheVariants.{Cancel, FailFlushed, Close, UserBit}
 
 -- whether a command may stand in a plan: a write, a flush, a cancellation or a user bit
 abbrev pub is_planned : Command → Bool

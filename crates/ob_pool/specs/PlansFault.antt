@@ -1,5 +1,7 @@
 -- What is wrong with plans before any of them is begun.
-use Rattle.std.specs.Prelude.{ℕ, suc, Bool, ◌||◌, ◌==◌, nat_lt, List, [], ◌∷◌, length, Option, Some, None, if◌then◌else◌}
+use Rattle.std.specs.Prelude.{ℕ, suc, Bool, ◌||◌, ◌==◌, nat_lt, if◌then◌else◌}
+use Rattle.std.specs.Prelude.{List, [], ◌∷◌, length, Option, Some, None}
+use Rattle.ob_core.specs.Limits.{greatest_room, most_lanes}
 use Rattle.ob_types.specs.declared.command.Command.{Command}
 use Rattle.ob_types.specs.declared.estimate.Estimate.{Estimate}
 use Rattle.ob_pool.specs.HandOff.{rooms_of}
@@ -7,9 +9,9 @@ use Rattle.ob_pool.specs.Plan.{bad_step}
 use Rattle.ob_pool.specs.declared.fault.DriveFault.{DriveFault}
 use Rattle.ob_pool.specs.declared.fault.DriveFault.TheVariants.{BadCount, BadPlan, TooMuchRoom}
 
--- there are 1 to 64 writers
+-- whether there is no writer, or more than may have a lane each
 abbrev pub is_bad_count : List (List Command) → Bool
-is_bad_count plans = (length plans == 0) || nat_lt 64 (length plans)
+is_bad_count plans = (length plans == 0) || nat_lt most_lanes (length plans)
 
 -- the writer's fault where its plan has a bad step, and else another
 abbrev pub fault_at : ℕ → Option ℕ → Option DriveFault → Option DriveFault
@@ -21,9 +23,9 @@ abbrev pub bad_plan_from : ℕ → List (List Command) → Option DriveFault
 bad_plan_from writer [] = None
 bad_plan_from writer (plan ∷ plans) = fault_at writer (bad_step plan) (bad_plan_from (suc writer) plans)
 
--- the fault of plans that need more room together than a word of 32 bits counts
+-- the fault of plans that need more room together than lanes may have
 abbrev pub room_fault : Estimate → ℕ → List (List Command) → Option DriveFault
-room_fault estimate task plans = if nat_lt 4294967295 (rooms_of estimate task plans) then Some TooMuchRoom else None
+room_fault estimate task plans = if nat_lt greatest_room (rooms_of estimate task plans) then Some TooMuchRoom else None
 
 -- the first of two faults
 abbrev pub first_of : Option DriveFault → Option DriveFault → Option DriveFault

@@ -6,6 +6,9 @@ ghost use Rattle.std.specs.Prelude.{IfErr, IfOk, IfSome, IsErrOf, IsOkUnless, Is
 ghost use Rattle.std.specs.Int.{bit_at};
 ghost use Rattle.std.specs.Thread.{IsSync};
 ghost use Rattle.ob_core.specs.Bits.{is_set};
+ghost use Rattle.ob_core.specs.Limits.{greatest_room};
+ghost use Rattle.ob_types.specs.declared.refusal.Refusal.{Refusal};
+ghost use Rattle.ob_types.specs.declared.refusal.Refusal.TheVariants.{HistoryFull};
 ghost use Rattle.ob_history.specs.Legal.{IsLegal};
 ghost use Rattle.ob_shared.specs.Finished.{HandsInAll};
 ghost use Rattle.ob_shared.specs.Handed.{made_by};
@@ -13,14 +16,15 @@ ghost use Rattle.ob_shared.specs.Maker.{new_makers};
 ghost use Rattle.ob_shared.specs.Opened.{IsAsOpened, IsNameOf};
 ghost use Rattle.ob_pool.specs.CarriedOut.{AreCarriedOut};
 ghost use Rattle.ob_pool.specs.Config.{AreWithin};
-ghost use Rattle.ob_pool.specs.Counts.{bits_of, cancels_of, failings_of, flushes_of, is_cancelled, is_failed, is_success};
-ghost use Rattle.ob_pool.specs.Counts.{left_of, refused_of, settled_as, taken_of, writes_of};
+ghost use Rattle.ob_pool.specs.Counts.{bits_of, cancels_of, failings_of, flushes_of, is_cancelled, is_failed};
+ghost use Rattle.ob_pool.specs.Counts.{is_success, left_of, refused_of, settled_as, taken_of, writes_of};
 ghost use Rattle.ob_pool.specs.Counted.{IsCounted};
-ghost use Rattle.ob_pool.specs.DriveFault.{number_of};
+ghost use Rattle.ob_pool.specs.DriveFault.{ComesOfWork, number_of};
 ghost use Rattle.ob_pool.specs.Errand.{AreDone, IsRoomy, asked, deeds_from, room_for};
 ghost use Rattle.ob_pool.specs.HandOff.{rooms_of};
 ghost use Rattle.ob_pool.specs.Keeping.{failings_in};
 ghost use Rattle.ob_pool.specs.PlansFault.{plans_fault};
+ghost use Rattle.ob_pool.specs.declared.fault.DriveFault.TheVariants.{Refused};
 
 use crate::bench::Bench;
 use crate::config::Config;
@@ -55,11 +59,11 @@ use std::time::Clock;
 /// the sink takes nothing, or after `turns` passes. With nothing to do while a writer runs it sleeps a millisecond.
 ///
 /// `BadCount` comes where there is no plan, or more than 64; then `BadPlan` names the first step that is no write,
-/// flush, cancellation or user bit; then `TooMuchRoom` comes where the greatest charges of all plans add up to more than
-/// 4294967295 bytes. These three come before a thread starts. `NoMemory` comes where the allocator refused, or a block
-/// has more owners than can be counted; `Stuck` where the gate held a writer too long; `Refused` where the history was
-/// full; `Transport` where a pass came to no end; `Finish` where the buffer could not be finished. The least writer's
-/// fault comes first, and writers' before the transport's. What the sink took before a fault stands.
+/// flush, cancellation or user bit; then `TooMuchRoom` comes where the greatest charges of all plans add up to more
+/// than 4294967295 bytes. These three come before a thread starts. `NoMemory` comes where the allocator refused, or a
+/// block has more owners than can be counted; `Stuck` where the gate held a writer too long; `Refused` where the
+/// history was full; `Transport` where a pass came to no end; `Finish` where the buffer could not be finished. The
+/// least writer's fault comes first, and writers' before the transport's. What the sink took before a fault stands.
 pub fn drive<R: Threads + Wait + Clock + Sync, G: Gate + Sync, S: Sink + Send>(
     rt: &R,
     alloc: Global,
@@ -72,6 +76,8 @@ pub fn drive<R: Threads + Wait + Clock + Sync, G: Gate + Sync, S: Sink + Send>(
     ensures refused { IfSome (plans_fault config.estimate config.task plans.items) (λ fault. IsErrOf result fault) }
     ensures planned { plans_fault config.estimate config.task plans.items ≡ None
         → IfErr result (λ fault. 3 < number_of fault) }
+    ensures full { (writer : ℕ) (refusal : Refusal) → IsErrOf result (Refused writer refusal)
+        → refusal ≡ HistoryFull }
 
     // The history is one of a single thread, in which each writer has carried its plan out.
     ensures legal { IfOk result (λ report. IsLegal report.recorded.settings report.recorded.records) }
@@ -79,6 +85,8 @@ pub fn drive<R: Threads + Wait + Clock + Sync, G: Gate + Sync, S: Sink + Send>(
         report.recorded.settings ≡ record { marks = config.marks; estimate = config.estimate }) }
     ensures limit { IfOk result (λ report. report.recorded.limit ≡ config.limit) }
     ensures plans { IfOk result (λ report. AreCarriedOut report.recorded.records plans.items) }
+    ensures callers { IfOk result (λ report.
+        All (λ one. one.caller ≤ length plans.items) report.recorded.records) }
     ensures failings { IfOk result (λ report.
         failings_of report.recorded.records + (S.content sink.old).failures ≤ (S.content sink.new).failures) }
 
@@ -124,11 +132,13 @@ fn driven<L: Named + Send + Sync, R: Threads + Wait + Clock + Sync, G: Gate + Sy
     requires config { AreWithin config }
     requires plans { plans_fault config.estimate config.task plans.items ≡ None }
     requires callers { opening.callers ≡ length plans.items + 1 }
-    ensures planned { IfErr result (λ fault. 3 < number_of fault) }
+    ensures planned { IfErr result ComesOfWork }
     ensures legal { IfOk result (λ report. IsLegal report.recorded.settings report.recorded.records) }
     ensures settings { IfOk result (λ report. report.recorded.settings ≡ opening.settings) }
     ensures limit { IfOk result (λ report. report.recorded.limit ≡ opening.limit) }
     ensures plans { IfOk result (λ report. AreCarriedOut report.recorded.records plans.items) }
+    ensures callers { IfOk result (λ report.
+        All (λ one. one.caller ≤ length plans.items) report.recorded.records) }
     ensures failings { IfOk result (λ report.
         failings_of report.recorded.records + (S.content sink.old).failures ≤ (S.content sink.new).failures) }
     ensures counts { IfOk result (λ report. IsCounted (length plans.items) report) }
@@ -176,7 +186,7 @@ fn writers_of<L: Named>(
     shares: Vec<Share<L>>,
 ) -> Result<Vec<Writer<L>>, DriveFault>
     requires shares { shares.items ≡ new_makers (length plans.items) }
-    requires fits { rooms_of estimate task plans.items ≤ 4294967295 }
+    requires fits { rooms_of estimate task plans.items ≤ greatest_room }
     ensures no_memory { IsOkUnless result DriveFault.NoMemory }
     ensures asked { IfOk result (λ writers. map asked writers.items ≡ deeds_from 0 plans.items) }
     ensures roomy { IfOk result (λ writers. All (IsRoomy estimate task) writers.items) }
@@ -217,12 +227,12 @@ fn run<L: Named + Send + Sync, R: Threads + Wait + Clock + Sync, G: Gate + Sync,
     ensures words { result.0.0.words ≡ lane.words }
     ensures lane_room { result.0.0.lane.room ≡ lane.lane.room }
     ensures done { IfOk result.0.1 (λ dones. AreDone writers.items dones.items) }
-    ensures writers { IfErr result.0.1 (λ fault. 3 < number_of fault) }
+    ensures writers { IfErr result.0.1 ComesOfWork }
     ensures caller { IfOk result.1 (λ done. done.maker.caller ≡ share.caller) }
     ensures made { IfOk result.1 (λ done. done.maker.made ≡ share.made + length done.receipts) }
     ensures failings { IfOk result.1 (λ done.
         failings_in done.receipts + (S.content sink.old).failures ≤ (S.content sink.new).failures) }
-    ensures transport { IfErr result.1 (λ fault. 3 < number_of fault) }
+    ensures transport { IfErr result.1 ComesOfWork }
 {
     let mut start = Some((lane, writers));
     let mut side = Side {
@@ -238,7 +248,7 @@ fn run<L: Named + Send + Sync, R: Threads + Wait + Clock + Sync, G: Gate + Sync,
         ensures words { IfSome start.entry (λ s. result.0.words ≡ s.0.words) }
         ensures lane_room { IfSome start.entry (λ s. result.0.lane.room ≡ s.0.lane.room) }
         ensures done { IfSome start.entry (λ s. IfOk result.1 (λ dones. AreDone s.1.items dones.items)) }
-        ensures fault { IfErr result.1 (λ fault. 3 < number_of fault) }
+        ensures fault { IfErr result.1 ComesOfWork }
     { work(rt, gate, bench, start.take()) };
     let mut carry = || carry(rt, config, &mut side, sink);
     let (carried, worked) = join_mut(rt, &mut carry, &mut work);
@@ -267,7 +277,7 @@ fn carry<L: Named, R: Wait + Clock, S: Sink>(
         done.maker.made ≡ share.made + length done.receipts)) }
     ensures failings { IfOk result (λ done.
         failings_in done.receipts + (S.content sink.old).failures ≤ (S.content sink.new).failures) }
-    ensures fault { IfErr result (λ fault. 3 < number_of fault) }
+    ensures fault { IfErr result ComesOfWork }
 {
     let Some(share) = side.share.take() else {
         unreachable!()
@@ -298,7 +308,7 @@ fn work<L: Named + Send + Sync, R: Threads + Wait + Clock + Sync, G: Gate + Sync
     ensures words { IfSome start (λ s. result.0.words ≡ s.0.words) }
     ensures lane_room { IfSome start (λ s. result.0.lane.room ≡ s.0.lane.room) }
     ensures done { IfSome start (λ s. IfOk result.1 (λ dones. AreDone s.1.items dones.items)) }
-    ensures fault { IfErr result.1 (λ fault. 3 < number_of fault) }
+    ensures fault { IfErr result.1 ComesOfWork }
 {
     let Some((lane, writers)) = start else {
         unreachable!()
@@ -314,7 +324,7 @@ fn finished<L: Named>(
     mut dones: Vec<Done<L>>,
     done: Done<L>,
 ) -> Result<Recorded, DriveFault>
-    ensures planned { IfErr result (λ fault. 3 < number_of fault) }
+    ensures planned { IfErr result ComesOfWork }
     ensures opened { IfOk result (λ recorded. IsAsOpened L.opened recorded) }
     ensures counted { IfOk result (λ recorded. length recorded.records ≡ made_by (dones.items ++ done ∷ [])) }
     ensures own { IfOk result (λ recorded. All (HandsInAll recorded.records) (dones.items ++ done ∷ [])) }

@@ -1,6 +1,8 @@
 //! What is wrong with plans, and the room that they need.
 
 ghost use Rattle.std.specs.Prelude.{◌≡◌, ◌<◌, ◌≤◌, length, IfSome, IsNone};
+ghost use Rattle.ob_core.specs.Limits.{greatest_room, most_lanes};
+ghost use Rattle.ob_pool.specs.DriveFault.{number_of};
 ghost use Rattle.ob_pool.specs.HandOff.{charge_for, charge_of, room_of, rooms_of};
 ghost use Rattle.ob_pool.specs.Plan.{bad_step, is_planned};
 ghost use Rattle.ob_pool.specs.PlansFault.{bad_plan_from, plans_fault};
@@ -9,7 +11,7 @@ use crate::fault::DriveFault;
 use crate::plan::Plan;
 use ob_types::{Command, Estimate, Message};
 
-/// The most writers of one drive.
+/// The most writers of one drive, each with a lane. Our own limit.
 const MOST_WRITERS: usize = 64;
 
 /// What a message is charged while it is handed off.
@@ -67,8 +69,9 @@ fn bad_step(plan: &Plan) -> Option<usize>
 
 /// The first bad step of plans.
 fn bad_plan(plans: &[Plan]) -> Option<DriveFault>
-    requires { length plans.now ≤ 64 }
-    ensures { result ≡ bad_plan_from 0 plans.now }
+    requires { length plans.now ≤ most_lanes }
+    ensures value { result ≡ bad_plan_from 0 plans.now }
+    ensures early { IfSome result (λ fault. number_of fault ≤ 3) }
 {
     let mut writer = 0;
     for plan in plans {
@@ -83,7 +86,7 @@ fn bad_plan(plans: &[Plan]) -> Option<DriveFault>
 /// The room that plans need together, or nothing where that is more than a word of 32 bits counts.
 pub fn rooms_of(estimate: Estimate, task: u32, plans: &[Plan]) -> Option<u32>
     ensures fits { IfSome result (λ rooms. rooms ≡ rooms_of estimate task plans.now) }
-    ensures none { IsNone result → 4294967295 < rooms_of estimate task plans.now }
+    ensures none { IsNone result → greatest_room < rooms_of estimate task plans.now }
 {
     let mut rooms = 0u32;
     for plan in plans {
@@ -95,7 +98,8 @@ pub fn rooms_of(estimate: Estimate, task: u32, plans: &[Plan]) -> Option<u32>
 
 /// The first fault of plans, if there is one.
 pub fn plans_fault(estimate: Estimate, task: u32, plans: &[Plan]) -> Option<DriveFault>
-    ensures { result ≡ plans_fault estimate task plans.now }
+    ensures value { result ≡ plans_fault estimate task plans.now }
+    ensures early { IfSome result (λ fault. number_of fault ≤ 3) }
 {
     if plans.is_empty() || plans.len() > MOST_WRITERS {
         return Some(DriveFault::BadCount);

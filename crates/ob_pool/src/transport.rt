@@ -1,8 +1,8 @@
 //! The transport, which takes the desk for one pass at a time.
 
-ghost use Rattle.std.specs.Prelude.{◌≡◌, ◌+◌, ◌<◌, ◌≤◌, length, IfErr, IfOk, IfSome};
+ghost use Rattle.std.specs.Prelude.{◌≡◌, ◌+◌, ◌≤◌, length, IfErr, IfOk, IfSome};
 ghost use Rattle.ob_pool.specs.Counts.{failings_of};
-ghost use Rattle.ob_pool.specs.DriveFault.{number_of};
+ghost use Rattle.ob_pool.specs.DriveFault.{ComesOfWork};
 ghost use Rattle.ob_pool.specs.Keeping.{failings_in};
 
 use crate::config::Config;
@@ -48,7 +48,7 @@ pub fn transport<L: Named, S: Sink, R: Wait + Clock>(
     ensures made { IfOk result (λ done. done.maker.made ≡ share.made + length done.receipts) }
     ensures failings { IfOk result (λ done.
         failings_in done.receipts + (S.content sink.old).failures ≤ (S.content sink.new).failures) }
-    ensures fault { IfErr result (λ fault. 3 < number_of fault) }
+    ensures fault { IfErr result ComesOfWork }
 {
     let mut share = share;
     let mut receipts = Vec::new(alloc);
@@ -93,7 +93,7 @@ fn one_pass<L: Named, K: Begun, S: Sink>(
         result.0.made + length receipts.items ≡ desk.entry.maker.made + length kept.items) }
     ensures failings { IfSome result.1 (λ kept. failings_in kept.items + (S.content sink.old).failures
         ≤ failings_in receipts.items + (S.content sink.new).failures) }
-    ensures fault { IfErr result.2 (λ fault. 3 < number_of fault) }
+    ensures fault { IfErr result.2 ComesOfWork }
 {
     let mut keeper = Keeper::<L, K>::new(desk, receipts);
     let end = pass_or_fail(&mut keeper, sink, limits);
@@ -112,7 +112,7 @@ fn pass_or_fail<B: Booked, S: Sink>(
     ensures caller { B.caller booked.new ≡ B.caller booked.old }
     ensures failings { failings_of (B.history booked.new).records + (S.content sink.old).failures
         ≤ failings_of (B.history booked.old).records + (S.content sink.new).failures }
-    ensures fault { IfErr result (λ fault. 3 < number_of fault) }
+    ensures fault { IfErr result ComesOfWork }
 {
     match pass(booked, sink, limits) {
         Ok(Pass::Idle | Pass::Stalled) => Ok(Next::Rest),

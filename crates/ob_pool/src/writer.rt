@@ -1,7 +1,7 @@
 //! One writer, who carries its plan out, command by command.
 
-ghost use Rattle.std.specs.Prelude.{◌≡◌, ◌<◌, ◌≤◌, IfOk, IfErr};
-ghost use Rattle.ob_pool.specs.DriveFault.{number_of};
+ghost use Rattle.std.specs.Prelude.{◌≡◌, ◌≤◌, IfOk, IfErr};
+ghost use Rattle.ob_pool.specs.DriveFault.{ComesOfWork};
 ghost use Rattle.ob_pool.specs.Errand.{asked, done_by, IsRoomy};
 ghost use Rattle.ob_pool.specs.HandOff.{charge_for, charge_of};
 ghost use Rattle.ob_shared.specs.Maker.{one_more};
@@ -41,8 +41,10 @@ impl<L: Named> Model for Writer<L> {
 pub enum Halt {
     /// The gate held it for too long.
     Stuck,
-    /// The shared buffer took no record of a command: the history is full, or memory was refused.
-    Refused(Refusal),
+    /// The shared buffer took no record of a command, for the history is full.
+    HistoryFull,
+    /// The shared buffer took no record of a command, for memory was refused.
+    NoMemory,
 }
 
 impl<L: Named> Writer<L> {
@@ -61,7 +63,7 @@ impl<L: Named> Writer<L> {
         ensures words { result.0.words ≡ lane.words }
         ensures room { result.0.lane.room ≡ lane.lane.room }
         ensures done { IfOk result.1 (λ done. done_by done ≡ asked self) }
-        ensures fault { IfErr result.1 (λ fault. 3 < number_of fault) }
+        ensures fault { IfErr result.1 ComesOfWork }
     {
         let Writer {
             share,
@@ -175,17 +177,22 @@ fn one_call<L: Named, R: Wait>(
     let share = desk.leave();
     match answer {
         Ok(receipt) => Ok((share, receipt)),
-        Err(refusal) => Err(Halt::Refused(refusal)),
+        Err(Refusal::HistoryFull) => Err(Halt::HistoryFull),
+        Err(Refusal::NoMemory) => Err(Halt::NoMemory),
+        Err(_) => unreachable!(),
     }
 }
 
 /// The fault of a drive whose writer ended so.
 fn fault_of(writer: u32, halt: Halt) -> DriveFault
-    ensures { 3 < number_of result }
+    ensures { ComesOfWork result }
 {
     match halt {
         Halt::Stuck => DriveFault::Stuck { writer },
-        Halt::Refused(Refusal::NoMemory) => DriveFault::NoMemory,
-        Halt::Refused(refusal) => DriveFault::Refused { writer, refusal },
+        Halt::HistoryFull => DriveFault::Refused {
+            writer,
+            refusal: Refusal::HistoryFull,
+        },
+        Halt::NoMemory => DriveFault::NoMemory,
     }
 }

@@ -3,7 +3,7 @@
 ghost use Rattle.std.specs.Prelude.{◌≡◌, ◌+◌, ◌<◌, ◌≤◌, ◌^◌, ◌++◌, IfErr, IfOk, IsOkAnd, vec_len};
 ghost use Rattle.std.specs.List.{All};
 ghost use Rattle.std.specs.Thread.{IsSync};
-ghost use Rattle.ob_pool.specs.DriveFault.{number_of};
+ghost use Rattle.ob_pool.specs.DriveFault.{ComesOfWork};
 ghost use Rattle.ob_pool.specs.Errand.{AreDone, IsRoomy, room_for};
 
 use crate::bench::Bench;
@@ -36,7 +36,7 @@ pub fn work_all<L: Named + Send + Sync, R: Threads + Wait + Clock + Sync, G: Gat
     ensures words { result.0.words ≡ lane.words }
     ensures room { result.0.lane.room ≡ lane.lane.room }
     ensures done { IfOk result.1 (λ dones. AreDone writers.items dones.items) }
-    ensures fault { IfErr result.1 (λ fault. 3 < number_of fault) }
+    ensures fault { IfErr result.1 ComesOfWork }
 {
     if writers.len() < 2 {
         return at_most_one(rt, gate, bench, lane, writers);
@@ -75,7 +75,7 @@ fn both_halves<L: Named + Send + Sync, R: Threads + Wait + Clock + Sync, G: Gate
     ensures words { result.0.words ≡ lane.words }
     ensures room { result.0.lane.room ≡ lane.lane.room + other.lane.room }
     ensures done { IfOk result.1 (λ dones. AreDone (writers.items ++ others.items) dones.items) }
-    ensures fault { IfErr result.1 (λ fault. 3 < number_of fault) }
+    ensures fault { IfErr result.1 ComesOfWork }
 {
     let first = move || -> Worked<L>
         requires row { IsSync R.row }
@@ -86,7 +86,7 @@ fn both_halves<L: Named + Send + Sync, R: Threads + Wait + Clock + Sync, G: Gate
         ensures words { result.0.words ≡ lane.words }
         ensures room { result.0.lane.room ≡ lane.lane.room }
         ensures done { IfOk result.1 (λ dones. AreDone writers.items dones.items) }
-        ensures fault { IfErr result.1 (λ fault. 3 < number_of fault) }
+        ensures fault { IfErr result.1 ComesOfWork }
     { work_all(rt, gate, bench, lane, writers) };
     let second = move || -> Worked<L>
         requires row { IsSync R.row }
@@ -97,7 +97,7 @@ fn both_halves<L: Named + Send + Sync, R: Threads + Wait + Clock + Sync, G: Gate
         ensures words { result.0.words ≡ other.words }
         ensures room { result.0.lane.room ≡ other.lane.room }
         ensures done { IfOk result.1 (λ dones. AreDone others.items dones.items) }
-        ensures fault { IfErr result.1 (λ fault. 3 < number_of fault) }
+        ensures fault { IfErr result.1 ComesOfWork }
     { work_all(rt, gate, bench, other, others) };
     let ((lane, dones), (other, more)) = join(rt, first, second);
     (lane.join(&bench.words, other), both_handed(dones, more))
@@ -110,8 +110,7 @@ fn both_handed<L: Named>(
 ) -> Result<Vec<Done<L>>, DriveFault>
     ensures first { IfOk result (λ all. IsOkAnd dones (λ one. IsOkAnd more (λ other.
         all.items ≡ one.items ++ other.items))) }
-    ensures fault { IfErr dones (λ fault. 3 < number_of fault) → IfErr more (λ fault. 3 < number_of fault)
-        → IfErr result (λ fault. 3 < number_of fault) }
+    ensures fault { IfErr dones ComesOfWork → IfErr more ComesOfWork → IfErr result ComesOfWork }
 {
     let mut dones = dones?;
     let mut more = more?;
@@ -136,7 +135,7 @@ fn at_most_one<L: Named, R: Wait + Clock, G: Gate>(
     ensures words { result.0.words ≡ lane.words }
     ensures room { result.0.lane.room ≡ lane.lane.room }
     ensures done { IfOk result.1 (λ dones. AreDone writers.items dones.items) }
-    ensures fault { IfErr result.1 (λ fault. 3 < number_of fault) }
+    ensures fault { IfErr result.1 ComesOfWork }
 {
     let mut dones = Vec::new(bench.alloc);
     let Some(writer) = writers.pop() else {

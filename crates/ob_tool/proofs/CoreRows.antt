@@ -24,14 +24,18 @@ no_lane : script_fault language (codes "k 0") ≡ Some (1, Misplaced)
 no_lane = refl
 
 -- a lane after a turn
-late_lane : script_fault language (codes "lane 9 0" ++ newline ++ codes "w 0" ++ newline ++ codes "lane 9 0") ≡ Some (3, Misplaced)
+late_lane : script_fault language (codes "lane 9 0" ++ newline ++ codes "w 0" ++ newline ++ codes "lane 9 0")
+    ≡ Some (3, Misplaced)
 late_lane = refl
 
 -- a mark stuck below low
-a_mark_stuck_below_low : trace_of language (codes "lane 200 0" ++ newline ++ codes "lane 200 0" ++ newline ++ codes "c 1 80" ++ newline ++ codes "c 0 30" ++ newline
+a_mark_stuck_below_low : trace_of language (codes "lane 200 0" ++ newline ++ codes "lane 200 0" ++ newline
+    ++ codes "c 1 80" ++ newline ++ codes "c 0 30" ++ newline
     ++ codes "d 1" ++ newline ++ codes "k 1" ++ newline ++ codes "k 0" ++ newline)
-    ≡ codes "lane 0" ++ newline ++ codes "lane 1" ++ newline ++ codes "add t=80 w=00000000" ++ newline ++ codes "add t=110 w=00000000" ++ newline
-    ++ codes "sub t=30 w=00000000" ++ newline ++ codes "lower t=30 w=00000000" ++ newline ++ codes "raise t=30 w=00000001 -" ++ newline
+    ≡ codes "lane 0" ++ newline ++ codes "lane 1" ++ newline ++ codes "add t=80 w=00000000" ++ newline
+    ++ codes "add t=110 w=00000000" ++ newline
+    ++ codes "sub t=30 w=00000000" ++ newline ++ codes "lower t=30 w=00000000" ++ newline
+    ++ codes "raise t=30 w=00000001 -" ++ newline
     ++ codes "end quiet owed=30" ++ newline
 unfolding digits padded_integral char_count
 a_mark_stuck_below_low = refl

@@ -1,5 +1,6 @@
 -- What a core session has carried out, one line after another.
-use Rattle.std.proofs.Common.{◌≡◌, ◌∙◌, ◌++◌, Bool, true, false, cond, List, [], ◌∷◌, Option, None, Some, Result, Ok, Err, IfOk, refl, ap, sym}
+use Rattle.std.proofs.Common.{◌≡◌, ◌∙◌, ◌++◌, Bool, true, false, cond, List, [], ◌∷◌, Option, None, Some, Result, Ok}
+use Rattle.std.proofs.Common.{Err, IfOk, refl, ap, sym}
 use Rattle.std.specs.Prelude.{option_map}
 use Rattle.ob_types.specs.WaterMark.{Marks}
 use Rattle.ob_core.specs.CoreState.{CoreState, WorldState}
@@ -23,7 +24,8 @@ lanes_of-turn [] turn = refl
 lanes_of-turn (line.Lane start ∷ lines) turn = ap (λ s. start ∷ s) (lanes_of-turn lines turn)
 lanes_of-turn (line.Turn first ∷ lines) turn = refl
 
-turns_of-turn : (lines : List CoreLine) (turn : Turn) → turns_of (lines ++ line.Turn turn ∷ []) ≡ turns_of lines ++ turn ∷ []
+turns_of-turn : (lines : List CoreLine) (turn : Turn)
+    → turns_of (lines ++ line.Turn turn ∷ []) ≡ turns_of lines ++ turn ∷ []
 turns_of-turn [] turn = refl
 turns_of-turn (line.Lane start ∷ lines) turn = turns_of-turn lines turn
 turns_of-turn (line.Turn first ∷ lines) turn = ap (λ t. first ∷ t) (turns_of-turn lines turn)
@@ -34,7 +36,8 @@ turns_of-lane [] start = refl
 turns_of-lane (line.Lane first ∷ lines) start = turns_of-lane lines start
 turns_of-lane (line.Turn turn ∷ lines) start = ap (λ t. turn ∷ t) (turns_of-lane lines start)
 
-lanes_of-lane : (lines : List CoreLine) (start : LaneStart) → has_turn lines ≡ false → lanes_of (lines ++ line.Lane start ∷ []) ≡ lanes_of lines ++ start ∷ []
+lanes_of-lane : (lines : List CoreLine) (start : LaneStart) → has_turn lines ≡ false
+    → lanes_of (lines ++ line.Lane start ∷ []) ≡ lanes_of lines ++ start ∷ []
 lanes_of-lane [] start none = refl
 lanes_of-lane (line.Lane first ∷ lines) start none = ap (λ s. first ∷ s) (lanes_of-lane lines start none)
 lanes_of-lane (line.Turn turn ∷ lines) start none = absurd cc
@@ -58,14 +61,16 @@ core_after_all-more core (first ∷ turns) turn = core_after_all-more (core_afte
 abbrev once : Marks → List LaneStart → List Turn → Option CoreState
 once marks starts turns = cond (has_any starts) (Some (core_after_all (new_core marks starts) turns)) None
 
-once-lane : (marks : Marks) (starts : List LaneStart) (start : LaneStart) → once marks (starts ++ start ∷ []) [] ≡ Some (new_core marks (starts ++ start ∷ []))
+once-lane : (marks : Marks) (starts : List LaneStart) (start : LaneStart)
+    → once marks (starts ++ start ∷ []) [] ≡ Some (new_core marks (starts ++ start ∷ []))
 once-lane marks [] start = refl
 once-lane marks (first ∷ starts) start = refl
 
 once-turn : (marks : Marks) (starts : List LaneStart) (turns : List Turn) (turn : Turn)
     → option_map (λ core. core_after core turn) (once marks starts turns) ≡ once marks starts (turns ++ turn ∷ [])
 once-turn marks [] turns turn = refl
-once-turn marks (first ∷ starts) turns turn = ap Some (sym (core_after_all-more (new_core marks (first ∷ starts)) turns turn))
+once-turn marks (first ∷ starts) turns turn =
+    ap Some (sym (core_after_all-more (new_core marks (first ∷ starts)) turns turn))
 
 core_once-lane : (marks : Marks) (lines : List CoreLine) (start : LaneStart) → has_turn lines ≡ false
     → core_once marks (lines ++ line.Lane start ∷ []) ≡ Some (new_core marks (lanes_of lines ++ start ∷ []))
@@ -83,21 +88,26 @@ core_once-turn marks lines turn =
     ∙ ap (once marks (lanes_of (lines ++ line.Turn turn ∷ []))) (sym (turns_of-turn lines turn))
 
 core_of-turn : (world : Option WorldState) (turn : Turn)
-    → option_map (λ (w : WorldState). core_after w.core turn) world ≡ option_map (λ core. core_after core turn) (option_map (λ (w : WorldState). w.core) world)
+    → option_map (λ (w : WorldState). core_after w.core turn) world
+    ≡ option_map (λ core. core_after core turn) (option_map (λ (w : WorldState). w.core) world)
 core_of-turn None turn = refl
 core_of-turn (Some world) turn = refl
 
 -- a session that took a lane has carried it out
-pub lane_done : {E : Type 0} (result : Result Bool E) (old new : CoreSession) (start : LaneStart) → new.marks ≡ old.marks
+pub lane_done : {E : Type 0} (result : Result Bool E) (old new : CoreSession) (start : LaneStart)
+    → new.marks ≡ old.marks
     → IfOk result (λ fits. fits ≡ true → new.starts.items ≡ old.starts.items ++ start ∷ [])
-    → IfOk result (λ fits. fits ≡ true → option_map (λ world. world.core) new.world ≡ Some (new_core old.marks (old.starts.items ++ start ∷ [])))
+    → IfOk result (λ fits. fits ≡ true
+    → option_map (λ world. world.core) new.world ≡ Some (new_core old.marks (old.starts.items ++ start ∷ [])))
     → IfOk result (λ fits. fits ≡ true → (old.turned ≡ false) × (new.turned ≡ false))
-    → IfOk result (λ fits. fits ≡ true → (before : List CoreLine) → HasPlayed old before → HasPlayed new (before ++ line.Lane start ∷ []))
+    → IfOk result (λ fits. fits ≡ true → (before : List CoreLine) → HasPlayed old before
+    → HasPlayed new (before ++ line.Lane start ∷ []))
 lane_done (Err error) old new start marks starts core turned = tt
 lane_done (Ok fits) old new start marks starts core turned = λ yes before played.
     let none : has_turn before ≡ false = sym played.2 ∙ (turned yes).0 in (
       starts yes ∙ ap (λ s. s ++ start ∷ []) played.0 ∙ sym (lanes_of-lane before start none),
-      core yes ∙ ap (λ s. Some (new_core old.marks (s ++ start ∷ []))) played.0 ∙ sym (core_once-lane old.marks before start none)
+      core yes ∙ ap (λ s. Some (new_core old.marks (s ++ start ∷ []))) played.0
+          ∙ sym (core_once-lane old.marks before start none)
           ∙ ap (λ m. core_once m (before ++ line.Lane start ∷ [])) (sym marks),
       (turned yes).1 ∙ sym (ap has_any (turns_of-lane before start) ∙ none),
     )
@@ -105,13 +115,16 @@ lane_done (Ok fits) old new start marks starts core turned = λ yes before playe
 -- and so has one that gave a turn
 pub turn_done : {E : Type 0} (result : Result Bool E) (old new : CoreSession) (turn : Turn) → new.marks ≡ old.marks
     → IfOk result (λ fits. fits ≡ true → new.starts.items ≡ old.starts.items)
-    → IfOk result (λ fits. fits ≡ true → option_map (λ world. world.core) new.world ≡ option_map (λ world. core_after world.core turn) old.world)
+    → IfOk result (λ fits. fits ≡ true
+    → option_map (λ world. world.core) new.world ≡ option_map (λ world. core_after world.core turn) old.world)
     → IfOk result (λ fits. fits ≡ true → new.turned ≡ true)
-    → IfOk result (λ fits. fits ≡ true → (before : List CoreLine) → HasPlayed old before → HasPlayed new (before ++ line.Turn turn ∷ []))
+    → IfOk result (λ fits. fits ≡ true → (before : List CoreLine) → HasPlayed old before
+    → HasPlayed new (before ++ line.Turn turn ∷ []))
 turn_done (Err error) old new turn marks starts core turned = tt
 turn_done (Ok fits) old new turn marks starts core turned = λ yes before played. (
   starts yes ∙ played.0 ∙ sym (lanes_of-turn before turn),
-  core yes ∙ core_of-turn old.world turn ∙ ap (option_map (λ c. core_after c turn)) played.1 ∙ core_once-turn old.marks before turn
+  core yes ∙ core_of-turn old.world turn ∙ ap (option_map (λ c. core_after c turn)) played.1
+      ∙ core_once-turn old.marks before turn
       ∙ ap (λ m. core_once m (before ++ line.Turn turn ∷ [])) (sym marks),
   turned yes ∙ sym (ap has_any (turns_of-turn before turn) ∙ has_any-more (turns_of before) turn),
 )
@@ -119,7 +132,8 @@ turn_done (Ok fits) old new turn marks starts core turned = λ yes before played
 -- the last text, by the core that a session has
 last_at : (has : Bool) (core behind : CoreState) → Some core ≡ cond has (Some behind) None
     → end_text (is_quiet core) (sum_owed core.lanes) ≡ cond has (end_text (is_quiet behind) (sum_owed behind.lanes)) []
-last_at true core behind e = let same : core ≡ behind = cc in ap (λ (c : CoreState). end_text (is_quiet c) (sum_owed c.lanes)) same
+last_at true core behind e =
+    let same : core ≡ behind = cc in ap (λ (c : CoreState). end_text (is_quiet c) (sum_owed c.lanes)) same
 last_at false core behind e = absurd cc
 
 pub last_text-once : (marks : Marks) (lines : List CoreLine) (core : CoreState) → Some core ≡ core_once marks lines

@@ -15,10 +15,12 @@ is_idle-Idle ToRaise e = absurd cc
 is_idle-Idle ToLower e = absurd cc
 
 quiet-is_quiet : (core : CoreState) → IsQuiet core → is_quiet core ≡ true
-quiet-is_quiet core quiet = list_all-from_AllPass (λ (lane : Lane). is_idle lane.phase) core.lanes (λ k d h. ap is_idle (quiet k d h))
+quiet-is_quiet core quiet =
+    list_all-from_AllPass (λ (lane : Lane). is_idle lane.phase) core.lanes (λ k d h. ap is_idle (quiet k d h))
 
 is_quiet-quiet : (core : CoreState) → is_quiet core ≡ true → IsQuiet core
-is_quiet-quiet core e = λ k d h. is_idle-Idle _ (AllPass-from_list_all (λ (lane : Lane). is_idle lane.phase) core.lanes e k d h)
+is_quiet-quiet core e = λ k d h.
+    is_idle-Idle _ (AllPass-from_list_all (λ (lane : Lane). is_idle lane.phase) core.lanes e k d h)
 
 -- a flag that says whether a core is quiet is the definition's
 pub quiet-same : (flag : Bool) (core : CoreState) → (IsTrue flag ↔ IsQuiet core) → flag ≡ is_quiet core

@@ -46,7 +46,8 @@ a_million_passes : most_turns (script_lines drive_language []) ≡ 1000000
 a_million_passes = refl
 
 -- a second line with `then`, and a 65th writer
-told_twice : script_fault drive_language (codes "then 7" ++ newline ++ codes "f 0" ++ newline ++ codes "then 7") ≡ Some (3, Misplaced)
+told_twice : script_fault drive_language (codes "then 7" ++ newline ++ codes "f 0" ++ newline ++ codes "then 7")
+    ≡ Some (3, Misplaced)
 told_twice = refl
 
 no_such_writer : script_fault drive_language (codes "f 63" ++ newline ++ codes "f 64") ≡ Some (2, OutOfRange)

@@ -12,11 +12,14 @@ use Rattle.ob_tool.specs.declared.run_fault.RunFault.{RunFault}
 use Rattle.ob_tool.specs.declared.run_fault.RunFault.TheVariants.{Line, Read, TooLong, Write, NoMemory, Drive}
 
 -- the status 2 comes of a faulty line alone, up to which all is written
-cut_short_at : (request : Request) (fault : RunFault) (script : List ℕ) (old new : Option (List ℕ)) → status_of fault ≡ 2
-    → (WentThrough {T = Unit {0}} (Err fault) → WritesRequested request script (fault_told {T = Unit {0}} (Err fault)) old new)
+cut_short_at : (request : Request) (fault : RunFault) (script : List ℕ) (old new : Option (List ℕ))
+    → status_of fault ≡ 2
+    → (WentThrough {T = Unit {0}} (Err fault)
+    → WritesRequested request script (fault_told {T = Unit {0}} (Err fault)) old new)
     → (WentThrough {T = Unit {0}} (Err fault) → fault_told {T = Unit {0}} (Err fault) ≡ requested_fault request script)
     → (told : ℕ × LineFault) × WritesWhole script (Some told) old new
-cut_short_at request (Line number fault) script old new status written told = ((number, fault), (request, written tt, sym (told tt)))
+cut_short_at request (Line number fault) script old new status written told =
+    ((number, fault), (request, written tt, sym (told tt)))
 cut_short_at request Read script old new status written told = absurd cc
 cut_short_at request TooLong script old new status written told = absurd cc
 cut_short_at request Write script old new status written told = absurd cc
@@ -24,12 +27,16 @@ cut_short_at request NoMemory script old new status written told = absurd cc
 cut_short_at request (Drive fault) script old new status written told = absurd cc
 
 -- and so where the script is known
-pub cut_short : (request : Request) (fault : RunFault) (read : Option (List ℕ)) (old new : Option (List ℕ)) → status_of fault ≡ 2
-    → (WentThrough {T = Unit {0}} (Err fault) → IfSome read (λ script. WritesRequested request script (fault_told {T = Unit {0}} (Err fault)) old new))
-    → (WentThrough {T = Unit {0}} (Err fault) → IfSome read (λ script. fault_told {T = Unit {0}} (Err fault) ≡ requested_fault request script))
+pub cut_short : (request : Request) (fault : RunFault) (read : Option (List ℕ)) (old new : Option (List ℕ))
+    → status_of fault ≡ 2
+    → (WentThrough {T = Unit {0}} (Err fault)
+    → IfSome read (λ script. WritesRequested request script (fault_told {T = Unit {0}} (Err fault)) old new))
+    → (WentThrough {T = Unit {0}} (Err fault)
+    → IfSome read (λ script. fault_told {T = Unit {0}} (Err fault) ≡ requested_fault request script))
     → IfSome read (λ script. (told : ℕ × LineFault) × WritesWhole script (Some told) old new)
 cut_short request fault None old new status written told = tt
-cut_short request fault (Some script) old new status written told = cut_short_at request fault script old new status written told
+cut_short request fault (Some script) old new status written told =
+    cut_short_at request fault script old new status written told
 
 -- where no script was read, nothing was written, and that is the trace of no lines
 untraced_at : (script : List ℕ) (held : Option (List ℕ)) → WritesTraceOfFirst script held held
@@ -41,8 +48,10 @@ untraced None held = tt
 untraced (Some script) held = untraced_at script held
 
 -- the status 4 comes of want of memory alone, up to which the trace of some first lines is written
-out_of_memory_at : (request : Request) (fault : RunFault) (script : List ℕ) (old new : Option (List ℕ)) → status_of fault ≡ 4
-    → (IsErrOf {T = Unit {0}} (Err fault) NoMemory → (count : ℕ) × Appends old new (requested_trace_of_first count request script))
+out_of_memory_at : (request : Request) (fault : RunFault) (script : List ℕ) (old new : Option (List ℕ))
+    → status_of fault ≡ 4
+    → (IsErrOf {T = Unit {0}} (Err fault) NoMemory
+    → (count : ℕ) × Appends old new (requested_trace_of_first count request script))
     → WritesTraceOfFirst script old new
 out_of_memory_at request NoMemory script old new status traced = let told = traced refl in (request, told.0, told.1)
 out_of_memory_at request (Line number fault) script old new status traced = absurd cc
@@ -52,8 +61,11 @@ out_of_memory_at request Write script old new status traced = absurd cc
 out_of_memory_at request (Drive fault) script old new status traced = absurd cc
 
 -- and so where the script is known
-pub out_of_memory : (request : Request) (fault : RunFault) (read : Option (List ℕ)) (old new : Option (List ℕ)) → status_of fault ≡ 4
-    → (IsErrOf {T = Unit {0}} (Err fault) NoMemory → IfSome read (λ script. (count : ℕ) × Appends old new (requested_trace_of_first count request script)))
+pub out_of_memory : (request : Request) (fault : RunFault) (read : Option (List ℕ)) (old new : Option (List ℕ))
+    → status_of fault ≡ 4
+    → (IsErrOf {T = Unit {0}} (Err fault) NoMemory
+    → IfSome read (λ script. (count : ℕ) × Appends old new (requested_trace_of_first count request script)))
     → IfSome read (λ script. WritesTraceOfFirst script old new)
 out_of_memory request fault None old new status traced = tt
-out_of_memory request fault (Some script) old new status traced = out_of_memory_at request fault script old new status traced
+out_of_memory request fault (Some script) old new status traced =
+    out_of_memory_at request fault script old new status traced

@@ -7,15 +7,18 @@ use Rattle.ob_tool.specs.declared.range.Range.{Range}
 use Rattle.ob_tool.specs.declared.line_fault.LineFault.{LineFault}
 use Rattle.ob_tool.specs.declared.line_fault.LineFault.TheVariants.{TooFewWords, TooManyWords}
 
-pub all_numbers_in-few : (ranges : List Range) (words : List (List ℕ)) → length words < length ranges → all_numbers_in ranges words ≡ Err TooFewWords
+pub all_numbers_in-few : (ranges : List Range) (words : List (List ℕ)) → length words < length ranges
+    → all_numbers_in ranges words ≡ Err TooFewWords
 all_numbers_in-few ranges words h = simp (lt-ltb (length words) (length ranges) h)
 
-pub all_numbers_in-many : (ranges : List Range) (words : List (List ℕ)) → length ranges < length words → all_numbers_in ranges words ≡ Err TooManyWords
+pub all_numbers_in-many : (ranges : List Range) (words : List (List ℕ)) → length ranges < length words
+    → all_numbers_in ranges words ≡ Err TooManyWords
 all_numbers_in-many ranges words h =
     let over : length ranges ≤ length words = omega arith in
     simp (le-ltb (length words) (length ranges) over, lt-ltb (length ranges) (length words) h)
 
-pub all_numbers_in-exact : (ranges : List Range) (words : List (List ℕ)) → length words ≡ length ranges → all_numbers_in ranges words ≡ numbers_in ranges words
+pub all_numbers_in-exact : (ranges : List Range) (words : List (List ℕ)) → length words ≡ length ranges
+    → all_numbers_in ranges words ≡ numbers_in ranges words
 all_numbers_in-exact ranges words e =
     let low : length ranges ≤ length words = omega arith in
     let high : length words ≤ length ranges = omega arith in
@@ -27,6 +30,7 @@ pub asked_by-Ok : {L : Type 0} (asked : (ℕ → ℕ) → L) (array : List ℕ) 
 asked_by-Ok asked array (Ok numbers) held = ap (λ number. Ok (asked number)) (fun_ext held)
 asked_by-Ok asked array (Err fault) held = absurd held
 
-pub asked_by-Err : {L : Type 0} (asked : (ℕ → ℕ) → L) (found : LineFault) (read : Result (List ℕ) LineFault) → HoldsNumbers (Err found) read → Err found ≡ asked_by asked read
+pub asked_by-Err : {L : Type 0} (asked : (ℕ → ℕ) → L) (found : LineFault) (read : Result (List ℕ) LineFault)
+    → HoldsNumbers (Err found) read → Err found ≡ asked_by asked read
 asked_by-Err asked found (Ok numbers) held = absurd held
 asked_by-Err asked found (Err fault) held = ap Err held

@@ -1,5 +1,6 @@
 -- The first line of a script, and the first word of a line.
-use Rattle.std.proofs.Common.{◌≡◌, ℕ, suc, ◌+◌, ◌<◌, Bool, true, false, not, cond, eqb, List, [], ◌∷◌, length, take, drop, get_or, count_by, length-drop, refl, ap, ◌∙◌, arith, one-add, Some, None, inl, inr}
+use Rattle.std.proofs.Common.{◌≡◌, ℕ, suc, ◌+◌, ◌<◌, Bool, true, false, not, cond, eqb, List, [], ◌∷◌, length, take}
+use Rattle.std.proofs.Common.{drop, get_or, count_by, length-drop, refl, ap, ◌∙◌, arith, one-add, Some, None, inl, inr}
 use Rattle.std.specs.List.{onto_first, position, position_or_len}
 use Rattle.std.proofs.lemmas.List.Sums.{prefix_len-le-length, passes_at_first}
 use Rattle.std.proofs.lemmas.List.Splits.{length-slice_split}
@@ -21,20 +22,26 @@ with_byte b s n e =
     rw one-add (ap (onto_first b) e ∙ ap (λ m. (b ∷ take n s) ∷ lines_of (drop m (b ∷ s))) shift)
 
 -- the line goes to the first byte 10, or to the end
-pub lines_of-first : (s : List ℕ) → 0 < length s → lines_of s ≡ take (position_or_len (λ b. eqb b 10) s) s ∷ lines_of (drop (position_or_len (λ b. eqb b 10) s + 1) s)
+pub lines_of-first : (s : List ℕ) → 0 < length s
+    → lines_of s
+    ≡ take (position_or_len (λ b. eqb b 10) s) s ∷ lines_of (drop (position_or_len (λ b. eqb b 10) s + 1) s)
 lines_of-first [] h = absurd (omega arith)
 lines_of-first (b ∷ []) h =
-    elim (eqb b 10) as (λ t. cond t ([] ∷ []) ((b ∷ []) ∷ []) ≡ take (cond (not t) 1 0) (b ∷ []) ∷ lines_of (drop (cond (not t) 1 0 + 1) (b ∷ []))) [ true ↦ refl | false ↦ refl ]
+    elim (eqb b 10) as (λ t. cond t ([] ∷ []) ((b ∷ []) ∷ [])
+    ≡ take (cond (not t) 1 0) (b ∷ []) ∷ lines_of (drop (cond (not t) 1 0 + 1) (b ∷ [])))
+    [ true ↦ refl | false ↦ refl ]
 lines_of-first (b ∷ c ∷ s) h =
     let n = position_or_len (λ x. eqb x 10) (c ∷ s) in
     let rest = lines_of-first (c ∷ s) (omega arith) in
-    elim (eqb b 10) as (λ t. cond t ([] ∷ lines_of (c ∷ s)) (onto_first b (lines_of (c ∷ s))) ≡ take (cond (not t) (1 + n) 0) (b ∷ c ∷ s) ∷ lines_of (drop (cond (not t) (1 + n) 0 + 1) (b ∷ c ∷ s))) [
+    elim (eqb b 10) as (λ t. cond t ([] ∷ lines_of (c ∷ s)) (onto_first b (lines_of (c ∷ s)))
+    ≡ take (cond (not t) (1 + n) 0) (b ∷ c ∷ s) ∷ lines_of (drop (cond (not t) (1 + n) 0 + 1) (b ∷ c ∷ s))) [
       | true ↦ refl
       | false ↦ with_byte b (c ∷ s) n rest
     ]
 
 -- the word goes to the first space, or to the end
-pub words_of-first : (s : List ℕ) → words_of s ≡ take (position_or_len (λ b. eqb b 32) s) s ∷ words_after (drop (position_or_len (λ b. eqb b 32) s) s)
+pub words_of-first : (s : List ℕ)
+    → words_of s ≡ take (position_or_len (λ b. eqb b 32) s) s ∷ words_after (drop (position_or_len (λ b. eqb b 32) s) s)
 words_of-first [] = refl
 words_of-first (b ∷ s) = elim (cases_Bool (eqb b 32)) [
   | inl e ↦ simp e

@@ -15,10 +15,12 @@ OnOk-follows (Err e) f p = p
 pub history_after_lines-more : (history : History) (lines : List ScriptLine) (line : ScriptLine)
     → history_after_line (history_after_lines history lines) line ≡ history_after_lines history (lines ++ line ∷ [])
 history_after_lines-more history [] line = refl
-history_after_lines-more history (first ∷ lines) line = history_after_lines-more (history_after_line history first) lines line
+history_after_lines-more history (first ∷ lines) line =
+    history_after_lines-more (history_after_line history first) lines line
 
 -- the text of a block's write is the trace line of its line
-pub block-told : (history : History) (size : ℕ) (command : Command) (line : ScriptLine) (old new : List ℕ) → command ≡ block_write history size
+pub block-told : (history : History) (size : ℕ) (command : Command) (line : ScriptLine) (old new : List ℕ)
+    → command ≡ block_write history size
     → line ≡ Block size → new ≡ old ++ call_text history command → new ≡ old ++ line_trace history line
 block-told history size command line old new made is told =
     told ∙ ap (λ c. old ++ call_text history c) made ∙ ap (λ l. old ++ line_trace history l) (sym is)

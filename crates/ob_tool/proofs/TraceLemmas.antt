@@ -1,5 +1,7 @@
 -- The trace of some first lines of a script, one line after another.
-use Rattle.std.proofs.Common.{◌≡◌, ◌∙◌, ℕ, zero, suc, ◌+◌, ◌++◌, Bool, true, false, not, cond, List, [], ◌∷◌, length, take, drop, Result, Ok, Err, Option, None, Some, refl, ap, sym, arith, append_assoc, append-nil, add-one, take-append-drop, take_all}
+use Rattle.std.proofs.Common.{◌≡◌, ◌∙◌, ℕ, zero, suc, ◌+◌, ◌++◌, Bool, true, false, not, cond, List, [], ◌∷◌, length}
+use Rattle.std.proofs.Common.{take, drop, Result, Ok, Err, Option, None, Some, refl, ap, sym, arith, append_assoc}
+use Rattle.std.proofs.Common.{append-nil, add-one, take-append-drop, take_all}
 use Rattle.std.specs.Prelude.{map}
 use Rattle.std.specs.Io.KnownBytes.{Keeps, append_known}
 use Rattle.ob_tool.specs.Language.{Language}
@@ -11,7 +13,8 @@ use Rattle.ob_tool.specs.declared.line_fault.LineFault.{LineFault}
 use Rattle.ob_tool.specs.declared.line_fault.LineFault.TheVariants.{Misplaced}
 
 -- one line more of a list whose rest is known
-pub take-one_more : {A : Type 0} (n : ℕ) (xs ys : List A) (y : A) → drop n xs ≡ y ∷ ys → (take (n + 1) xs ≡ take n xs ++ y ∷ []) × (drop (n + 1) xs ≡ ys)
+pub take-one_more : {A : Type 0} (n : ℕ) (xs ys : List A) (y : A) → drop n xs ≡ y ∷ ys
+    → (take (n + 1) xs ≡ take n xs ++ y ∷ []) × (drop (n + 1) xs ≡ ys)
 take-one_more zero [] ys y e = absurd cc
 take-one_more (suc n) [] ys y e = absurd cc
 take-one_more zero (x ∷ xs) ys y e = (cc, cc)
@@ -26,7 +29,8 @@ take-drop_nil n xs e = sym (append-nil (take n xs)) ∙ ap (λ t. take n xs ++ t
 
 -- the trace of two runs of lines, one after the other
 trace_behind-append : {L : Type 0} (language : Language L) (before xs ys : List L)
-    → trace_behind language before (xs ++ ys) ≡ trace_behind language before xs ++ trace_behind language (before ++ xs) ys
+    → trace_behind language before (xs ++ ys) ≡ trace_behind language before xs
+    ++ trace_behind language (before ++ xs) ys
 trace_behind-append language before [] ys = ap (λ b. trace_behind language b ys) (sym (append-nil before))
 trace_behind-append language before (x ∷ xs) ys =
     let text = language.line_text before x in
@@ -38,7 +42,8 @@ trace_behind-append language before (x ∷ xs) ys =
 -- the trace of one line more
 pub trace_of_first-more : {L : Type 0} (n : ℕ) (language : Language L) (script : List ℕ) (line : L) (rest : List L)
     → drop n (script_lines language script) ≡ line ∷ rest
-    → trace_of_first (n + 1) language script ≡ trace_of_first n language script ++ language.line_text (take n (script_lines language script)) line
+    → trace_of_first (n + 1) language script ≡ trace_of_first n language script
+    ++ language.line_text (take n (script_lines language script)) line
 trace_of_first-more n language script line rest left =
     let before = take n (script_lines language script) in
     ap (trace_behind language []) (take-one_more n (script_lines language script) rest line left).0
@@ -47,7 +52,8 @@ trace_of_first-more n language script line rest left =
 
 -- a line that fits stands before those of the rest
 pub readings-Ok : {L : Type 0} (language : Language L) (before : List L) (script line rest : List ℕ) (asked : L)
-    → lines_of script ≡ line ∷ lines_of rest → language.reading line ≡ Ok asked → language.is_misplaced before asked ≡ false
+    → lines_of script ≡ line ∷ lines_of rest → language.reading line ≡ Ok asked
+    → language.is_misplaced before asked ≡ false
     → readings_behind language before script ≡ Ok asked ∷ readings_behind language (before ++ asked ∷ []) rest
 readings-Ok language before script line rest asked first read fits =
     ap (λ lines. all_placed language before (map language.reading lines)) first
@@ -56,7 +62,8 @@ readings-Ok language before script line rest asked first read fits =
 
 -- a misplaced line ends the script
 pub readings-Misplaced : {L : Type 0} (language : Language L) (before : List L) (script line rest : List ℕ) (asked : L)
-    → lines_of script ≡ line ∷ lines_of rest → language.reading line ≡ Ok asked → language.is_misplaced before asked ≡ true
+    → lines_of script ≡ line ∷ lines_of rest → language.reading line ≡ Ok asked
+    → language.is_misplaced before asked ≡ true
     → readings_behind language before script ≡ Err Misplaced ∷ readings_behind language (before ++ asked ∷ []) rest
 readings-Misplaced language before script line rest asked first read misplaced =
     ap (λ lines. all_placed language before (map language.reading lines)) first
@@ -64,14 +71,17 @@ readings-Misplaced language before script line rest asked first read misplaced =
     ∙ ap (λ t. cond t (Err Misplaced) (Ok asked) ∷ readings_behind language (before ++ asked ∷ []) rest) misplaced
 
 -- and so does another faulty line
-pub readings-Err : {L : Type 0} (language : Language L) (before : List L) (script line rest : List ℕ) (fault : LineFault)
-    → lines_of script ≡ line ∷ lines_of rest → language.reading line ≡ Err fault → readings_behind language before script ≡ Err fault ∷ []
+pub readings-Err : {L : Type 0} (language : Language L) (before : List L) (script line rest : List ℕ)
+    (fault : LineFault)
+    → lines_of script ≡ line ∷ lines_of rest → language.reading line ≡ Err fault
+    → readings_behind language before script ≡ Err fault ∷ []
 readings-Err language before script line rest fault first read =
     ap (λ lines. all_placed language before (map language.reading lines)) first
     ∙ ap (λ r. all_placed language before (r ∷ map language.reading (lines_of rest))) read
 
 -- a script of no bytes has no lines
-pub readings-nil : {L : Type 0} (language : Language L) (before : List L) (script : List ℕ) → length script ≡ 0 → readings_behind language before script ≡ []
+pub readings-nil : {L : Type 0} (language : Language L) (before : List L) (script : List ℕ) → length script ≡ 0
+    → readings_behind language before script ≡ []
 readings-nil language before [] e = refl
 readings-nil language before (byte ∷ script) e = absurd (omega arith)
 
@@ -79,19 +89,24 @@ readings-nil language before (byte ∷ script) e = absurd (omega arith)
 pub trace_of-whole : {L : Type 0} (language : Language L) (script : List ℕ) → script_fault language script ≡ None
     → trace_of_lines language script ++ language.last_text (script_lines language script) ≡ trace_of language script
 trace_of-whole language script e =
-    ap (λ o. trace_of_lines language script ++ text_unless o (language.last_text (script_lines language script))) (sym e)
+    ap (λ o. trace_of_lines language script ++ text_unless o (language.last_text (script_lines language script)))
+    (sym e)
 
 -- the trace of a script with a fault
-pub trace_of-cut : {L : Type 0} (language : Language L) (script : List ℕ) (fault : ℕ × LineFault) → script_fault language script ≡ Some fault
+pub trace_of-cut : {L : Type 0} (language : Language L) (script : List ℕ) (fault : ℕ × LineFault)
+    → script_fault language script ≡ Some fault
     → trace_of_lines language script ≡ trace_of language script
 trace_of-cut language script fault e =
     sym (append-nil (trace_of_lines language script))
-    ∙ ap (λ o. trace_of_lines language script ++ text_unless o (language.last_text (script_lines language script))) (sym e)
+    ∙ ap (λ o. trace_of_lines language script ++ text_unless o (language.last_text (script_lines language script)))
+    (sym e)
 
 -- the trace of all lines is that of so many first lines
 pub all_lines : {L : Type 0} (language : Language L) (script : List ℕ)
     → trace_of_first (length (script_lines language script)) language script ≡ trace_of_lines language script
-all_lines language script = ap (trace_behind language []) (take_all (length (script_lines language script)) (script_lines language script) (omega arith))
+all_lines language script =
+    ap (trace_behind language [])
+    (take_all (length (script_lines language script)) (script_lines language script) (omega arith))
 
 -- a line that does not fit is misplaced
 pub fits-false : (fits misplaced : Bool) → fits ≡ false → fits ≡ not misplaced → misplaced ≡ true
@@ -104,11 +119,13 @@ fits-true fits true e same = absurd cc
 fits-true fits false e same = refl
 
 -- the fault behind a line that fits is that of the rest
-pub first_fault-more : {L : Type 0} (number : ℕ) (line : L) (readings : List (Result L LineFault)) → first_fault number (Ok line ∷ readings) ≡ first_fault (number + 1) readings
+pub first_fault-more : {L : Type 0} (number : ℕ) (line : L) (readings : List (Result L LineFault))
+    → first_fault number (Ok line ∷ readings) ≡ first_fault (number + 1) readings
 first_fault-more number line readings = rw add-one refl
 
 -- what waits grows with the trace
-pub HasTraced-more : (start held : Option (List ℕ)) (waiting text more grown : List ℕ) → HasTraced start held waiting text → grown ≡ waiting ++ more
+pub HasTraced-more : (start held : Option (List ℕ)) (waiting text more grown : List ℕ)
+    → HasTraced start held waiting text → grown ≡ waiting ++ more
     → HasTraced start held grown (text ++ more)
 HasTraced-more None held waiting text more grown traced e = tt
 HasTraced-more (Some x) None waiting text more grown traced e = absurd traced

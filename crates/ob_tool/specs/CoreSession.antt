@@ -10,7 +10,8 @@ use Rattle.ob_tool.specs.declared.core_session.CoreSession.{CoreSession}
 abbrev pub core_once : Marks → List CoreLine → Option CoreState
 core_once marks lines = if has_lane lines then Some (core_behind marks lines) else None
 
--- a session has carried out these lines: its lanes are theirs, its world is the core behind them, and it knows of a turn
+-- a session has carried out these lines: its lanes are theirs, its world is the core behind them, and it knows of a
+-- turn
 abbrev pub HasPlayed : CoreSession → List CoreLine → Type 0
 HasPlayed session lines =
     (session.starts.items ≡ lanes_of lines)

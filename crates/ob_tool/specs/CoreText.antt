@@ -4,7 +4,8 @@ use Rattle.std.specs.Fmt.{decimal}
 use Rattle.ob_types.specs.declared.reply.Change.{Change}
 use Rattle.ob_core.specs.AskFault.{number_of}
 use Rattle.ob_core.specs.declared.event.Event.{Event}
-use Rattle.ob_core.specs.declared.event.Event.TheVariants.{Added, Subtracted, Raised, Lowered, BitSet, BitCleared, ReadWord, ReadTotal, Nothing, Refused}
+use Rattle.ob_core.specs.declared.event.Event.TheVariants.{Added, Subtracted, Raised, Lowered, BitSet, BitCleared}
+use Rattle.ob_core.specs.declared.event.Event.TheVariants.{ReadWord, ReadTotal, Nothing, Refused}
 use Rattle.ob_tool.specs.Text.{change_text, words_text}
 
 -- an event of a turn

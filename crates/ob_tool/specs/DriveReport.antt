@@ -1,5 +1,6 @@
 -- What the report of a drive tells.
-use Rattle.std.specs.Prelude.{◌≡◌, ℕ, ◌<◌, false, List, length, Option}
+use Rattle.std.specs.Prelude.{◌≡◌, ℕ, ◌<◌, ◌≤◌, false, List, length, Option}
+use Rattle.std.specs.List.{All}
 use Rattle.std.specs.Int.{bit_at}
 use Rattle.std.specs.Io.KnownBytes.{Appends}
 use Rattle.ob_core.specs.Bits.{is_set}
@@ -14,12 +15,14 @@ use Rattle.ob_tool.specs.Options.{first_history}
 use Rattle.ob_tool.specs.declared.options.Options.{Options}
 
 -- a report tells of a drive of these plans with these options: its history is legal, began as the options say, and has
--- every plan carried out; each number is the count of its line over it, and the words of the hand-off have come to rest
+-- every plan carried out, with records of the writers and of one caller behind them; each number is the count of its
+-- line over it, and the words of the hand-off have come to rest
 pub record TellsOf (options : Options) (plans : List (List Command)) (report : Report) : Type 0 where
   pub legal : IsLegal report.recorded.settings report.recorded.records
   pub settings : report.recorded.settings ≡ (first_history options).settings
   pub limit : report.recorded.limit ≡ options.limit
   pub carried_out : AreCarriedOut report.recorded.records plans
+  pub callers : All (λ one. one.caller ≤ length plans) report.recorded.records
   pub writes : report.writes ≡ writes_of report.recorded.records
   pub flushes : report.flushes ≡ flushes_of report.recorded.records
   pub cancels : report.cancels ≡ cancels_of report.recorded.records

@@ -21,6 +21,8 @@ abbrev pub WritesWhole : List ℕ → Option (ℕ × LineFault) → Option (List
 WritesWhole script fault old new =
     (request : Request) × WritesRequested request script fault old new × (requested_fault request script ≡ fault)
 
--- for something that the program may be asked for, the trace of some first lines of the script is written and nothing else
+-- for something that the program may be asked for, the trace of some first lines of the script is written and nothing
+-- else
 abbrev pub WritesTraceOfFirst : List ℕ → Option (List ℕ) → Option (List ℕ) → Type 0
-WritesTraceOfFirst script old new = (request : Request) × (count : ℕ) × Appends old new (requested_trace_of_first count request script)
+WritesTraceOfFirst script old new = (request : Request) × (count : ℕ)
+    × Appends old new (requested_trace_of_first count request script)

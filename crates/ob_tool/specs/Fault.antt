@@ -1,7 +1,8 @@
 -- The faults of a script line, by number.
 use Rattle.std.specs.Prelude.{ℕ}
 use Rattle.ob_tool.specs.declared.line_fault.LineFault.{LineFault}
-use Rattle.ob_tool.specs.declared.line_fault.LineFault.TheVariants.{UnknownWord, NotANumber, OutOfRange, TooFewWords, TooManyWords, LongLine, Misplaced}
+use Rattle.ob_tool.specs.declared.line_fault.LineFault.TheVariants.{UnknownWord, NotANumber, OutOfRange, TooFewWords}
+use Rattle.ob_tool.specs.declared.line_fault.LineFault.TheVariants.{TooManyWords, LongLine, Misplaced}
 
 -- the number under which a fault is told
 abbrev pub fault_number_of : LineFault → ℕ

@@ -2,7 +2,8 @@
 use Rattle.std.specs.Prelude.{◌==◌, ℕ, List, [], ◌∷◌, drop, if◌then◌else◌}
 use Rattle.std.specs.List.{slice_split, onto_first}
 
--- a script of no bytes has no line; the byte 10 ends a line, and any other byte goes onto the first line of what follows
+-- a script of no bytes has no line; the byte 10 ends a line, and any other byte goes onto the first line of what
+-- follows
 abbrev pub lines_of : List ℕ → List (List ℕ)
 lines_of [] = []
 lines_of (byte ∷ bytes) = if byte == 10 then [] ∷ lines_of bytes else onto_first byte (lines_of bytes)

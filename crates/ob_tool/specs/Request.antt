@@ -24,9 +24,11 @@ abbrev pub WritesDrive : Options → List ℕ → Option (ℕ × LineFault) → 
 WritesDrive options script None old new = WritesReport options (plans_of (script_lines drive_language script)) old new
 WritesDrive options script (Some fault) old new = Keeps old new
 
--- what is asked for is written and nothing else, where this fault, if any, ends the script: the trace, or what a drive writes
+-- what is asked for is written and nothing else, where this fault, if any, ends the script: the trace, or what a drive
+-- writes
 abbrev pub WritesRequested : Request → List ℕ → Option (ℕ × LineFault) → Option (List ℕ) → Option (List ℕ) → Type 0
-WritesRequested (Run options) script fault old new = Appends old new (trace_of (run_language (first_history options)) script)
+WritesRequested (Run options) script fault old new =
+    Appends old new (trace_of (run_language (first_history options)) script)
 WritesRequested (Core marks) script fault old new = Appends old new (trace_of (core_language marks) script)
 WritesRequested (Drive options) script fault old new = WritesDrive options script fault old new
 

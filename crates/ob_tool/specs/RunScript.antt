@@ -24,7 +24,8 @@ block_bytes accepted size = map (λ k. (accepted + k) % 256) (range_with_len 0 s
 
 -- the write of a script's block of this size after a history
 abbrev pub block_write : History → ℕ → Command
-block_write history size = command.Write (message.Block (block_bytes (writes_in (accepted_commands history.records)) size))
+block_write history size =
+    command.Write (message.Block (block_bytes (writes_in (accepted_commands history.records)) size))
 
 -- the history after a script line: a block and a command leave a record
 abbrev pub history_after_line : History → ScriptLine → History
@@ -43,7 +44,8 @@ line_trace history (line.Block size) = call_text history (block_write history si
 line_trace history (line.Command command) = call_text history command
 line_trace history line.Look = look_text (seen_now history).look
 line_trace history (line.Gather max_count max_bytes) =
-    gathered_text (gathered_after history.settings (accepted_commands history.records) max_count max_bytes) (seen_now history).look
+    gathered_text (gathered_after history.settings (accepted_commands history.records) max_count max_bytes)
+    (seen_now history).look
 
 -- the history after script lines
 abbrev pub history_after_lines : History → List ScriptLine → History

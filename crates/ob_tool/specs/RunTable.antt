@@ -20,7 +20,8 @@ any_64 = up_to 18446744073709551615
 -- the first words that there are
 abbrev pub run_words : List LineWord
 run_words =
-    word.Block ∷ word.Region ∷ word.Other ∷ word.Flush ∷ word.Remove ∷ word.RemoveWith ∷ word.RemoveBytes ∷ word.Progress
+    word.Block ∷ word.Region ∷ word.Other ∷ word.Flush ∷ word.Remove ∷ word.RemoveWith ∷ word.RemoveBytes ∷
+    word.Progress
     ∷ word.Cancel ∷ word.FailFlushed ∷ word.Close ∷ word.UserBit ∷ word.Look ∷ word.Gather ∷ []
 
 -- the kind of line that a word begins

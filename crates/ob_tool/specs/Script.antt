@@ -24,7 +24,8 @@ placed language before line = if language.is_misplaced before line then Err Misp
 -- what each line says behind those before it; nothing is asked of the lines behind one that cannot be read
 abbrev pub all_placed : {L : Type 0} → Language L → List L → List (Result L LineFault) → List (Result L LineFault)
 all_placed language before [] = []
-all_placed language before (Ok line ∷ readings) = placed language before line ∷ all_placed language (before ++ line ∷ []) readings
+all_placed language before (Ok line ∷ readings) =
+    placed language before line ∷ all_placed language (before ++ line ∷ []) readings
 all_placed language before (Err fault ∷ readings) = Err fault ∷ []
 
 -- what each line of a script says, where these lines stand before it

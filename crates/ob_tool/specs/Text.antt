@@ -1,5 +1,6 @@
 -- The text of a trace line.
-use Rattle.std.specs.Prelude.{ℕ, ◌^◌, ◌-◌, true, false, List, [], ◌∷◌, ◌++◌, length, codes, Option, None, Some, Result, Ok, Err}
+use Rattle.std.specs.Prelude.{ℕ, ◌^◌, ◌-◌, true, false, List, [], ◌∷◌, ◌++◌, length, codes, Option, None, Some, Result}
+use Rattle.std.specs.Prelude.{Ok, Err}
 use Rattle.std.specs.List.{flat_map}
 use Rattle.std.specs.Fmt.{decimal, digits, padded_integral, format_spec}
 use Rattle.ob_types.specs.Refusal.{number_of}
@@ -50,17 +51,20 @@ outcome_text Cancelled = codes "x"
 abbrev pub settlement_text : (PromiseId × Outcome) → List ℕ
 settlement_text settlement = codes " " ++ decimal settlement.0.0 ++ codes ":" ++ outcome_text settlement.1
 
--- the line of a command: its answer or the number of its refusal, the look after it, and then the change and the settlements
+-- the line of a command: its answer or the number of its refusal, the look after it, and then the change and the
+-- settlements
 abbrev pub command_text : Result Reply Refusal → Look → List ℕ
 command_text (Ok reply) look =
-    answer_text reply.answer ++ levels_text look ++ change_text reply.change ++ flat_map settlement_text reply.settled ++ 10 ∷ []
+    answer_text reply.answer ++ levels_text look ++ change_text reply.change ++ flat_map settlement_text reply.settled
+    ++ 10 ∷ []
 command_text (Err refusal) look = codes "!" ++ decimal (number_of refusal) ++ levels_text look ++ 10 ∷ []
 
 -- the line of a look
 abbrev pub look_text : Look → List ℕ
 look_text look =
     codes "size=" ++ decimal look.size ++ codes " cur=" ++ decimal look.current_progress ++
-    codes " bu=" ++ decimal look.before_unwritable ++ codes " bw=" ++ decimal look.before_writable ++ levels_text look ++ 10 ∷ []
+    codes " bu=" ++ decimal look.before_unwritable ++ codes " bw=" ++ decimal look.before_writable ++ levels_text look
+    ++ 10 ∷ []
 
 -- the length of one gathered block
 abbrev pub length_text : List ℕ → List ℕ

@@ -7,7 +7,8 @@ use Rattle.ob_tool.specs.declared.line_fault.LineFault.{LineFault}
 -- the trace of lines behind others: a line of text for each
 abbrev pub trace_behind : {L : Type 0} → Language L → List L → List L → List ℕ
 trace_behind language before [] = []
-trace_behind language before (line ∷ lines) = language.line_text before line ++ trace_behind language (before ++ line ∷ []) lines
+trace_behind language before (line ∷ lines) = language.line_text before line
+    ++ trace_behind language (before ++ line ∷ []) lines
 
 -- the text behind the lines of a script, by its fault: nothing where there is one
 abbrev pub text_unless : Option (ℕ × LineFault) → List ℕ → List ℕ
@@ -21,7 +22,8 @@ trace_of_lines language script = trace_behind language [] (script_lines language
 -- the trace of a script
 abbrev pub trace_of : {L : Type 0} → Language L → List ℕ → List ℕ
 trace_of language script =
-    trace_of_lines language script ++ text_unless (script_fault language script) (language.last_text (script_lines language script))
+    trace_of_lines language script
+    ++ text_unless (script_fault language script) (language.last_text (script_lines language script))
 
 -- the trace of the first lines of a script, so many of those that are carried out
 abbrev pub trace_of_first : {L : Type 0} → ℕ → Language L → List ℕ → List ℕ

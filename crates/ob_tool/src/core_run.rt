@@ -27,18 +27,22 @@ pub fn core<R: Read, W: Write>(
     // At the end of the script or at its first faulty line, the trace of what was read is written and nothing else.
     ensures trace { WentThrough result → IfSome (R.remaining reader.old) (λ script.
         Appends (W.contents writer.old) (W.contents writer.new) (trace_of (core_language marks) script)) }
-    ensures fault { WentThrough result → IfSome (R.remaining reader.old) (λ script. fault_told result ≡ script_fault (core_language marks) script) }
+    ensures fault { WentThrough result
+        → IfSome (R.remaining reader.old) (λ script. fault_told result ≡ script_fault (core_language marks) script) }
     ensures end { WentThrough result → IsAtEnd (R.remaining reader.new) }
     ensures within { WentThrough result → IfSome (R.remaining reader.old) (λ script. length script ≤ 16777216) }
 
     // Where memory runs out, the trace of some first lines is written and nothing else.
     ensures no_memory { IsErrOf result RunFault.NoMemory → IfSome (R.remaining reader.old) (λ script.
-        (count : ℕ) × Appends (W.contents writer.old) (W.contents writer.new) (trace_of_first count (core_language marks) script)) }
+        (count : ℕ) × Appends (W.contents writer.old) (W.contents writer.new)
+        (trace_of_first count (core_language marks) script)) }
 
     // A script that was not read leaves the writer alone.
     ensures unread { IsErrOf result RunFault.Read → Keeps (W.contents writer.old) (W.contents writer.new) }
-    ensures too_long { IsErrOf result RunFault.TooLong → IfSome (R.remaining reader.old) (λ script. 16777216 < length script) }
-    ensures too_long_unwritten { IsErrOf result RunFault.TooLong → Keeps (W.contents writer.old) (W.contents writer.new) }
+    ensures too_long { IsErrOf result RunFault.TooLong
+        → IfSome (R.remaining reader.old) (λ script. 16777216 < length script) }
+    ensures too_long_unwritten { IsErrOf result RunFault.TooLong
+        → Keeps (W.contents writer.old) (W.contents writer.new) }
 
     // Nothing is driven.
     ensures undriven { IfErr result (λ fault. status_of fault ≤ 4) }

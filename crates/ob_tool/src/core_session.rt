@@ -1,4 +1,5 @@
-ghost use Rattle.std.specs.Prelude.{◌≡◌, ◌++◌, ◌||◌, [], ◌∷◌, None, Some, true, false, not, is_some, length, option_map, IfOk, OnOk, string_bytes};
+ghost use Rattle.std.specs.Prelude.{◌≡◌, ◌++◌, ◌||◌, [], ◌∷◌, None, Some, true, false, not, is_some, length};
+ghost use Rattle.std.specs.Prelude.{option_map, IfOk, OnOk, string_bytes};
 ghost use Rattle.std.specs.Option.{option_map_or};
 ghost use Rattle.ob_core.specs.Opening.{new_core, opening_fault};
 ghost use Rattle.ob_core.specs.Turn.{core_after};
@@ -50,10 +51,13 @@ impl CoreSession {
         text: &mut String,
     ) -> Result<bool, AllocError>
         ensures marks { self.new.marks ≡ self.old.marks }
-        ensures fits { IfOk result (λ fits. fits ≡ not (self.old.turned || is_some (opening_fault (self.old.starts.items ++ start ∷ [])))) }
-        ensures starts { IfOk result (λ fits. fits ≡ true → self.new.starts.items ≡ self.old.starts.items ++ start ∷ []) }
+        ensures fits { IfOk result (λ fits.
+            fits ≡ not (self.old.turned || is_some (opening_fault (self.old.starts.items ++ start ∷ [])))) }
+        ensures starts { IfOk result (λ fits. fits ≡ true
+            → self.new.starts.items ≡ self.old.starts.items ++ start ∷ []) }
         ensures core { IfOk result (λ fits. fits ≡ true
-            → option_map (λ world. world.core) self.new.world ≡ Some (new_core self.old.marks (self.old.starts.items ++ start ∷ []))) }
+            → option_map (λ world. world.core) self.new.world
+            ≡ Some (new_core self.old.marks (self.old.starts.items ++ start ∷ []))) }
         ensures turned { IfOk result (λ fits. fits ≡ true → (self.old.turned ≡ false) × (self.new.turned ≡ false)) }
         ensures text { IfOk result (λ fits. fits ≡ true
             → string_bytes text.new ≡ string_bytes text.old ++ lane_text (length self.old.starts.items)) }
@@ -79,7 +83,8 @@ impl CoreSession {
         ensures fits { IfOk result (λ fits. fits ≡ is_some self.old.world) }
         ensures starts { IfOk result (λ fits. fits ≡ true → self.new.starts.items ≡ self.old.starts.items) }
         ensures core { IfOk result (λ fits. fits ≡ true
-            → option_map (λ world. world.core) self.new.world ≡ option_map (λ world. core_after world.core turn) self.old.world) }
+            → option_map (λ world. world.core) self.new.world
+            ≡ option_map (λ world. core_after world.core turn) self.old.world) }
         ensures turned { IfOk result (λ fits. fits ≡ true → self.new.turned ≡ true) }
         ensures text { IfOk result (λ fits. fits ≡ true → string_bytes text.new ≡ string_bytes text.old
             ++ option_map_or (λ world. turn_trace world.core turn) self.old.world []) }

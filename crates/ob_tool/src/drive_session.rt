@@ -54,7 +54,8 @@ impl DriveSession {
 
     /// The sink of the script, before its first call.
     pub fn into_sink(self) -> ScriptSink
-        ensures { (lines : List DriveLine) → HasKept self lines → result ≡ new_script (steps_of lines) (most_after lines) }
+        ensures { (lines : List DriveLine) → HasKept self lines
+            → result ≡ new_script (steps_of lines) (most_after lines) }
     {
         ScriptSink::new(self.steps, self.after.unwrap_or(ALL))
     }

@@ -66,7 +66,8 @@ fn start<H: AllocGlobal + Threads + Wait + Clock + Sync, S: AsStr, R: Read, W: W
 ) -> Result<(), EntryFault>
     ensures traced { OnOk result (IfSome (R.remaining reader.old) (λ script.
         WritesWhole script None (W.contents writer.old) (W.contents writer.new))) }
-    ensures refused { IfErr result (λ fault. exit_status_of fault ≡ 1 → Keeps (W.contents writer.old) (W.contents writer.new)) }
+    ensures refused { IfErr result (λ fault. exit_status_of fault ≡ 1
+        → Keeps (W.contents writer.old) (W.contents writer.new)) }
     ensures unread { IfErr result (λ fault. exit_status_of fault ≡ 1 → reader.new ≡ reader.old) }
     ensures cut_short { IfErr result (λ fault. exit_status_of fault ≡ 2 → IfSome (R.remaining reader.old) (λ script.
         (fault : ℕ × LineFault) × WritesWhole script (Some fault) (W.contents writer.old) (W.contents writer.new))) }
@@ -94,9 +95,11 @@ fn carry_out<H: AllocGlobal + Threads + Wait + Clock + Sync, R: Read, W: Write>(
 ) -> Result<(), RunFault>
     ensures written { WentThrough result → IfSome (R.remaining reader.old) (λ script.
         WritesRequested request script (fault_told result) (W.contents writer.old) (W.contents writer.new)) }
-    ensures fault { WentThrough result → IfSome (R.remaining reader.old) (λ script. fault_told result ≡ requested_fault request script) }
+    ensures fault { WentThrough result
+        → IfSome (R.remaining reader.old) (λ script. fault_told result ≡ requested_fault request script) }
     ensures no_memory { IsErrOf result RunFault.NoMemory → IfSome (R.remaining reader.old) (λ script.
-        (count : ℕ) × Appends (W.contents writer.old) (W.contents writer.new) (requested_trace_of_first count request script)) }
+        (count : ℕ) × Appends (W.contents writer.old) (W.contents writer.new)
+        (requested_trace_of_first count request script)) }
     ensures undriven { IfErr result (λ fault. status_of fault ≡ 5
         → Keeps (W.contents writer.old) (W.contents writer.new)) }
 {

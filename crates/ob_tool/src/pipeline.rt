@@ -25,14 +25,18 @@ pub fn interpret<I: Interpreter, R: Read, W: Write>(
     requires fresh { I.HasDone interpreter [] }
     ensures trace { WentThrough result → IfSome (R.remaining reader.old) (λ script.
         Appends (W.contents writer.old) (W.contents writer.new) (trace_of (I.language interpreter) script)) }
-    ensures fault { WentThrough result → IfSome (R.remaining reader.old) (λ script. fault_told result ≡ script_fault (I.language interpreter) script) }
+    ensures fault { WentThrough result
+        → IfSome (R.remaining reader.old) (λ script. fault_told result ≡ script_fault (I.language interpreter) script) }
     ensures end { WentThrough result → IsAtEnd (R.remaining reader.new) }
     ensures within { WentThrough result → IfSome (R.remaining reader.old) (λ script. length script ≤ 16777216) }
     ensures no_memory { IsErrOf result RunFault.NoMemory → IfSome (R.remaining reader.old) (λ script.
-        (count : ℕ) × Appends (W.contents writer.old) (W.contents writer.new) (trace_of_first count (I.language interpreter) script)) }
+        (count : ℕ) × Appends (W.contents writer.old) (W.contents writer.new)
+        (trace_of_first count (I.language interpreter) script)) }
     ensures unread { IsErrOf result RunFault.Read → Keeps (W.contents writer.old) (W.contents writer.new) }
-    ensures too_long { IsErrOf result RunFault.TooLong → IfSome (R.remaining reader.old) (λ script. 16777216 < length script) }
-    ensures too_long_unwritten { IsErrOf result RunFault.TooLong → Keeps (W.contents writer.old) (W.contents writer.new) }
+    ensures too_long { IsErrOf result RunFault.TooLong
+        → IfSome (R.remaining reader.old) (λ script. 16777216 < length script) }
+    ensures too_long_unwritten { IsErrOf result RunFault.TooLong
+        → Keeps (W.contents writer.old) (W.contents writer.new) }
     ensures undriven { IfErr result (λ fault. status_of fault ≤ 4) }
 {
     let script = read_script(alloc, reader, MAX_READS)?;
@@ -48,7 +52,8 @@ fn write_trace<I: Interpreter, W: Write>(
 ) -> Result<(), RunFault>
     requires small { length script.now ≤ 16777216 }
     requires fresh { I.HasDone interpreter [] }
-    ensures { Ends (I.language interpreter) script.now (Appends (W.contents writer.old) (W.contents writer.new)) result }
+    ensures { Ends (I.language interpreter) script.now
+        (Appends (W.contents writer.old) (W.contents writer.new)) result }
 {
     let mut interpreter = interpreter;
     let mut waiting = Vec::new(alloc);

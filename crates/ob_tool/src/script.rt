@@ -20,7 +20,8 @@ pub fn read_script<R: Read>(alloc: Global, reader: &mut R, reads: u32) -> Result
     ensures whole { IfOk result (λ script. IfSome (R.remaining reader.old) (λ bytes. bytes ≡ script.items)) }
     ensures end { OnOk result (IsAtEnd (R.remaining reader.new)) }
     ensures within { IfOk result (λ script. length script.items ≤ 16777216) }
-    ensures too_long { IsErrOf result RunFault.TooLong → IfSome (R.remaining reader.old) (λ bytes. 16777216 < length bytes) }
+    ensures too_long { IsErrOf result RunFault.TooLong
+        → IfSome (R.remaining reader.old) (λ bytes. 16777216 < length bytes) }
     ensures faults { IfErr result IsReadingFault }
 {
     let mut script = Vec::new(alloc);
@@ -47,7 +48,8 @@ fn read_piece<R: Read>(
         → Consumes start (R.remaining reader.new) script.new.items) }
     ensures end { IfOk result (λ ended. IsTrue ended → IsAtEnd (R.remaining reader.new)) }
     ensures within { OnOk result (length script.new.items ≤ 16777216) }
-    ensures too_long { IsErrOf result RunFault.TooLong → (start : Option (List ℕ)) → Consumes start (R.remaining reader.old) script.old.items
+    ensures too_long { IsErrOf result RunFault.TooLong → (start : Option (List ℕ))
+        → Consumes start (R.remaining reader.old) script.old.items
         → IfSome start (λ bytes. 16777216 < length bytes) }
     ensures faults { IfErr result IsReadingFault }
 {

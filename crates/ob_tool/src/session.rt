@@ -4,7 +4,8 @@ ghost use Rattle.ob_history.specs.Call.{history_after, is_full};
 ghost use Rattle.ob_history.specs.Seen.{seen_now};
 ghost use Rattle.ob_tool.specs.Options.{first_history};
 ghost use Rattle.ob_seq.specs.Writes.{writes_in};
-ghost use Rattle.ob_tool.specs.RunScript.{block_write, call_text, history_after_line, history_after_lines, line_trace, run_language};
+ghost use Rattle.ob_tool.specs.RunScript.{block_write, call_text, history_after_line, history_after_lines, line_trace};
+ghost use Rattle.ob_tool.specs.RunScript.{run_language};
 
 use crate::block::block;
 use crate::interpreter::Interpreter;
@@ -52,7 +53,8 @@ impl Session {
     ) -> Result<(), AllocError>
         ensures options { self.new.options ≡ self.old.options }
         ensures after { OnOk result (self.new.recorded ≡ history_after_line self.old.recorded line) }
-        ensures text { OnOk result (string_bytes text.new ≡ string_bytes text.old ++ line_trace self.old.recorded line) }
+        ensures text { OnOk result (string_bytes text.new
+            ≡ string_bytes text.old ++ line_trace self.old.recorded line) }
     {
         match line {
             ScriptLine::Block(size) => {
@@ -95,7 +97,8 @@ impl Session {
     fn give(&mut self, command: Command, text: &mut String) -> Result<(), AllocError>
         ensures options { self.new.options ≡ self.old.options }
         ensures after { OnOk result (self.new.recorded ≡ history_after self.old.recorded 0 command) }
-        ensures text { OnOk result (string_bytes text.new ≡ string_bytes text.old ++ call_text self.old.recorded command) }
+        ensures text { OnOk result (string_bytes text.new
+            ≡ string_bytes text.old ++ call_text self.old.recorded command) }
     {
         let place = self.recorded.records().len();
         if !self.call(command)? {

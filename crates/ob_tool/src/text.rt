@@ -1,7 +1,8 @@
 ghost use Rattle.std.specs.Prelude.{◌≡◌, ◌++◌, OnOk, Ok, Err, string_bytes};
 ghost use Rattle.std.specs.Fmt.{decimal};
 ghost use Rattle.std.specs.List.{flat_map};
-ghost use Rattle.ob_tool.specs.Text.{answer_text, change_text, command_text, gathered_text, length_text, levels_text, look_text, outcome_text, settlement_text, words_text};
+ghost use Rattle.ob_tool.specs.Text.{answer_text, change_text, command_text, gathered_text, length_text, levels_text};
+ghost use Rattle.ob_tool.specs.Text.{look_text, outcome_text, settlement_text, words_text};
 
 use bytes::Bytes;
 use ob_seq::Look;

@@ -1,4 +1,5 @@
-ghost use Rattle.std.specs.Prelude.{◌≡◌, ◌≢◌, ◌++◌, ◌<◌, ◌≤◌, [], ◌∷◌, List, true, not, Ok, IsOk, IfOk, OnOk, OnErr, IfErr, length};
+ghost use Rattle.std.specs.Prelude.{◌≡◌, ◌≢◌, ◌++◌, ◌<◌, ◌≤◌, [], ◌∷◌, List, true, not, Ok, IsOk, IfOk, OnOk, OnErr};
+ghost use Rattle.std.specs.Prelude.{IfErr, length};
 ghost use Rattle.std.specs.Io.KnownBytes.{Keeps, append_known};
 ghost use Rattle.ob_tool.specs.Ending.{Ends, LinesEnd};
 ghost use Rattle.ob_tool.specs.Script.{script_lines};
@@ -27,7 +28,8 @@ pub fn trace_script<I: Interpreter, W: io::Write>(
     requires small { length script.now ≤ 16777216 }
     requires fresh { I.HasDone interpreter.old [] }
     requires empty { waiting.old.items ≡ [] }
-    ensures { Ends (I.language interpreter.old) script.now (HasTraced (W.contents writer.old) (W.contents writer.new) waiting.new.items) result }
+    ensures { Ends (I.language interpreter.old) script.now
+        (HasTraced (W.contents writer.old) (W.contents writer.new) waiting.new.items) result }
 {
     trace_lines(alloc, interpreter, script, waiting, writer)?;
     match trace_last(alloc, interpreter, waiting) {
@@ -47,7 +49,8 @@ pub fn trace_lines<I: Interpreter, W: io::Write>(
     requires small { length script.now ≤ 16777216 }
     requires fresh { I.HasDone interpreter.old [] }
     requires empty { waiting.old.items ≡ [] }
-    ensures lines { LinesEnd (I.language interpreter.old) script.now (HasTraced (W.contents writer.old) (W.contents writer.new) waiting.new.items) result }
+    ensures lines { LinesEnd (I.language interpreter.old) script.now
+        (HasTraced (W.contents writer.old) (W.contents writer.new) waiting.new.items) result }
     ensures done { OnOk result (I.HasDone interpreter.new (script_lines (I.language interpreter.old) script.now)) }
     ensures language { OnOk result (I.language interpreter.new ≡ I.language interpreter.old) }
 {

@@ -3,7 +3,9 @@
 use crate::drive_run::read_lines;
 use crate::entry::entry;
 use crate::plans::plans;
+use ob_pool::Plan;
 use ob_transport::SinkStep;
+use ob_types::{Command, Message};
 use std::test::Fail;
 
 /// A line of each word, and a writer without lines. The bytes of a block are the number of its writer.
@@ -24,6 +26,30 @@ fn reads_each_line(rt: HostRuntime) -> Result<(), Fail> {
         Plan { commands: [Flush, Write(Region(18446744073709551615))] }, Plan { commands: [] }, \
         Plan { commands: [Write(Block(b\"\\x03\\x03\")), Write(Block(b\"\\x03\\x03\")), Cancel(PromiseId(7))] }]"
     );
+    Ok(())
+}
+
+/// How many blocks of a plan share their memory with another.
+fn count_sharing(plan: &Plan) -> usize {
+    plan.commands
+        .iter()
+        .filter(|command| match command {
+            Command::Write(Message::Block(bytes)) => !bytes.is_unique(),
+            _ => false,
+        })
+        .count()
+}
+
+/// The blocks of one line share their memory. Those of two lines do not, although they are the same bytes.
+#[test]
+fn blocks_of_a_line_share_their_memory(rt: HostRuntime) -> Result<(), Fail> {
+    let session = read_lines(rt.alloc(), b"b 0 4 3\nb 1 4 1\nb 1 4 1")?;
+    let plans = plans(rt.alloc(), &session.writers)?;
+    let mut sharing = Vec::new(rt.alloc());
+    for plan in &plans {
+        sharing.push(count_sharing(plan))?;
+    }
+    assert_eq!(rt; sharing.as_slice(), [3, 0].as_slice());
     Ok(())
 }
 

@@ -1,6 +1,8 @@
-use Rattle.std.proofs.Common.{◌≡◌, ◌+◌, ◌<◌, ◌≤◌, length, ap, ◌∙◌, arith}
+use Rattle.std.proofs.Common.{◌≡◌, ◌+◌, ◌≤◌, length, ap, ◌∙◌, arith}
+use Rattle.ob_history.specs.History.{most_records}
 use Rattle.ob_history.specs.Settlements.{settlements_in}
-use Rattle.ob_pool.specs.Counts.{bits_of, cancels_of, flushes_of, is_cancelled, is_failed, is_success, left_of, refused_of, settled_as, taken_of, writes_of}
+use Rattle.ob_pool.specs.Counts.{bits_of, cancels_of, flushes_of, is_cancelled, is_failed, is_success, left_of}
+use Rattle.ob_pool.specs.Counts.{refused_of, settled_as, taken_of, writes_of}
 use Rattle.ob_pool.proofs.AcceptedCounts.{taken_fits_word}
 use Rattle.ob_pool.proofs.Settled.{Tally, tallied}
 use Rattle.ob_pool.proofs.counting.report_of.Goals as goal
@@ -9,7 +11,8 @@ pub taken-taken-requires : goal.taken-taken-requires
 taken-taken-requires c =
     let from = c.records-records in
     let fits = taken_fits_word c.args.recorded.records
-    (λ one n. c.a_history_keeps_to_the_limits.ensures.removal c.args.recorded.settings c.args.recorded.records one n from.ensures.legal)
+    (λ one n. c.a_history_keeps_to_the_limits.ensures.removal c.args.recorded.settings c.args.recorded.records one n
+    from.ensures.legal)
     (omega (arith, from.ensures.bounded.places, from.ensures.bounded.limit)) in
     record { fits = omega (arith, fits, ap taken_of from.ensures.value) }
 
@@ -22,7 +25,8 @@ tally c = tallied c.args.recorded.settings c.args.recorded c.a_history_settles_e
 pub settled-success-requires : goal.settled-success-requires
 settled-success-requires c =
     let all = tally c in
-    record { fits = omega (arith, all.left, all.few, ap (λ others. length (settlements_in others)) c.records-records.ensures.value) }
+    let same = ap (λ others. length (settlements_in others)) c.records-records.ensures.value in
+    record { fits = omega (arith, all.left, all.few, same) }
 
 pub settled-failed-requires : goal.settled-failed-requires
 settled-failed-requires c = settled-success-requires c.before
@@ -34,7 +38,7 @@ settled-cancelled-requires c = settled-failed-requires c.before
 all_told : (c : goal.After-settled-cancelled) →
     (left_of c.args.recorded.records + (c.settled-success.result + c.settled-failed.result + c.settled-cancelled.result)
     ≡ c.accepted-writes.result)
-    × (c.accepted-writes.result ≤ 1048576)
+    × (c.accepted-writes.result ≤ most_records)
 all_told c =
     let all = tally c.before.before.before in
     let same = c.records-records.ensures.value in

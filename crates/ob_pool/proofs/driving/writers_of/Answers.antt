@@ -1,5 +1,4 @@
-use Rattle.std.proofs.Common.{◌≡◌, ◌+◌, ◌∷◌, length, ap, arith, rules}
-use Rattle.std.specs.Prelude.{vec_len}
+use Rattle.std.proofs.Common.{◌≡◌, ◌∷◌, length, ap, arith, rules}
 use Rattle.ob_pool.proofs.Shares.{asked_more, next_share, roomy_more, rooms_more}
 use Rattle.ob_pool.proofs.driving.writers_of.Goals as goal
 
@@ -8,7 +7,8 @@ loop-plan-preserved g c =
     let kept = c.loop-plan.invariant in
     let rest = c.next.new.self.rest.items in
     let begin : c.loop-plan.plan-iterator.rest.items ≡ c.in-Some.plan ∷ rest = search rules in
-    let split : c.loop-plan.shares.rest.items ≡ c.in-Some-next.share ∷ c.next-in-loop-plan.new.self.rest.items = search rules in
+    let split : c.loop-plan.shares.rest.items
+    ≡ c.in-Some-next.share ∷ c.next-in-loop-plan.new.self.rest.items = search rules in
     let count = c.push_reserved.ensures.len in
     let pushed = c.push_reserved.ensures.items in
     let mine = next_share _ _ _ _ _ _ _ rest kept.shares begin split count in

@@ -16,5 +16,6 @@ abbrev pub invariant-turns : goal.invariant-turns
 invariant-turns g l = record {
   caller : l.share.caller ≡ l.fn.share.caller;
   made : l.share.made ≡ l.fn.share.made + length l.receipts.items;
-  failings : failings_in l.receipts.items + (g.S.Sink.content l.initial.sink).failures ≤ (g.S.Sink.content l.sink).failures;
+  failings : failings_in l.receipts.items + (g.S.Sink.content l.initial.sink).failures
+      ≤ (g.S.Sink.content l.sink).failures;
 }

@@ -1,4 +1,4 @@
-use Rattle.std.proofs.Common.{ap, arith, rules}
+use Rattle.std.proofs.Common.{ap, arith}
 use Rattle.ob_pool.specs.Errand.{room_for}
 use Rattle.ob_pool.proofs.Halves.{rooms_of_parts, splits}
 use Rattle.ob_pool.proofs.writers.+work.Goals as goal
@@ -6,7 +6,14 @@ use Rattle.ob_pool.proofs.writers.+work.Goals as goal
 pub work_all-room_for-requires : goal.work_all-room_for-requires
 work_all-room_for-requires g t c =
     let parts = rooms_of_parts _ _ _ _ c.in-Ok.ensures.items c.in-Ok.ensures.tail in
-    omega (arith, parts, ap room_for c.deref.ensures.value, c.requires.room, c.room-most.ensures.value, c.room-most.type_inv)
+    omega (
+      arith,
+      parts,
+      ap room_for c.deref.ensures.value,
+      c.requires.room,
+      c.room-most.ensures.value,
+      c.room-most.type_inv,
+    )
 
 pub work_all-unreachable-requires : goal.work_all-unreachable-requires
 work_all-unreachable-requires g t c =

@@ -1,5 +1,4 @@
-use Rattle.std.proofs.Common.{◌≡◌, ◌<◌, ◌∙◌, ap, false, subst, sym}
-use Rattle.ob_core.specs.Bits.{is_set}
+use Rattle.std.proofs.Common.{◌<◌, ◌∙◌, ap, subst, sym}
 use Rattle.ob_pool.specs.declared.config.Config.{Config}
 use Rattle.ob_seq.specs.Settings.{Settings}
 use Rattle.ob_tool.specs.DriveReport.{TellsOf}
@@ -14,11 +13,13 @@ pub returns-in-Ok-clause-told : goal.returns-in-Ok-clause-told
 returns-in-Ok-clause-told g c =
     let told = c.in-Ok.ensures in
     let given = c.config-config.ensures in
-    subst (λ plans. TellsOf c.args.options plans c.in-Ok.report) (c.in_ok-plans.ensures ∙ ap plans_in c.deref.ensures.value) (record {
+    subst (λ plans. TellsOf c.args.options plans c.in-Ok.report) (c.in_ok-plans.ensures
+    ∙ ap plans_in c.deref.ensures.value) (record {
       legal = told.legal;
       settings = told.settings ∙ ap settings_of given;
       limit = told.limit ∙ ap (λ (config : Config). config.limit) given;
       carried_out = told.plans;
+      callers = told.callers;
       writes = told.writes;
       flushes = told.flushes;
       cancels = told.cancels;

@@ -16,5 +16,7 @@ returns-clause-lines c =
     let script = c.args.script.now in
     let first = rw (← c.place_of-end.ensures.place) at (lines_of-first script c.requires) in
     let rest = drop (c.place_of-end.result + 1) script in
-    let whole : take (length script - (c.place_of-end.result + 1)) rest ≡ rest = take_all (length script - (c.place_of-end.result + 1)) rest (omega (arith, length-drop (c.place_of-end.result + 1) script)) in
+    let whole : take (length script - (c.place_of-end.result + 1)) rest ≡ rest =
+    take_all (length script - (c.place_of-end.result + 1)) rest
+    (omega (arith, length-drop (c.place_of-end.result + 1) script)) in
     rw whole first

@@ -12,12 +12,15 @@ returns-in-None c =
     let word = c.args.word.now in
     let i = c.loop-byte.byte-index in
     let past : 2 ^ 64 ≤ c.loop-byte.value * 10 + (get_or word i 0 - 48) = omega (arith, c.in-None.ensures) in
-    let big = value_too_great word i c.loop-byte.value c.requires c.loop-byte-test.true c.loop-byte.invariant.so_far past in
+    let big =
+    value_too_great word i c.loop-byte.value c.requires c.loop-byte-test.true c.loop-byte.invariant.so_far past in
     cond_above _ _ _ _ _ big refl
 
 pub loop-byte-preserved : goal.loop-byte-preserved
 loop-byte-preserved c = record {
-  so_far = c.in-Some.ensures.1 ∙ value_more c.args.word.now c.loop-byte.byte-index c.loop-byte.value c.requires c.loop-byte-test.true c.loop-byte.invariant.so_far;
+  so_far = c.in-Some.ensures.1
+      ∙ value_more c.args.word.now c.loop-byte.byte-index c.loop-byte.value c.requires c.loop-byte-test.true
+      c.loop-byte.invariant.so_far;
   fits = omega (arith, c.in-Some.ensures.0, c.in-Some.ensures.1);
 }
 

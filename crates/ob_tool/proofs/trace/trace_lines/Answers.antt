@@ -1,10 +1,13 @@
-use Rattle.std.proofs.Common.{◌≡◌, ◌∙◌, ◌+◌, sym, ap, subst, true, false, not, List, [], ◌∷◌, ◌++◌, take, drop, length, Ok, Err, arith}
+use Rattle.std.proofs.Common.{◌≡◌, ◌∙◌, ◌+◌, sym, ap, subst, true, false, not, List, [], ◌∷◌, ◌++◌, take, drop, length}
+use Rattle.std.proofs.Common.{Ok, Err, arith}
 use Rattle.std.proofs.lemmas.Bool.{eqb-true}
 use Rattle.ob_tool.specs.Language.{Language}
 use Rattle.ob_tool.specs.Script.{before_fault, first_fault, readings_behind, script_lines}
 use Rattle.ob_tool.specs.Session.{HasTraced}
 use Rattle.ob_tool.specs.Trace.{trace_behind, trace_of_first}
-use Rattle.ob_tool.proofs.TraceLemmas.{take-one_more, take-drop_nil, HasTraced-more, HasTraced-kept, trace_of_first-more, readings-Ok, readings-Misplaced, readings-Err, readings-nil, first_fault-more, fits-true, fits-false}
+use Rattle.ob_tool.proofs.TraceLemmas.{take-one_more, take-drop_nil, HasTraced-more, HasTraced-kept}
+use Rattle.ob_tool.proofs.TraceLemmas.{trace_of_first-more, readings-Ok, readings-Misplaced, readings-Err, readings-nil}
+use Rattle.ob_tool.proofs.TraceLemmas.{first_fault-more, fits-true, fits-false}
 use Rattle.ob_tool.proofs.trace.trace_lines.Goals as goal
 
 pub returns-in-Err-clause-lines : goal.returns-in-Err-clause-lines
@@ -14,10 +17,15 @@ returns-in-Err-clause-lines g c =
     let n = c.loop-rest.number in
     let inv = c.loop-rest.invariant in
     let line = c.first_line.result.0.now in
-    let read : language.reading line ≡ Err c.in-Err.fault = ap (λ (l : Language _). l.reading line) (sym inv.same) ∙ sym c.read.ensures ∙ c.in-Err.is in
-    let here = readings-Err language (take n lines) c.loop-rest.rest.now line c.first_line.result.1.now c.in-Err.fault c.first_line.ensures.lines read in
+    let read : language.reading line ≡ Err c.in-Err.fault = ap (λ (l : Language _). l.reading line) (sym inv.same)
+    ∙ sym c.read.ensures ∙ c.in-Err.is in
+    let here =
+    readings-Err language (take n lines) c.loop-rest.rest.now line c.first_line.result.1.now c.in-Err.fault
+    c.first_line.ensures.lines read in
     let whole = take-drop_nil n lines (inv.left ∙ ap before_fault here) in (
-      subst (λ (some : List _). HasTraced (g.W.Write.contents c.args.writer.now) (g.W.Write.contents c.loop-rest.writer) c.loop-rest.waiting.items (trace_behind language [] some)) whole inv.traced,
+      subst (λ (some : List _). HasTraced (g.W.Write.contents c.args.writer.now)
+          (g.W.Write.contents c.loop-rest.writer) c.loop-rest.waiting.items (trace_behind language [] some)) whole
+          inv.traced,
       inv.fault ∙ ap (first_fault (n + 1)) here,
     )
 
@@ -33,14 +41,19 @@ returns-then-not-branch-clause-lines g c =
     let line = c.first_line.result.0.now in
     let others = c.first_line.result.1.now in
     let done = c.in_ok-trace_line-in-Ok.ensures in
-    let read : language.reading line ≡ Ok asked = ap (λ (l : Language _). l.reading line) (sym inv.same) ∙ sym c.read.ensures ∙ c.in-Ok.is in
+    let read : language.reading line ≡ Ok asked = ap (λ (l : Language _). l.reading line) (sym inv.same)
+    ∙ sym c.read.ensures ∙ c.in-Ok.is in
     let same = done.fits before inv.done ∙ ap (λ (l : Language _). not (l.is_misplaced before asked)) inv.same in
     let misplaced : language.is_misplaced before asked ≡ true = fits-false _ _ c.if-not-branch.true same in
-    let here = readings-Misplaced language before c.loop-rest.rest.now line others asked c.first_line.ensures.lines read misplaced in
+    let here =
+    readings-Misplaced language before c.loop-rest.rest.now line others asked c.first_line.ensures.lines read
+    misplaced in
     let whole = take-drop_nil n lines (inv.left ∙ ap before_fault here) in
     let kept : c.trace_line.new.waiting.items ≡ c.loop-rest.waiting.items = done.kept (λ e. cc) in (
-      subst (λ (some : List _). HasTraced (g.W.Write.contents c.args.writer.now) (g.W.Write.contents c.loop-rest.writer) c.trace_line.new.waiting.items (trace_behind language [] some)) whole
-          (subst (λ (waits : List _). HasTraced (g.W.Write.contents c.args.writer.now) (g.W.Write.contents c.loop-rest.writer) waits (trace_of_first n language script)) (sym kept) inv.traced),
+      subst (λ (some : List _). HasTraced (g.W.Write.contents c.args.writer.now)
+          (g.W.Write.contents c.loop-rest.writer) c.trace_line.new.waiting.items (trace_behind language [] some)) whole
+          (subst (λ (waits : List _). HasTraced (g.W.Write.contents c.args.writer.now)
+          (g.W.Write.contents c.loop-rest.writer) waits (trace_of_first n language script)) (sym kept) inv.traced),
       inv.fault ∙ ap (first_fault (n + 1)) here,
     )
 
@@ -56,23 +69,38 @@ loop-rest-preserved g c =
     let line = c.first_line.result.0.now in
     let others = c.first_line.result.1.now in
     let done = c.in_ok-trace_line-in-Ok.ensures in
-    let read : language.reading line ≡ Ok asked = ap (λ (l : Language _). l.reading line) (sym inv.same) ∙ sym c.read.ensures ∙ c.in-Ok.is in
+    let read : language.reading line ≡ Ok asked = ap (λ (l : Language _). l.reading line) (sym inv.same)
+    ∙ sym c.read.ensures ∙ c.in-Ok.is in
     let same = done.fits before inv.done ∙ ap (λ (l : Language _). not (l.is_misplaced before asked)) inv.same in
     let fits : language.is_misplaced before asked ≡ false = fits-true _ _ c.if-not-branch.false same in
-    let here = readings-Ok language before c.loop-rest.rest.now line others asked c.first_line.ensures.lines read fits in
-    let left : drop n lines ≡ asked ∷ before_fault (readings_behind language (before ++ asked ∷ []) others) = inv.left ∙ ap before_fault here in
+    let here =
+    readings-Ok language before c.loop-rest.rest.now line others asked c.first_line.ensures.lines read fits in
+    let left : drop n lines ≡ asked ∷ before_fault (readings_behind language (before ++ asked ∷ []) others) =
+    inv.left ∙ ap before_fault here in
     let more = take-one_more n lines _ asked left in
     let told : c.trace_line.new.waiting.items ≡ c.loop-rest.waiting.items ++ language.line_text before asked =
-    done.text c.if-not-branch.false before inv.done ∙ ap (λ (l : Language _). c.loop-rest.waiting.items ++ l.line_text before asked) inv.same in
+    done.text c.if-not-branch.false before inv.done
+    ∙ ap (λ (l : Language _). c.loop-rest.waiting.items ++ l.line_text before asked) inv.same in
     let start = g.W.Write.contents c.args.writer.now in
-    let grown = HasTraced-more start (g.W.Write.contents c.loop-rest.writer) c.loop-rest.waiting.items (trace_of_first n language script) (language.line_text before asked) c.trace_line.new.waiting.items inv.traced told in
-    let kept = HasTraced-kept start (g.W.Write.contents c.loop-rest.writer) (g.W.Write.contents c.spill.new.writer) c.trace_line.new.waiting.items c.spill.new.waiting.items _ grown c.in_ok-spill.ensures.kept in
+    let grown =
+    HasTraced-more start (g.W.Write.contents c.loop-rest.writer) c.loop-rest.waiting.items
+    (trace_of_first n language script) (language.line_text before asked) c.trace_line.new.waiting.items inv.traced
+    told in
+    let kept =
+    HasTraced-kept start (g.W.Write.contents c.loop-rest.writer)
+    (g.W.Write.contents c.spill.new.writer) c.trace_line.new.waiting.items c.spill.new.waiting.items _ grown
+    c.in_ok-spill.ensures.kept in
     record {
       same = done.language ∙ inv.same;
-      done = subst (g.I.Interpreter.HasDone c.trace_line.new.interpreter) (sym more.0) (done.done c.if-not-branch.false before inv.done);
-      traced = subst (HasTraced start (g.W.Write.contents c.spill.new.writer) c.spill.new.waiting.items) (sym (trace_of_first-more n language script asked _ left)) kept;
+      done = subst (g.I.Interpreter.HasDone c.trace_line.new.interpreter) (sym more.0)
+          (done.done c.if-not-branch.false before inv.done);
+      traced =
+          subst (HasTraced start (g.W.Write.contents c.spill.new.writer) c.spill.new.waiting.items)
+          (sym (trace_of_first-more n language script asked _ left)) kept;
       left = more.1 ∙ ap (λ b. before_fault (readings_behind language b others)) (sym more.0);
-      fault = inv.fault ∙ ap (first_fault (n + 1)) here ∙ first_fault-more (n + 1) asked (readings_behind language (before ++ asked ∷ []) others) ∙ ap (λ b. first_fault (n + 1 + 1) (readings_behind language b others)) (sym more.0);
+      fault = inv.fault ∙ ap (first_fault (n + 1)) here
+          ∙ first_fault-more (n + 1) asked (readings_behind language (before ++ asked ∷ []) others)
+          ∙ ap (λ b. first_fault (n + 1 + 1) (readings_behind language b others)) (sym more.0);
       few = omega (arith, c.first_line.ensures.fewer, inv.few);
     }
 
@@ -86,7 +114,9 @@ returns-clause-lines g c =
     let empty : length rest ≡ 0 = eqb-true (length rest) 0 (sym c.is_empty.ensures ∙ c.loop-rest-test.false) in
     let here = readings-nil language (take n lines) rest empty in
     let whole = take-drop_nil n lines (inv.left ∙ ap before_fault here) in (
-      subst (λ (some : List _). HasTraced (g.W.Write.contents c.args.writer.now) (g.W.Write.contents c.loop-rest.writer) c.loop-rest.waiting.items (trace_behind language [] some)) whole inv.traced,
+      subst (λ (some : List _). HasTraced (g.W.Write.contents c.args.writer.now)
+          (g.W.Write.contents c.loop-rest.writer) c.loop-rest.waiting.items (trace_behind language [] some)) whole
+          inv.traced,
       inv.fault ∙ ap (first_fault (n + 1)) here,
     )
 
@@ -99,4 +129,5 @@ returns-clause-done g c =
     let rest = c.loop-rest.rest.now in
     let empty : length rest ≡ 0 = eqb-true (length rest) 0 (sym c.is_empty.ensures ∙ c.loop-rest-test.false) in
     let here = readings-nil language (take n lines) rest empty in
-    subst (g.I.Interpreter.HasDone c.loop-rest.interpreter) (take-drop_nil n lines (inv.left ∙ ap before_fault here)) inv.done
+    subst (g.I.Interpreter.HasDone c.loop-rest.interpreter)
+    (take-drop_nil n lines (inv.left ∙ ap before_fault here)) inv.done

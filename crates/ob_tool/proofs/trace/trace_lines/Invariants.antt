@@ -10,7 +10,8 @@ invariant-loop-rest g l =
     let before = take l.number (script_lines language l.script) in record {
       same : g.I.Interpreter.language l.interpreter ≡ language;
       done : g.I.Interpreter.HasDone l.interpreter before;
-      traced : HasTraced (g.W.Write.contents l.fn.writer) (g.W.Write.contents l.writer) l.waiting.items (trace_of_first l.number language l.script);
+      traced : HasTraced (g.W.Write.contents l.fn.writer) (g.W.Write.contents l.writer) l.waiting.items
+          (trace_of_first l.number language l.script);
       left : drop l.number (script_lines language l.script) ≡ before_fault (readings_behind language before l.rest);
       fault : script_fault language l.script ≡ first_fault (l.number + 1) (readings_behind language before l.rest);
       few : l.number + length l.rest ≤ length l.script;

@@ -15,7 +15,8 @@ returns-in-Err g c =
     let held = g.W.Write.contents c.trace_lines.new.writer in
     let lines = c.in_ok-trace_lines.ensures.lines in (
       count,
-      subst (λ (waits : List _). HasTraced start held waits (trace_of_first count language script)) (sym c.in-Err.ensures.kept)
+      subst (λ (waits : List _). HasTraced start held waits (trace_of_first count language script))
+          (sym c.in-Err.ensures.kept)
           (subst (HasTraced start held c.trace_lines.new.waiting.items) (sym (all_lines language script)) lines.0),
     )
 
@@ -29,7 +30,9 @@ returns-in-Ok g c =
     let ended = c.in_ok-trace_lines.ensures in
     let told = c.in-Ok.ensures.text (script_lines language script) ended.done
     ∙ ap (λ (l : Language _). waits ++ l.last_text (script_lines language script)) ended.language in
-    let grown = HasTraced-more start held waits (trace_of_lines language script) _ c.trace_last.new.waiting.items ended.lines.0 told in (
+    let grown =
+    HasTraced-more start held waits (trace_of_lines language script) _ c.trace_last.new.waiting.items ended.lines.0
+    told in (
       subst (HasTraced start held c.trace_last.new.waiting.items) (trace_of-whole language script ended.lines.1) grown,
       ended.lines.1,
     )

@@ -1,7 +1,6 @@
-use Rattle.std.proofs.Common.{◌≡◌, ◌+◌, ◌≤◌, ◌++◌, [], ◌∷◌, sym, ap, ap₂, ◌∙◌, subst, arith, rules}
+use Rattle.std.proofs.Common.{◌+◌, ◌≤◌, ◌++◌, [], ◌∷◌, sym, ap, ap₂, ◌∙◌, subst, arith, rules}
 use Rattle.std.specs.Prelude.{vec_capacity, vec_len}
 use Rattle.ob_history.specs.Call.{next_record}
-use Rattle.ob_history.specs.Receipt.{receipt_of}
 use Rattle.ob_shared.specs.Maker.{Maker}
 use Rattle.ob_pool.specs.Keeping.{KeptSince}
 use Rattle.ob_pool.proofs.KeptReceipts.{kept_more, receipt_given}
@@ -22,7 +21,16 @@ invariant_of-self-2 g c =
     elim c.match-copy.branch [
       | in-Ok w ↦ rw (w.self-inside-is) (
         omega (arith, kept.0, left, c.saturating_sub.ensures),
-        omega (arith, kept.1, places, c.reserve.ensures.len, c.reserve.ensures.capacity, c.saturating_sub.ensures, w.push_reserved.ensures.len, w.push_reserved.ensures.capacity),
+        omega (
+          arith,
+          kept.1,
+          places,
+          c.reserve.ensures.len,
+          c.reserve.ensures.capacity,
+          c.saturating_sub.ensures,
+          w.push_reserved.ensures.len,
+          w.push_reserved.ensures.capacity,
+        ),
         (λ found.
             let copied = w.in-Ok.ensures.same ∙ made.0 in
             let pushed = w.push_reserved.ensures.items

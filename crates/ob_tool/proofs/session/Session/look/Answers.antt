@@ -6,4 +6,5 @@ use Rattle.ob_tool.proofs.session.Session.look.Goals as goal
 pub returns : goal.returns
 returns c =
     let commands = accepted_commands c.args.self.now.recorded.records in
-    c.look.ensures commands c.buffer.ensures.stands ∙ ap (λ settings. look_after settings commands) c.buffer.ensures.settings
+    c.look.ensures commands c.buffer.ensures.stands
+    ∙ ap (λ settings. look_after settings commands) c.buffer.ensures.settings
