@@ -26,7 +26,6 @@ mod Reached
 mod Removed
 mod Sending
 mod Sent
-pub mod Shrinking
 mod Simulated
 mod Simulation
 mod Skipped
