@@ -19,9 +19,13 @@ use Rattle.ob_seq.specs.declared.look.Look.{Look}
 abbrev pub eight_hex : ℕ → List ℕ
 eight_hex number = padded_integral (format_spec 32 0 4 8 (2 ^ 64 - 1)) false [] (digits 16 false number)
 
+-- a word
+abbrev pub word_text : ℕ → List ℕ
+word_text word = codes " w=" ++ eight_hex word
+
 -- a total and a word
 abbrev pub words_text : ℕ → ℕ → List ℕ
-words_text total word = codes " t=" ++ decimal total ++ codes " w=" ++ eight_hex word
+words_text total word = codes " t=" ++ decimal total ++ word_text word
 
 -- the pending bytes and the word of a look
 abbrev pub levels_text : Look → List ℕ

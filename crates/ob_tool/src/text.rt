@@ -2,7 +2,7 @@ ghost use Rattle.std.specs.Prelude.{◌≡◌, ◌++◌, OnOk, Ok, Err, string_b
 ghost use Rattle.std.specs.Fmt.{decimal};
 ghost use Rattle.std.specs.List.{flat_map};
 ghost use Rattle.ob_tool.specs.Text.{answer_text, change_text, command_text, gathered_text, length_text, levels_text};
-ghost use Rattle.ob_tool.specs.Text.{look_text, outcome_text, settlement_text, words_text};
+ghost use Rattle.ob_tool.specs.Text.{look_text, outcome_text, settlement_text, word_text, words_text};
 
 use bytes::Bytes;
 use ob_seq::Look;
@@ -77,6 +77,17 @@ pub fn push_words(text: &mut String, total: u32, word: u32) -> Result<(), AllocE
 {
     text.push_str(" t=")?;
     push_number(text, u64::from(total))?;
+    push_word(text, word)
+}
+
+/// Adds a word.
+fn push_word(text: &mut String, word: u32) -> Result<(), AllocError>
+    ensures { OnOk result (string_bytes text.new ≡ string_bytes text.old ++ word_text word) }
+{
+    // while a buffer is writable its word is 0, and a fixed text needs no formatting
+    if word == 0 {
+        return text.push_str(" w=00000000");
+    }
     write!(text, " w={word:08x}")
 }
 
