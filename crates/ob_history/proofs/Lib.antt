@@ -4,5 +4,6 @@ pub mod First
 pub mod Histories
 pub mod Lasting
 pub mod Own
+pub mod Rooms
 pub mod Settling
 pub mod Told
