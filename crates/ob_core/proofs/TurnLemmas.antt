@@ -1,6 +1,6 @@
 -- What a lane does at an ask that is not refused.
 use Rattle.std.proofs.Common.{◌≡◌, ℕ, zero, suc, ◌<◌, ◌≤◌, Bool, true, false, not, eqb, [], ◌∷◌, nat_lt, is_some}
-use Rattle.std.proofs.Common.{Option, Some, None, refl, ap, subst, slice_get, unwrap_or, arith}
+use Rattle.std.proofs.Common.{List, Option, Some, None, refl, sym, ap, subst, ◌∙◌, slice_get, unwrap_or, arith}
 use Rattle.std.proofs.lemmas.Bool.Decides.{nat_tests}
 use Rattle.ob_types.specs.Change.{change_between, is_writable, turn}
 use Rattle.ob_core.specs.AskFault.{is_held, idle_refusal, phase_refusal, refusal_of}
@@ -92,6 +92,15 @@ can_make-step_of lane ask step accepted some_step = can_make_in lane.phase lane 
 pub record HasTurn (core : CoreState) (turn : Turn) (lane : Lane) : Type 0 where
   pub is_lane : slice_get core.lanes turn.lane ≡ Some lane
   pub accepted : refusal_of lane turn.ask ≡ None
+
+-- it has where it is found among the core's lanes, and no refusal is
+pub HasTurn-found : (core : CoreState) (turn : Turn) {lane : Lane} {lanes : List Lane}
+    → Some lane ≡ slice_get lanes turn.lane → lanes ≡ core.lanes → None ≡ refusal_of lane turn.ask
+    → HasTurn core turn lane
+HasTurn-found core turn {lane} {lanes} found same accepted = record {
+  is_lane = sym (found ∙ ap (λ (ls : List Lane). slice_get ls turn.lane) same);
+  accepted = sym accepted;
+}
 
 -- an ask that is no step leaves what the lane owes as it is: it owes 0 before and after
 charge_step-none : (amount : ℕ) → charge_step amount ≡ None → amount ≡ 0

@@ -5,6 +5,7 @@ pub mod CoreState
 pub mod CoreStep
 pub mod FirstFault
 pub mod Found
+pub mod Inside
 pub mod LaneStep
 pub mod Limits
 pub mod OneStep

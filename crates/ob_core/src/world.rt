@@ -31,17 +31,15 @@ pub struct World {
 
 impl Model for World {
     ghost use Rattle.ob_core.specs.CoreState.{WorldState};
-    ghost use Rattle.ob_core.specs.Sound.{IsSound};
 
     ghost Value = { WorldState };
 
-    ghost view = { λ world. record {
-      core = record { total = world.total; word = world.word; marks = world.marks; lanes = world.lanes.items };
-      last_change = world.last_change;
-    } };
+    ghost use Rattle.ob_core.specs.Inside.{core_of};
+    ghost use Rattle.ob_core.specs.Sound.{IsSound};
 
-    ghost invariant = { λ world.
-        IsSound (record { total = world.total; word = world.word; marks = world.marks; lanes = world.lanes.items }) };
+    ghost view = { λ world. record { core = core_of world; last_change = world.last_change } };
+
+    ghost invariant = { λ world. IsSound (core_of world) };
 }
 
 impl World {
