@@ -5,8 +5,8 @@ use Rattle.ob_core.specs.CoreState.{CoreState}
 use Rattle.ob_core.specs.Limits.{most_lanes, greatest_room}
 use Rattle.ob_core.specs.Opening.{Opening}
 
--- there are some lanes, and not too many, whose accounts hold with what they were opened with, and their room keeps to its
--- limit
+-- there are some lanes, and not too many, whose accounts hold with what they were opened with, and their room keeps to
+-- its limit
 pub record IsSound (core : CoreState) : Type 0 where
   pub opening : Opening
   pub accounts : AccountsHold opening core

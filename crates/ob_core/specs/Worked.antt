@@ -64,7 +64,8 @@ RaisingNothing = AccountsHold opening (state 0 0 ((record second_lane { room = 1
 -- a lane is about to lower the mark, and has no room; a lane owes more than its room
 abbrev pub BusyWithoutRoom : Type 0
 BusyWithoutRoom =
-    AccountsHold opening (state 0 1 ((record second_lane { room = 0; phase = ToLower }) ∷ (record second_lane { room = 120; held = 0 }) ∷ [])) → ⊥
+    AccountsHold opening (state 0 1
+    ((record second_lane { room = 0; phase = ToLower }) ∷ (record second_lane { room = 120; held = 0 }) ∷ [])) → ⊥
 
 abbrev pub OwingMoreThanRoom : Type 0
 OwingMoreThanRoom =
@@ -94,12 +95,14 @@ abbrev pub Divided : Type 0
 Divided =
     IsDivision (state 60 2 (first_lane 2 Idle ∷ second_lane ∷ [])) 1
     (record second_lane { room = 40 }) (record second_lane { room = 20; held = 0 })
-    (state 60 2 (first_lane 2 Idle ∷ (record second_lane { room = 40 }) ∷ (record second_lane { room = 20; held = 0 }) ∷ []))
+    (state 60 2
+    (first_lane 2 Idle ∷ (record second_lane { room = 40 }) ∷ (record second_lane { room = 20; held = 0 }) ∷ []))
 
 -- and takes it back, with a spent lane left where the other was
 abbrev pub Merged : Type 0
 Merged =
-    IsMerger (state 60 2 (first_lane 2 Idle ∷ (record second_lane { room = 40 }) ∷ (record second_lane { room = 20; held = 0 }) ∷ []))
+    IsMerger (state 60 2
+    (first_lane 2 Idle ∷ (record second_lane { room = 40 }) ∷ (record second_lane { room = 20; held = 0 }) ∷ []))
     1 2 second_lane (state 60 2 (first_lane 2 Idle ∷ second_lane ∷ spent_lane ∷ []))
 
 -- ---- steps

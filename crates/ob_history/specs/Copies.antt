@@ -8,7 +8,8 @@ use Rattle.ob_seq.specs.Settles.{settled_after}
 
 -- whatever history a buffer stands for, a command settles at most so many promises after it
 abbrev pub SettlesAtMost : Pending → Command → ℕ → Type 0
-SettlesAtMost buffer command most = (commands : List Command) → StandsFor buffer commands → settled_after buffer.settings commands command ≤ most
+SettlesAtMost buffer command most =
+    (commands : List Command) → StandsFor buffer commands → settled_after buffer.settings commands command ≤ most
 
 -- after some history that a buffer stands for, a command is no write and settles at most four promises
 pub record IsSmall (buffer : Pending) (command : Command) (commands : List Command) : Type 0 where

@@ -13,4 +13,5 @@ pub record IsRecordAt (settings : Settings) (records : List Record) (index : ℕ
 
 -- a history is legal where each of its records stands rightly at its index
 abbrev pub IsLegal : Settings → List Record → Type 0
-IsLegal settings records = (index : ℕ) (one : Record) → slice_get records index ≡ Some one → IsRecordAt settings records index one
+IsLegal settings records =
+    (index : ℕ) (one : Record) → slice_get records index ≡ Some one → IsRecordAt settings records index one

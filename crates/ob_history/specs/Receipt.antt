@@ -9,7 +9,8 @@ receipt_of one = record { place = one.place; caller = one.caller; command = one.
 
 -- the record that a receipt is of
 abbrev pub record_of : Receipt → Record
-record_of receipt = record { place = receipt.place; caller = receipt.caller; command = receipt.command; reply = receipt.reply }
+record_of receipt =
+    record { place = receipt.place; caller = receipt.caller; command = receipt.command; reply = receipt.reply }
 
 -- a receipt is the record at its place
 abbrev pub IsReceiptIn : List Record → Receipt → Type 0

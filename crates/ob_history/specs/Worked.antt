@@ -33,7 +33,12 @@ quiet_reply answer settled = Ok (record { answer = answer; settled = settled; ch
 
 -- a write of four bytes by caller 7, recorded at a place
 abbrev pub write_at : ℕ → Record
-write_at place = record { place = place; caller = 7; command = Write (Block (replicate 4 0)); reply = quiet_reply (Id (record { 0 = 0 })) [] }
+write_at place = record {
+  place = place;
+  caller = 7;
+  command = Write (Block (replicate 4 0));
+  reply = quiet_reply (Id (record { 0 = 0 })) [];
+}
 
 -- caller 2 wants to take back a promise that nobody was given
 abbrev pub refused_cancel : Record
@@ -45,7 +50,12 @@ flush_of count = record { place = 2; caller = 7; command = Flush; reply = quiet_
 
 -- caller 7 removes the message
 abbrev pub removal : Record
-removal = record { place = 3; caller = 7; command = Remove; reply = quiet_reply (Yes true) ((record { 0 = 0 }, Success) ∷ []) }
+removal = record {
+  place = 3;
+  caller = 7;
+  command = Remove;
+  reply = quiet_reply (Yes true) ((record { 0 = 0 }, Success) ∷ []);
+}
 
 -- the write, the refused cancellation, the flush of one message, and its removal
 abbrev pub worked_records : List Record

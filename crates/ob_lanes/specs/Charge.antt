@@ -26,8 +26,8 @@ raised high amount total word = if is_above high amount total then one_step Rais
 abbrev pub lowered : ℕ → ℕ → ℕ → ℕ → List Made
 lowered low amount total word = if is_below low amount total then one_step Lower word else []
 
--- a charge of more than 0 is an add and, exactly where that brings the total above the high mark, a raise; its change is
--- Unwritable exactly where it raised and found no bit of the word set
+-- a charge of more than 0 is an add and, exactly where that brings the total above the high mark, a raise; its change
+-- is Unwritable exactly where it raised and found no bit of the word set
 pub record IsCharge (high amount : ℕ) (before after : List Made) (change : Option Change) : Type 0 where
   pub total : ℕ
   pub word : ℕ

@@ -17,7 +17,8 @@ kept_lane room bits lane = record {
 
 -- a new lane with this room and these bits, raised or not
 abbrev pub given_lane : ℕ → ℕ → Lane → Lane
-given_lane room bits lane = record { room = room; debt = None; held = bits; raised = bit_and lane.raised bits; phase = Idle }
+given_lane room bits lane =
+    record { room = room; debt = None; held = bits; raised = bit_and lane.raised bits; phase = Idle }
 
 -- a lane with the room and the bits of two, and no more room than there is
 abbrev pub both_lanes : ℕ → Lane → Lane → Lane
@@ -31,7 +32,8 @@ both_lanes whole lane other = record {
 
 -- what the seat that is cut knows then
 abbrev pub kept_facts : ℕ → ℕ → Facts → Facts
-kept_facts room bits facts = record { opening = facts.opening; lane = kept_lane room bits facts.lane; made = facts.made }
+kept_facts room bits facts =
+    record { opening = facts.opening; lane = kept_lane room bits facts.lane; made = facts.made }
 
 -- what the new seat knows
 abbrev pub given_facts : ℕ → ℕ → Facts → Facts
@@ -51,4 +53,8 @@ spent_facts facts = record { opening = facts.opening; lane = spent_lane; made = 
 
 -- nothing is known
 abbrev pub no_facts : Facts
-no_facts = record { opening = record { marks = record { low = 0; high = 0 }; room = 0; bits = 0 }; lane = spent_lane; made = [] }
+no_facts = record {
+  opening = record { marks = record { low = 0; high = 0 }; room = 0; bits = 0 };
+  lane = spent_lane;
+  made = [];
+}

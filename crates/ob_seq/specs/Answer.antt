@@ -57,7 +57,8 @@ refusal_of estimate rows (UserBit index writable) = if is_user_index index then 
 
 -- the first refusal of a command after a history, or none: once the buffer is closed, each command is refused as that
 abbrev pub first_refusal : Estimate → List Command → Command → Option Refusal
-first_refusal estimate commands command = if is_closed commands then Some Closed else refusal_of estimate (rows_after estimate commands) command
+first_refusal estimate commands command =
+    if is_closed commands then Some Closed else refusal_of estimate (rows_after estimate commands) command
 
 -- the state of the promise with this id, if a write was accepted under it
 abbrev pub promise_at : List Row → ℕ → Option PromiseState

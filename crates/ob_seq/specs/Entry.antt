@@ -14,7 +14,8 @@ pub record PendingEntry : Type 0 where
 
 -- a row as an entry
 abbrev pub entry_of : Row → PendingEntry
-entry_of row = record { message = unread_part row; size = counted_size row; progress = row.progress; voided = is_voided row.place }
+entry_of row =
+    record { message = unread_part row; size = counted_size row; progress = row.progress; voided = is_voided row.place }
 
 -- what is left of each entry that was not voided
 abbrev pub messages_to_send : List PendingEntry → List Message

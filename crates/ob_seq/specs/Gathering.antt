@@ -22,4 +22,5 @@ gathered max_count max_bytes rows = first_blocks max_count max_bytes (with_bytes
 
 -- what is gathered after a history of accepted commands
 abbrev pub gathered_after : Settings → List Command → ℕ → ℕ → List (List ℕ)
-gathered_after settings commands max_count max_bytes = gathered max_count max_bytes (rows_after settings.estimate commands)
+gathered_after settings commands max_count max_bytes =
+    gathered max_count max_bytes (rows_after settings.estimate commands)

@@ -9,7 +9,8 @@ use Rattle.ob_seq.specs.declared.contents.Contents.TheInside.{Inside}
 
 -- what a contract sees of an entry
 abbrev pub pending_entry : Entry → PendingEntry
-pending_entry entry = record { message = entry.message; size = entry.size; progress = entry.progress; voided = entry.voided }
+pending_entry entry =
+    record { message = entry.message; size = entry.size; progress = entry.progress; voided = entry.voided }
 
 -- what a contract sees of entries
 abbrev pub pending_entries : List Entry → List PendingEntry

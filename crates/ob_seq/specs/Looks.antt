@@ -26,7 +26,8 @@ before_unwritable marks word sum = if is_writable word && nat_le sum marks.high 
 -- `bytesBeforeWritable`), one more than there are where that mark is 0, at most the greatest total; 0 where the
 -- buffer is writable, or its pending bytes are below the low mark
 abbrev pub before_writable : Marks → ℕ → ℕ → ℕ
-before_writable marks word sum = if not (is_writable word) && nat_le marks.low sum then min (sum - marks.low + 1) greatest_total else 0
+before_writable marks word sum =
+    if not (is_writable word) && nat_le marks.low sum then min (sum - marks.low + 1) greatest_total else 0
 
 -- the progress of the front, or 0 where nothing stands in line (Netty's `currentProgress`)
 abbrev pub progress_of : Option Row → ℕ
@@ -58,4 +59,5 @@ current_after settings commands = option_map unread_part (front (rows_after sett
 -- the unread part of each flushed message after a history, but of those that were voided, oldest first (Netty's
 -- `forEachFlushedMessage`)
 abbrev pub flushed_after : Settings → List Command → List Message
-flushed_after settings commands = map unread_part (filter (λ row. is_flushed row.place) (rows_after settings.estimate commands))
+flushed_after settings commands =
+    map unread_part (filter (λ row. is_flushed row.place) (rows_after settings.estimate commands))

@@ -20,16 +20,19 @@ fall notice sum = if notice then NoticedFall sum else SilentFall sum
 
 -- the moment when one row's count goes from before to after and the pending bytes are then sum: none where it stays
 abbrev pub moment_of : Bool → ℕ → ℕ → ℕ → List Moment
-moment_of notice before after sum = if nat_lt before after then Rise sum ∷ [] else (if nat_lt after before then fall notice sum ∷ [] else [])
+moment_of notice before after sum =
+    if nat_lt before after then Rise sum ∷ [] else (if nat_lt after before then fall notice sum ∷ [] else [])
 
 -- the moments when rows change one after another, from the first on: those passed stand as they are after, and
 -- those still to come as they were before
 abbrev pub moments_along : Bool → List Row → List Row → List Row → List Moment
 moments_along notice passed before [] = []
 moments_along notice passed [] (row ∷ after) =
-    moment_of notice 0 (counted_size row) (total (passed ++ row ∷ [])) ++ moments_along notice (passed ++ row ∷ []) [] after
+    moment_of notice 0 (counted_size row) (total (passed ++ row ∷ []))
+        ++ moments_along notice (passed ++ row ∷ []) [] after
 moments_along notice passed (was ∷ before) (row ∷ after) =
-    moment_of notice (counted_size was) (counted_size row) (total (passed ++ row ∷ before)) ++ moments_along notice (passed ++ row ∷ []) before after
+    moment_of notice (counted_size was) (counted_size row) (total (passed ++ row ∷ before))
+        ++ moments_along notice (passed ++ row ∷ []) before after
 
 -- whether the falls of a command are with notice: a failing of the flushed messages says so itself, and a close never
 -- gives any

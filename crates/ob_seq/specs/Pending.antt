@@ -45,7 +45,8 @@ pub record StandsFor (buffer : Pending) (commands : List Command) : Type 0 where
 
 -- whatever history the buffer stands for, the value is what this gives after it
 abbrev pub Gives : {A : Type 0} → Pending → (Settings → List Command → A) → A → Type 0
-Gives buffer after value = (commands : List Command) → StandsFor buffer commands → value ≡ after buffer.settings commands
+Gives buffer after value =
+    (commands : List Command) → StandsFor buffer commands → value ≡ after buffer.settings commands
 
 -- whatever history the old buffer stands for, the result is the answer to one more command after it
 abbrev pub Answers : Pending → Command → Result Reply Refusal → Type 0
@@ -58,7 +59,8 @@ Accepts old command = Gives old (λ settings commands. is_accepted settings comm
 -- whatever history the old buffer stands for, the new one stands for it with the command, if the result is a reply, and
 -- else for the same history
 abbrev pub Follows : Pending → Command → Result Reply Refusal → Pending → Type 0
-Follows old command result new = (commands : List Command) → StandsFor old commands → StandsFor new (commands_with commands command result)
+Follows old command result new =
+    (commands : List Command) → StandsFor old commands → StandsFor new (commands_with commands command result)
 
 -- whatever history the buffer stands for, the look is the look after it
 abbrev pub Shows : Pending → Look → Type 0
@@ -78,7 +80,8 @@ AreFlushed buffer messages = Gives buffer flushed_after messages
 
 -- whatever history the buffer stands for, these blocks are what is gathered after it
 abbrev pub AreGathered : Pending → ℕ → ℕ → List (List ℕ) → Type 0
-AreGathered buffer max_count max_bytes blocks = Gives buffer (λ settings commands. gathered_after settings commands max_count max_bytes) blocks
+AreGathered buffer max_count max_bytes blocks =
+    Gives buffer (λ settings commands. gathered_after settings commands max_count max_bytes) blocks
 
 -- whether a command is never in want of memory
 abbrev pub takes_no_memory : Command → Bool

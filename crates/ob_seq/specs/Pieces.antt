@@ -12,4 +12,5 @@ greatest numbers = fold max 0 numbers
 
 -- the greatest number of pieces, from the first on, that hold together at most so many bytes
 abbrev pub pieces_within : ℕ → List (List ℕ) → ℕ
-pieces_within limit pieces = greatest (filter (λ count. nat_le (bytes_in (take count pieces)) limit) (range_with_len 0 (suc (length pieces))))
+pieces_within limit pieces =
+    greatest (filter (λ count. nat_le (bytes_in (take count pieces)) limit) (range_with_len 0 (suc (length pieces))))

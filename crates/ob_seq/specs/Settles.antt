@@ -24,17 +24,20 @@ settled_after settings commands command = length (settled_by (answer_to settings
 abbrev pub Settles : Pending → Command → ℕ → Type 0
 Settles buffer command count = Gives buffer (λ settings commands. settled_after settings commands command) count
 
--- whatever history the old buffer stands for, where the command settles no more promises after it than want no memory, its
--- result is not want of memory
+-- whatever history the old buffer stands for, where the command settles no more promises after it than want no memory,
+-- its result is not want of memory
 abbrev pub SparesMemory : Pending → Command → Result Reply Refusal → Type 0
 SparesMemory old command result =
-    (commands : List Command) → StandsFor old commands → settled_after old.settings commands command ≤ inline_settlements → ¬ IsErrOf result NoMemory
+    (commands : List Command) → StandsFor old commands
+        → settled_after old.settings commands command ≤ inline_settlements → ¬ IsErrOf result NoMemory
 
--- what commands settle that are given one after another after a history; a refused one settles nothing and has no effect
+-- what commands settle that are given one after another after a history; a refused one settles nothing and has no
+-- effect
 abbrev pub settled_along : Settings → List Command → List Command → List (PromiseId × Outcome)
 settled_along settings earlier [] = []
 settled_along settings earlier (command ∷ commands) =
-    settled_by (answer_to settings earlier command) ++ settled_along settings (commands_after settings earlier command) commands
+    settled_by (answer_to settings earlier command)
+        ++ settled_along settings (commands_after settings earlier command) commands
 
 -- how often a promise stands among settlements
 abbrev pub times_settled : PromiseId → List (PromiseId × Outcome) → ℕ

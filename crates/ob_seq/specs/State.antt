@@ -29,4 +29,5 @@ user_writable_after index settings commands = not (is_user_index index && user_b
 
 -- how many more writes can be accepted after a history: none once it has a close
 abbrev pub writes_left_after : Settings → List Command → ℕ
-writes_left_after settings commands = if is_closed commands then 0 else most_writes - length (rows_after settings.estimate commands)
+writes_left_after settings commands =
+    if is_closed commands then 0 else most_writes - length (rows_after settings.estimate commands)

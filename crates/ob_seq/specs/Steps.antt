@@ -153,7 +153,10 @@ abbrev pub front_taken : Bool → Outcome → Pending → Pending
 front_taken notice outcome old = record old {
   line = drop 1 old.line;
   promises = if is_first_voided old.line then old.promises else slice_set old.promises (front_id old) (Settled outcome);
-  word = if notice then word_after_fall old.marks old.word (first_size old.line) (pending_total old - first_size old.line) else old.word;
+  word =
+      if notice
+      then word_after_fall old.marks old.word (first_size old.line) (pending_total old - first_size old.line)
+      else old.word;
 }
 
 -- the line with its first entry changed
@@ -223,7 +226,8 @@ entry_settlement outcome id entry = if entry.voided then [] else (record { 0 = i
 -- what entries settle when they are taken away with this outcome, where their ids go on from this one
 abbrev pub entry_settlements : Outcome → ℕ → List PendingEntry → List (PromiseId × Outcome)
 entry_settlements outcome id [] = []
-entry_settlements outcome id (entry ∷ entries) = entry_settlement outcome id entry ++ entry_settlements outcome (suc id) entries
+entry_settlements outcome id (entry ∷ entries) =
+    entry_settlement outcome id entry ++ entry_settlements outcome (suc id) entries
 
 -- what a removal of bytes replies that ends there
 abbrev pub bytes_reply : Cut → Pending → Reply
@@ -252,7 +256,8 @@ failed_from id cause promises = take id promises ++ map (failed cause) (drop id 
 -- what promises settle that fail if they still wait, where their ids go on from this one
 abbrev pub failures : Cause → ℕ → List PromiseState → List (PromiseId × Outcome)
 failures cause id [] = []
-failures cause id (state ∷ states) = (if is_waiting state then (record { 0 = id }, Failed cause) ∷ [] else []) ++ failures cause (suc id) states
+failures cause id (state ∷ states) =
+    (if is_waiting state then (record { 0 = id }, Failed cause) ∷ [] else []) ++ failures cause (suc id) states
 
 -- a buffer after its close
 abbrev pub closed_pending : Cause → Pending → Pending

@@ -29,4 +29,5 @@ is_oversize estimate message = nat_lt greatest_pending_size (counted_bytes estim
 
 -- the pending size of a message, or Oversize
 abbrev pub pending_size_of : Estimate → Message → Result ℕ Refusal
-pending_size_of estimate message = if is_oversize estimate message then Err Oversize else Ok (counted_bytes estimate message)
+pending_size_of estimate message =
+    if is_oversize estimate message then Err Oversize else Ok (counted_bytes estimate message)

@@ -16,4 +16,5 @@ pub record AreMarks (marks : Marks) : Type 0 where
 
 -- the marks of two numbers, or BadMarks where they are no marks
 abbrev pub water_mark_of : ℕ → ℕ → Result Marks Refusal
-water_mark_of low high = if nat_lt high low || nat_lt greatest_mark high then Err BadMarks else Ok (record { low = low; high = high })
+water_mark_of low high =
+    if nat_lt high low || nat_lt greatest_mark high then Err BadMarks else Ok (record { low = low; high = high })
