@@ -5,6 +5,10 @@ use Rattle.ob_tool.specs.Lines.{lines_of}
 use Rattle.ob_tool.specs.declared.line_fault.LineFault.{LineFault}
 use Rattle.ob_tool.specs.declared.line_fault.LineFault.TheVariants.{Misplaced}
 
+-- the greatest length of a script, in bytes
+abbrev pub greatest_script : ℕ
+greatest_script = 16777216
+
 -- the lines before the first faulty one
 abbrev pub before_fault : {L : Type 0} → List (Result L LineFault) → List L
 before_fault [] = []

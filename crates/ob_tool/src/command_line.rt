@@ -1,5 +1,6 @@
 ghost use Rattle.std.specs.Prelude.{◌≡◌, ◌⊎◌, ◌<◌, ◌≤◌, ◌↔◌, None, IfSome, IsOk, IfOk, IfErr};
-ghost use Rattle.ob_history.specs.History.{new_history};
+ghost use Rattle.ob_types.specs.Limits.{greatest_mark};
+ghost use Rattle.ob_history.specs.History.{most_records, new_history};
 ghost use Rattle.ob_tool.specs.Options.{first_history};
 ghost use Rattle.ob_tool.specs.Entry.{exit_status_of};
 
@@ -84,9 +85,9 @@ fn given_marks(given: &ArgMatches<'_>) -> Result<WaterMark, EntryFault>
 /// bounds here change no number.
 fn limit_of(given: Option<u32>) -> u32
     ensures some_record { 0 < result }
-    ensures few_records { result ≤ 1048576 }
-    ensures given { IfSome given (λ limit. 0 < limit → limit ≤ 1048576 → result ≡ limit) }
-    ensures none { given ≡ None → result ≡ 1048576 }
+    ensures few_records { result ≤ most_records }
+    ensures given { IfSome given (λ limit. 0 < limit → limit ≤ most_records → result ≡ limit) }
+    ensures none { given ≡ None → result ≡ most_records }
 {
     given.unwrap_or(MAX_RECORDS).clamp(1, MAX_RECORDS)
 }
@@ -94,7 +95,7 @@ fn limit_of(given: Option<u32>) -> u32
 /// The options of these marks, of these numbers in bytes, of this limit, and of what a hand-off adds.
 fn options(marks: WaterMark, overhead: u16, unknown: u16, limit: u32, task: u16) -> Options
     requires some_record { 0 < limit }
-    requires few_records { limit ≤ 1048576 }
+    requires few_records { limit ≤ most_records }
     ensures task { result.task ≡ task }
     ensures history { first_history result ≡ new_history (record {
       marks = marks;
@@ -117,7 +118,7 @@ fn options(marks: WaterMark, overhead: u16, unknown: u16, limit: u32, task: u16)
 fn marks(low: u32, high: u32) -> Result<WaterMark, EntryFault>
     ensures ok { IfOk result (λ marks. marks ≡ record { low = low; high = high }) }
     ensures err { IfErr result (λ fault. exit_status_of fault ≡ 1) }
-    ensures accepted { IsOk result ↔ (low ≤ high × high ≤ 2147483647) }
+    ensures accepted { IsOk result ↔ (low ≤ high × high ≤ greatest_mark) }
 {
     match WaterMark::new(low, high) {
         Ok(marks) => Ok(marks),

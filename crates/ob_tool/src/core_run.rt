@@ -2,7 +2,7 @@ ghost use Rattle.std.specs.Prelude.{◌≡◌, ◌≤◌, ◌<◌, ℕ, IfErr, I
 ghost use Rattle.std.specs.Io.KnownBytes.{Appends, IsAtEnd, Keeps};
 ghost use Rattle.ob_tool.specs.CoreScript.{core_language};
 ghost use Rattle.ob_tool.specs.Outcome.{WentThrough, fault_told, status_of};
-ghost use Rattle.ob_tool.specs.Script.{script_fault};
+ghost use Rattle.ob_tool.specs.Script.{greatest_script, script_fault};
 ghost use Rattle.ob_tool.specs.Trace.{trace_of, trace_of_first};
 
 use crate::core_session::CoreSession;
@@ -30,7 +30,7 @@ pub fn core<R: Read, W: Write>(
     ensures fault { WentThrough result
         → IfSome (R.remaining reader.old) (λ script. fault_told result ≡ script_fault (core_language marks) script) }
     ensures end { WentThrough result → IsAtEnd (R.remaining reader.new) }
-    ensures within { WentThrough result → IfSome (R.remaining reader.old) (λ script. length script ≤ 16777216) }
+    ensures within { WentThrough result → IfSome (R.remaining reader.old) (λ script. length script ≤ greatest_script) }
 
     // Where memory runs out, the trace of some first lines is written and nothing else.
     ensures no_memory { IsErrOf result RunFault.NoMemory → IfSome (R.remaining reader.old) (λ script.
@@ -40,7 +40,7 @@ pub fn core<R: Read, W: Write>(
     // A script that was not read leaves the writer alone.
     ensures unread { IsErrOf result RunFault.Read → Keeps (W.contents writer.old) (W.contents writer.new) }
     ensures too_long { IsErrOf result RunFault.TooLong
-        → IfSome (R.remaining reader.old) (λ script. 16777216 < length script) }
+        → IfSome (R.remaining reader.old) (λ script. greatest_script < length script) }
     ensures too_long_unwritten { IsErrOf result RunFault.TooLong
         → Keeps (W.contents writer.old) (W.contents writer.new) }
 

@@ -6,7 +6,7 @@ ghost use Rattle.ob_tool.specs.DriveSession.{HasKept};
 ghost use Rattle.ob_tool.specs.DriveText.{report_text};
 ghost use Rattle.ob_tool.specs.Ending.{LinesEnd};
 ghost use Rattle.ob_tool.specs.Outcome.{IsFaultOfDrive, IsWritingFault, WentThrough, fault_told};
-ghost use Rattle.ob_tool.specs.Script.{script_fault, script_lines};
+ghost use Rattle.ob_tool.specs.Script.{greatest_script, script_fault, script_lines};
 
 use crate::drive_session::DriveSession;
 use crate::drive_text::push_report;
@@ -49,13 +49,13 @@ pub fn drive_script<H: AllocGlobal + Threads + Wait + Clock + Sync, R: Read, W: 
     ensures fault { WentThrough result → IfSome (R.remaining reader.old) (λ script.
         fault_told result ≡ script_fault drive_language script) }
     ensures end { WentThrough result → IsAtEnd (R.remaining reader.new) }
-    ensures within { WentThrough result → IfSome (R.remaining reader.old) (λ script. length script ≤ 16777216) }
+    ensures within { WentThrough result → IfSome (R.remaining reader.old) (λ script. length script ≤ greatest_script) }
 
     // Without a report nothing is written, unless the writer fails.
     ensures unwritten { IfErr result (λ fault. fault ≢ RunFault.Write
         → Keeps (W.contents writer.old) (W.contents writer.new)) }
     ensures too_long { IsErrOf result RunFault.TooLong → IfSome (R.remaining reader.old) (λ script.
-        16777216 < length script) }
+        greatest_script < length script) }
 {
     let script = read_script(rt.alloc(), reader, MAX_READS)?;
     let session = read_lines(rt.alloc(), &script)?;
@@ -65,7 +65,7 @@ pub fn drive_script<H: AllocGlobal + Threads + Wait + Clock + Sync, R: Read, W: 
 
 /// Reads the lines of a drive script up to the first faulty one. Their trace is empty, so nothing is written.
 pub fn read_lines(alloc: Global, script: &[u8]) -> Result<DriveSession, RunFault>
-    requires small { length script.now ≤ 16777216 }
+    requires small { length script.now ≤ greatest_script }
     ensures kept { IfOk result (λ session. HasKept session (script_lines drive_language script.now)) }
     ensures ends { LinesEnd drive_language script.now (λ text. Unit {0}) result }
 {

@@ -1,4 +1,6 @@
 ghost use Rattle.std.specs.Prelude.{◌<◌, ◌≤◌};
+ghost use Rattle.ob_types.specs.Limits.{greatest_overhead, greatest_unknown};
+ghost use Rattle.ob_history.specs.History.{most_records};
 
 use ob_types::{Estimate, WaterMark};
 
@@ -14,9 +16,9 @@ pub struct Options {
     pub limit: u32,
     /// How many bytes a message counts beside its own while a writer of a drive hands it over. A run has no use for it.
     pub task: u32,
-    ghost small_overhead: { estimate.overhead ≤ 65535 },
-    ghost small_unknown: { estimate.unknown ≤ 65535 },
+    ghost small_overhead: { estimate.overhead ≤ greatest_overhead },
+    ghost small_unknown: { estimate.unknown ≤ greatest_unknown },
     ghost some_record: { 0 < limit },
-    ghost few_records: { limit ≤ 1048576 },
-    ghost small_task: { task ≤ 65535 },
+    ghost few_records: { limit ≤ most_records },
+    ghost small_task: { task ≤ greatest_overhead },
 }

@@ -2,7 +2,7 @@ ghost use Rattle.std.specs.Prelude.{◌≡◌, ◌≤◌, ◌<◌, [], ℕ, IfEr
 ghost use Rattle.std.specs.Io.KnownBytes.{Appends, IsAtEnd, Keeps};
 ghost use Rattle.ob_tool.specs.Ending.{Ends};
 ghost use Rattle.ob_tool.specs.Outcome.{WentThrough, fault_told, status_of};
-ghost use Rattle.ob_tool.specs.Script.{script_fault};
+ghost use Rattle.ob_tool.specs.Script.{greatest_script, script_fault};
 ghost use Rattle.ob_tool.specs.Trace.{trace_of, trace_of_first};
 
 use crate::interpreter::Interpreter;
@@ -28,13 +28,13 @@ pub fn interpret<I: Interpreter, R: Read, W: Write>(
     ensures fault { WentThrough result
         → IfSome (R.remaining reader.old) (λ script. fault_told result ≡ script_fault (I.language interpreter) script) }
     ensures end { WentThrough result → IsAtEnd (R.remaining reader.new) }
-    ensures within { WentThrough result → IfSome (R.remaining reader.old) (λ script. length script ≤ 16777216) }
+    ensures within { WentThrough result → IfSome (R.remaining reader.old) (λ script. length script ≤ greatest_script) }
     ensures no_memory { IsErrOf result RunFault.NoMemory → IfSome (R.remaining reader.old) (λ script.
         (count : ℕ) × Appends (W.contents writer.old) (W.contents writer.new)
         (trace_of_first count (I.language interpreter) script)) }
     ensures unread { IsErrOf result RunFault.Read → Keeps (W.contents writer.old) (W.contents writer.new) }
     ensures too_long { IsErrOf result RunFault.TooLong
-        → IfSome (R.remaining reader.old) (λ script. 16777216 < length script) }
+        → IfSome (R.remaining reader.old) (λ script. greatest_script < length script) }
     ensures too_long_unwritten { IsErrOf result RunFault.TooLong
         → Keeps (W.contents writer.old) (W.contents writer.new) }
     ensures undriven { IfErr result (λ fault. status_of fault ≤ 4) }
@@ -50,7 +50,7 @@ fn write_trace<I: Interpreter, W: Write>(
     writer: &mut W,
     interpreter: I,
 ) -> Result<(), RunFault>
-    requires small { length script.now ≤ 16777216 }
+    requires small { length script.now ≤ greatest_script }
     requires fresh { I.HasDone interpreter [] }
     ensures { Ends (I.language interpreter) script.now
         (Appends (W.contents writer.old) (W.contents writer.new)) result }

@@ -3,7 +3,7 @@ ghost use Rattle.std.specs.Io.KnownBytes.{Appends, IsAtEnd, Keeps};
 ghost use Rattle.ob_tool.specs.Options.{first_history};
 ghost use Rattle.ob_tool.specs.Outcome.{WentThrough, fault_told, status_of};
 ghost use Rattle.ob_tool.specs.RunScript.{run_language};
-ghost use Rattle.ob_tool.specs.Script.{script_fault};
+ghost use Rattle.ob_tool.specs.Script.{greatest_script, script_fault};
 ghost use Rattle.ob_tool.specs.Trace.{trace_of, trace_of_first};
 
 use crate::options::Options;
@@ -34,7 +34,7 @@ pub fn run<R: Read, W: Write>(
         → IfSome (R.remaining reader.old) (λ script.
         fault_told result ≡ script_fault (run_language (first_history options)) script) }
     ensures end { WentThrough result → IsAtEnd (R.remaining reader.new) }
-    ensures within { WentThrough result → IfSome (R.remaining reader.old) (λ script. length script ≤ 16777216) }
+    ensures within { WentThrough result → IfSome (R.remaining reader.old) (λ script. length script ≤ greatest_script) }
 
     // Where memory runs out, the trace of some first lines is written and nothing else.
     ensures no_memory { IsErrOf result RunFault.NoMemory → IfSome (R.remaining reader.old) (λ script.
@@ -44,7 +44,7 @@ pub fn run<R: Read, W: Write>(
     // A script that was not read leaves the writer alone.
     ensures unread { IsErrOf result RunFault.Read → Keeps (W.contents writer.old) (W.contents writer.new) }
     ensures too_long { IsErrOf result RunFault.TooLong
-        → IfSome (R.remaining reader.old) (λ script. 16777216 < length script) }
+        → IfSome (R.remaining reader.old) (λ script. greatest_script < length script) }
     ensures too_long_unwritten { IsErrOf result RunFault.TooLong
         → Keeps (W.contents writer.old) (W.contents writer.new) }
 

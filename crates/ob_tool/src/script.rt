@@ -1,6 +1,7 @@
 ghost use Rattle.std.specs.Prelude.{◌≡◌, ◌<◌, ◌≤◌, List, ℕ, Option, IsTrue, IfOk, IfErr, IfSome, IsErrOf, OnOk, length};
 ghost use Rattle.std.specs.Io.KnownBytes.{Consumes, IsAtEnd};
 ghost use Rattle.ob_tool.specs.Outcome.{IsReadingFault};
+ghost use Rattle.ob_tool.specs.Script.{greatest_script};
 
 use crate::run_fault::RunFault;
 use std::alloc::{AllocError, Global};
@@ -19,9 +20,9 @@ const PIECE: usize = 65536;
 pub fn read_script<R: Read>(alloc: Global, reader: &mut R, reads: u32) -> Result<Vec<u8>, RunFault>
     ensures whole { IfOk result (λ script. IfSome (R.remaining reader.old) (λ bytes. bytes ≡ script.items)) }
     ensures end { OnOk result (IsAtEnd (R.remaining reader.new)) }
-    ensures within { IfOk result (λ script. length script.items ≤ 16777216) }
+    ensures within { IfOk result (λ script. length script.items ≤ greatest_script) }
     ensures too_long { IsErrOf result RunFault.TooLong
-        → IfSome (R.remaining reader.old) (λ bytes. 16777216 < length bytes) }
+        → IfSome (R.remaining reader.old) (λ bytes. greatest_script < length bytes) }
     ensures faults { IfErr result IsReadingFault }
 {
     let mut script = Vec::new(alloc);
@@ -43,14 +44,14 @@ fn read_piece<R: Read>(
     script: &mut Vec<u8>,
 ) -> Result<bool, RunFault>
     requires room { 0 < length piece.old }
-    requires within { length script.old.items ≤ 16777216 }
+    requires within { length script.old.items ≤ greatest_script }
     ensures so_far { OnOk result ((start : Option (List ℕ)) → Consumes start (R.remaining reader.old) script.old.items
         → Consumes start (R.remaining reader.new) script.new.items) }
     ensures end { IfOk result (λ ended. IsTrue ended → IsAtEnd (R.remaining reader.new)) }
-    ensures within { OnOk result (length script.new.items ≤ 16777216) }
+    ensures within { OnOk result (length script.new.items ≤ greatest_script) }
     ensures too_long { IsErrOf result RunFault.TooLong → (start : Option (List ℕ))
         → Consumes start (R.remaining reader.old) script.old.items
-        → IfSome start (λ bytes. 16777216 < length bytes) }
+        → IfSome start (λ bytes. greatest_script < length bytes) }
     ensures faults { IfErr result IsReadingFault }
 {
     match reader.read(piece) {

@@ -2,7 +2,7 @@ ghost use Rattle.std.specs.Prelude.{◌≡◌, ◌≢◌, ◌++◌, ◌<◌, ◌
 ghost use Rattle.std.specs.Prelude.{IfErr, length};
 ghost use Rattle.std.specs.Io.KnownBytes.{Keeps, append_known};
 ghost use Rattle.ob_tool.specs.Ending.{Ends, LinesEnd};
-ghost use Rattle.ob_tool.specs.Script.{script_lines};
+ghost use Rattle.ob_tool.specs.Script.{greatest_script, script_lines};
 ghost use Rattle.ob_tool.specs.Session.{HasTraced};
 ghost use Rattle.ob_tool.specs.declared.run_fault.RunFault.TheVariants.{Write};
 
@@ -25,7 +25,7 @@ pub fn trace_script<I: Interpreter, W: io::Write>(
     waiting: &mut Vec<u8>,
     writer: &mut W,
 ) -> Result<(), RunFault>
-    requires small { length script.now ≤ 16777216 }
+    requires small { length script.now ≤ greatest_script }
     requires fresh { I.HasDone interpreter.old [] }
     requires empty { waiting.old.items ≡ [] }
     ensures { Ends (I.language interpreter.old) script.now
@@ -46,7 +46,7 @@ pub fn trace_lines<I: Interpreter, W: io::Write>(
     waiting: &mut Vec<u8>,
     writer: &mut W,
 ) -> Result<(), RunFault>
-    requires small { length script.now ≤ 16777216 }
+    requires small { length script.now ≤ greatest_script }
     requires fresh { I.HasDone interpreter.old [] }
     requires empty { waiting.old.items ≡ [] }
     ensures lines { LinesEnd (I.language interpreter.old) script.now
