@@ -19,14 +19,16 @@ use Rattle.ob_history.proofs.Histories.{legal_with_next}
 pub answer_with_place : (history : History) (caller : ℕ) (command : Command) → is_full history ≡ false →
     call_answer history caller command ≡ Ok (receipt_of (next_record history caller command))
 answer_with_place history caller command free =
-    let answer : Bool → Result Receipt Refusal = λ full. if full then Err HistoryFull else Ok (receipt_of (next_record history caller command)) in
+    let answer : Bool → Result Receipt Refusal =
+    λ full. if full then Err HistoryFull else Ok (receipt_of (next_record history caller command)) in
     ap answer free
 
 -- and has that record after it
 pub after_with_place : (history : History) (caller : ℕ) (command : Command) → is_full history ≡ false →
     history_after history caller command ≡ with_record history (next_record history caller command)
 after_with_place history caller command free =
-    let after : Bool → History = λ full. if full then history else with_record history (next_record history caller command) in
+    let after : Bool → History =
+    λ full. if full then history else with_record history (next_record history caller command) in
     ap after free
 
 -- and that record stands last in it
@@ -52,7 +54,8 @@ module _ (history : History) (caller : ℕ) (command : Command) where
     where
       by_full : (full : Bool) → IsLegal history.settings (after_by full).records
       by_full true = legal
-      by_full false = legal_with_next history.settings history.records (next_record history caller command) legal refl refl
+      by_full false =
+          legal_with_next history.settings history.records (next_record history caller command) legal refl refl
 
   pub bounded_after : IsBounded history → IsBounded (history_after history caller command)
   bounded_after bounded = by_full (is_full history) refl
@@ -61,7 +64,15 @@ module _ (history : History) (caller : ℕ) (command : Command) where
       by_full true is = bounded
       by_full false is =
           let below : length history.records ≢ history.limit = eqb-false (length history.records) history.limit is in
-          record { places = omega (arith, length_push history.records (next_record history caller command), bounded.places, below); limit = bounded.limit }
+          record {
+            places = omega (
+              arith,
+              length_push history.records (next_record history caller command),
+              bounded.places,
+              below,
+            );
+            limit = bounded.limit;
+          }
 
   pub settings_after : (history_after history caller command).settings ≡ history.settings
   settings_after = by_full (is_full history)

@@ -21,12 +21,14 @@ up_to_end property xs i past holds = subst property (take_all i xs past) holds
 pub last_of : {X : Type 0} (P : X → Type 0) (xs : List X) (i : ℕ) (d : X) → i < length xs →
     All P (take (i + 1) xs) → P (get_or xs i d)
 last_of P xs i d within all =
-    subst P (get_or-take (i + 1) xs i d (omega arith)) (all i d (omega (arith, within, length-take-le (i + 1) xs (omega (arith, within)))))
+    subst P (get_or-take (i + 1) xs i d (omega arith))
+    (all i d (omega (arith, within, length-take-le (i + 1) xs (omega (arith, within)))))
 
 -- the first item of which something does not hold
 pub first_against : {X : Type 0} (P : X → Type 0) (xs : List X) (i : ℕ) (d : X) → i < length xs →
     All P (take i xs) → ¬ P (get_or xs i d) → IsFirstBreak (All P) xs i
-first_against P xs i d within before against = record { within = within; before = before; broken = λ all. against (last_of P xs i d within all) }
+first_against P xs i d within before against =
+    record { within = within; before = before; broken = λ all. against (last_of P xs i d within all) }
 
 -- where something holds of each item, no item is the first against it
 pub never_against : {X : Type 0} (P : X → Type 0) (xs : List X) (i : ℕ) → IsFirstBreak (All P) xs i → All P xs → ⊥
@@ -34,7 +36,8 @@ never_against P xs i first all = first.broken (All-take P (i + 1) xs all)
 
 -- that a receipt's place is above that of the one before it
 abbrev pub RisesAt : List Receipt → ℕ → Type 0
-RisesAt receipts index = (other : Receipt) → 0 < index → (get_or receipts (index - 1) other).place < (get_or receipts index other).place
+RisesAt receipts index =
+    (other : Receipt) → 0 < index → (get_or receipts (index - 1) other).place < (get_or receipts index other).place
 
 module _ (caller : ℕ) (records : List Record) (receipts : List Receipt) (index : ℕ) (receipt : Receipt) where
   -- one more receipt that is the caller's own
@@ -45,24 +48,33 @@ module _ (caller : ℕ) (records : List Record) (receipts : List Receipt) (index
   own_more within is own named kept rises =
       let before = take index receipts in
       let long : length before ≡ index = length-take-le index receipts (omega (arith, within)) in
-      let longer : take (index + 1) receipts ≡ before ++ receipt ∷ [] = take_more receipts index receipt within ∙ ap (λ last. before ++ last ∷ []) (sym is) in
+      let longer : take (index + 1) receipts ≡ before ++ receipt ∷ [] =
+      take_more receipts index receipt within ∙ ap (λ last. before ++ last ∷ []) (sym is) in
       let above : (k : ℕ) (d : Receipt) → k < length before → (get_or before k d).place < receipt.place = λ k d early.
       let under : k < index = omega (arith, early, long) in
-      let up : (get_or receipts (index - 1) d).place < (get_or receipts index d).place = rises d (omega (arith, under)) in
-      let last : (get_or receipts index d).place ≡ receipt.place = ap (λ (other : Receipt). other.place) (sym (get_or_read receipts index receipt within is d)) in
+      let up : (get_or receipts (index - 1) d).place < (get_or receipts index d).place =
+      rises d (omega (arith, under)) in
+      let last : (get_or receipts index d).place ≡ receipt.place =
+      ap (λ (other : Receipt). other.place) (sym (get_or_read receipts index receipt within is d)) in
       let previous = get_or-take index receipts (index - 1) d (omega (arith, under)) in
-      let to_previous : (get_or before k d).place ≤ (get_or receipts (index - 1) d).place = elim (cases_eq k (index - 1)) [
-        | inl same ↦ (let its : (get_or before k d).place ≡ (get_or receipts (index - 1) d).place = ap (λ i. (get_or before i d).place) same ∙ ap (λ (other : Receipt). other.place) previous in omega (arith, its))
+      let to_previous : (get_or before k d).place ≤ (get_or receipts (index - 1) d).place =
+      elim (cases_eq k (index - 1)) [
+        | inl same ↦ (let its : (get_or before k d).place
+            ≡ (get_or receipts (index - 1) d).place =
+            ap (λ i. (get_or before i d).place) same
+            ∙ ap (λ (other : Receipt). other.place) previous in omega (arith, its))
         | inr other ↦ (
             let below = own.rising k (index - 1) d (omega (arith, other, under)) (omega (arith, long, under)) in
-            let its : (get_or before (index - 1) d).place ≡ (get_or receipts (index - 1) d).place = ap (λ (other : Receipt). other.place) previous in
+            let its : (get_or before (index - 1) d).place ≡ (get_or receipts (index - 1) d).place =
+            ap (λ (other : Receipt). other.place) previous in
             omega (arith, below, its))
       ] in
       omega (arith, to_previous, up, last) in
       subst (AreOwn caller records) (sym longer) (record {
         kept = All-push (IsReceiptIn records) before receipt own.kept kept;
         named = All-push (λ (receipt : Receipt). receipt.caller ≡ caller) before receipt own.named named;
-        rising = all_pairs_push (λ (earlier later : Receipt). earlier.place < later.place) before receipt own.rising above;
+        rising =
+            all_pairs_push (λ (earlier later : Receipt). earlier.place < later.place) before receipt own.rising above;
       })
 
   -- one that is not
@@ -74,13 +86,17 @@ module _ (caller : ℕ) (records : List Record) (receipts : List Receipt) (index
     within = within;
     before = own;
     broken = λ more. against
-        (subst (λ (receipt : Receipt). receipt.caller ≡ caller) (sym is) (last_of (λ (receipt : Receipt). receipt.caller ≡ caller) receipts index receipt within more.named))
+        (subst (λ (receipt : Receipt). receipt.caller ≡ caller) (sym is)
+        (last_of (λ (receipt : Receipt). receipt.caller ≡ caller) receipts index receipt within more.named))
         (subst (IsReceiptIn records) (sym is) (last_of (IsReceiptIn records) receipts index receipt within more.kept))
         (λ other some.
         let long = length-take-le (index + 1) receipts (omega (arith, within)) in
         let up = more.rising (index - 1) index other (omega (arith, some)) (omega (arith, long)) in
-        let earlier : (get_or (take (index + 1) receipts) (index - 1) other).place ≡ (get_or receipts (index - 1) other).place = ap (λ (other : Receipt). other.place) (get_or-take (index + 1) receipts (index - 1) other (omega arith)) in
-        let later : (get_or (take (index + 1) receipts) index other).place ≡ (get_or receipts index other).place = ap (λ (other : Receipt). other.place) (get_or-take (index + 1) receipts index other (omega arith)) in
+        let earlier : (get_or (take (index + 1) receipts) (index - 1) other).place
+        ≡ (get_or receipts (index - 1) other).place =
+        ap (λ (other : Receipt). other.place) (get_or-take (index + 1) receipts (index - 1) other (omega arith)) in
+        let later : (get_or (take (index + 1) receipts) index other).place ≡ (get_or receipts index other).place =
+        ap (λ (other : Receipt). other.place) (get_or-take (index + 1) receipts index other (omega arith)) in
         omega (arith, up, earlier, later));
   }
 
@@ -94,8 +110,11 @@ own_beginning caller records receipts count within own =
       named = All-take (λ (receipt : Receipt). receipt.caller ≡ caller) count receipts own.named;
       rising = λ i j d below early.
           let up = own.rising i j d below (omega (arith, early, long, within)) in
-          let earlier : (get_or (take count receipts) i d).place ≡ (get_or receipts i d).place = ap (λ (receipt : Receipt). receipt.place) (get_or-take count receipts i d (omega (arith, below, early, long))) in
-          let later : (get_or (take count receipts) j d).place ≡ (get_or receipts j d).place = ap (λ (receipt : Receipt). receipt.place) (get_or-take count receipts j d (omega (arith, early, long))) in
+          let earlier : (get_or (take count receipts) i d).place ≡ (get_or receipts i d).place =
+          ap (λ (receipt : Receipt). receipt.place)
+          (get_or-take count receipts i d (omega (arith, below, early, long))) in
+          let later : (get_or (take count receipts) j d).place ≡ (get_or receipts j d).place =
+          ap (λ (receipt : Receipt). receipt.place) (get_or-take count receipts j d (omega (arith, early, long))) in
           omega (arith, up, earlier, later);
     }
 

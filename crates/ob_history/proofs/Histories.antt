@@ -33,7 +33,11 @@ old_or_new (first ∷ records) one zero found is = inl (record { there = is; bef
 old_or_new (first ∷ records) one (suc index) found is =
     elim (old_or_new records one index found is) [
       | inl old ↦ inl (record { there = old.there; before = ap (λ rest. first ∷ rest) old.before })
-      | inr new ↦ inr (record { last = ap suc new.last; same = new.same; before = ap (λ rest. first ∷ rest) new.before })
+      | inr new ↦ inr (record {
+        last = ap suc new.last;
+        same = new.same;
+        before = ap (λ rest. first ∷ rest) new.before;
+      })
     ]
 
 -- a legal history stays legal with a record that stands rightly at its end
@@ -44,13 +48,15 @@ legal_with_next settings records one legal place reply index found is =
     elim (old_or_new records one index found is) [
       | inl old ↦ record {
         place = (legal index found old.there).place;
-        reply = (legal index found old.there).reply ∙ ap (λ before. answer_to settings (accepted_commands before) found.command) (sym old.before);
+        reply = (legal index found old.there).reply
+            ∙ ap (λ before. answer_to settings (accepted_commands before) found.command) (sym old.before);
       }
       | inr new ↦ record {
         place = ap (λ (other : Record). other.place) (sym new.same) ∙ place ∙ sym new.last;
         reply = ap (λ (other : Record). other.reply) (sym new.same) ∙ reply
             ∙ ap (λ before. answer_to settings (accepted_commands before) one.command) (sym new.before)
-            ∙ ap (λ (other : Record). answer_to settings (accepted_commands (take index (records ++ one ∷ []))) other.command) new.same;
+            ∙ ap (λ (other : Record). answer_to settings
+            (accepted_commands (take index (records ++ one ∷ []))) other.command) new.same;
       }
     ]
 
@@ -60,12 +66,16 @@ command_of one = one.command
 
 -- one more record adds its command to the accepted ones, if it was accepted
 accepted_with_one : (records : List Record) (one : Record) →
-    accepted_commands (records ++ one ∷ []) ≡ cond (is_ok one.reply) (accepted_commands records ++ one.command ∷ []) (accepted_commands records)
+    accepted_commands (records ++ one ∷ []) ≡ cond (is_ok one.reply) (accepted_commands records ++ one.command ∷ [])
+    (accepted_commands records)
 accepted_with_one records one =
-    ap (map command_of) (filter-append is_accepted records (one ∷ [])) ∙ map-append command_of (filter is_accepted records) (filter is_accepted (one ∷ [])) ∙ by_reply (is_ok one.reply)
+    ap (map command_of) (filter-append is_accepted records (one ∷ []))
+    ∙ map-append command_of (filter is_accepted records) (filter is_accepted (one ∷ []))
+    ∙ by_reply (is_ok one.reply)
   where
     by_reply : (accepted : Bool) →
-        accepted_commands records ++ map command_of (cond accepted (one ∷ []) []) ≡ cond accepted (accepted_commands records ++ one.command ∷ []) (accepted_commands records)
+        accepted_commands records ++ map command_of (cond accepted (one ∷ []) [])
+        ≡ cond accepted (accepted_commands records ++ one.command ∷ []) (accepted_commands records)
     by_reply true = refl
     by_reply false = append-nil (accepted_commands records)
 
@@ -75,7 +85,8 @@ pub accepted_with_next : (settings : Settings) (records : List Record) (one : Re
     accepted_commands (records ++ one ∷ []) ≡ commands_after settings (accepted_commands records) one.command
 accepted_with_next settings records one reply =
     accepted_with_one records one
-    ∙ ap (λ (answer : Result Reply Refusal). cond (is_ok answer) (accepted_commands records ++ one.command ∷ []) (accepted_commands records)) reply
+    ∙ ap (λ (answer : Result Reply Refusal). cond (is_ok answer) (accepted_commands records ++ one.command ∷ [])
+    (accepted_commands records)) reply
 
 -- records and receipts with the same parts are the same
 pub same_record : {place place' : ℕ} (caller : ℕ) {command command' : Command} {reply reply' : Result Reply Refusal} →
@@ -84,9 +95,20 @@ pub same_record : {place place' : ℕ} (caller : ℕ) {command command' : Comman
     let other : Record = record { place = place'; caller = caller; command = command'; reply = reply' } in
     one ≡ other)
 same_record {place} {place'} caller {command} {command'} {reply} {reply'} places commands replies =
-    ap (λ first. let one : Record = record { place = first; caller = caller; command = command; reply = reply } in one) places
-    ∙ ap (λ second. let one : Record = record { place = place'; caller = caller; command = second; reply = reply } in one) commands
-    ∙ ap (λ third. let one : Record = record { place = place'; caller = caller; command = command'; reply = third } in one) replies
+    ap (λ first. let one : Record = record { place = first; caller = caller; command = command; reply = reply } in one)
+    places
+    ∙ ap (λ second. let one : Record = record {
+      place = place';
+      caller = caller;
+      command = second;
+      reply = reply;
+    } in one) commands
+    ∙ ap (λ third. let one : Record = record {
+      place = place';
+      caller = caller;
+      command = command';
+      reply = third;
+    } in one) replies
 
 -- a history with the same records and the same number of reserved calls is the same
 pub same_history : (settings : Settings) (limit : ℕ) {records records' : List Record} {reserved reserved' : ℕ} →
@@ -95,8 +117,18 @@ pub same_history : (settings : Settings) (limit : ℕ) {records records' : List 
     let other : History = record { settings = settings; limit = limit; records = records'; reserved = reserved' } in
     one ≡ other)
 same_history settings limit {records} {records'} {reserved} {reserved'} all ahead =
-    ap (λ first. let one : History = record { settings = settings; limit = limit; records = first; reserved = reserved } in one) all
-    ∙ ap (λ second. let one : History = record { settings = settings; limit = limit; records = records'; reserved = second } in one) ahead
+    ap (λ first. let one : History = record {
+      settings = settings;
+      limit = limit;
+      records = first;
+      reserved = reserved;
+    } in one) all
+    ∙ ap (λ second. let one : History = record {
+      settings = settings;
+      limit = limit;
+      records = records';
+      reserved = second;
+    } in one) ahead
 
 -- the record at an index of a list: it is found there, and comes last among those up to it
 pub found_at : (records : List Record) (index : ℕ) (one : Record) → index < length records →
@@ -132,4 +164,8 @@ pub legal_beginning : (settings : Settings) (records : List Record) (count : ℕ
 legal_beginning settings records count legal index one is =
     let there = in_beginning records count index one is in
     let at = legal index one there.0 in
-    record { place = at.place; reply = at.reply ∙ ap (λ before. answer_to settings (accepted_commands before) one.command) (sym there.1) }
+    record {
+      place = at.place;
+      reply = at.reply ∙ ap
+          (λ before. answer_to settings (accepted_commands before) one.command) (sym there.1);
+    }

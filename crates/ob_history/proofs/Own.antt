@@ -44,7 +44,8 @@ module _ (caller : ℕ) where
         rising = λ i j d below within. own.rising (suc i) (suc j) d (omega (arith, below)) (omega (arith, within));
       } in (
         record { above = above 0 receipt here; kept = own.kept 0 receipt here; named = own.named 0 receipt here },
-        own_from records (suc receipt.place) receipts rest (λ k d within. omega (arith, own.rising 0 (suc k) d (omega arith) (omega (arith, within)))),
+        own_from records (suc receipt.place) receipts rest
+            (λ k d within. omega (arith, own.rising 0 (suc k) d (omega arith) (omega (arith, within)))),
       )
 
   -- receipts are at most so many as these records, and are these where they are as many
@@ -71,7 +72,8 @@ module _ (caller : ℕ) where
       AreWithin records receipts → AreWithin (cond named (one ∷ records) records) (receipt ∷ receipts)
   taken true one records receipt receipts named same within = record {
     fits = omega (arith, within.fits);
-    all = λ lengths. ap (λ first. first ∷ map record_of receipts) same ∙ ap (λ rest. one ∷ rest) (within.all (omega (arith, lengths)));
+    all = λ lengths. ap (λ first. first ∷ map record_of receipts) same
+        ∙ ap (λ rest. one ∷ rest) (within.all (omega (arith, lengths)));
   }
   taken false one records receipt receipts named same within = absurd (cc)
 
@@ -79,13 +81,16 @@ module _ (caller : ℕ) where
   at_or_above zero zero above = inl refl
   at_or_above zero (suc place) above = inr (omega arith)
   at_or_above (suc low) zero above = absurd (omega (arith, above))
-  at_or_above (suc low) (suc place) above = elim (at_or_above low place (omega (arith, above))) [ inl same ↦ inl (ap suc same) | inr more ↦ inr (omega (arith, more)) ]
+  at_or_above (suc low) (suc place) above =
+      elim (at_or_above low place (omega (arith, above)))
+      [ inl same ↦ inl (ap suc same) | inr more ↦ inr (omega (arith, more)) ]
 
   own_within : (before more : List Record) (receipts : List Receipt) →
       OwnFrom (before ++ more) (length before) receipts → AreWithin (records_of caller more) receipts
   own_within before more [] own = none_within (records_of caller more)
   own_within before [] (receipt ∷ receipts) own =
-      absurd (none_past (before ++ []) receipt.place (record_of receipt) (omega (arith, own.0.above, ap length (append-nil before))) own.0.kept)
+      absurd (none_past (before ++ []) receipt.place (record_of receipt)
+      (omega (arith, own.0.above, ap length (append-nil before))) own.0.kept)
   own_within before (one ∷ more) (receipt ∷ receipts) own =
       let further = before ++ one ∷ [] in
       let same : before ++ one ∷ more ≡ further ++ more = sym (append_assoc before (one ∷ []) more) in
@@ -93,16 +98,22 @@ module _ (caller : ℕ) where
       elim (at_or_above (length before) receipt.place own.0.above) [
         | inl here ↦
             let found : record_of receipt ≡ one = (
-            let kept : slice_get (before ++ one ∷ more) (length before) ≡ Some (record_of receipt) = subst (λ place. slice_get (before ++ one ∷ more) place ≡ Some (record_of receipt)) here own.0.kept in
+            let kept : slice_get (before ++ one ∷ more) (length before) ≡ Some (record_of receipt) =
+            subst (λ place. slice_get (before ++ one ∷ more) place ≡ Some (record_of receipt)) here own.0.kept in
             let there = found_behind before one more in
             cc) in
-            let rest = own_within further more receipts (subst (λ records. OwnFrom records (length further) receipts) same
+            let rest =
+            own_within further more receipts (subst (λ records. OwnFrom records (length further) receipts) same
             (subst (λ from. OwnFrom (before ++ one ∷ more) from receipts) (ap suc here ∙ longer) own.1)) in
-            let named : eqb one.caller caller ≡ true = eq-eqb one.caller caller (ap (λ (other : Record). other.caller) (sym found) ∙ own.0.named) in
+            let named : eqb one.caller caller ≡ true =
+            eq-eqb one.caller caller (ap (λ (other : Record). other.caller) (sym found) ∙ own.0.named) in
             taken (eqb one.caller caller) one (records_of caller more) receipt receipts named found rest
         | inr above ↦
-            let later : OwnFrom (before ++ one ∷ more) (suc (length before)) (receipt ∷ receipts) = (record { above = above; kept = own.0.kept; named = own.0.named }, own.1) in
-            let rest = own_within further more (receipt ∷ receipts) (subst (λ records. OwnFrom records (length further) (receipt ∷ receipts)) same
+            let later : OwnFrom (before ++ one ∷ more) (suc (length before)) (receipt ∷ receipts) =
+            (record { above = above; kept = own.0.kept; named = own.0.named }, own.1) in
+            let rest =
+            own_within further more (receipt ∷ receipts)
+            (subst (λ records. OwnFrom records (length further) (receipt ∷ receipts)) same
             (subst (λ from. OwnFrom (before ++ one ∷ more) from (receipt ∷ receipts)) longer later)) in
             passed (eqb one.caller caller) one (records_of caller more) (receipt ∷ receipts) rest
       ]
@@ -110,7 +121,8 @@ module _ (caller : ℕ) where
   -- a caller's own receipts
   own_are_within : (records : List Record) (receipts : List Receipt) → AreOwn caller records receipts →
       AreWithin (records_of caller records) receipts
-  own_are_within records receipts own = own_within [] records receipts (own_from records 0 receipts own (λ k d within. omega arith))
+  own_are_within records receipts own =
+      own_within [] records receipts (own_from records 0 receipts own (λ k d within. omega arith))
 
 -- whether a record is not of a caller
 abbrev is_of_another : ℕ → Record → Bool
@@ -146,8 +158,12 @@ left_for_others : (caller : ℕ) (records : List Record) (holdings : List Holdin
     records_held records holdings ≡ records_held (filter (is_of_another caller) records) holdings
 left_for_others caller records [] apart = refl
 left_for_others caller records (one ∷ holdings) apart =
-    let first = left_for_another caller one.caller (All-head (λ (one : Holding). caller ≢ one.caller) one holdings apart) records in
-    let rest = left_for_others caller records holdings (All-tail (λ (one : Holding). caller ≢ one.caller) one holdings apart) in
+    let first =
+    left_for_another caller one.caller
+    (All-head (λ (one : Holding). caller ≢ one.caller) one holdings apart) records in
+    let rest =
+    left_for_others caller records holdings
+    (All-tail (λ (one : Holding). caller ≢ one.caller) one holdings apart) in
     let left = filter (is_of_another caller) records in
     sum_by-cons (its_records records) one holdings
     ∙ ap (λ (its : List Record). length its + records_held records holdings) first
@@ -160,10 +176,21 @@ held_at_most : (records : List Record) (holdings : List Holding) →
 held_at_most records [] distinct = omega arith
 held_at_most records (one ∷ holdings) distinct =
     let left = filter (is_of_another one.caller) records in
-    let apart : All (λ (other : Holding). one.caller ≢ other.caller) holdings = λ k d within. distinct 0 (suc k) d (omega arith) (omega (arith, within)) in
-    let rest = held_at_most left holdings (λ i j d below within. distinct (suc i) (suc j) d (omega (arith, below)) (omega (arith, within))) in
-    let both = length-filter_both (λ (other : Record). eqb other.caller one.caller) (is_of_another one.caller) (λ _. refl) records in
-    omega (arith, sum_by-cons (its_records records) one holdings, left_for_others one.caller records holdings apart, rest, both)
+    let apart : All (λ (other : Holding). one.caller ≢ other.caller) holdings =
+    λ k d within. distinct 0 (suc k) d (omega arith) (omega (arith, within)) in
+    let rest =
+    held_at_most left holdings
+    (λ i j d below within. distinct (suc i) (suc j) d (omega (arith, below)) (omega (arith, within))) in
+    let both =
+    length-filter_both (λ (other : Record). eqb other.caller one.caller) (is_of_another one.caller)
+    (λ _. refl) records in
+    omega (
+      arith,
+      sum_by-cons (its_records records) one holdings,
+      left_for_others one.caller records holdings apart,
+      rest,
+      both,
+    )
 
 -- that a caller holds the receipts of all its records
 abbrev pub HoldsIts : List Record → Holding → Type 0
@@ -178,8 +205,12 @@ own_are_among : (records : List Record) (holdings : List Holding) →
     All (λ one. AreOwn one.caller records one.receipts) holdings → AreAmong records holdings
 own_are_among records [] own = record { fits = omega arith; all = λ same. All-nil (HoldsIts records) }
 own_are_among records (one ∷ holdings) own =
-    let first = own_are_within one.caller records one.receipts (All-head (λ (one : Holding). AreOwn one.caller records one.receipts) one holdings own) in
-    let rest = own_are_among records holdings (All-tail (λ (one : Holding). AreOwn one.caller records one.receipts) one holdings own) in
+    let first =
+    own_are_within one.caller records one.receipts
+    (All-head (λ (one : Holding). AreOwn one.caller records one.receipts) one holdings own) in
+    let rest =
+    own_are_among records holdings
+    (All-tail (λ (one : Holding). AreOwn one.caller records one.receipts) one holdings own) in
     let receipts = sum_by-cons its_receipts one holdings in
     let records_too = sum_by-cons (its_records records) one holdings in
     record {

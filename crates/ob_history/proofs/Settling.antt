@@ -16,11 +16,15 @@ settled_behind settings before [] legal = refl
 settled_behind settings before (one ∷ more) legal =
     let reply : one.reply ≡ answer_to settings (accepted_commands before) one.command =
     (legal (length before) one (found_behind before one more)).reply
-    ∙ ap (λ earlier. answer_to settings (accepted_commands earlier) one.command) (take-append_seam before (one ∷ more)) in
-    let rest = settled_behind settings (before ++ one ∷ []) more (subst (IsLegal settings) (sym (append_assoc before (one ∷ []) more)) legal) in
+    ∙ ap (λ earlier. answer_to settings (accepted_commands earlier) one.command)
+    (take-append_seam before (one ∷ more)) in
+    let rest =
+    settled_behind settings (before ++ one ∷ []) more
+    (subst (IsLegal settings) (sym (append_assoc before (one ∷ []) more)) legal) in
     ap (λ answer. settled_by answer ++ settlements_in more) reply
     ∙ ap (λ others. settled_by (answer_to settings (accepted_commands before) one.command) ++ others)
-    (rest ∙ ap (λ commands. settled_along settings commands (map command_of more)) (accepted_with_next settings before one reply))
+    (rest ∙ ap (λ commands. settled_along settings commands (map command_of more))
+    (accepted_with_next settings before one reply))
 
 -- the settlements of a legal history are those along all its commands
 pub settlements_of_legal : (settings : Settings) (records : List Record) → IsLegal settings records →

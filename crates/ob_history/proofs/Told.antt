@@ -36,10 +36,12 @@ accepted_behind settings before (one ∷ more) legal =
     let same = append_assoc before (one ∷ []) more in
     let reply : one.reply ≡ answer_to settings (accepted_commands before) one.command =
     (legal (length before) one (found_behind before one more)).reply
-    ∙ ap (λ earlier. answer_to settings (accepted_commands earlier) one.command) (take-append_seam before (one ∷ more)) in
+    ∙ ap (λ earlier. answer_to settings (accepted_commands earlier) one.command)
+    (take-append_seam before (one ∷ more)) in
     ap accepted_commands (sym same)
     ∙ accepted_behind settings (before ++ one ∷ []) more (subst (IsLegal settings) (sym same) legal)
-    ∙ ap (λ commands. fold (commands_after settings) commands (map command_of more)) (accepted_with_next settings before one reply)
+    ∙ ap (λ commands. fold (commands_after settings) commands (map command_of more))
+    (accepted_with_next settings before one reply)
 
 -- the accepted commands of a legal history are those among all its commands
 pub accepted_of_legal : (settings : Settings) (records : List Record) → IsLegal settings records →
@@ -49,15 +51,21 @@ accepted_of_legal settings records legal = accepted_behind settings [] records l
 -- and so they are accepted
 pub legal_are_accepted : (settings : Settings) (records : List Record) → IsLegal settings records →
     are_accepted settings [] (accepted_commands records) ≡ true
-legal_are_accepted settings records legal = ap (are_accepted settings []) (accepted_of_legal settings records legal) ∙ among_are_accepted settings (map command_of records)
+legal_are_accepted settings records legal =
+    ap (are_accepted settings []) (accepted_of_legal settings records legal)
+    ∙ among_are_accepted settings (map command_of records)
 
 -- a promise is settled exactly where it is told
 pub legal_is_told : (settings : Settings) (records : List Record) (id : PromiseId) (outcome : Outcome) →
     IsLegal settings records →
-    promise_after settings (accepted_commands records) id ≡ Some (Settled outcome) ↔ Contains (settlements_in records) (id, outcome)
+    promise_after settings (accepted_commands records) id ≡ Some (Settled outcome)
+    ↔ Contains (settlements_in records) (id, outcome)
 legal_is_told settings records id outcome legal =
-    subst (λ (commands : List Command). promise_after settings commands id ≡ Some (Settled outcome) ↔ Contains (settlements_in records) (id, outcome)) (sym (accepted_of_legal settings records legal))
-    (subst (λ settlements. promise_after settings (accepted_among settings (map command_of records)) id ≡ Some (Settled outcome) ↔ Contains settlements (id, outcome)) (sym (settlements_of_legal settings records legal))
+    subst (λ (commands : List Command). promise_after settings commands id ≡ Some (Settled outcome)
+    ↔ Contains (settlements_in records) (id, outcome)) (sym (accepted_of_legal settings records legal))
+    (subst (λ settlements. promise_after settings (accepted_among settings (map command_of records)) id
+    ≡ Some (Settled outcome) ↔ Contains settlements (id, outcome))
+    (sym (settlements_of_legal settings records legal))
     (settled_is_told settings id outcome (map command_of records)))
 
 -- what is found stands in the list and passes the test
@@ -88,7 +96,8 @@ module _ (id : PromiseId) where
   settles_with : (one : Record) → settles id one ≡ true →
       (outcome : Outcome) × Contains (settled_by one.reply) (id, outcome)
   settles_with one is =
-      let found = Any-from_list_any (λ (settlement : PromiseId × Outcome). settlement.0.0 == id.0) (settled_by one.reply) is in
+      let found =
+      Any-from_list_any (λ (settlement : PromiseId × Outcome). settlement.0.0 == id.0) (settled_by one.reply) is in
       let numbered : ℕ → PromiseId × Outcome = λ number. (record { 0 = number }, found.1.1) in
       let same : found.1 ≡ (id, found.1.1) = ap numbered (eqb-true found.1.0.0 id.0 found.4) in
       (found.1.1, subst (Contains (settled_by one.reply)) same (found.0, found.2, found.3))
@@ -96,7 +105,8 @@ module _ (id : PromiseId) where
   -- and one that settles it with an outcome settles it
   settled_with : (one : Record) (outcome : Outcome) → Contains (settled_by one.reply) (id, outcome) →
       settles id one ≡ true
-  settled_with one outcome there = list_any_at (λ settlement. settlement.0.0 == id.0) (settled_by one.reply) there.0 (id, outcome) there.1
+  settled_with one outcome there =
+      list_any_at (λ settlement. settlement.0.0 == id.0) (settled_by one.reply) there.0 (id, outcome) there.1
       (ap (λ (settlement : PromiseId × Outcome). settlement.0.0 == id.0) there.2 ∙ eq-eqb id.0 id.0 refl)
 
   -- what a record settles is settled by the history
@@ -106,18 +116,22 @@ module _ (id : PromiseId) where
   told_by [] index one outcome is there = absurd (cc)
   told_by (first ∷ records) zero one outcome is there =
       let same : first ≡ one = cc in
-      Contains-append_left (settled_by first.reply) (settlements_in records) (id, outcome) (subst (λ (other : Record). Contains (settled_by other.reply) (id, outcome)) (sym same) there)
+      Contains-append_left (settled_by first.reply) (settlements_in records) (id, outcome)
+      (subst (λ (other : Record). Contains (settled_by other.reply) (id, outcome)) (sym same) there)
   told_by (first ∷ records) (suc index) one outcome is there =
-      Contains-append_right (settled_by first.reply) (settlements_in records) (id, outcome) (told_by records index one outcome is there)
+      Contains-append_right (settled_by first.reply) (settlements_in records) (id, outcome)
+      (told_by records index one outcome is there)
 
   -- where no record settles it, it is not among the settlements
   not_told : (records : List Record) (outcome : Outcome) → All (λ one. settles id one ≡ false) records →
       Contains (settlements_in records) (id, outcome) → ⊥
   not_told [] outcome none there = absurd (omega (arith, there.1))
-  not_told (first ∷ records) outcome none there = elim (Contains-append_cases (settled_by first.reply) (settlements_in records) (id, outcome) there) [
-    | inl here ↦ absurd (cc (settled_with first outcome here, none 0 first (omega arith)))
-    | inr later ↦ not_told records outcome (All-tail (λ (one : Record). settles id one ≡ false) first records none) later
-  ]
+  not_told (first ∷ records) outcome none there =
+      elim (Contains-append_cases (settled_by first.reply) (settlements_in records) (id, outcome) there) [
+        | inl here ↦ absurd (cc (settled_with first outcome here, none 0 first (omega arith)))
+        | inr later ↦ not_told records outcome (All-tail (λ (one : Record). settles id one ≡ false) first records none)
+            later
+      ]
 
   module _ (records : List Record) where
     -- what is found by the walk over the records
@@ -148,10 +162,13 @@ module _ (id : PromiseId) where
           promise_after settings (accepted_commands records) id ≡ Some (Settled outcome) →
           MatchOption result ⊥ (λ one. Contains (settled_by one.now.reply) (id, outcome))
       settled_is_found None is outcome settled =
-          not_told records outcome (none_found (settles id) records (sym is)) ((legal_is_told settings records id outcome legal).0 settled)
+          not_told records outcome (none_found (settles id) records (sym is))
+          ((legal_is_told settings records id outcome legal).0 settled)
       settled_is_found (Some one) is outcome settled =
           let found = found_there (settles id) records one.now (sym is) in
           let with = settles_with one.now found.0 in
-          let again = (legal_is_told settings records id with.0 legal).1 (told_by records found.1.0 one.now with.0 found.1.1 with.1) in
+          let again =
+          (legal_is_told settings records id with.0 legal).1
+          (told_by records found.1.0 one.now with.0 found.1.1 with.1) in
           let same : with.0 ≡ outcome = cc in
           subst (λ (other : Outcome). Contains (settled_by one.now.reply) (id, other)) same with.1

@@ -31,12 +31,16 @@ module _ (opening : Opening) (seat : Seat (Unit {0}) Facts) (total word : ℕ) (
   at_lane = slice_get_map lane_of end.state.views seat.id facts end.at
 
   pub word_below : opening.bits < 2 ^ 32 → word < 2 ^ 32
-  word_below fits = let below = word_fits opening (core opening end.state) end.ruled.accounts fits in omega (arith, below, end.word_is)
+  word_below fits = let below =
+      word_fits opening (core opening end.state) end.ruled.accounts fits in omega (arith, below, end.word_is)
 
   pub held_shown : ShowsHeld facts.lane word
-  held_shown index held = ap (λ n. bit_at n index) (sym end.word_is) ∙ shown-held opening (core opening end.state) seat.id facts.lane index end.ruled.accounts.bits at_lane held
+  held_shown index held =
+      ap (λ n. bit_at n index) (sym end.word_is)
+      ∙ shown-held opening (core opening end.state) seat.id facts.lane index end.ruled.accounts.bits at_lane held
 
-  pub runs : (lane : RunningLane) → lane.words.opening ≡ opening → lane.lane ≡ facts.lane → lane.made ≡ facts.made → EndsRun lane total word
+  pub runs : (lane : RunningLane) → lane.words.opening ≡ opening → lane.lane ≡ facts.lane → lane.made ≡ facts.made
+      → EndsRun lane total word
   runs lane same_opening same_lane same_made =
       let here = stands opening end.state seat.id facts end.ruled end.at in
       record {
@@ -48,12 +52,15 @@ module _ (opening : Opening) (seat : Seat (Unit {0}) Facts) (total word : ℕ) (
 
   -- no lane has raised a bit that the opening has not
   pub foreign_clear : (index : ℕ) → 0 < index → bit_at opening.bits index ≡ 0 → bit_at word index ≡ 0
-  foreign_clear index user none = ap (λ n. bit_at n index) (sym end.word_is) ∙ not_opened opening (core opening end.state) index end.ruled.accounts user none
+  foreign_clear index user none =
+      ap (λ n. bit_at n index) (sym end.word_is)
+      ∙ not_opened opening (core opening end.state) index end.ruled.accounts user none
 
   module _ (free : IsFree facts.lane) (whole : opening.room ≤ facts.lane.room) where
     pub none_left : total ≡ 0
     none_left =
-        sym end.total_is ∙ nothing_left opening (core opening end.state) seat.id facts.lane end.ruled.accounts at_lane free whole
+        sym end.total_is ∙ nothing_left opening (core opening end.state) seat.id facts.lane end.ruled.accounts at_lane
+        free whole
 
     pub mark_is_clear : 0 < opening.marks.low → is_set word 0 ≡ false
     mark_is_clear positive =

@@ -21,7 +21,13 @@ module _ (room bits : ℕ) (lane : Lane) (enough : room ≤ lane.room) (among : 
   held_shared i = omega (arith, bit_at_xor lane.held bits i, bit_among i, bit_at-lt lane.held i)
 
   raised_shared : ShareOut lane.raised (bit_xor lane.raised (bit_and lane.raised bits)) (bit_and lane.raised bits)
-  raised_shared i = omega (arith, bit_at_xor lane.raised (bit_and lane.raised bits) i, bit_at_and lane.raised bits i, bit_at-lt lane.raised i)
+  raised_shared i =
+      omega (
+        arith,
+        bit_at_xor lane.raised (bit_and lane.raised bits) i,
+        bit_at_and lane.raised bits i,
+        bit_at-lt lane.raised i,
+      )
 
   -- what a caller is told of a split
   is_split : IsSplit room bits lane (kept_lane room bits lane) (given_lane room bits lane)
@@ -36,11 +42,22 @@ module _ (room bits : ℕ) (lane : Lane) (enough : room ≤ lane.room) (among : 
     second_raised = bit_at_and lane.raised bits;
   }
 
-  first_among : AreAmong lane.raised lane.held → AreAmong (bit_xor lane.raised (bit_and lane.raised bits)) (bit_xor lane.held bits)
-  first_among within i = omega (arith, raised_shared i, held_shared i, within i, bit_at_and lane.raised bits i, bit_among i, bit_at-lt lane.held i)
+  first_among : AreAmong lane.raised lane.held → AreAmong (bit_xor lane.raised (bit_and lane.raised bits))
+      (bit_xor lane.held bits)
+  first_among within i =
+      omega (
+        arith,
+        raised_shared i,
+        held_shared i,
+        within i,
+        bit_at_and lane.raised bits i,
+        bit_among i,
+        bit_at-lt lane.held i,
+      )
 
   -- what the core asks of a division
-  shares : IsFree lane → AreAmong lane.raised lane.held → AreShares lane (kept_lane room bits lane) (given_lane room bits lane)
+  shares : IsFree lane → AreAmong lane.raised lane.held
+      → AreShares lane (kept_lane room bits lane) (given_lane room bits lane)
   shares free within = record {
     whole_free = free;
     first_free = record { idle = refl; debt = refl };
@@ -53,19 +70,22 @@ module _ (room bits : ℕ) (lane : Lane) (enough : room ≤ lane.room) (among : 
   }
 
 -- no fault is a fact of each kind
-no_fault : (less held : Bool) → first_fault ((less, NoRoom) ∷ (not held, NotHeld) ∷ []) ≡ None → (less ≡ false) × (held ≡ true)
+no_fault : (less held : Bool) → first_fault ((less, NoRoom) ∷ (not held, NotHeld) ∷ []) ≡ None
+    → (less ≡ false) × (held ≡ true)
 no_fault true held none = absurd (cc)
 no_fault false true none = (refl, refl)
 no_fault false false none = absurd (cc)
 
 -- what the core asks of a division that is not refused
-pub are_shares : (room bits : ℕ) (lane : Lane) → split_fault lane room bits ≡ None → IsFree lane → AreAmong lane.raised lane.held → AreShares lane (kept_lane room bits lane) (given_lane room bits lane)
+pub are_shares : (room bits : ℕ) (lane : Lane) → split_fault lane room bits ≡ None → IsFree lane
+    → AreAmong lane.raised lane.held → AreShares lane (kept_lane room bits lane) (given_lane room bits lane)
 are_shares room bits lane fine free within =
     let none = no_fault (nat_lt lane.room room) (are_held bits lane.held) fine in
     shares room bits lane (grind (arith, nat_tests, none.0)) (grind (arith, nat_tests, none.1)) free within
 
 -- the same in the words of the caller
-pub split_told : (room bits : ℕ) (lane seated first second : Lane) → seated ≡ lane → room ≤ seated.room → bit_or seated.held bits ≡ seated.held
+pub split_told : (room bits : ℕ) (lane seated first second : Lane) → seated ≡ lane → room ≤ seated.room
+    → bit_or seated.held bits ≡ seated.held
     → first ≡ kept_lane room bits seated → second ≡ given_lane room bits seated → IsSplit room bits lane first second
 split_told room bits lane seated first second is_lane enough among is_first is_second =
     rw (is_first, is_second, ← is_lane) (is_split room bits seated enough among)
@@ -84,7 +104,8 @@ apart_or : (a b i : ℕ) → bit_at a i + bit_at b i ≤ 1 → bit_at a i + bit_
 apart_or a b i apart = omega (arith, bit_at_or a b i)
 
 -- what the core asks of a merger
-pub are_merged : (whole : ℕ) (lane other : Lane) → IsFree lane → IsFree other → AreAmong lane.raised lane.held → AreAmong other.raised other.held → lane.room + other.room ≤ whole
+pub are_merged : (whole : ℕ) (lane other : Lane) → IsFree lane → IsFree other → AreAmong lane.raised lane.held
+    → AreAmong other.raised other.held → lane.room + other.room ≤ whole
     → ((i : ℕ) → bit_at lane.held i + bit_at other.held i ≤ 1) → AreShares (both_lanes whole lane other) lane other
 are_merged whole lane other free other_free within other_within fits apart = record {
   whole_free = record { idle = refl; debt = refl };
@@ -98,5 +119,7 @@ are_merged whole lane other free other_free within other_within fits apart = rec
 }
 
 -- the same in the words of the caller
-pub join_told : (whole known : ℕ) (lane other seated other_seated both : Lane) → known ≡ whole → seated ≡ lane → other_seated ≡ other → both ≡ both_lanes known seated other_seated → IsJoined whole lane other both
-join_told whole known lane other seated other_seated both is_whole is_lane is_other is_both = rw (is_both, is_whole, is_lane, is_other) (is_joined whole lane other)
+pub join_told : (whole known : ℕ) (lane other seated other_seated both : Lane) → known ≡ whole → seated ≡ lane
+    → other_seated ≡ other → both ≡ both_lanes known seated other_seated → IsJoined whole lane other both
+join_told whole known lane other seated other_seated both is_whole is_lane is_other is_both =
+    rw (is_both, is_whole, is_lane, is_other) (is_joined whole lane other)

@@ -19,7 +19,10 @@ shifted index within = let fits : 2 ^ index < 2 ^ 64 = pow-lt within in omega (a
 
 -- two powers of 2 that are equal have one exponent
 pub same_power : (a b : ℕ) → 2 ^ a ≡ 2 ^ b → a ≡ b
-same_power a b same = ⊎_elim (λ e. e) (λ other. absurd (omega (arith, bit_at-pow_same a, bit_at-pow_other b a other, ap (λ n. bit_at n a) same))) (cases_eq a b)
+same_power a b same =
+    ⊎_elim (λ e. e)
+    (λ other. absurd (omega (arith, bit_at-pow_same a, bit_at-pow_other b a other, ap (λ n. bit_at n a) same)))
+    (cases_eq a b)
 
 -- so have two masks of all bits but one
 pub same_others : (a b : ℕ) → a < 64 → b < 64 → bit_not w64 (2 ^ a) ≡ bit_not w64 (2 ^ b) → a ≡ b

@@ -16,22 +16,28 @@ slice_get_elem (y ∷ ys) zero x at = ap Some (some-injective y x at)
 slice_get_elem (y ∷ ys) (suc i) x at = slice_get_elem ys i x at
 
 -- the same of what a function makes of the elements
-pub slice_get_map : {X Y : Type 0} (f : X → Y) (xs : List X) (i : ℕ) (x : X) → get_elem? xs i ≡ some x → slice_get (map f xs) i ≡ Some (f x)
+pub slice_get_map : {X Y : Type 0} (f : X → Y) (xs : List X) (i : ℕ) (x : X) → get_elem? xs i ≡ some x
+    → slice_get (map f xs) i ≡ Some (f x)
 slice_get_map f [] i x at = absurd (some-ne-none x (sym at))
 slice_get_map f (y ∷ ys) zero x at = ap (λ z. Some (f z)) (some-injective y x at)
 slice_get_map f (y ∷ ys) (suc i) x at = slice_get_map f ys i x at
 
 -- what the seats have made, once one of them has made more
-pub made_at-set : (views : List Facts) (id : ℕ) (old new : Facts) (more : List Made) → get_elem? views id ≡ some old → new.made ≡ old.made ++ more
+pub made_at-set : (views : List Facts) (id : ℕ) (old new : Facts) (more : List Made) → get_elem? views id ≡ some old
+    → new.made ≡ old.made ++ more
     → (seat : ℕ) → made_at (set views id new) seat ≡ made_at views seat ++ cond (eqb id seat) more []
 made_at-set [] id old new more at makes seat = absurd (some-ne-none old (sym at))
-made_at-set (v ∷ views) zero old new more at makes zero = makes ∙ ap (λ (f : Facts). f.made ++ more) (sym (some-injective v old at))
-made_at-set (v ∷ views) zero old new more at makes (suc seat) = rw (eqb-zero-suc seat) (sym (append-nil (made_at views seat)))
+made_at-set (v ∷ views) zero old new more at makes zero =
+    makes ∙ ap (λ (f : Facts). f.made ++ more) (sym (some-injective v old at))
+made_at-set (v ∷ views) zero old new more at makes (suc seat) =
+    rw (eqb-zero-suc seat) (sym (append-nil (made_at views seat)))
 made_at-set (v ∷ views) (suc id) old new more at makes zero = rw (eqb-suc-zero id) (sym (append-nil v.made))
-made_at-set (v ∷ views) (suc id) old new more at makes (suc seat) = rw (eqb-suc-suc id seat) (made_at-set views id old new more at makes seat)
+made_at-set (v ∷ views) (suc id) old new more at makes (suc seat) =
+    rw (eqb-suc-suc id seat) (made_at-set views id old new more at makes seat)
 
 -- and once one of them knows more, but has made nothing
-pub made_at-kept : (views : List Facts) (id : ℕ) (old new : Facts) → get_elem? views id ≡ some old → new.made ≡ old.made → (seat : ℕ) → made_at (set views id new) seat ≡ made_at views seat
+pub made_at-kept : (views : List Facts) (id : ℕ) (old new : Facts) → get_elem? views id ≡ some old → new.made ≡ old.made
+    → (seat : ℕ) → made_at (set views id new) seat ≡ made_at views seat
 made_at-kept [] id old new at makes seat = refl
 made_at-kept (v ∷ views) zero old new at makes zero = makes ∙ ap (λ (f : Facts). f.made) (sym (some-injective v old at))
 made_at-kept (v ∷ views) zero old new at makes (suc seat) = refl
@@ -39,13 +45,15 @@ made_at-kept (v ∷ views) (suc id) old new at makes zero = refl
 made_at-kept (v ∷ views) (suc id) old new at makes (suc seat) = made_at-kept views id old new at makes seat
 
 -- what a seat that is there has made
-pub made_at-here : (views : List Facts) (id : ℕ) (facts : Facts) → get_elem? views id ≡ some facts → made_at views id ≡ facts.made
+pub made_at-here : (views : List Facts) (id : ℕ) (facts : Facts) → get_elem? views id ≡ some facts
+    → made_at views id ≡ facts.made
 made_at-here [] id facts at = absurd (some-ne-none facts (sym at))
 made_at-here (v ∷ views) zero facts at = ap (λ (f : Facts). f.made) (some-injective v facts at)
 made_at-here (v ∷ views) (suc id) facts at = made_at-here views id facts at
 
 -- a new seat has made nothing
-pub made_at-new : (views : List Facts) (new : Facts) → new.made ≡ [] → (seat : ℕ) → made_at (views ++ new ∷ []) seat ≡ made_at views seat
+pub made_at-new : (views : List Facts) (new : Facts) → new.made ≡ [] → (seat : ℕ)
+    → made_at (views ++ new ∷ []) seat ≡ made_at views seat
 made_at-new [] new none zero = none
 made_at-new [] new none (suc seat) = refl
 made_at-new (v ∷ views) new none zero = refl

@@ -29,10 +29,10 @@ abbrev pub moments_along : Bool → List Row → List Row → List Row → List 
 moments_along notice passed before [] = []
 moments_along notice passed [] (row ∷ after) =
     moment_of notice 0 (counted_size row) (total (passed ++ row ∷ []))
-        ++ moments_along notice (passed ++ row ∷ []) [] after
+    ++ moments_along notice (passed ++ row ∷ []) [] after
 moments_along notice passed (was ∷ before) (row ∷ after) =
     moment_of notice (counted_size was) (counted_size row) (total (passed ++ row ∷ before))
-        ++ moments_along notice (passed ++ row ∷ []) before after
+    ++ moments_along notice (passed ++ row ∷ []) before after
 
 -- whether the falls of a command are with notice: a failing of the flushed messages says so itself, and a close never
 -- gives any

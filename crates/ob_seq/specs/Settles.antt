@@ -29,7 +29,7 @@ Settles buffer command count = Gives buffer (λ settings commands. settled_after
 abbrev pub SparesMemory : Pending → Command → Result Reply Refusal → Type 0
 SparesMemory old command result =
     (commands : List Command) → StandsFor old commands
-        → settled_after old.settings commands command ≤ inline_settlements → ¬ IsErrOf result NoMemory
+    → settled_after old.settings commands command ≤ inline_settlements → ¬ IsErrOf result NoMemory
 
 -- what commands settle that are given one after another after a history; a refused one settles nothing and has no
 -- effect
@@ -37,7 +37,7 @@ abbrev pub settled_along : Settings → List Command → List Command → List (
 settled_along settings earlier [] = []
 settled_along settings earlier (command ∷ commands) =
     settled_by (answer_to settings earlier command)
-        ++ settled_along settings (commands_after settings earlier command) commands
+    ++ settled_along settings (commands_after settings earlier command) commands
 
 -- how often a promise stands among settlements
 abbrev pub times_settled : PromiseId → List (PromiseId × Outcome) → ℕ

@@ -42,8 +42,11 @@ abbrev pub shown : Settings → List Command → List Command → List Shown
 shown settings earlier [] = []
 shown settings earlier (command ∷ commands) =
     let after = commands_after settings earlier command in
-    record { answer = answer_to settings earlier command; total = total (rows_after settings.estimate after);
-        word = word_after settings after } ∷ shown settings after commands
+    record {
+      answer = answer_to settings earlier command;
+      total = total (rows_after settings.estimate after);
+      word = word_after settings after;
+    } ∷ shown settings after commands
 
 -- a reply to an accepted command
 abbrev pub replied : Answer → List (PromiseId × Outcome) → Option Change → ℕ → ℕ → Shown
@@ -107,7 +110,7 @@ FixedPromise =
 abbrev pub ProgressTold : Type 0
 ProgressTold =
     shown (marked 200 400) [] (block 4 ∷ Progress 3 ∷ Flush ∷ Progress 3 ∷ Progress 9223372036854775805
-        ∷ Progress 9223372036854775804 ∷ RemoveWith (record { 0 = 9 }) ∷ RemoveWith (record { 0 = 9 }) ∷ [])
+    ∷ Progress 9223372036854775804 ∷ RemoveWith (record { 0 = 9 }) ∷ RemoveWith (record { 0 = 9 }) ∷ [])
     ≡ replied (Id (record { 0 = 0 })) [] None 100 0 ∷ record { answer = Err NothingFlushed; total = 100; word = 0 }
     ∷ replied (Count 1) [] None 100 0
     ∷ replied Done [] None 100 0 ∷ record { answer = Err TooFar; total = 100; word = 0 } ∷ replied Done [] None 100 0
@@ -116,8 +119,14 @@ ProgressTold =
 -- a look at an empty buffer, and at one that is unwritable
 abbrev pub Looks : Type 0
 Looks =
-    (look_after (marked 32768 65536) [] ≡ record { total = 0; word = 0; size = 0; before_unwritable = 65537;
-        before_writable = 0; current_progress = 0 })
+    (look_after (marked 32768 65536) [] ≡ record {
+      total = 0;
+      word = 0;
+      size = 0;
+      before_unwritable = 65537;
+      before_writable = 0;
+      current_progress = 0;
+    })
     × (look_after (marked 200 400) (block 304 ∷ block 0 ∷ [])
     ≡ record { total = 496; word = 1; size = 0; before_unwritable = 0; before_writable = 297; current_progress = 0 })
 
@@ -184,7 +193,7 @@ refused refusal sum word = record { answer = Err refusal; total = sum; word = wo
 abbrev pub SharedWord : Type 0
 SharedWord =
     shown (marked 200 400) [] (UserBit 5 false ∷ block 400 ∷ Flush ∷ Remove ∷ UserBit 5 true ∷ UserBit 0 false
-        ∷ UserBit 32 false ∷ [])
+    ∷ UserBit 32 false ∷ [])
     ≡ replied Done [] (Some Unwritable) 0 32 ∷ replied (Id (record { 0 = 0 })) [] None 496 33
     ∷ replied (Count 1) [] None 496 33
     ∷ replied (Yes true) (succeeds 0) None 0 32 ∷ replied Done [] (Some Writable) 0 0 ∷ refused BadIndex 0 0
@@ -194,7 +203,7 @@ SharedWord =
 abbrev pub SeveralUserBits : Type 0
 SeveralUserBits =
     shown (marked 200 400) [] (UserBit 1 false ∷ UserBit 2 false ∷ UserBit 1 true ∷ UserBit 1 true ∷ UserBit 2 true
-        ∷ UserBit 31 false ∷ [])
+    ∷ UserBit 31 false ∷ [])
     ≡ replied Done [] (Some Unwritable) 0 2 ∷ replied Done [] None 0 6 ∷ replied Done [] None 0 4
     ∷ replied Done [] None 0 4
     ∷ replied Done [] (Some Writable) 0 0 ∷ replied Done [] (Some Unwritable) 0 2147483648 ∷ []
@@ -205,7 +214,7 @@ abbrev pub FailedWithoutNotice : Type 0
 FailedWithoutNotice =
     shown (marked 200 400) []
     (block 400 ∷ Flush ∷ block 4 ∷ Close (record { 0 = 7 }) ∷ FailFlushed (record { 0 = 7 }) false
-        ∷ Close (record { 0 = 7 }) ∷ block 1 ∷ [])
+    ∷ Close (record { 0 = 7 }) ∷ block 1 ∷ [])
     ≡ replied (Id (record { 0 = 0 })) [] (Some Unwritable) 496 1 ∷ replied (Count 1) [] None 496 1
     ∷ replied (Id (record { 0 = 1 })) [] None 596 1
     ∷ refused FlushedLeft 596 1 ∷ replied (Count 1) (settles 0 (Failed (record { 0 = 7 }))) None 100 1
@@ -223,7 +232,7 @@ FailedWithNotice =
 abbrev pub FailedVoided : Type 0
 FailedVoided =
     shown (marked 200 400) [] (block 4 ∷ block 5 ∷ Cancel (record { 0 = 0 }) ∷ Flush
-        ∷ FailFlushed (record { 0 = 7 }) true ∷ FailFlushed (record { 0 = 7 }) true ∷ [])
+    ∷ FailFlushed (record { 0 = 7 }) true ∷ FailFlushed (record { 0 = 7 }) true ∷ [])
     ≡ replied (Id (record { 0 = 0 })) [] None 100 0 ∷ replied (Id (record { 0 = 1 })) [] None 201 0
     ∷ replied (Yes true) (settles 0 Cancelled) None 201 0
     ∷ replied (Count 2) [] None 101 0 ∷ replied (Count 2) (settles 1 (Failed (record { 0 = 7 }))) None 0 0
@@ -233,7 +242,7 @@ FailedVoided =
 abbrev pub ClosedOnce : Type 0
 ClosedOnce =
     (shown (marked 200 400) [] (block 4 ∷ Cancel (record { 0 = 0 }) ∷ Close (record { 0 = 3 })
-        ∷ Close (record { 0 = 3 }) ∷ UserBit 0 false ∷ [])
+    ∷ Close (record { 0 = 3 }) ∷ UserBit 0 false ∷ [])
     ≡ replied (Id (record { 0 = 0 })) [] None 100 0 ∷ replied (Yes true) (settles 0 Cancelled) None 100 0
     ∷ replied (Count 1) [] None 0 0
     ∷ refused Closed 0 0 ∷ refused Closed 0 0 ∷ [])

@@ -10,5 +10,7 @@ returns c = record {
   bounded = bounded_after;
   settings = settings_after;
   limit = limit_after;
-  accepted = λ history caller command. accepted_with_next history.settings history.records (next_record history caller command) refl;
+  accepted =
+      λ history caller command. accepted_with_next history.settings history.records
+      (next_record history caller command) refl;
 }

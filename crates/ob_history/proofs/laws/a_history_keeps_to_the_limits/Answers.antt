@@ -14,10 +14,12 @@ returns c = record {
       let found : slice_get records index ≡ Some one = slice_get-get_or records index one there.1 ∙ ap Some there.2 in
       let before = accepted_commands (take index records) in
       let all = legal_are_accepted settings (take index records) (legal_beginning settings records index legal) in
-      let taken : is_accepted settings before one.command ≡ true = ap is_ok (sym (legal index one found).reply) ∙ accepted in
+      let taken : is_accepted settings before one.command ≡ true =
+      ap is_ok (sym (legal index one found).reply) ∙ accepted in
       c.accepted_commands_keep_to_the_limits.ensures.removal settings before n all
       (ap (is_accepted settings before) (sym removes) ∙ taken);
   total = λ settings records legal. c.accepted_commands_keep_to_the_limits.ensures.total settings
       (accepted_commands records) (legal_are_accepted settings records legal);
-  word = λ settings records. c.the_word_is_the_mark_and_the_user_bits.ensures.no_higher settings (accepted_commands records);
+  word = λ settings records. c.the_word_is_the_mark_and_the_user_bits.ensures.no_higher settings
+      (accepted_commands records);
 }

@@ -4,4 +4,5 @@ use Rattle.ob_history.specs.Legal.{IsLegal}
 use Rattle.ob_history.proofs.recorded.Recorded.buffer.Goals as goal
 
 pub returns-clause-legal : goal.returns-clause-legal
-returns-clause-legal c = subst (λ (history : History). IsLegal history.settings history.records) c.self.view_is c.self.invariant.legal
+returns-clause-legal c =
+    subst (λ (history : History). IsLegal history.settings history.records) c.self.view_is c.self.invariant.legal

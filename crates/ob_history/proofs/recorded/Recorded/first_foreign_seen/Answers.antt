@@ -12,7 +12,12 @@ loop-index-preserved c =
     c.loop-index-test.true c.loop-index.invariant (c.in_ok-check_seen.ensures.answer.0 c.if-not-branch.false)
 
 pub returns-clause-seen : goal.returns-clause-seen
-returns-clause-seen c = (λ none. up_to_end (All (IsSeenIn c.args.self.now.settings c.args.self.now.records)) c.args.seen.now c.loop-index.index (omega arith) c.loop-index.invariant, λ all. refl)
+returns-clause-seen c = (
+  λ none. up_to_end
+      (All (IsSeenIn c.args.self.now.settings c.args.self.now.records)) c.args.seen.now c.loop-index.index
+      (omega arith) c.loop-index.invariant,
+  λ all. refl,
+)
 
 pub returns-then-not-branch-clause-foreign : goal.returns-then-not-branch-clause-foreign
 returns-then-not-branch-clause-foreign c =
@@ -24,5 +29,6 @@ returns-then-not-branch-clause-foreign c =
 pub returns-then-not-branch-clause-seen : goal.returns-then-not-branch-clause-seen
 returns-then-not-branch-clause-seen c = (
   λ none. absurd (cc),
-  λ all. absurd (never_against (IsSeenIn c.args.self.now.settings c.args.self.now.records) c.args.seen.now c.loop-index.index (returns-then-not-branch-clause-foreign c) all),
+  λ all. absurd (never_against (IsSeenIn c.args.self.now.settings c.args.self.now.records) c.args.seen.now
+      c.loop-index.index (returns-then-not-branch-clause-foreign c) all),
 )

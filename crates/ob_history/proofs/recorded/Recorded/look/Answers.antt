@@ -12,7 +12,8 @@ returns-clause-seen c =
     let before = accepted_commands inside.records.items in
     let place : c.len.result ≡ length inside.records.items = c.len.ensures ∙ inside.records.ok.0 in
     let look : c.look.result ≡ look_after (settings_of inside) before =
-    c.look.ensures before c.self.invariant.stands ∙ ap (λ settings. look_after settings before) c.self.invariant.settings in
+    c.look.ensures before c.self.invariant.stands
+    ∙ ap (λ settings. look_after settings before) c.self.invariant.settings in
     let seen : Seen = record { place = c.len.result; look = c.look.result } in
     let both : seen ≡ seen_now (history_of inside) = cc in
     both ∙ ap seen_now c.self.view_is

@@ -65,8 +65,16 @@ invariant_of-self-2 c =
       stands = subst (StandsFor c.give.new.buffer) accepted (done.stands before stands);
       settings = done.settings ∙ c.self.invariant.settings;
       places = omega (arith, pushed.len, room.len, left, c.if-len-self.false, c.len.ensures, c.self.invariant.places);
-      memory = omega (arith, pushed.len, pushed.capacity, room.len, room.capacity, c.in_ok-reserve.ensures.ok, left,
-          c.self.invariant.memory);
+      memory = omega (
+        arith,
+        pushed.len,
+        pushed.capacity,
+        room.len,
+        room.capacity,
+        c.in_ok-reserve.ensures.ok,
+        left,
+        c.self.invariant.memory,
+      );
       few_records = c.self.invariant.few_records;
       small_overhead = c.self.invariant.small_overhead;
       small_unknown = c.self.invariant.small_unknown;

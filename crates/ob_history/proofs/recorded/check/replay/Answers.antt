@@ -17,8 +17,10 @@ loop-kept-preserved c =
     record {
       settings = c.in_ok-_answer.ensures.settings ∙ c.loop-kept.invariant.settings;
       stands = subst (StandsFor c.give.new.buffer)
-          (ap (commands_with (accepted_commands earlier) c.in_ok-copy.field-0) (c.in_ok-_answer.ensures.answer (accepted_commands earlier) c.loop-kept.invariant.stands)
-          ∙ ap (λ other. commands_after other (accepted_commands earlier) c.in_ok-copy.field-0) c.loop-kept.invariant.settings
+          (ap (commands_with (accepted_commands earlier) c.in_ok-copy.field-0)
+          (c.in_ok-_answer.ensures.answer (accepted_commands earlier) c.loop-kept.invariant.stands)
+          ∙ ap (λ other. commands_after other (accepted_commands earlier) c.in_ok-copy.field-0)
+          c.loop-kept.invariant.settings
           ∙ ap (commands_after settings (accepted_commands earlier)) c.in_ok-copy.ensures.same
           ∙ sym (accepted_with_next settings earlier kept legal.reply)
           ∙ ap accepted_commands (sym found.1 ∙ ap (λ count. take count records) (sym (add-one index))))

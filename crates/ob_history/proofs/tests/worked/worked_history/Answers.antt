@@ -9,4 +9,5 @@ returns-clause-another_place c legal = let at = legal 0 (write_at 1) refl in ome
 
 pub returns-clause-another_reply : goal.returns-clause-another_reply
 unfolding user_bits
-returns-clause-another_reply c legal = counts_differ (flush_of 1).reply (flush_of 2).reply refl refl (legal 2 (flush_of 2) refl).reply
+returns-clause-another_reply c legal =
+    counts_differ (flush_of 1).reply (flush_of 2).reply refl refl (legal 2 (flush_of 2) refl).reply

@@ -12,5 +12,6 @@ returns-then-writable-clause-made c held =
       word = found;
       lane = ap (λ f. f.lane) told.after;
       made = ap (λ f. f.made) told.after;
-      turn = c.change_of_clearing-change.ensures ∙ change_found-between (ClearBit c.args.index) (record { total = 0; word = found; marks = c.self.inside.seat.me.0.opening.marks; lanes = [] });
+      turn = c.change_of_clearing-change.ensures ∙ change_found-between (ClearBit c.args.index)
+          (record { total = 0; word = found; marks = c.self.inside.seat.me.0.opening.marks; lanes = [] });
     })

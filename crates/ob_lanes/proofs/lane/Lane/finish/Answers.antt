@@ -8,7 +8,8 @@ free c = record { idle = c.self.invariant.idle; debt = c.self.invariant.debt }
 
 whole : (c : goal.After-end-total) → c.args.words.opening.room ≤ c.self.inside.seat.me.0.lane.room
 whole c =
-    let read : c.words-inside.inside.0.1.0.room ≡ c.words.inside.opening.room = ap (λ w. w.opening.room) c.words-inside.view_is in
+    let read : c.words-inside.inside.0.1.0.room ≡ c.words.inside.opening.room =
+    ap (λ w. w.opening.room) c.words-inside.view_is in
     let seen : c.words.inside.opening.room ≡ c.args.words.opening.room = ap (λ w. w.opening.room) c.words.view_is in
     let enough = c.if-self-words.false in
     let mine = c.self.invariant.room in
@@ -16,17 +17,21 @@ whole c =
 
 pub overflow_cast-result : goal.overflow_cast-result
 overflow_cast-result c =
-    let below = word_below c.args.words.opening c.self.inside.seat _ _ c.end-total.ensures.end c.end-total.ensures.bits in
+    let below =
+    word_below c.args.words.opening c.self.inside.seat _ _ c.end-total.ensures.end c.end-total.ensures.bits in
     omega (arith, below)
 
 pub returns-clause-total : goal.returns-clause-total
-returns-clause-total c = none_left c.args.words.opening c.self.inside.seat _ _ c.end-total.ensures.end (free c) (whole c)
+returns-clause-total c =
+    none_left c.args.words.opening c.self.inside.seat _ _ c.end-total.ensures.end (free c) (whole c)
 
 pub returns-clause-mark : goal.returns-clause-mark
-returns-clause-mark c = mark_is_clear c.args.words.opening c.self.inside.seat _ _ c.end-total.ensures.end (free c) (whole c)
+returns-clause-mark c =
+    mark_is_clear c.args.words.opening c.self.inside.seat _ _ c.end-total.ensures.end (free c) (whole c)
 
 pub returns-clause-held : goal.returns-clause-held
-returns-clause-held c = rw (← c.self.view_is) (held_shown c.args.words.opening c.self.inside.seat _ _ c.end-total.ensures.end)
+returns-clause-held c =
+    rw (← c.self.view_is) (held_shown c.args.words.opening c.self.inside.seat _ _ c.end-total.ensures.end)
 
 pub returns-clause-foreign : goal.returns-clause-foreign
 returns-clause-foreign c = foreign_clear c.args.words.opening c.self.inside.seat _ _ c.end-total.ensures.end

@@ -46,11 +46,25 @@ pub returns-clause-meets : goal.returns-clause-meets
 returns-clause-meets c =
     let may : 0 < 60 = omega arith in
     let room : 60 ≤ 60 = omega arith in
-    let divided : IsDivision (one_lane opening) 0 (half None) (half None) (way 0 (half None) (half None)) = record { lane = whole; is_lane = refl; shares = halves; after = refl } in
-    let first : IsCoreStep (way 0 (half None) (half None)) 0 (Add 60) (way 60 (half (Some 60)) (half None)) = record { lane = half None; is_lane = refl; allowed = (refl, refl, may, room); after = refl } in
-    let second : IsCoreStep (way 60 (half (Some 60)) (half None)) 1 (Add 60) (way 120 (half (Some 60)) raising) = record { lane = half None; is_lane = refl; allowed = (refl, refl, may, room); after = refl } in
-    let raised : IsCoreStep (way 120 (half (Some 60)) raising) 1 Raise (met 1) = record { lane = raising; is_lane = refl; allowed = refl; after = refl } in
-    (way 120 (half (Some 60)) raising, (way 60 (half (Some 60)) (half None), (way 0 (half None) (half None), (one_lane opening, refl, divided), (first, refl)), (second, refl)), (raised, refl))
+    let divided : IsDivision (one_lane opening) 0 (half None) (half None) (way 0 (half None) (half None)) =
+    record { lane = whole; is_lane = refl; shares = halves; after = refl } in
+    let first : IsCoreStep (way 0 (half None) (half None)) 0 (Add 60) (way 60 (half (Some 60)) (half None)) =
+    record { lane = half None; is_lane = refl; allowed = (refl, refl, may, room); after = refl } in
+    let second : IsCoreStep (way 60 (half (Some 60)) (half None)) 1 (Add 60) (way 120 (half (Some 60)) raising) =
+    record { lane = half None; is_lane = refl; allowed = (refl, refl, may, room); after = refl } in
+    let raised : IsCoreStep (way 120 (half (Some 60)) raising) 1 Raise (met 1) =
+    record { lane = raising; is_lane = refl; allowed = refl; after = refl } in (
+      way 120 (half (Some 60)) raising,
+      (
+        way 60 (half (Some 60)) (half None),
+        (way 0 (half None) (half None), (one_lane opening, refl, divided), (first, refl)),
+        (second, refl),
+      ),
+      (
+        raised,
+        refl,
+      ),
+    )
 
 pub returns-clause-raised_nothing : goal.returns-clause-raised_nothing
 returns-clause-raised_nothing c leads =

@@ -8,8 +8,12 @@ pub fetch_add-requires : goal.fetch_add-requires
 fetch_add-requires c =
     let table = c.self.inside.table.shared in
     let seat = c.args.seat.now in
-    let words = c.self.invariant in
-    (cc, omega (arith, words.nine), add_allowed table.key table.table_id.slots seat.id c.args.amount seat.me c.requires.may words.room_fits)
+    let words = c.self.invariant in (
+      cc,
+      omega (arith, words.nine),
+      add_allowed table.key table.table_id.slots seat.id c.args.amount seat.me
+          c.requires.may words.room_fits,
+    )
 
 pub returns-clause-fits : goal.returns-clause-fits
 returns-clause-fits c =
@@ -19,5 +23,6 @@ returns-clause-fits c =
     let within = c.requires.may.3 in
     let words = c.self.invariant in
     let opened : c.args.seat.now.me.0.opening ≡ c.self.inside.table.shared.key = cc in
-    let same : c.args.seat.now.me.0.opening.room ≡ c.self.inside.table.shared.key.room = ap (λ (o : Opening). o.room) opened in
+    let same : c.args.seat.now.me.0.opening.room ≡ c.self.inside.table.shared.key.room =
+    ap (λ (o : Opening). o.room) opened in
     omega (arith, told.no_more, words.room_fits)

@@ -4,5 +4,9 @@ use Rattle.ob_lanes.proofs.words.Words.divide_seat.Goals as goal
 
 pub split_seat-requires : goal.split_seat-requires
 split_seat-requires g c =
-    let seat = c.args.seat.now in
-    (cc, omega (arith, c.self.invariant.nine), division_allowed c.self.inside.table.shared.key seat.id seat.me.0 _ _ c.requires.free c.requires.fits)
+    let seat = c.args.seat.now in (
+      cc,
+      omega (arith, c.self.invariant.nine),
+      division_allowed c.self.inside.table.shared.key seat.id seat.me.0 _ _
+          c.requires.free c.requires.fits,
+    )

@@ -6,5 +6,9 @@ pub load-requires : goal.load-requires
 load-requires c =
     let table = c.self.inside.table.shared in
     let seat = c.args.seat.now in
-    let words = c.self.invariant in
-    (cc, omega (arith, words.nine), load_word_allowed table.key table.table_id.slots seat.id seat.me c.requires.may words.bits_fit)
+    let words = c.self.invariant in (
+      cc,
+      omega (arith, words.nine),
+      load_word_allowed table.key table.table_id.slots seat.id seat.me c.requires.may
+          words.bits_fit,
+    )

@@ -12,5 +12,6 @@ join_seat-requires g c =
       cc,
       asked.slots,
       omega (arith, c.self.invariant.nine),
-      merger_allowed c.self.inside.table.shared.key seat.id other.id seat.me.0 other.me.0 g.S.Spent.facts asked.free.0 asked.free.1 (ap (λ (f : Facts). f.opening) asked.spent) (ap (λ (f : Facts). f.made) asked.spent),
+      merger_allowed c.self.inside.table.shared.key seat.id other.id seat.me.0 other.me.0 g.S.Spent.facts asked.free.0
+          asked.free.1 (ap (λ (f : Facts). f.opening) asked.spent) (ap (λ (f : Facts). f.made) asked.spent),
     )

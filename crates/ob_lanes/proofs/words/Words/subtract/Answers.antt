@@ -6,5 +6,9 @@ pub fetch_sub-requires : goal.fetch_sub-requires
 fetch_sub-requires c =
     let table = c.self.inside.table.shared in
     let seat = c.args.seat.now in
-    let words = c.self.invariant in
-    (cc, omega (arith, words.nine), subtract_allowed table.key table.table_id.slots seat.id c.args.amount seat.me c.requires.may)
+    let words = c.self.invariant in (
+      cc,
+      omega (arith, words.nine),
+      subtract_allowed table.key table.table_id.slots seat.id c.args.amount seat.me
+          c.requires.may,
+    )
