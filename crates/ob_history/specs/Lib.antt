@@ -8,6 +8,7 @@ pub mod Inside
 pub mod Legal
 pub mod Own
 pub mod Receipt
+pub mod Replay
 pub mod Seen
 pub mod Settlements
 pub mod Worked

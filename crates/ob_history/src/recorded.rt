@@ -10,6 +10,7 @@ mod check;
 mod copies;
 mod foreign;
 mod look;
+mod replay;
 mod reserve;
 mod settling;
 

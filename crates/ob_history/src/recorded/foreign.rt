@@ -43,8 +43,9 @@ impl Recorded {
     }
 
     /// The index of the first look that is not of the history, as `check_seen` asks it; nothing where each is. It gives
-    /// a new buffer the commands for each look, and changes nothing here. `NoMemory` comes where the allocator refused,
-    /// or a block has more owners than can be counted, and not where the first look names more records than
+    /// a new buffer the commands, once where the places of the looks rise, and again from the first record for a look
+    /// at an earlier place than the one before it; it changes nothing here. `NoMemory` comes where the allocator
+    /// refused, or a block has more owners than can be counted, and not where the first look names more records than
     /// there are, or there is none.
     pub fn first_foreign_seen(&self, seen: &[Seen]) -> Result<Option<usize>, Refusal>
         ensures seen { IfOk result (λ found.
@@ -54,8 +55,9 @@ impl Recorded {
         ensures no_memory { IsOkUnless result Refusal.NoMemory }
         ensures frugal { All (λ one. length self.now.records < one.place) (take 1 seen.now) → IsOk result }
     {
+        let mut replay = self.replay();
         for (index, one) in seen.iter().enumerate() {
-            if !self.check_seen(one)? {
+            if !self.check_along(&mut replay, one)? {
                 return Ok(Some(index));
             }
         }

@@ -1,0 +1,12 @@
+use Rattle.std.proofs.Common.{subst, sym, ap, ◌∙◌}
+use Rattle.ob_seq.specs.Settings.{Settings}
+use Rattle.ob_history.specs.History.{History}
+use Rattle.ob_history.specs.Legal.{IsLegal}
+use Rattle.ob_history.proofs.recorded.Recorded.check_along.Goals as goal
+
+pub go_on-requires-clause-legal : goal.go_on-requires-clause-legal
+go_on-requires-clause-legal c =
+    let records = c.self.inside.records.items in
+    let same = ap (λ (history : History). history.settings) c.self.view_is ∙ sym c.turn_back.ensures.kept.same in
+    rw c.deref.ensures.value
+    (subst (λ (settings : Settings). IsLegal settings records) same c.self.invariant.legal)

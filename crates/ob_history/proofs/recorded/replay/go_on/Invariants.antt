@@ -1,0 +1,10 @@
+use Rattle.std.proofs.Common.{◌≡◌, take}
+use Rattle.ob_seq.specs.Pending.{StandsFor}
+use Rattle.ob_history.specs.Accepted.{accepted_commands}
+use Rattle.ob_history.proofs.recorded.replay.go_on.Given as goal
+
+abbrev pub invariant-loop-index : goal.invariant-loop-index
+invariant-loop-index l = record {
+  settings : l.buffer.settings ≡ l.fn.buffer.settings;
+  stands : StandsFor l.buffer (accepted_commands (take l.index l.records));
+}
