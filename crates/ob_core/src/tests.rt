@@ -33,30 +33,34 @@ fn follow(rt: &impl Abort, world: &mut World, rows: &[Row]) {
         let lane = *lane;
         let ask = *ask;
         let turn = Turn { lane, ask };
-        assert_eq!(rt; world.turn(turn), *event, "{turn:?}");
-        assert_eq!(rt; world.last_change(), *change, "{turn:?}");
-        assert_eq!(rt; world.total(), *total, "{turn:?}");
-        assert_eq!(rt; world.word(), *word, "{turn:?}");
+        let found = world.turn(turn);
+        let after = (world.last_change(), world.total(), world.word());
+        assert_eq!(rt;
+            (found, after),
+            (*event, (*change, *total, *word)),
+            "{turn:?}"
+        );
     }
 }
 
 // Nothing more is to be done, and the lanes owe so much together.
 fn ends_quiet(rt: &impl Abort, world: &World, owed: u32) {
-    assert!(rt; world.quiet());
-    assert_eq!(rt; world.owed(), owed);
+    assert_eq!(rt; (world.quiet(), world.owed()), (true, owed));
 }
+
+// Lane 0 is late with its mark: lane 1 has come below the low mark before, and found nothing to clear.
+const STUCK: [Row; 5] = [
+    (1, Charge(80), Added, None, 80, 0),
+    (0, Charge(30), Added, None, 110, 0),
+    (1, Discharge, Subtracted, None, 30, 0),
+    (1, Go, Lowered, None, 30, 0),
+    (0, Go, Raised, Some(Unwritable), 30, 1),
+];
 
 #[test]
 fn a_mark_stuck_below_low(rt: HostRuntime) -> Result<(), Fail> {
     let mut world = world(rt.alloc(), &[(200, 0), (200, 0)])?;
-    let stuck = [
-        (1, Charge(80), Added, None, 80, 0),
-        (0, Charge(30), Added, None, 110, 0),
-        (1, Discharge, Subtracted, None, 30, 0),
-        (1, Go, Lowered, None, 30, 0),
-        (0, Go, Raised, Some(Unwritable), 30, 1),
-    ];
-    follow(&rt, &mut world, &stuck);
+    follow(&rt, &mut world, &STUCK);
     ends_quiet(&rt, &world, 30);
     let freed = [
         (0, Discharge, Subtracted, None, 0, 1),
@@ -67,35 +71,30 @@ fn a_mark_stuck_below_low(rt: HostRuntime) -> Result<(), Fail> {
     Ok(())
 }
 
+// Plays the turns of the rows at once, and compares all answers, and what the last row leaves.
+fn played(rt: &impl Abort, alloc: Global, world: &mut World, rows: &[Row]) -> Result<(), Fail> {
+    let mut turns = Vec::new(alloc);
+    let mut told = Vec::new(alloc);
+    let mut left = (0, 0);
+    for (lane, ask, event, change, total, word) in rows {
+        let lane = *lane;
+        let ask = *ask;
+        turns.push(Turn { lane, ask })?;
+        told.push((*event, *change))?;
+        left = (*total, *word);
+    }
+    let answers = play(alloc, world, &turns)?;
+    assert_eq!(rt;
+        (answers.as_slice(), (world.total(), world.word())),
+        (told.as_slice(), left)
+    );
+    Ok(())
+}
+
 #[test]
 fn a_mark_stuck_below_low_as_it_is_played(rt: HostRuntime) -> Result<(), Fail> {
     let mut world = world(rt.alloc(), &[(200, 0), (200, 0)])?;
-    let turns = [
-        Turn {
-            lane: 1,
-            ask: Charge(80),
-        },
-        Turn {
-            lane: 0,
-            ask: Charge(30),
-        },
-        Turn {
-            lane: 1,
-            ask: Discharge,
-        },
-        Turn { lane: 1, ask: Go },
-        Turn { lane: 0, ask: Go },
-    ];
-    let answers = play(rt.alloc(), &mut world, &turns)?;
-    let expected = [
-        (Added, None),
-        (Added, None),
-        (Subtracted, None),
-        (Lowered, None),
-        (Raised, Some(Unwritable)),
-    ];
-    assert_eq!(rt; answers.as_slice(), expected.as_slice());
-    assert_eq!(rt; (world.total(), world.word()), (30, 1));
+    played(&rt, rt.alloc(), &mut world, &STUCK)?;
     ends_quiet(&rt, &world, 30);
     Ok(())
 }

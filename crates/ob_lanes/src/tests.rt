@@ -10,6 +10,7 @@ ghost use Rattle.ob_core.specs.Bits.{is_set};
 use super::*;
 use ob_types::WaterMark;
 use std::alloc::Global;
+use std::process::Abort;
 use std::test::Fail;
 
 // Words with marks of 50 and 100, and the lane that has all of it.
@@ -30,4 +31,12 @@ fn split(words: &Words, lane: Lane, room: u32, bits: u32) -> Result<(Lane, Lane)
         Ok(lanes) => Ok(lanes),
         Err((_lane, fault)) => Err(Fail::new(fault)),
     }
+}
+
+// Two lanes that have the whole room end with nothing owed and no bit set.
+fn join_and_finish(rt: &impl Abort, words: Words, first: Lane, second: Lane)
+    requires { (first.words ≡ words) × (second.words ≡ words) }
+{
+    let whole = first.join(&words, second);
+    assert_eq!(rt; whole.finish(words).ok(), Some((0, 0)));
 }

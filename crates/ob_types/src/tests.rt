@@ -2,6 +2,8 @@
 
 use super::*;
 use bytes::Bytes;
+use std::alloc::Global;
+use std::process::Abort;
 use std::test::Fail;
 
 #[test]
@@ -40,15 +42,24 @@ fn refusals_tell_what_was_wrong(rt: HostRuntime) -> Result<(), Fail> {
 
 #[test]
 fn settlements_grow_past_the_first_four(rt: HostRuntime) -> Result<(), Fail> {
+    let failed = Outcome::Failed(Cause(9));
     let mut settled = Settlements::one(rt.alloc(), PromiseId(0), Outcome::Success);
     for id in 1..6 {
-        settled.push(PromiseId(id), Outcome::Failed(Cause(9)))?;
+        settled.push(PromiseId(id), failed)?;
     }
-    let list = settled.as_slice();
-    assert_eq!(rt; list.len(), 6);
-    assert_eq!(rt; list[0], (PromiseId(0), Outcome::Success));
-    assert_eq!(rt; list[5], (PromiseId(5), Outcome::Failed(Cause(9))));
-    assert_eq!(rt; Settlements::new(rt.alloc()).as_slice().len(), 0);
+    let six = [
+        (PromiseId(0), Outcome::Success),
+        (PromiseId(1), failed),
+        (PromiseId(2), failed),
+        (PromiseId(3), failed),
+        (PromiseId(4), failed),
+        (PromiseId(5), failed),
+    ];
+    let none = Settlements::new(rt.alloc());
+    assert_eq!(rt;
+        (settled.as_slice(), none.as_slice().len()),
+        (six.as_slice(), 0)
+    );
     Ok(())
 }
 
@@ -57,6 +68,12 @@ fn settlements_grow_past_the_first_four(rt: HostRuntime) -> Result<(), Fail> {
 fn copies_equal_their_sources(rt: HostRuntime) -> Result<(), Fail> {
     let block = Message::Block(Bytes::copy_from_slice(rt.alloc(), b"four")?);
     assert!(rt; block.copy()? == block);
+    each_command_is_copied(&rt, block)?;
+    a_long_reply_is_copied(&rt, rt.alloc())
+}
+
+/// The write of a block, and the nine other commands.
+fn each_command_is_copied(rt: &impl Abort, block: Message) -> Result<(), Fail> {
     let commands = [
         Command::Write(block),
         Command::Flush,
@@ -70,9 +87,13 @@ fn copies_equal_their_sources(rt: HostRuntime) -> Result<(), Fail> {
         Command::UserBit(31, false),
     ];
     for command in &commands {
-        assert!(rt; command.copy()? == *command);
+        assert!(rt; command.copy()? == *command, "{command:?}");
     }
-    let mut settled = Settlements::new(rt.alloc());
+    Ok(())
+}
+
+fn a_long_reply_is_copied(rt: &impl Abort, alloc: Global) -> Result<(), Fail> {
+    let mut settled = Settlements::new(alloc);
     for id in 0..5 {
         settled.push(PromiseId(id), Outcome::Success)?;
     }
@@ -91,23 +112,27 @@ fn counts_messages_by_their_kind(rt: HostRuntime) -> Result<(), Fail> {
         overhead: 96,
         unknown: 8,
     };
-    let block = Message::Block(Bytes::copy_from_slice(rt.alloc(), b"four")?);
-    assert_eq!(rt; pending_size(&block, estimate), Ok(100));
-    assert_eq!(rt;
-        pending_size(&Message::Region(9223372036854775807), estimate),
-        Ok(96)
-    );
-    assert_eq!(rt;
-        pending_size(&Message::Region(9223372036854775808), estimate),
-        Err(Refusal::Oversize)
-    );
-    assert_eq!(rt; pending_size(&Message::Other(5), estimate), Ok(104));
+    let four = Bytes::copy_from_slice(rt.alloc(), b"four")?;
+    let rows = [
+        (Message::Block(four), Ok(100)),
+        (Message::Region(9223372036854775807), Ok(96)),
+        (Message::Region(9223372036854775808), Err(Refusal::Oversize)),
+        (Message::Other(5), Ok(104)),
+    ];
+    for (message, size) in &rows {
+        assert_eq!(rt; pending_size(message, estimate), *size, "{message:?}");
+    }
     Ok(())
 }
 
 #[test]
 fn marks_may_be_equal(rt: HostRuntime) {
-    assert_eq!(rt; WaterMark::new(7, 7).map(|marks| marks.low()), Ok(7));
-    assert_eq!(rt; WaterMark::new(8, 7), Err(Refusal::BadMarks));
-    assert_eq!(rt; WaterMark::new(0, 2147483648), Err(Refusal::BadMarks));
+    for (low, high, made) in [
+        (7, 7, Ok(7)),
+        (8, 7, Err(Refusal::BadMarks)),
+        (0, 2147483648, Err(Refusal::BadMarks)),
+    ] {
+        let marks = WaterMark::new(low, high);
+        assert_eq!(rt; marks.map(|marks| marks.low()), made, "{low}, {high}");
+    }
 }

@@ -2,7 +2,6 @@ ghost use Rattle.std.specs.Prelude.{◌≡◌, IfOk};
 
 use super::*;
 use ob_types::Change::{Unwritable, Writable};
-use std::process::Abort;
 
 // A split that is refused gives the lane back.
 fn not_split(
@@ -25,18 +24,52 @@ fn not_split(
     }
 }
 
-// A holds bit 1 and B bit 2.
+// A holds bit 1 and B bit 2. Each sets its own, neither may touch another, and A clears its own while B's stays.
 fn set_and_clear(rt: &impl Abort, words: &Words, a: &mut Lane, b: &mut Lane)
     requires { (a.old.words ≡ words.now) × (b.old.words ≡ words.now) }
     ensures { (a.new.words ≡ words.now) × (b.new.words ≡ words.now) }
 {
-    assert_eq!(rt; (a.held(), b.held()), (2, 4));
-    assert_eq!(rt; a.bit(words, 1, false), Ok(Some(Unwritable)));
-    assert_eq!(rt; b.bit(words, 2, false), Ok(None));
-    assert_eq!(rt; b.bit(words, 1, true), Err(NotHeld));
-    assert_eq!(rt; a.bit(words, 0, false), Err(NotHeld));
-    assert_eq!(rt; a.bit(words, 1, true), Ok(None));
-    assert_eq!(rt; a.word(words), 4);
+    let told = [
+        a.bit(words, 1, false),
+        b.bit(words, 2, false),
+        b.bit(words, 1, true),
+        a.bit(words, 0, false),
+        a.bit(words, 1, true),
+    ];
+    let expected = [
+        Ok(Some(Unwritable)),
+        Ok(None),
+        Err(NotHeld),
+        Err(NotHeld),
+        Ok(None),
+    ];
+    assert_eq!(rt; (told, a.word(words)), (expected, 4));
+}
+
+// A lane that was split off with no room cannot charge, and is given back.
+fn not_charged(rt: &impl Abort, words: &Words, lane: Lane) -> Result<Lane, Fail>
+    requires { lane.words ≡ words.now }
+    ensures { IfOk result (λ lane. lane.words ≡ words.now) }
+{
+    match lane.charge(words, 1) {
+        Ok(_charged) => Err(Fail::new("the lane has no room")),
+        Err((lane, fault)) => {
+            assert_eq!(rt; fault, NoRoom);
+            Ok(lane)
+        }
+    }
+}
+
+// One lane again, which clears the bit that B had set, and ends.
+fn clear_and_finish(rt: &impl Abort, words: Words, a: Lane, b: Lane)
+    requires { (a.words ≡ words) × (b.words ≡ words) }
+{
+    let mut all = a.join(&words, b);
+    let change = all.bit(&words, 2, true);
+    assert_eq!(rt;
+        (change, all.finish(words).ok()),
+        (Ok(Some(Writable)), Some((0, 0)))
+    );
 }
 
 #[test]
@@ -45,16 +78,9 @@ fn lanes_with_bits(rt: HostRuntime) -> Result<(), Fail> {
     let a = not_split(&rt, &words, a, 11, 8, SplitFault::NoRoom)?;
     let a = not_split(&rt, &words, a, 0, 8, SplitFault::NotHeld)?;
     let (mut a, mut b) = split(&words, a, 0, 4)?;
+    assert_eq!(rt; (a.held(), b.held()), (2, 4));
     set_and_clear(&rt, &words, &mut a, &mut b);
-    let b = match b.charge(&words, 1) {
-        Ok(_charged) => return Err(Fail::new("the lane has no room")),
-        Err((b, fault)) => {
-            assert_eq!(rt; fault, NoRoom);
-            b
-        }
-    };
-    let mut all = a.join(&words, b);
-    assert_eq!(rt; all.bit(&words, 2, true), Ok(Some(Writable)));
-    assert_eq!(rt; all.finish(words).ok(), Some((0, 0)));
+    let b = not_charged(&rt, &words, b)?;
+    clear_and_finish(&rt, words, a, b);
     Ok(())
 }

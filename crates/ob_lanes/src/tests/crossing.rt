@@ -74,6 +74,6 @@ fn charged_crosses(rt: HostRuntime) -> Result<(), Fail> {
     let (a, Some(b)) = discharge_in_thread(&rt, &words, charged, b) else {
         return Err(Fail::new("each charge has room"));
     };
-    assert_eq!(rt; a.join(&words, b).finish(words).ok(), Some((0, 0)));
+    join_and_finish(&rt, words, a, b);
     Ok(())
 }

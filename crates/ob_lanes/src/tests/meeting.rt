@@ -3,7 +3,6 @@ ghost use Rattle.std.specs.Prelude.{◌≡◌, IfOk, IfSome};
 use super::*;
 use ob_types::Change;
 use ob_types::Change::{Unwritable, Writable};
-use std::process::Abort;
 use std::thread::{Threads, join, sleep};
 use std::time::{Clock, Duration};
 
@@ -49,12 +48,11 @@ fn meet_in_threads<R: Threads + Clock + Sync>(rt: &R, words: &Words, a: Lane, b:
 fn part(rt: &impl Abort, words: Words, mut first: Charged, second: Charged)
     requires { (first.words ≡ words) × (second.words ≡ words) }
 {
-    assert_eq!(rt; first.word(&words), 1);
-    let (first, change) = first.discharge(&words);
-    assert_eq!(rt; change, None);
-    let (second, change) = second.discharge(&words);
-    assert_eq!(rt; change, Some(Writable));
-    assert_eq!(rt; first.join(&words, second).finish(words).ok(), Some((0, 0)));
+    let word = first.word(&words);
+    let (first, of_first) = first.discharge(&words);
+    let (second, of_second) = second.discharge(&words);
+    assert_eq!(rt; (word, of_first, of_second), (1, None, Some(Writable)));
+    join_and_finish(rt, words, first, second);
 }
 
 #[test]

@@ -9,6 +9,7 @@ use ob_history::Recorded;
 use ob_types::{Command, Estimate, Refusal, WaterMark};
 use std::alloc::{AllocError, Global};
 use std::marker::Brand;
+use std::process::Abort;
 use std::sync::Wait;
 use std::test::Fail;
 use std::thread::{Threads, map_vec};
@@ -26,18 +27,14 @@ enum Asks {
 fn four_threads_of_250_calls(rt: HostRuntime) -> Result<(), Fail> {
     let opening = opening(rt.alloc(), 1000, 4)?;
     let recorded = all_made::<Brand, _>(&rt, rt.alloc(), opening, Asks::InTurn)?;
-    assert_eq!(rt; recorded.records().len(), 1000);
-    assert!(rt; is_of_one_thread(rt.alloc(), &recorded)?);
-    Ok(())
+    is_of_one_thread(&rt, rt.alloc(), &recorded, 1000)
 }
 
 #[test]
 fn eight_threads_of_250_calls_by_chance(rt: HostRuntime) -> Result<(), Fail> {
     let opening = opening(rt.alloc(), 2000, 8)?;
     let recorded = all_made::<Brand, _>(&rt, rt.alloc(), opening, Asks::ByChance)?;
-    assert_eq!(rt; recorded.records().len(), 2000);
-    assert!(rt; is_of_one_thread(rt.alloc(), &recorded)?);
-    Ok(())
+    is_of_one_thread(&rt, rt.alloc(), &recorded, 2000)
 }
 
 /// The history after each caller has made 250 calls in a thread of its own.
@@ -89,18 +86,34 @@ fn command(alloc: Global, dice: &mut Dice, asks: Asks, number: u32) -> Result<Co
     }
 }
 
+/// There are so many records, and a buffer of one thread makes the same.
+fn is_of_one_thread(
+    rt: &impl Abort,
+    alloc: Global,
+    recorded: &Recorded,
+    records: usize,
+) -> Result<(), Fail> {
+    let same = is_made_again(alloc, recorded)?;
+    assert_eq!(rt; (recorded.records().len(), same), (records, true));
+    Ok(())
+}
+
 /// Whether a new buffer that is given the commands of the records, in their order, makes the same records.
-fn is_of_one_thread(alloc: Global, recorded: &Recorded) -> Result<bool, Refusal> {
+fn is_made_again(alloc: Global, recorded: &Recorded) -> Result<bool, Refusal> {
     let estimate = Estimate {
         overhead: 96,
         unknown: 8,
     };
     let mut alone = Recorded::new(alloc, WaterMark::new(32768, 65536)?, estimate, 2000);
+    Ok(answers_the_same(recorded, &mut alone)? && alone.look() == recorded.look())
+}
+
+fn answers_the_same(recorded: &Recorded, alone: &mut Recorded) -> Result<bool, Refusal> {
     for kept in recorded.records() {
         let receipt = alone.call(kept.caller, kept.command.copy()?)?;
         if !recorded.check(&receipt) {
             return Ok(false);
         }
     }
-    Ok(alone.look() == recorded.look())
+    Ok(true)
 }

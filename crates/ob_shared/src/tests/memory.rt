@@ -2,10 +2,12 @@
 
 ghost use Rattle.ob_shared.specs.Opened.{IsNameOf};
 
-use crate::tests::openings::{block, both, finished, one_call, opening, pair};
+use crate::tests::openings::opening;
+use crate::tests::pair::{Asks, Pair, Row, Who, asked, both_ended, ended, follow};
+use crate::tests::told;
 use crate::{Done, Named, Opening, SharedBuffer};
-use ob_types::{Command, PromiseId, Refusal};
-use std::alloc::{AllocError, Global};
+use ob_types::{PromiseId, Refusal};
+use std::alloc::Global;
 use std::marker::Brand;
 use std::process::Abort;
 use std::sync::Wait;
@@ -18,6 +20,17 @@ fn always_out_of_memory(rt: HostRuntime) -> Result<(), Fail> {
     five_are_settled::<Brand, _>(&rt, rt.alloc(), opening(rt.alloc(), 16, 2)?)
 }
 
+/// Five blocks, which one call settles.
+const FIVE: [Row; 7] = [
+    (Who::Second, Asks::Write(1), 0),
+    (Who::Second, Asks::Write(1), 1),
+    (Who::Second, Asks::Write(1), 2),
+    (Who::Second, Asks::Write(1), 3),
+    (Who::Second, Asks::Write(1), 4),
+    (Who::Second, Asks::Flush, 5),
+    (Who::Second, Asks::RemoveBytes(5), 6),
+];
+
 fn five_are_settled<L: Named, R: Wait + Abort>(
     rt: &R,
     alloc: Global,
@@ -25,19 +38,11 @@ fn five_are_settled<L: Named, R: Wait + Abort>(
 ) -> Result<(), Fail>
     requires { IsNameOf opening L.opened L.name L.parts }
 {
-    let (buffer, shares) = opening.begin::<L>()?;
-    let (first, mut second) = pair(alloc, shares)?;
-    for _ in 0..5 {
-        let (caller, written) = one_call(rt, &buffer, second, block(alloc, 1)?);
-        second = caller;
-        written?;
-    }
-    let (second, flushed) = one_call(rt, &buffer, second, Command::Flush);
-    let (second, removed) = one_call(rt, &buffer, second, Command::RemoveBytes(5));
-    let (first, told) = told(rt, &buffer, first, PromiseId(4));
-    assert_eq!(rt; (flushed, removed, told), (Ok(5), Ok(6), Ok(6)));
-    let recorded = finished(buffer, both(alloc, first, second)?)?;
-    assert_eq!(rt; recorded.records().len(), 7);
+    let (buffer, pair) = Pair::<L>::begin(alloc, opening)?;
+    let Pair { first, second } = follow(rt, alloc, &buffer, pair, &FIVE);
+    let (first, told) = told_in_the_end(rt, &buffer, first, PromiseId(4));
+    assert_eq!(rt; told, Ok(6));
+    both_ended(rt, alloc, buffer, Pair { first, second }, 7)?;
     Ok(())
 }
 
@@ -60,30 +65,32 @@ fn asks_again<L: Named + Send + Sync, R: Threads + Wait + Abort + Sync>(
     let Ok((buffer, shares)) = opening.begin::<L>() else {
         return Ok(());
     };
-    let (first, second) = pair(alloc, shares)?;
-    let first = made(rt, alloc, &buffer, first, Asks::Write);
-    let shared = &buffer;
-    let (second, (first, told)) = join(
-        rt,
-        move || sent(rt, alloc, shared, second),
-        move || told(rt, shared, first, PromiseId(0)),
-    );
-    assert_eq!(rt; (first.share.made(), second.share.made()), (1, 2));
-    assert_eq!(rt; told, Ok(2));
-    let Ok(dones) = both(alloc, first, second) else {
+    let pair = Pair::of(alloc, shares)?;
+    let pair = each_until_it_is_made(rt, alloc, &buffer, pair);
+    let Ok(dones) = pair.done(alloc) else {
         return Ok(());
     };
-    let recorded = finished(buffer, dones)?;
-    assert_eq!(rt; recorded.records().len(), 3);
+    ended(rt, buffer, dones, 3)?;
     Ok(())
 }
 
-/// What a caller asks for.
-#[derive(Clone, Copy)]
-enum Asks {
-    Write,
-    Flush,
-    Remove,
+/// The first writes, and waits for its promise while the second flushes and removes.
+fn each_until_it_is_made<L: Named + Send + Sync, R: Threads + Wait + Abort + Sync>(
+    rt: &R,
+    alloc: Global,
+    buffer: &SharedBuffer<L>,
+    pair: Pair<L>,
+) -> Pair<L> {
+    let Pair { first, second } = pair;
+    let first = made(rt, alloc, buffer, first, Asks::Write(4));
+    let (second, (first, told)) = join(
+        rt,
+        move || sent(rt, alloc, buffer, second),
+        move || told_in_the_end(rt, buffer, first, PromiseId(0)),
+    );
+    let pair = Pair { first, second };
+    assert_eq!(rt; (pair.made(), told), ((1, 2), Ok(2)));
+    pair
 }
 
 fn sent<L: Named, R: Wait>(
@@ -106,10 +113,7 @@ fn made<L: Named, R: Wait>(
 ) -> Done<L> {
     let mut caller = caller;
     for _ in 0..9 {
-        let Ok(command) = command(alloc, asks) else {
-            continue;
-        };
-        let (same, answer) = one_call(rt, buffer, caller, command);
+        let (same, answer) = asked(rt, alloc, buffer, caller, asks);
         caller = same;
         if answer.is_ok() {
             return caller;
@@ -118,42 +122,23 @@ fn made<L: Named, R: Wait>(
     caller
 }
 
-fn command(alloc: Global, asks: Asks) -> Result<Command, AllocError> {
-    match asks {
-        Asks::Write => block(alloc, 4),
-        Asks::Flush => Ok(Command::Flush),
-        Asks::Remove => Ok(Command::Remove),
-    }
-}
-
 /// Waits up to nine times for a promise, until memory for the receipt is there: the place of the record that settled
 /// it.
-fn told<L: Named, R: Wait>(
+fn told_in_the_end<L: Named, R: Wait>(
     rt: &R,
     buffer: &SharedBuffer<L>,
     caller: Done<L>,
     id: PromiseId,
 ) -> (Done<L>, Result<u32, Refusal>) {
-    let Done {
-        mut share,
-        receipts,
-        told,
-        seen,
-    } = caller;
+    let mut caller = caller;
     let mut place = Err(Refusal::NoMemory);
     for _ in 0..9 {
-        let (desk, answer) = buffer.wait_settled(rt, share, id);
-        share = desk.leave();
+        let (same, answer) = told::told(rt, buffer, caller, id);
+        caller = same;
         place = answer.map(|receipt| receipt.place);
         if place.is_ok() {
             break;
         }
     }
-    let caller = Done {
-        share,
-        receipts,
-        told,
-        seen,
-    };
     (caller, place)
 }

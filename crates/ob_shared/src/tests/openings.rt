@@ -30,14 +30,6 @@ pub fn opening(alloc: Global, limit: u32, callers: u32) -> Result<Opening, Refus
     )
 }
 
-/// Two callers, in the order of their numbers, who have nothing yet to hand in but their shares.
-pub fn pair<L: Named>(alloc: Global, shares: Vec<Share<L>>) -> Result<(Done<L>, Done<L>), Fail> {
-    let mut shares = shares;
-    let second = shares.pop().ok_or("a second share")?;
-    let first = shares.pop().ok_or("a first share")?;
-    Ok((begun(alloc, first), begun(alloc, second)))
-}
-
 /// What a caller hands in that has only its share.
 pub fn begun<L: Named>(alloc: Global, share: Share<L>) -> Done<L> {
     Done {
@@ -91,19 +83,6 @@ fn kept(answer: Result<Receipt, Refusal>, receipts: &mut Vec<Receipt>) -> Result
     let place = receipt.place;
     receipts.push_reserved(receipt);
     Ok(place)
-}
-
-/// What two callers hand in.
-pub fn both<L: Named>(
-    alloc: Global,
-    first: Done<L>,
-    second: Done<L>,
-) -> Result<Vec<Done<L>>, AllocError> {
-    let mut dones = Vec::new(alloc);
-    dones.reserve(2)?;
-    dones.push_reserved(first);
-    dones.push_reserved(second);
-    Ok(dones)
 }
 
 /// The history of a buffer that can be finished.

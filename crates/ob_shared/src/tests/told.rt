@@ -2,7 +2,8 @@
 
 ghost use Rattle.ob_shared.specs.Opened.{IsNameOf};
 
-use crate::tests::openings::{block, both, finished, one_call, opening, pair};
+use crate::tests::openings::{one_call, opening};
+use crate::tests::pair::{Asks, Pair, Who, both_ended, follow};
 use crate::{Done, Named, Opening, SharedBuffer};
 use ob_history::Receipt;
 use ob_types::{Command, Outcome, PromiseId, Refusal};
@@ -25,28 +26,41 @@ fn waits_for_another<L: Named + Send + Sync, R: Threads + Wait + Abort + Sync>(
 ) -> Result<(), Fail>
     requires { IsNameOf opening L.opened L.name L.parts }
 {
-    let (buffer, shares) = opening.begin::<L>()?;
-    let (first, second) = pair(alloc, shares)?;
-    let (first, written) = one_call(rt, &buffer, first, block(alloc, 4)?);
-    assert_eq!(rt; written, Ok(0));
-    let (first, nobody) = told(rt, &buffer, first, PromiseId(9));
-    assert_eq!(rt; nobody.err(), Some(Refusal::UnknownPromise));
-
-    let shared = &buffer;
-    let (sent, waited) = join(
-        rt,
-        move || send(rt, shared, second),
-        move || told(rt, shared, first, PromiseId(0)),
-    );
-    let (second, removed) = sent;
-    let (mut first, told) = waited;
-    let told = told?;
-    assert_eq!(rt; removed, Ok(2));
-    is_the_removal(rt, &told)?;
-    first.told.push(told)?;
-    let recorded = finished(buffer, both(alloc, first, second)?)?;
-    assert_eq!(rt; recorded.records().len(), 3);
+    let (buffer, pair) = Pair::<L>::begin(alloc, opening)?;
+    let write = [(Who::First, Asks::Write(4), 0)];
+    let pair = follow(rt, alloc, &buffer, pair, &write);
+    let pair = asks_for_an_unknown_promise(rt, &buffer, pair);
+    let (pair, removed, told) = waits_for_the_second(rt, &buffer, pair);
+    let pair = told_of_the_removal(rt, pair, removed, told?)?;
+    both_ended(rt, alloc, buffer, pair, 3)?;
     Ok(())
+}
+
+/// No write has the promise, so nobody could ever settle it.
+fn asks_for_an_unknown_promise<L: Named, R: Wait + Abort>(
+    rt: &R,
+    buffer: &SharedBuffer<L>,
+    pair: Pair<L>,
+) -> Pair<L> {
+    let Pair { first, second } = pair;
+    let (first, nobody) = told(rt, buffer, first, PromiseId(9));
+    assert_eq!(rt; nobody.err(), Some(Refusal::UnknownPromise));
+    Pair { first, second }
+}
+
+/// The first waits while the second flushes and removes: the place of the removal, and what the first is told.
+fn waits_for_the_second<L: Named + Send + Sync, R: Threads + Wait + Sync>(
+    rt: &R,
+    buffer: &SharedBuffer<L>,
+    pair: Pair<L>,
+) -> (Pair<L>, Result<u32, Refusal>, Result<Receipt, Refusal>) {
+    let Pair { first, second } = pair;
+    let ((second, removed), (first, told)) = join(
+        rt,
+        move || send(rt, buffer, second),
+        move || told(rt, buffer, first, PromiseId(0)),
+    );
+    (Pair { first, second }, removed, told)
 }
 
 /// Flushes and removes, each from a desk of its own: the place of the removal.
@@ -63,7 +77,7 @@ fn send<L: Named, R: Wait>(
 }
 
 /// Waits for a promise, and leaves the desk.
-fn told<L: Named, R: Wait>(
+pub fn told<L: Named, R: Wait>(
     rt: &R,
     buffer: &SharedBuffer<L>,
     caller: Done<L>,
@@ -85,12 +99,27 @@ fn told<L: Named, R: Wait>(
     (caller, answer)
 }
 
-fn is_the_removal<R: Abort>(rt: &R, told: &Receipt) -> Result<(), Fail> {
-    assert_eq!(rt; (told.place, told.caller), (2, 1));
-    let reply = told.copy()?.reply?;
+/// The first was told of the removal of the second, which settled the promise, and keeps the receipt.
+fn told_of_the_removal<L: Named, R: Abort>(
+    rt: &R,
+    pair: Pair<L>,
+    removed: Result<u32, Refusal>,
+    told: Receipt,
+) -> Result<Pair<L>, Fail> {
+    let place = (removed, told.place, told.caller);
     assert_eq!(rt;
-        reply.settled.as_slice(),
-        [(PromiseId(0), Outcome::Success)].as_slice()
+        (place, settled(&told)),
+        ((Ok(2), 2, 1), [(PromiseId(0), Outcome::Success)].as_slice())
     );
-    Ok(())
+    let mut pair = pair;
+    pair.first.told.push(told)?;
+    Ok(pair)
+}
+
+/// What a call settled; nothing where it was refused.
+fn settled(receipt: &Receipt) -> &[(PromiseId, Outcome)] {
+    match &receipt.reply {
+        Ok(reply) => reply.settled.as_slice(),
+        Err(_) => &[],
+    }
 }

@@ -2,15 +2,22 @@
 
 ghost use Rattle.ob_shared.specs.Opened.{IsNameOf};
 
-use crate::tests::openings::{block, both, finished, one_call, opening, pair};
+use crate::tests::openings::opening;
+use crate::tests::pair::{Asks, Pair, Row, Who, both_ended, ended, follow};
 use crate::{Done, FinishFault, Named, Opening, SharedBuffer, Unfinished};
-use ob_history::Seen;
+use ob_history::{Receipt, Seen};
 use ob_types::Command;
 use std::alloc::Global;
 use std::marker::Brand;
 use std::process::Abort;
 use std::sync::Wait;
 use std::test::Fail;
+
+/// A write of the first caller, and a flush of the second.
+const SENT: [Row; 2] = [
+    (Who::First, Asks::Write(4), 0),
+    (Who::Second, Asks::Flush, 1),
+];
 
 #[test]
 fn two_callers_finish(rt: HostRuntime) -> Result<(), Fail> {
@@ -24,20 +31,17 @@ fn two_callers<L: Named, R: Wait + Abort>(
 ) -> Result<(), Fail>
     requires { IsNameOf opening L.opened L.name L.parts }
 {
-    let (buffer, shares) = opening.begin::<L>()?;
-    let (first, second) = pair(alloc, shares)?;
-    assert_eq!(rt; (first.share.caller(), second.share.caller()), (0, 1));
-    let (first, written) = one_call(rt, &buffer, first, block(alloc, 4)?);
-    let (second, flushed) = one_call(rt, &buffer, second, Command::Flush);
-    assert_eq!(rt; (written, flushed), (Ok(0), Ok(1)));
-    assert_eq!(rt; (first.share.made(), second.share.made()), (1, 1));
-    let (second, seen) = look(rt, &buffer, second)?;
-    assert_eq!(rt; (seen.place, seen.look.total, seen.look.size), (2, 100, 1));
+    let (buffer, pair) = Pair::<L>::begin(alloc, opening)?;
+    let callers = pair.callers();
+    let pair = follow(rt, alloc, &buffer, pair, &SENT);
+    assert_eq!(rt; (callers, pair.made()), ((0, 1), (1, 1)));
+    let Pair { first, second } = pair;
+    let (second, _seen) = look(rt, &buffer, second)?;
     one_is_missing(rt, alloc, buffer, first, second)
 }
 
-/// Looks, and keeps what was seen.
-fn look<L: Named, R: Wait>(
+/// Looks when the block is flushed, and keeps what was seen.
+fn look<L: Named, R: Wait + Abort>(
     rt: &R,
     buffer: &SharedBuffer<L>,
     caller: Done<L>,
@@ -51,6 +55,7 @@ fn look<L: Named, R: Wait>(
     let desk = buffer.desk(rt, share);
     let look = desk.look();
     let share = desk.leave();
+    assert_eq!(rt; (look.place, look.look.total, look.look.size), (2, 100, 1));
     seen.push(look)?;
     let caller = Done {
         share,
@@ -61,7 +66,7 @@ fn look<L: Named, R: Wait>(
     Ok((caller, look))
 }
 
-/// One share alone, then a receipt too few, then a foreign one, and then all as it was.
+/// One share alone, then a receipt too few, and then a foreign one.
 fn one_is_missing<L: Named, R: Abort>(
     rt: &R,
     alloc: Global,
@@ -71,32 +76,56 @@ fn one_is_missing<L: Named, R: Abort>(
 ) -> Result<(), Fail> {
     let mut dones = Vec::new(alloc);
     dones.push(second)?;
-    let (buffer, mut dones) = refused(rt, buffer, dones, FinishFault::SharesMissing)?;
-
-    let mut first = first;
-    let mut receipt = first.receipts.pop().ok_or("a receipt")?;
-    dones.push(first)?;
+    let (buffer, dones) = refused(rt, buffer, dones, FinishFault::SharesMissing)?;
+    let (dones, receipt) = without_receipt(dones, first)?;
     let missing = FinishFault::ReceiptsMissing { caller: 0 };
-    let (buffer, mut dones) = refused(rt, buffer, dones, missing)?;
+    let (buffer, dones) = refused(rt, buffer, dones, missing)?;
+    one_is_foreign(rt, buffer, with_receipt(dones, receipt)?)
+}
 
-    let written = std::mem::replace(&mut receipt.command, Command::Flush);
-    let mut first = dones.pop().ok_or("what the first handed in")?;
-    first.receipts.push(receipt)?;
-    dones.push(first)?;
+/// What is handed in with one Done more, from which its last receipt is taken.
+fn without_receipt<L: Named>(
+    dones: Vec<Done<L>>,
+    last: Done<L>,
+) -> Result<(Vec<Done<L>>, Receipt), Fail> {
+    let mut dones = dones;
+    let mut last = last;
+    let receipt = last.receipts.pop().ok_or("a receipt")?;
+    dones.push(last)?;
+    Ok((dones, receipt))
+}
+
+/// What is handed in, with one receipt more in the last Done.
+fn with_receipt<L: Named>(dones: Vec<Done<L>>, receipt: Receipt) -> Result<Vec<Done<L>>, Fail> {
+    let mut dones = dones;
+    let last = dones.last_mut().ok_or("what was handed in last")?;
+    last.receipts.push(receipt)?;
+    Ok(dones)
+}
+
+/// The receipt of the write with another command, and then all as it was.
+fn one_is_foreign<L: Named, R: Abort>(
+    rt: &R,
+    buffer: SharedBuffer<L>,
+    dones: Vec<Done<L>>,
+) -> Result<(), Fail> {
+    let mut dones = dones;
+    let written = exchange(&mut dones, Command::Flush)?;
     let foreign = FinishFault::ForeignReceipt {
         caller: 0,
         place: 0,
     };
     let (buffer, mut dones) = refused(rt, buffer, dones, foreign)?;
-
-    let mut first = dones.pop().ok_or("what the first handed in")?;
-    let mut receipt = first.receipts.pop().ok_or("a receipt")?;
-    receipt.command = written;
-    first.receipts.push(receipt)?;
-    dones.push(first)?;
-    let recorded = finished(buffer, dones)?;
-    assert_eq!(rt; recorded.records().len(), 2);
+    let _flush = exchange(&mut dones, written)?;
+    ended(rt, buffer, dones, 2)?;
     Ok(())
+}
+
+/// The command of the last receipt in the last Done, which gets another.
+fn exchange<L: Named>(dones: &mut Vec<Done<L>>, command: Command) -> Result<Command, Fail> {
+    let last = dones.last_mut().ok_or("what was handed in last")?;
+    let receipt = last.receipts.last_mut().ok_or("its last receipt")?;
+    Ok(std::mem::replace(&mut receipt.command, command))
 }
 
 /// What is given back where the end is refused with this fault.
@@ -133,14 +162,10 @@ fn what_was_written_stays<L: Named, R: Wait + Abort>(
 ) -> Result<(), Fail>
     requires { IsNameOf opening L.opened L.name L.parts }
 {
-    let (buffer, shares) = opening.begin::<L>()?;
-    let (first, second) = pair(alloc, shares)?;
-    let (first, written) = one_call(rt, &buffer, first, block(alloc, 4)?);
-    let (second, flushed) = one_call(rt, &buffer, second, Command::Flush);
-    assert_eq!(rt; (written, flushed), (Ok(0), Ok(1)));
+    let (buffer, pair) = Pair::<L>::begin(alloc, opening)?;
+    let Pair { first, second } = follow(rt, alloc, &buffer, pair, &SENT);
     let (first, seen) = look(rt, &buffer, first)?;
-    assert_eq!(rt; (seen.place, seen.look.total, seen.look.size), (2, 100, 1));
-    let recorded = finished(buffer, both(alloc, first, second)?)?;
+    let recorded = both_ended(rt, alloc, buffer, Pair { first, second }, 2)?;
     assert_eq!(rt; recorded.look(), seen);
     Ok(())
 }
