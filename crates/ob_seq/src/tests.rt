@@ -3,4 +3,6 @@ mod caller;
 mod calls;
 mod ending;
 mod limits;
+mod steps;
+mod way;
 mod worked;

@@ -1,190 +1,185 @@
 //! Removal of bytes, and what a transport can see and send.
 
-use crate::Buffer;
-use crate::tests::calls::{block, buffer};
-use ob_types::{
-    Answer, Change, Estimate, Message, Outcome, PromiseId, PromiseState, Refusal, WaterMark,
-};
-use std::alloc::{AllocError, Global};
+use crate::tests::steps::Piece::{Block, Other, Region};
+use crate::tests::steps::Said::{Answers, Refused, Settles};
+use crate::tests::steps::Step::{Flushed, Gather, Give, Promise, Shows, Write};
+use crate::tests::steps::{first_other, first_other_of};
+use crate::tests::way::Way;
+use crate::{Buffer, Look};
+use ob_types::Answer::{Count, Done, Id, Yes};
+use ob_types::Command::{Cancel, Flush, Progress, Remove, RemoveBytes};
+use ob_types::Outcome::{Cancelled, Success};
+use ob_types::Refusal::TooManyBytes;
+use ob_types::{Change, Estimate, PromiseId, PromiseState, WaterMark};
 use std::test::Fail;
-
-/// Writes a block of each length, and flushes them.
-fn flushed_blocks(buffer: &mut Buffer, alloc: Global, lengths: &[usize]) -> Result<(), Refusal> {
-    for length in lengths {
-        let _ = buffer.write(block(alloc, *length)?)?;
-    }
-    let _ = buffer.flush()?;
-    Ok(())
-}
-
-/// The lengths of the blocks that are gathered.
-fn gathered(
-    buffer: &Buffer,
-    alloc: Global,
-    max_count: u32,
-    max_bytes: u32,
-) -> Result<Vec<usize>, Refusal> {
-    let mut lengths = Vec::new(alloc);
-    for bytes in buffer.gather(max_count, max_bytes)?.iter() {
-        lengths.push(bytes.len())?;
-    }
-    Ok(lengths)
-}
-
-/// The lengths of the flushed blocks.
-fn flushed_lengths(buffer: &Buffer, alloc: Global) -> Result<Vec<usize>, AllocError> {
-    let mut lengths = Vec::new(alloc);
-    for message in buffer.flushed() {
-        if let Message::Block(bytes) = message {
-            lengths.push(bytes.len())?;
-        }
-    }
-    Ok(lengths)
-}
 
 #[test]
 fn remove_bytes_takes_empty_blocks_along(rt: HostRuntime) -> Result<(), Fail> {
-    let alloc = rt.alloc();
-    let mut buffer = buffer(alloc, 200, 400)?;
-    flushed_blocks(&mut buffer, alloc, &[3, 0, 5])?;
-    let reply = buffer.remove_bytes(3)?;
-    assert_eq!(rt; reply.answer, Answer::Count(2));
-    let both = [
-        (PromiseId(0), Outcome::Success),
-        (PromiseId(1), Outcome::Success),
+    let skipped = Look {
+        total: 101,
+        word: 0,
+        size: 1,
+        before_unwritable: 300,
+        before_writable: 0,
+        current_progress: 2,
+    };
+    let both = Settles(Count(2), &[0, 1], Success);
+    let steps = [
+        Write(Block(3), Answers(Id(PromiseId(0))), None, 99, 0),
+        Write(Block(0), Answers(Id(PromiseId(1))), None, 195, 0),
+        Write(Block(5), Answers(Id(PromiseId(2))), None, 296, 0),
+        Give(Flush, Answers(Count(3)), None, 296, 0),
+        Give(RemoveBytes(3), both, None, 101, 0),
+        Give(RemoveBytes(2), Answers(Count(0)), None, 101, 0),
+        Shows(skipped),
+        Flushed(&[Block(3)]),
+        Give(RemoveBytes(4), Refused(TooManyBytes), None, 101, 0),
+        Shows(skipped),
     ];
-    assert_eq!(rt; reply.settled.as_slice(), both.as_slice());
-    assert_eq!(rt; buffer.look().total, 101);
-    assert_eq!(rt; buffer.remove_bytes(2)?.answer, Answer::Count(0));
-    let look = buffer.look();
-    assert_eq!(rt; (look.total, look.size, look.current_progress), (101, 1, 2));
-    assert_eq!(rt; flushed_lengths(&buffer, alloc)?.as_slice(), [3].as_slice());
-    assert_eq!(rt; buffer.remove_bytes(4).err(), Some(Refusal::TooManyBytes));
-    assert_eq!(rt; buffer.look(), look);
+    assert_eq!(rt; first_other(rt.alloc(), (200, 400), &steps)?, None);
     Ok(())
 }
 
 #[test]
 fn zero_bytes_remove_an_empty_front(rt: HostRuntime) -> Result<(), Fail> {
-    let alloc = rt.alloc();
-    let mut buffer = buffer(alloc, 200, 400)?;
-    assert_eq!(rt; buffer.remove_bytes(0)?.answer, Answer::Count(0));
-    flushed_blocks(&mut buffer, alloc, &[0])?;
-    assert_eq!(rt; buffer.remove_bytes(0)?.answer, Answer::Count(1));
-    assert_eq!(rt; buffer.look().total, 0);
+    let sent = Settles(Count(1), &[0], Success);
+    let steps = [
+        Give(RemoveBytes(0), Answers(Count(0)), None, 0, 0),
+        Write(Block(0), Answers(Id(PromiseId(0))), None, 96, 0),
+        Give(Flush, Answers(Count(1)), None, 96, 0),
+        Give(RemoveBytes(0), sent, None, 0, 0),
+    ];
+    assert_eq!(rt; first_other(rt.alloc(), (200, 400), &steps)?, None);
     Ok(())
 }
 
 #[test]
 fn other_messages_end_the_byte_run(rt: HostRuntime) -> Result<(), Fail> {
-    let alloc = rt.alloc();
-    let mut region = buffer(alloc, 200, 400)?;
-    let _ = region.write(block(alloc, 3)?)?;
-    let _ = region.write(Message::Region(9))?;
-    let _ = region.flush()?;
-    assert_eq!(rt; region.remove_bytes(4).err(), Some(Refusal::TooManyBytes));
-    assert_eq!(rt; region.look().total, 195);
+    let region = [
+        Write(Block(3), Answers(Id(PromiseId(0))), None, 99, 0),
+        Write(Region(9), Answers(Id(PromiseId(1))), None, 195, 0),
+        Give(Flush, Answers(Count(2)), None, 195, 0),
+        Give(RemoveBytes(4), Refused(TooManyBytes), None, 195, 0),
+    ];
+    assert_eq!(rt; first_other(rt.alloc(), (200, 400), &region)?, None);
 
-    let mut other = buffer(alloc, 200, 400)?;
-    let _ = other.write(Message::Other(5))?;
-    let _ = other.flush()?;
-    assert_eq!(rt; other.remove_bytes(0)?.answer, Answer::Count(0));
-    assert_eq!(rt; other.remove_bytes(1).err(), Some(Refusal::TooManyBytes));
-    assert_eq!(rt; gathered(&other, alloc, 8, 8)?.len(), 0);
-    assert!(rt; other.flushed().next().is_some());
-    assert_eq!(rt; other.remove()?.answer, Answer::Yes(true));
+    let sent = Settles(Yes(true), &[0], Success);
+    let other = [
+        Write(Other(5), Answers(Id(PromiseId(0))), None, 104, 0),
+        Give(Flush, Answers(Count(1)), None, 104, 0),
+        Give(RemoveBytes(0), Answers(Count(0)), None, 104, 0),
+        Give(RemoveBytes(1), Refused(TooManyBytes), None, 104, 0),
+        Gather(8, 8, &[]),
+        Flushed(&[Other(5)]),
+        Give(Remove, sent, None, 0, 0),
+    ];
+    assert_eq!(rt; first_other(rt.alloc(), (200, 400), &other)?, None);
     Ok(())
 }
 
+/// No total is below a low mark of 0, so the buffer stays unwritable.
 #[test]
 fn marks_of_zero(rt: HostRuntime) -> Result<(), Fail> {
-    let alloc = rt.alloc();
     let estimate = Estimate {
         overhead: 0,
         unknown: 8,
     };
-    let mut buffer = Buffer::new(alloc, WaterMark::new(0, 0)?, estimate);
-    assert_eq!(rt; buffer.write(block(alloc, 0)?)?.change, None);
-    assert_eq!(rt;
-        buffer.write(block(alloc, 1)?)?.change,
-        Some(Change::Unwritable)
-    );
-    let _ = buffer.flush()?;
-    assert_eq!(rt; buffer.remove_bytes(1)?.answer, Answer::Count(2));
-    let look = buffer.look();
-    assert_eq!(rt; (look.total, look.word), (0, 1));
+    let unwritable = Some(Change::Unwritable);
+    let both = Settles(Count(2), &[0, 1], Success);
+    let steps = [
+        Write(Block(0), Answers(Id(PromiseId(0))), None, 0, 0),
+        Write(Block(1), Answers(Id(PromiseId(1))), unwritable, 1, 1),
+        Give(Flush, Answers(Count(2)), None, 1, 1),
+        Give(RemoveBytes(1), both, None, 0, 1),
+    ];
+    for way in [Way::ByName, Way::ByApply] {
+        let mut buffer = Buffer::new(rt.alloc(), WaterMark::new(0, 0)?, estimate);
+        assert_eq!(rt; first_other_of(&mut buffer, rt.alloc(), way, &steps)?, None);
+    }
     Ok(())
 }
 
 #[test]
 fn gather_skips_voided_entries(rt: HostRuntime) -> Result<(), Fail> {
-    let alloc = rt.alloc();
-    let mut buffer = buffer(alloc, 200, 400)?;
-    for length in [3, 4, 5] {
-        let _ = buffer.write(block(alloc, length)?)?;
-    }
-    let _ = buffer.cancel(PromiseId(1))?;
-    assert_eq!(rt; gathered(&buffer, alloc, 8, 8)?.len(), 0);
-    let _ = buffer.flush()?;
-    assert_eq!(rt; gathered(&buffer, alloc, 8, 6)?.as_slice(), [3].as_slice());
-    assert_eq!(rt;
-        gathered(&buffer, alloc, 8, 8)?.as_slice(),
-        [3, 5].as_slice()
-    );
-    assert_eq!(rt;
-        gathered(&buffer, alloc, 1, 100)?.as_slice(),
-        [3].as_slice()
-    );
-    assert_eq!(rt; gathered(&buffer, alloc, 8, 1)?.as_slice(), [3].as_slice());
-    assert_eq!(rt; gathered(&buffer, alloc, 0, 100)?.len(), 0);
-    assert_eq!(rt; gathered(&buffer, alloc, 8, 0)?.as_slice(), [3].as_slice());
-    assert_eq!(rt;
-        flushed_lengths(&buffer, alloc)?.as_slice(),
-        [3, 5].as_slice()
-    );
+    let cancelled = Settles(Yes(true), &[1], Cancelled);
+    let steps = [
+        Write(Block(3), Answers(Id(PromiseId(0))), None, 99, 0),
+        Write(Block(4), Answers(Id(PromiseId(1))), None, 199, 0),
+        Write(Block(5), Answers(Id(PromiseId(2))), None, 300, 0),
+        Give(Cancel(PromiseId(1)), cancelled, None, 300, 0),
+        Gather(8, 8, &[]),
+        Give(Flush, Answers(Count(3)), None, 200, 0),
+        Gather(8, 6, &[3]),
+        Gather(8, 8, &[3, 5]),
+        Gather(1, 100, &[3]),
+        Gather(8, 1, &[3]),
+        Gather(0, 100, &[]),
+        Gather(8, 0, &[3]),
+        Flushed(&[Block(3), Block(5)]),
+    ];
+    assert_eq!(rt; first_other(rt.alloc(), (200, 400), &steps)?, None);
     Ok(())
 }
 
 /// Six promises in one reply: more than fit without the allocator. Where it refuses, nothing has changed.
 #[test]
 fn many_promises_in_one_removal(rt: HostRuntime) -> Result<(), Fail> {
-    let alloc = rt.alloc();
-    let mut buffer = buffer(alloc, 200, 400)?;
-    flushed_blocks(&mut buffer, alloc, &[1, 1, 1, 1, 1, 1, 1])?;
-    let before = buffer.look();
-    let removed = buffer.remove_bytes(6);
-    if removed.is_err() {
-        assert_eq!(rt; buffer.look(), before);
-    }
-    let reply = removed?;
-    assert_eq!(rt; reply.answer, Answer::Count(6));
-    assert_eq!(rt; reply.settled.as_slice().len(), 6);
-    assert_eq!(rt; buffer.look().total, 97);
-    let last = buffer.promise(PromiseId(5));
-    assert_eq!(rt; last, Some(PromiseState::Settled(Outcome::Success)));
+    let (unwritable, writable) = (Some(Change::Unwritable), Some(Change::Writable));
+    let six = Settles(Count(6), &[0, 1, 2, 3, 4, 5], Success);
+    let steps = [
+        Write(Block(1), Answers(Id(PromiseId(0))), None, 97, 0),
+        Write(Block(1), Answers(Id(PromiseId(1))), None, 194, 0),
+        Write(Block(1), Answers(Id(PromiseId(2))), None, 291, 0),
+        Write(Block(1), Answers(Id(PromiseId(3))), None, 388, 0),
+        Write(Block(1), Answers(Id(PromiseId(4))), unwritable, 485, 1),
+        Write(Block(1), Answers(Id(PromiseId(5))), None, 582, 1),
+        Write(Block(1), Answers(Id(PromiseId(6))), None, 679, 1),
+        Give(Flush, Answers(Count(7)), None, 679, 1),
+        Give(RemoveBytes(6), six, writable, 97, 0),
+        Promise(5, Some(PromiseState::Settled(Success))),
+    ];
+    assert_eq!(rt; first_other(rt.alloc(), (200, 400), &steps)?, None);
     Ok(())
 }
 
 #[test]
 fn skipped_bytes_stop_at_the_top_of_progress(rt: HostRuntime) -> Result<(), Fail> {
-    let alloc = rt.alloc();
-    let mut buffer = buffer(alloc, 200, 400)?;
-    flushed_blocks(&mut buffer, alloc, &[4])?;
-    let _ = buffer.progress(9223372036854775806)?;
-    assert_eq!(rt; buffer.remove_bytes(3)?.answer, Answer::Count(0));
-    assert_eq!(rt; buffer.look().current_progress, 9223372036854775807);
-    assert_eq!(rt; flushed_lengths(&buffer, alloc)?.as_slice(), [1].as_slice());
+    let (below_the_top, top) = (9223372036854775806, 9223372036854775807);
+    let skipped = Look {
+        total: 100,
+        word: 0,
+        size: 1,
+        before_unwritable: 301,
+        before_writable: 0,
+        current_progress: top,
+    };
+    let steps = [
+        Write(Block(4), Answers(Id(PromiseId(0))), None, 100, 0),
+        Give(Flush, Answers(Count(1)), None, 100, 0),
+        Give(Progress(below_the_top), Answers(Done), None, 100, 0),
+        Give(RemoveBytes(3), Answers(Count(0)), None, 100, 0),
+        Shows(skipped),
+        Flushed(&[Block(1)]),
+    ];
+    assert_eq!(rt; first_other(rt.alloc(), (200, 400), &steps)?, None);
     Ok(())
 }
 
 #[test]
 fn many_blocks_are_gathered(rt: HostRuntime) -> Result<(), Fail> {
-    let alloc = rt.alloc();
-    let mut buffer = buffer(alloc, 200, 400)?;
-    flushed_blocks(&mut buffer, alloc, &[1, 2, 3, 0, 4, 5])?;
-    let all = [1, 2, 3, 4, 5];
-    assert_eq!(rt; gathered(&buffer, alloc, 8, 15)?.as_slice(), all.as_slice());
-    assert_eq!(rt; gathered(&buffer, alloc, 4, 15)?.as_slice(), &all[..4]);
-    assert_eq!(rt; gathered(&buffer, alloc, 8, 14)?.as_slice(), &all[..4]);
+    let unwritable = Some(Change::Unwritable);
+    let steps = [
+        Write(Block(1), Answers(Id(PromiseId(0))), None, 97, 0),
+        Write(Block(2), Answers(Id(PromiseId(1))), None, 195, 0),
+        Write(Block(3), Answers(Id(PromiseId(2))), None, 294, 0),
+        Write(Block(0), Answers(Id(PromiseId(3))), None, 390, 0),
+        Write(Block(4), Answers(Id(PromiseId(4))), unwritable, 490, 1),
+        Write(Block(5), Answers(Id(PromiseId(5))), None, 591, 1),
+        Give(Flush, Answers(Count(6)), None, 591, 1),
+        Gather(8, 15, &[1, 2, 3, 4, 5]),
+        Gather(4, 15, &[1, 2, 3, 4]),
+        Gather(8, 14, &[1, 2, 3, 4]),
+    ];
+    assert_eq!(rt; first_other(rt.alloc(), (200, 400), &steps)?, None);
     Ok(())
 }

@@ -6,7 +6,7 @@ ghost use Rattle.ob_seq.specs.Pending.{StandsFor};
 ghost use Rattle.ob_seq.specs.Word.{word_after};
 
 use crate::Buffer;
-use crate::tests::calls::buffer;
+use crate::tests::steps::buffer;
 use bytes::Bytes;
 use ob_types::{Cause, Change, Estimate, Message, Outcome, PromiseId, Refusal, Reply, WaterMark};
 use std::alloc::Global;
@@ -125,6 +125,21 @@ impl Peer for SlowPeer {
     }
 }
 
+impl SlowPeer {
+    /// Whether so many bytes of these values, in turn, have gone out, and no others.
+    fn has_sent(&self, runs: &[(u8, usize)]) -> bool {
+        let mut sent = self.sent.iter();
+        for (value, length) in runs {
+            for _ in 0..*length {
+                if sent.next() != Some(value) {
+                    return false;
+                }
+            }
+        }
+        sent.next().is_none()
+    }
+}
+
 fn slow_peer(alloc: Global, takes: usize) -> SlowPeer {
     SlowPeer {
         takes,
@@ -139,33 +154,99 @@ fn response(alloc: Global, value: u8, length: usize) -> Result<Bytes, Refusal> {
     Ok(Bytes::from_vec(vec![in alloc; value; length]?)?)
 }
 
+/// What a server does with a connection.
+#[derive(Clone, Copy)]
+enum Deed {
+    /// Responds with so many bytes of one value.
+    Respond(u8, usize),
+    /// Writes a message that no flush follows.
+    Write(u32),
+    Send,
+    GiveUp(Cause),
+    Renew,
+    /// Nothing: from here on the socket takes at most so many bytes at a time.
+    Takes(usize),
+}
+
+/// What is seen of a connection: whether it is read, whether more may be written, how many bytes were sent and promises
+/// settled, the pending bytes, and how many writes are left.
+type Seen = (bool, bool, usize, usize, u32, u32);
+
+/// A buffer and the peer that it serves.
+#[derive(Drop)]
+struct Connection {
+    buffer: Buffer,
+    peer: SlowPeer,
+}
+
+impl Connection {
+    /// Does the deeds in turn, and answers the place of the first behind which something else is seen.
+    fn first_other(
+        &mut self,
+        alloc: Global,
+        rows: &[(Deed, Seen)],
+    ) -> Result<Option<usize>, Refusal> {
+        for (place, (deed, seen)) in rows.iter().enumerate() {
+            self.play(alloc, *deed)?;
+            if self.seen() != *seen {
+                return Ok(Some(place));
+            }
+        }
+        Ok(None)
+    }
+
+    fn play(&mut self, alloc: Global, deed: Deed) -> Result<(), Refusal> {
+        let Connection { buffer, peer } = self;
+        match deed {
+            Deed::Respond(value, length) => respond(buffer, peer, response(alloc, value, length)?),
+            Deed::Write(value) => write(buffer, peer, value),
+            Deed::Send => send(buffer, peer),
+            Deed::GiveUp(cause) => give_up(buffer, peer, cause),
+            Deed::Renew => renew(buffer, peer, alloc),
+            Deed::Takes(takes) => {
+                peer.takes = takes;
+                Ok(())
+            }
+        }
+    }
+
+    fn seen(&self) -> Seen {
+        let (buffer, peer) = (&self.buffer, &self.peer);
+        let (sent, settled) = (peer.sent.len(), peer.settled.len());
+        let (total, left) = (buffer.look().total, buffer.writes_left());
+        (peer.reading, may_write(buffer), sent, settled, total, left)
+    }
+}
+
+/// Writes a message that the socket does not send before a flush.
+fn write(buffer: &mut Buffer, peer: &mut SlowPeer, value: u32) -> Result<(), Refusal> {
+    let written = buffer.write(Message::Other(value))?;
+    tell(peer, &written);
+    Ok(())
+}
+
 /// Marks of 200 and 400. The responses count 400 and 100 bytes, and leave in pieces of 100.
 #[test]
 fn a_slow_peer_is_not_read_until_it_has_caught_up(rt: HostRuntime) -> Result<(), Fail> {
-    let alloc = rt.alloc();
-    let mut buffer = buffer(alloc, 200, 400)?;
-    let mut peer = slow_peer(alloc, 100);
-    respond(&mut buffer, &mut peer, response(alloc, 1, 304)?)?;
-    assert!(rt; peer.reading);
-    respond(&mut buffer, &mut peer, response(alloc, 2, 4)?)?;
-    assert!(rt; !peer.reading && !may_write(&buffer));
-    send(&mut buffer, &mut peer)?;
-    assert!(rt; !peer.reading);
-    assert_eq!(rt; (peer.sent.len(), buffer.look().total), (300, 500));
-    assert_eq!(rt; peer.settled.len(), 0);
-
-    send(&mut buffer, &mut peer)?;
-    assert!(rt; peer.reading && may_write(&buffer));
+    let mut connection = Connection {
+        buffer: buffer(rt.alloc(), 200, 400)?,
+        peer: slow_peer(rt.alloc(), 100),
+    };
+    let rows = [
+        (Deed::Respond(1, 304), (true, true, 100, 0, 400, 1048575)),
+        (Deed::Respond(2, 4), (false, false, 200, 0, 500, 1048574)),
+        (Deed::Send, (false, false, 300, 0, 500, 1048574)),
+        (Deed::Send, (true, true, 308, 2, 0, 1048574)),
+        (Deed::Send, (true, true, 308, 2, 0, 1048574)),
+    ];
+    assert_eq!(rt; connection.first_other(rt.alloc(), &rows)?, None);
     let both = [
         (PromiseId(0), Outcome::Success),
         (PromiseId(1), Outcome::Success),
     ];
+    let peer = &connection.peer;
     assert_eq!(rt; peer.settled.as_slice(), both.as_slice());
-    assert_eq!(rt; (peer.sent.len(), buffer.look().total), (308, 0));
-    assert_eq!(rt; &peer.sent[302..], [1, 1, 2, 2, 2, 2].as_slice());
-
-    send(&mut buffer, &mut peer)?;
-    assert_eq!(rt; (peer.sent.len(), peer.settled.len()), (308, 2));
+    assert!(rt; peer.has_sent(&[(1, 304), (2, 4)]));
     Ok(())
 }
 
@@ -174,8 +255,10 @@ fn a_slow_peer_is_not_read_until_it_has_caught_up(rt: HostRuntime) -> Result<(),
 fn a_new_buffer_has_room_up_to_the_high_mark(rt: HostRuntime) -> Result<(), Fail> {
     let mut buffer = open(rt.alloc())?;
     let written = buffer.write(Message::Block(response(rt.alloc(), 0, 65440)?))?;
-    assert_eq!(rt; written.change, None);
-    assert_eq!(rt; buffer.look().before_unwritable, 1);
+    assert_eq!(rt;
+        (written.change, buffer.look().before_unwritable),
+        (None, 1)
+    );
     Ok(())
 }
 
@@ -183,44 +266,57 @@ fn a_new_buffer_has_room_up_to_the_high_mark(rt: HostRuntime) -> Result<(), Fail
 /// the peer unread.
 #[test]
 fn a_connection_that_is_given_up_fails_what_waits(rt: HostRuntime) -> Result<(), Fail> {
-    let alloc = rt.alloc();
-    let mut buffer = buffer(alloc, 200, 400)?;
-    let mut peer = slow_peer(alloc, 0);
-    respond(&mut buffer, &mut peer, response(alloc, 1, 304)?)?;
-    respond(&mut buffer, &mut peer, response(alloc, 2, 4)?)?;
-    tell(&mut peer, &buffer.write(Message::Other(7))?);
-    give_up(&mut buffer, &mut peer, Cause(9))?;
+    let mut connection = Connection {
+        buffer: buffer(rt.alloc(), 200, 400)?,
+        peer: slow_peer(rt.alloc(), 0),
+    };
+    let rows = [
+        (Deed::Respond(1, 304), (true, true, 0, 0, 400, 1048575)),
+        (Deed::Respond(2, 4), (false, false, 0, 0, 500, 1048574)),
+        (Deed::Write(7), (false, false, 0, 0, 604, 1048573)),
+        (Deed::GiveUp(Cause(9)), (false, false, 0, 3, 0, 0)),
+    ];
+    assert_eq!(rt; connection.first_other(rt.alloc(), &rows)?, None);
     let failed = Outcome::Failed(Cause(9));
     let all = [
         (PromiseId(0), failed),
         (PromiseId(1), failed),
         (PromiseId(2), failed),
     ];
-    assert_eq!(rt; peer.settled.as_slice(), all.as_slice());
-    assert_eq!(rt; (peer.reading, buffer.look().total), (false, 0));
-    assert_eq!(rt; send(&mut buffer, &mut peer), Err(Refusal::Closed));
+    assert_eq!(rt; connection.peer.settled.as_slice(), all.as_slice());
+    assert_eq!(rt;
+        connection.play(rt.alloc(), Deed::Send),
+        Err(Refusal::Closed)
+    );
+    Ok(())
+}
+
+/// Writes, flushes and removes so many messages that hold nothing.
+fn spend(buffer: &mut Buffer, writes: u32) -> Result<(), Refusal> {
+    for _ in 0..writes {
+        let _ = buffer.write(Message::Region(0))?;
+        let _ = buffer.flush()?;
+        let _ = buffer.remove()?;
+    }
     Ok(())
 }
 
 /// With 1000 writes left the buffer stays. With 999 it waits for what is pending, and then a new one takes its place.
 #[test]
 fn a_buffer_near_its_limit_of_writes_is_renewed(rt: HostRuntime) -> Result<(), Fail> {
-    let alloc = rt.alloc();
-    let mut buffer = open(alloc)?;
-    let mut peer = slow_peer(alloc, 0);
-    for _ in 0..1_047_576 {
-        let _ = buffer.write(Message::Region(0))?;
-        let _ = buffer.flush()?;
-        let _ = buffer.remove()?;
-    }
-    renew(&mut buffer, &mut peer, alloc)?;
-    assert_eq!(rt; (peer.reading, buffer.writes_left()), (true, 1000));
-    respond(&mut buffer, &mut peer, response(alloc, 1, 4)?)?;
-    renew(&mut buffer, &mut peer, alloc)?;
-    assert_eq!(rt; (peer.reading, buffer.writes_left()), (false, 999));
-    peer.takes = 100;
-    renew(&mut buffer, &mut peer, alloc)?;
-    assert_eq!(rt; (peer.reading, buffer.writes_left()), (true, 1048576));
-    assert_eq!(rt; peer.sent.as_slice(), [1, 1, 1, 1].as_slice());
+    let mut connection = Connection {
+        buffer: open(rt.alloc())?,
+        peer: slow_peer(rt.alloc(), 0),
+    };
+    spend(&mut connection.buffer, 1_047_576)?;
+    let rows = [
+        (Deed::Renew, (true, true, 0, 0, 0, 1000)),
+        (Deed::Respond(1, 4), (true, true, 0, 0, 100, 999)),
+        (Deed::Renew, (false, true, 0, 0, 100, 999)),
+        (Deed::Takes(100), (false, true, 0, 0, 100, 999)),
+        (Deed::Renew, (true, true, 4, 1, 0, 1048576)),
+    ];
+    assert_eq!(rt; connection.first_other(rt.alloc(), &rows)?, None);
+    assert!(rt; connection.peer.has_sent(&[(1, 4)]));
     Ok(())
 }

@@ -3,18 +3,23 @@
 ghost use Rattle.std.specs.Prelude.{◌≤◌};
 ghost use Rattle.ob_types.specs.Limits.{greatest_overhead};
 
-use crate::Buffer;
-use crate::tests::calls::{buffer, first_other};
-use ob_types::{
-    Answer, Cause, Command, Estimate, Message, Outcome, PromiseId, PromiseState, Refusal, WaterMark,
-};
+use crate::tests::steps::Piece::{Other, Region};
+use crate::tests::steps::Said::{Answers, Refused, Settles};
+use crate::tests::steps::Step::{Give, Promise, Shows, Write};
+use crate::tests::steps::{buffer, first_other_of};
+use crate::tests::way::Way;
+use crate::{Buffer, Look};
+use ob_types::Answer::{Count, Id, Yes};
+use ob_types::Command::{FailFlushed, Flush, Remove};
+use ob_types::Outcome::{Failed, Success};
+use ob_types::PromiseState::{Fixed, Settled};
+use ob_types::Refusal::TooMuch;
+use ob_types::{Cause, Estimate, Message, PromiseId, Refusal, WaterMark};
 use std::alloc::Global;
 use std::test::Fail;
 
 /// The most writes that a buffer accepts, whatever was removed.
 const MOST_WRITES: u32 = 1_048_576;
-
-const TOO_MUCH: Result<Answer, Refusal> = Err(Refusal::TooMuch);
 
 /// Removes what is in line, writes a message and flushes it, so many times. Answers the first time that goes otherwise
 /// than it should.
@@ -23,9 +28,7 @@ fn first_other_cycle(buffer: &mut Buffer, count: u32) -> Result<Option<u32>, Ref
         let removed = buffer.remove()?.answer;
         let written = buffer.write(Message::Other(7))?.answer;
         let flushed = buffer.flush()?.answer;
-        if (removed, written) != (Answer::Yes(id > 0), Answer::Id(PromiseId(id)))
-            || flushed != Answer::Count(1)
-        {
+        if (removed, written, flushed) != (Yes(id > 0), Id(PromiseId(id)), Count(1)) {
             return Ok(Some(id));
         }
     }
@@ -36,22 +39,20 @@ fn first_other_cycle(buffer: &mut Buffer, count: u32) -> Result<Option<u32>, Ref
 fn the_write_past_the_limit_is_too_much(rt: HostRuntime) -> Result<(), Fail> {
     let mut buffer = buffer(rt.alloc(), 200, 400)?;
     assert_eq!(rt; first_other_cycle(&mut buffer, MOST_WRITES)?, None);
-    let success = PromiseState::Settled(Outcome::Success);
-    let states = [
-        (1_048_576, None),
-        (1_048_575, Some(PromiseState::Fixed)),
-        (1_048_574, Some(success)),
-    ];
-    for (id, state) in states {
-        assert_eq!(rt; buffer.promise(PromiseId(id)), state);
-    }
+    let sent = Settles(Yes(true), &[1_048_575], Success);
     // a removal makes no room under this limit
-    let rows = [
-        (Command::Write(Message::Other(7)), TOO_MUCH, None, 104, 0),
-        (Command::Remove, Ok(Answer::Yes(true)), None, 0, 0),
-        (Command::Write(Message::Other(7)), TOO_MUCH, None, 0, 0),
+    let steps = [
+        Promise(1_048_576, None),
+        Promise(1_048_575, Some(Fixed)),
+        Promise(1_048_574, Some(Settled(Success))),
+        Write(Other(7), Refused(TooMuch), None, 104, 0),
+        Give(Remove, sent, None, 0, 0),
+        Write(Other(7), Refused(TooMuch), None, 0, 0),
     ];
-    assert_eq!(rt; first_other(&mut buffer, &rows)?, None);
+    assert_eq!(rt;
+        first_other_of(&mut buffer, rt.alloc(), Way::ByApply, &steps)?,
+        None
+    );
     Ok(())
 }
 
@@ -69,7 +70,7 @@ fn with_overhead(alloc: Global, overhead: u32) -> Result<Buffer, Refusal>
 /// Writes so many empty regions, and answers the first whose promise is not the next one.
 fn first_other_promise(buffer: &mut Buffer, count: u32) -> Result<Option<u32>, Refusal> {
     for id in 0..count {
-        if buffer.write(Message::Region(0))?.answer != Answer::Id(PromiseId(id)) {
+        if buffer.write(Message::Region(0))?.answer != Id(PromiseId(id)) {
             return Ok(Some(id));
         }
     }
@@ -80,40 +81,57 @@ fn first_other_promise(buffer: &mut Buffer, count: u32) -> Result<Option<u32>, R
 fn the_total_at_its_limit(rt: HostRuntime) -> Result<(), Fail> {
     let mut buffer = with_overhead(rt.alloc(), 65535)?;
     assert_eq!(rt; first_other_promise(&mut buffer, 65537)?, None);
-    let look = buffer.look();
-    assert_eq!(rt; (look.total, look.size), (4294967295, 0));
-    let rows = [(
-        Command::Write(Message::Region(0)),
-        TOO_MUCH,
-        None,
-        4294967295,
-        1,
-    )];
-    assert_eq!(rt; first_other(&mut buffer, &rows)?, None);
-    assert_eq!(rt; buffer.look(), look);
+    let full = Look {
+        total: 4294967295,
+        word: 1,
+        size: 0,
+        before_unwritable: 0,
+        before_writable: 4294934528,
+        current_progress: 0,
+    };
+    let steps = [
+        Shows(full),
+        Write(Region(0), Refused(TooMuch), None, 4294967295, 1),
+        Shows(full),
+    ];
+    assert_eq!(rt;
+        first_other_of(&mut buffer, rt.alloc(), Way::ByApply, &steps)?,
+        None
+    );
     Ok(())
 }
 
+/// The replies settle as many promises as `settles` says, which of the failing is all of them.
 #[test]
 fn every_write_pending_at_once(rt: HostRuntime) -> Result<(), Fail> {
     let mut buffer = with_overhead(rt.alloc(), 0)?;
     assert_eq!(rt; first_other_promise(&mut buffer, MOST_WRITES)?, None);
-    let all = Ok(Answer::Count(MOST_WRITES));
-    let rows = [
-        (Command::Write(Message::Region(0)), TOO_MUCH, None, 0, 0),
-        (Command::Flush, all, None, 0, 0),
+    let ids: Vec<u32> = (0..MOST_WRITES).collect(rt.alloc())?;
+    let (all, failed) = (Count(MOST_WRITES), Failed(Cause(7)));
+    let failing = Settles(all, ids.as_slice(), failed);
+    let empty = Look {
+        total: 0,
+        word: 0,
+        size: 0,
+        before_unwritable: 65537,
+        before_writable: 0,
+        current_progress: 0,
+    };
+    let flushed = Look {
+        size: MOST_WRITES,
+        ..empty
+    };
+    let steps = [
+        Write(Region(0), Refused(TooMuch), None, 0, 0),
+        Give(Flush, Answers(all), None, 0, 0),
+        Shows(flushed),
+        Give(FailFlushed(Cause(7), true), failing, None, 0, 0),
+        Shows(empty),
+        Promise(1_048_575, Some(Settled(failed))),
     ];
-    assert_eq!(rt; first_other(&mut buffer, &rows)?, None);
-    assert_eq!(rt; buffer.look().size, MOST_WRITES);
-    // the reply settles as many as `settles` says, which here is all of them
-    let failing = Command::FailFlushed(Cause(7), true);
-    assert_eq!(rt; buffer.settles(&failing), MOST_WRITES);
     assert_eq!(rt;
-        first_other(&mut buffer, &[(failing, all, None, 0, 0)])?,
+        first_other_of(&mut buffer, rt.alloc(), Way::ByApply, &steps)?,
         None
     );
-    assert_eq!(rt; buffer.look().size, 0);
-    let failed = PromiseState::Settled(Outcome::Failed(Cause(7)));
-    assert_eq!(rt; buffer.promise(PromiseId(1_048_575)), Some(failed));
     Ok(())
 }
