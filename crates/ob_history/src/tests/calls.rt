@@ -3,7 +3,7 @@
 use crate::tests::played::Given::{Block, Cancel, Flush, Progress, Remove, RemoveBytes};
 use crate::tests::played::Step::{Call, Reserve, Settles, Settling};
 use crate::tests::played::{Comes, Played, Step, callers, recorded};
-use crate::{As, Booked, Recorded, Seen};
+use crate::{As, Booked, Receipt, Recorded, Seen};
 use ob_seq::Look;
 use ob_types::{Answer, Command, Message, Outcome, PromiseId, Refusal};
 use std::test::Fail;
@@ -86,11 +86,22 @@ fn a_refused_command_is_recorded(rt: HostRuntime) -> Result<(), Fail> {
 
 /// Writes a message, flushes it and removes it, by any booked buffer: the promise that the removal settles.
 fn send<B: Booked>(booked: &mut B, message: Message) -> Result<Option<PromiseId>, Refusal> {
+    write(booked, message)?;
+    settled_first(&booked.call(Command::Remove)?)
+}
+
+fn write<B: Booked>(booked: &mut B, message: Message) -> Result<(), Refusal> {
     booked.reserve(3)?;
     booked.call(Command::Write(message))?;
     booked.call(Command::Flush)?;
-    let reply = booked.call(Command::Remove)?.reply?;
-    Ok(reply.settled.as_slice().first().map(|(id, _)| *id))
+    Ok(())
+}
+
+fn settled_first(receipt: &Receipt) -> Result<Option<PromiseId>, Refusal> {
+    match &receipt.reply {
+        Ok(reply) => Ok(reply.settled.as_slice().first().map(|(id, _)| *id)),
+        Err(refusal) => Err(*refusal),
+    }
 }
 
 #[test]

@@ -154,22 +154,33 @@ impl Played {
     /// The index of the first receipt that is not of the history, or whose copy is not.
     pub fn first_other_receipt(&self) -> Result<Option<usize>, AllocError> {
         for (index, receipt) in self.receipts.iter().enumerate() {
-            if !self.recorded.check(receipt) || !self.recorded.check(&receipt.copy()?) {
+            if !self.keeps(receipt)? {
                 return Ok(Some(index));
             }
         }
         Ok(None)
     }
 
+    /// Whether a receipt and its copy are of the history.
+    fn keeps(&self, receipt: &Receipt) -> Result<bool, AllocError> {
+        let copy = receipt.copy()?;
+        Ok(self.recorded.check(receipt) && self.recorded.check(&copy))
+    }
+
     /// What the calls settled, in order.
     pub fn settled(&self) -> Result<Vec<(PromiseId, Outcome)>, AllocError> {
         let mut settled = Vec::new(*self.receipts.allocator());
         for receipt in &self.receipts {
-            if let Ok(reply) = &receipt.reply {
-                settled.extend_from_slice(reply.settled.as_slice())?;
-            }
+            settled.extend_from_slice(settled_by(receipt))?;
         }
         Ok(settled)
+    }
+}
+
+fn settled_by(receipt: &Receipt) -> &[(PromiseId, Outcome)] {
+    match &receipt.reply {
+        Ok(reply) => reply.settled.as_slice(),
+        Err(_) => &[],
     }
 }
 
