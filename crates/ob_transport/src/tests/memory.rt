@@ -8,8 +8,7 @@ use crate::tests::buffers::{
     write,
 };
 use crate::tests::rows::over_both;
-use crate::tests::stories::Step::{self, Book, Drain, Write};
-use crate::tests::stories::{Row, Story};
+use crate::tests::stories::{Row, Step, Story};
 use crate::{Drained, Pass, PassFault, ScriptSink, Sink, SinkFault, Stop, book, pass};
 use ob_history::{As, Booked, Receipt, Seen};
 use ob_seq::Buffer;
@@ -28,7 +27,7 @@ const AT_HAND: Story = Story {
     by_one: false,
     rows: &[
         Row {
-            step: Write(&SIX_BLOCKS),
+            step: Step::Write(&SIX_BLOCKS),
             seen: (7, 582, 0),
             taken: &[],
         },
@@ -38,17 +37,17 @@ const AT_HAND: Story = Story {
             taken: &[0, 1, 2, 3, 4, 5],
         },
         Row {
-            step: Write(&SIX_BLOCKS),
+            step: Step::Write(&SIX_BLOCKS),
             seen: (15, 582, 0),
             taken: &[0, 1, 2, 3, 4, 5],
         },
         Row {
-            step: Write(&[Piece::Region(3), Piece::Other(3)]),
+            step: Step::Write(&[Piece::Region(3), Piece::Other(3)]),
             seen: (18, 782, 0),
             taken: &[0, 1, 2, 3, 4, 5],
         },
         Row {
-            step: Drain(10, Ok(FOUR_TURNS)),
+            step: Step::Drain(10, Ok(FOUR_TURNS)),
             seen: (22, 0, 0),
             taken: &[0, 1, 2, 3, 4, 5, 0, 1, 2, 3, 4, 5],
         },
@@ -199,11 +198,12 @@ fn told<R: Abort>(rt: &R, booked: &mut As, sink: &mut ScriptSink) -> Result<(), 
 
 /// Makes a pass that wanted memory, or whose sink did, once more.
 fn made_again<R: Abort>(rt: &R, fault: PassFault, booked: &mut As, sink: &mut ScriptSink) {
-    let wants = fault == PassFault::NoMemory || fault == PassFault::Sink(SinkFault(12));
-    assert_eq!(rt;
-        (wants, pass(booked, sink, LIMITS)),
-        (true, Ok(Pass::Took(6)))
-    );
+    let again = pass(booked, sink, LIMITS);
+    assert_eq!(rt; (wants_memory(fault), again), (true, Ok(Pass::Took(6))));
+}
+
+fn wants_memory(fault: PassFault) -> bool {
+    matches!(fault, PassFault::NoMemory | PassFault::Sink(SinkFault(12)))
 }
 
 const UNBOOKED: PassFault = PassFault::Unbooked { taken: 5 };
@@ -215,7 +215,7 @@ const BOOKED_LATER: Story = Story {
     by_one: false,
     rows: &[
         Row {
-            step: Write(&SIX_BLOCKS),
+            step: Step::Write(&SIX_BLOCKS),
             seen: (7, 582, 0),
             taken: &[],
         },
@@ -225,7 +225,7 @@ const BOOKED_LATER: Story = Story {
             taken: &[0, 1, 2, 3, 4],
         },
         Row {
-            step: Book(5, Ok(Answer::Count(5))),
+            step: Step::Book(5, Ok(Answer::Count(5))),
             seen: (8, 97, 0),
             taken: &[0, 1, 2, 3, 4],
         },

@@ -2,8 +2,7 @@
 
 use crate::tests::buffers::Piece::Block;
 use crate::tests::rows::over_both;
-use crate::tests::stories::Step::{Book, Drain, Write};
-use crate::tests::stories::{Row, Story};
+use crate::tests::stories::{Row, Step, Story};
 use crate::{Drained, SinkStep, Stop};
 use ob_types::{Answer, Outcome, Refusal};
 use std::test::Fail;
@@ -15,12 +14,12 @@ const STALLED: Story = Story {
     by_one: false,
     rows: &[
         Row {
-            step: Write(&[Block(3), Block(5)]),
+            step: Step::Write(&[Block(3), Block(5)]),
             seen: (3, 200, 0),
             taken: &[],
         },
         Row {
-            step: Drain(10, Ok(TWO_TURNS)),
+            step: Step::Drain(10, Ok(TWO_TURNS)),
             seen: (4, 200, 2),
             taken: &[0, 1],
         },
@@ -47,17 +46,17 @@ const BOOKED_LATER: Story = Story {
     by_one: false,
     rows: &[
         Row {
-            step: Write(&[Block(3), Block(5)]),
+            step: Step::Write(&[Block(3), Block(5)]),
             seen: (3, 200, 0),
             taken: &[],
         },
         Row {
-            step: Book(4, Ok(Answer::Count(1))),
+            step: Step::Book(4, Ok(Answer::Count(1))),
             seen: (4, 101, 1),
             taken: &[],
         },
         Row {
-            step: Book(4, Err(Refusal::HistoryFull)),
+            step: Step::Book(4, Err(Refusal::HistoryFull)),
             seen: (4, 101, 1),
             taken: &[],
         },

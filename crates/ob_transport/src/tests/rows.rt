@@ -5,9 +5,8 @@ ghost use Rattle.ob_shared.specs.Opened.{IsNameOf};
 
 use crate::tests::buffers::Piece::Block;
 use crate::tests::buffers::{Kept, REGIONS, finished, opening, recorded};
-use crate::tests::stories::Step::{Drain, Pass, Write};
-use crate::tests::stories::{Row, Story};
-use crate::{Drained, PassFault, SinkFault, SinkStep, Stop};
+use crate::tests::stories::{Row, Step, Story};
+use crate::{Drained, Pass, PassFault, SinkFault, SinkStep, Stop};
 use ob_shared::{Named, Opening};
 use ob_types::{Cause, Outcome};
 use std::alloc::Global;
@@ -64,27 +63,27 @@ const SINK_FAULT: Story = Story {
     by_one: false,
     rows: &[
         Row {
-            step: Write(&[Block(3), Block(5)]),
+            step: Step::Write(&[Block(3), Block(5)]),
             seen: (3, 200, 0),
             taken: &[],
         },
         Row {
-            step: Pass(Ok(crate::Pass::Took(4))),
+            step: Step::Pass(Ok(Pass::Took(4))),
             seen: (4, 101, 1),
             taken: &[0, 1, 2, 1],
         },
         Row {
-            step: Pass(Err(PassFault::Sink(SinkFault(9)))),
+            step: Step::Pass(Err(PassFault::Sink(SinkFault(9)))),
             seen: (4, 101, 1),
             taken: &[0, 1, 2, 1],
         },
         Row {
-            step: Pass(Ok(crate::Pass::Took(4))),
+            step: Step::Pass(Ok(Pass::Took(4))),
             seen: (5, 0, 0),
             taken: &[0, 1, 2, 1, 2, 3, 4, 5],
         },
         Row {
-            step: Pass(Ok(crate::Pass::Idle)),
+            step: Step::Pass(Ok(Pass::Idle)),
             seen: (5, 0, 0),
             taken: &[0, 1, 2, 1, 2, 3, 4, 5],
         },
@@ -106,32 +105,32 @@ const OVER_REGIONS: Story = Story {
     by_one: false,
     rows: &[
         Row {
-            step: Write(&REGIONS),
+            step: Step::Write(&REGIONS),
             seen: (4, 296, 0),
             taken: &[],
         },
         Row {
-            step: Pass(Ok(crate::Pass::Took(6))),
+            step: Step::Pass(Ok(Pass::Took(6))),
             seen: (5, 296, 6),
             taken: &[],
         },
         Row {
-            step: Pass(Ok(crate::Pass::Took(4))),
+            step: Step::Pass(Ok(Pass::Took(4))),
             seen: (7, 200, 0),
             taken: &[],
         },
         Row {
-            step: Pass(Ok(crate::Pass::Cleared)),
+            step: Step::Pass(Ok(Pass::Cleared)),
             seen: (8, 96, 0),
             taken: &[],
         },
         Row {
-            step: Pass(Ok(crate::Pass::Cleared)),
+            step: Step::Pass(Ok(Pass::Cleared)),
             seen: (9, 0, 0),
             taken: &[],
         },
         Row {
-            step: Pass(Ok(crate::Pass::Idle)),
+            step: Step::Pass(Ok(Pass::Idle)),
             seen: (9, 0, 0),
             taken: &[],
         },
@@ -157,27 +156,27 @@ const STALLS_AND_TURNS: Story = Story {
     by_one: true,
     rows: &[
         Row {
-            step: Write(&[Block(3), Block(5)]),
+            step: Step::Write(&[Block(3), Block(5)]),
             seen: (3, 200, 0),
             taken: &[],
         },
         Row {
-            step: Pass(Ok(crate::Pass::Stalled)),
+            step: Step::Pass(Ok(Pass::Stalled)),
             seen: (3, 200, 0),
             taken: &[],
         },
         Row {
-            step: Drain(0, Ok(NO_TURN)),
+            step: Step::Drain(0, Ok(NO_TURN)),
             seen: (3, 200, 0),
             taken: &[],
         },
         Row {
-            step: Drain(1, Ok(ONE_TURN)),
+            step: Step::Drain(1, Ok(ONE_TURN)),
             seen: (4, 101, 0),
             taken: &[0, 1, 2],
         },
         Row {
-            step: Drain(10, Ok(TWO_TURNS)),
+            step: Step::Drain(10, Ok(TWO_TURNS)),
             seen: (5, 0, 0),
             taken: &[0, 1, 2, 1, 2, 3, 4, 5],
         },
@@ -209,12 +208,12 @@ const ONE_PLACE: Story = Story {
     by_one: true,
     rows: &[
         Row {
-            step: Write(&[Block(3)]),
+            step: Step::Write(&[Block(3)]),
             seen: (2, 99, 0),
             taken: &[],
         },
         Row {
-            step: Pass(Err(PassFault::HistoryFull)),
+            step: Step::Pass(Err(PassFault::HistoryFull)),
             seen: (2, 99, 0),
             taken: &[],
         },

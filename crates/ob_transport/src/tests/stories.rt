@@ -105,14 +105,12 @@ impl Story {
         ensures some_block { 1 ≤ result.max_count }
         ensures some_byte { 1 ≤ result.max_bytes }
     {
-        if self.by_one { ONE_BLOCK } else { LIMITS }
+        Limits {
+            max_count: if self.by_one { 1 } else { LIMITS.max_count },
+            max_bytes: LIMITS.max_bytes,
+        }
     }
 }
-
-const ONE_BLOCK: Limits = Limits {
-    max_count: 1,
-    max_bytes: 1024,
-};
 
 /// Whether a pass answers this, and leaves the buffer as it was where it fails.
 fn passes<B: Shown>(
