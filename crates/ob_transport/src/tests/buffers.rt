@@ -80,9 +80,7 @@ impl<B: Booked> Booked for Kept<B> {
     /// A receipt that cannot be kept is missing at the end.
     fn call(&mut self, command: Command) -> Result<Receipt, Refusal> {
         let receipt = self.booked.call(command)?;
-        if let Ok(copy) = receipt.copy() {
-            let _ = self.receipts.push(copy);
-        }
+        keep(&mut self.receipts, &receipt);
         Ok(receipt)
     }
 
@@ -92,6 +90,12 @@ impl<B: Booked> Booked for Kept<B> {
 
     fn buffer(&self) -> &Buffer {
         self.booked.buffer()
+    }
+}
+
+fn keep(receipts: &mut Vec<Receipt>, receipt: &Receipt) {
+    if let Ok(copy) = receipt.copy() {
+        let _ = receipts.push(copy);
     }
 }
 
@@ -163,9 +167,15 @@ pub const OVER_REGIONS: [Pass; 5] = [
 pub fn write<B: Booked>(alloc: Global, booked: &mut B, pieces: &[Piece]) -> Result<(), Refusal> {
     let mut first = 0u8;
     for piece in pieces {
-        booked.call(Command::Write(piece.message(alloc, first)?))?;
+        ask(booked, Command::Write(piece.message(alloc, first)?))?;
         first = first.wrapping_add(1);
     }
-    booked.call(Command::Flush)?;
+    ask(booked, Command::Flush)?;
+    Ok(())
+}
+
+/// Gives a command, and lets its receipt go.
+pub fn ask<B: Booked>(booked: &mut B, command: Command) -> Result<(), Refusal> {
+    booked.call(command)?;
     Ok(())
 }

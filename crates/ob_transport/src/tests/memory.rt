@@ -4,8 +4,8 @@ ghost use Rattle.std.specs.Prelude.{◌<◌, IsTrue};
 ghost use Rattle.ob_shared.specs.Opened.{IsNameOf};
 
 use crate::tests::buffers::{
-    Kept, LIMITS, OVER_REGIONS, Piece, REGIONS, SIX_BLOCKS, Shown, finished, opening, recorded,
-    write,
+    Kept, LIMITS, OVER_REGIONS, Piece, REGIONS, SIX_BLOCKS, Shown, ask, finished, opening,
+    recorded, write,
 };
 use crate::tests::rows::over_both;
 use crate::tests::stories::{Row, Step, Story};
@@ -139,8 +139,8 @@ fn sent<B: Shown, S: Sink, R: Abort>(
 /// Gives a command, and gives it again where memory was refused.
 fn asked<B: Booked>(booked: &mut B, command: Command) -> Result<(), Fail> {
     let again = command.copy()?;
-    if booked.call(command).is_err() {
-        booked.call(again)?;
+    if ask(booked, command).is_err() {
+        ask(booked, again)?;
     }
     Ok(())
 }
