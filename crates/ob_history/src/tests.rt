@@ -1,3 +1,5 @@
 mod calls;
+mod foreign;
+mod played;
 mod threads;
 mod worked;

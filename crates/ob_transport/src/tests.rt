@@ -2,4 +2,5 @@ mod buffers;
 mod memory;
 mod passes;
 mod rows;
+mod stories;
 mod worked;

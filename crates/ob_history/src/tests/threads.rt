@@ -1,6 +1,6 @@
 //! A recorded buffer behind a lock, which two threads take in turn.
 
-use super::calls::recorded;
+use crate::tests::played::recorded;
 use crate::{Receipt, Recorded};
 use ob_types::{Command, Refusal};
 use std::sync::{Mutex, Wait};
@@ -16,8 +16,7 @@ fn a_locked_history_crosses_threads(rt: HostRuntime) -> Result<(), Fail> {
     let shared = Mutex::new(recorded(rt.alloc(), 2)?);
     let (one, other) = thread::join(&rt, || flush(&rt, &shared, 0), || flush(&rt, &shared, 1));
     let recorded = shared.into_inner();
-    assert!(rt; recorded.check(&one?));
-    assert!(rt; recorded.check(&other?));
-    assert_eq!(rt; recorded.records().len(), 2);
+    let checked = (recorded.check(&one?), recorded.check(&other?));
+    assert_eq!(rt; (checked, recorded.records().len()), ((true, true), 2));
     Ok(())
 }

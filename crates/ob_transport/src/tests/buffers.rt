@@ -80,9 +80,7 @@ impl<B: Booked> Booked for Kept<B> {
     /// A receipt that cannot be kept is missing at the end.
     fn call(&mut self, command: Command) -> Result<Receipt, Refusal> {
         let receipt = self.booked.call(command)?;
-        if let Ok(copy) = receipt.copy() {
-            let _ = self.receipts.push(copy);
-        }
+        keep(&mut self.receipts, &receipt);
         Ok(receipt)
     }
 
@@ -92,6 +90,12 @@ impl<B: Booked> Booked for Kept<B> {
 
     fn buffer(&self) -> &Buffer {
         self.booked.buffer()
+    }
+}
+
+fn keep(receipts: &mut Vec<Receipt>, receipt: &Receipt) {
+    if let Ok(copy) = receipt.copy() {
+        let _ = receipts.push(copy);
     }
 }
 
@@ -116,15 +120,41 @@ pub fn finished<L: Named>(
     }
 }
 
-pub fn block(alloc: Global, write: u8, length: u8) -> Result<Command, AllocError> {
-    let mut bytes = Vec::new(alloc);
-    for k in 0..length {
-        bytes.push(write.wrapping_add(k))?;
-    }
-    Ok(Command::Write(Message::Block(Bytes::from_vec(bytes)?)))
+/// A message that is written.
+#[derive(Clone, Copy)]
+pub enum Piece {
+    /// A block of so many bytes.
+    Block(u8),
+    Region(u64),
+    Other(u32),
 }
 
-/// What passes answer that take at most 6 units each, over a flushed region of 10, another message, and a region of 0.
+impl Piece {
+    /// Byte k of a block is (first + k) mod 256.
+    pub fn message(self, alloc: Global, first: u8) -> Result<Message, AllocError> {
+        Ok(match self {
+            Piece::Block(length) => block(alloc, first, length)?,
+            Piece::Region(length) => Message::Region(length),
+            Piece::Other(value) => Message::Other(value),
+        })
+    }
+}
+
+fn block(alloc: Global, first: u8, length: u8) -> Result<Message, AllocError> {
+    let mut bytes = Vec::new(alloc);
+    for k in 0..length {
+        bytes.push(first.wrapping_add(k))?;
+    }
+    Ok(Message::Block(Bytes::from_vec(bytes)?))
+}
+
+/// A region of 10, another message, and a region of 0.
+pub const REGIONS: [Piece; 3] = [Piece::Region(10), Piece::Other(5), Piece::Region(0)];
+
+/// More blocks than promises are settled without memory, of a byte each.
+pub const SIX_BLOCKS: [Piece; 6] = [Piece::Block(1); 6];
+
+/// What passes answer that take at most 6 units each, over `REGIONS`.
 pub const OVER_REGIONS: [Pass; 5] = [
     Pass::Took(6),
     Pass::Took(4),
@@ -133,17 +163,19 @@ pub const OVER_REGIONS: [Pass; 5] = [
     Pass::Idle,
 ];
 
-/// Writes a block of each of these lengths, and flushes them.
-pub fn write_blocks<B: Booked>(
-    alloc: Global,
-    booked: &mut B,
-    lengths: &[u8],
-) -> Result<(), Refusal> {
-    let mut write = 0u8;
-    for length in lengths {
-        booked.call(block(alloc, write, *length)?)?;
-        write = write.wrapping_add(1);
+/// Writes messages, and flushes them.
+pub fn write<B: Booked>(alloc: Global, booked: &mut B, pieces: &[Piece]) -> Result<(), Refusal> {
+    let mut first = 0u8;
+    for piece in pieces {
+        ask(booked, Command::Write(piece.message(alloc, first)?))?;
+        first = first.wrapping_add(1);
     }
-    booked.call(Command::Flush)?;
+    ask(booked, Command::Flush)?;
+    Ok(())
+}
+
+/// Gives a command, and lets its receipt go.
+pub fn ask<B: Booked>(booked: &mut B, command: Command) -> Result<(), Refusal> {
+    booked.call(command)?;
     Ok(())
 }

@@ -1,39 +1,72 @@
-//! Passes over a recorded buffer of one thread, and what comes behind them.
+//! What comes behind a pass: the next one, and the booking of bytes.
 
-use crate::tests::buffers::{LIMITS, recorded, write_blocks};
-use crate::{Drained, ScriptSink, SinkStep, Stop, book, drain};
-use ob_types::{Answer, Command, Refusal};
+use crate::tests::buffers::Piece::Block;
+use crate::tests::rows::over_both;
+use crate::tests::stories::{Row, Step, Story};
+use crate::{Drained, SinkStep, Stop};
+use ob_types::{Answer, Outcome, Refusal};
 use std::test::Fail;
+
+/// The sink takes 2 bytes, and then nothing.
+const STALLED: Story = Story {
+    sink: &[SinkStep::Take(2), SinkStep::Take(0)],
+    after: 0,
+    by_one: false,
+    rows: &[
+        Row {
+            step: Step::Write(&[Block(3), Block(5)]),
+            seen: (3, 200, 0),
+            taken: &[],
+        },
+        Row {
+            step: Step::Drain(10, Ok(TWO_TURNS)),
+            seen: (4, 200, 2),
+            taken: &[0, 1],
+        },
+    ],
+    units: 0,
+    failures: 0,
+    settled: &[],
+};
+
+const TWO_TURNS: Drained = Drained {
+    turns_used: 2,
+    stop: Stop::Stalled,
+};
 
 #[test]
 fn a_stalled_sink_ends_a_drain(rt: HostRuntime) -> Result<(), Fail> {
-    let alloc = rt.alloc();
-    let mut booked = recorded(alloc, 100)?;
-    write_blocks(alloc, &mut booked, &[3, 5])?;
-    let steps = vec![in alloc; SinkStep::Take(2), SinkStep::Take(0)]?;
-    let mut sink = ScriptSink::new(steps, 0);
-    let drained = drain(&mut booked, &mut sink, LIMITS, 10);
-    let stop = Stop::Stalled;
-    assert_eq!(rt;
-        drained,
-        Ok(Drained {
-            turns_used: 2,
-            stop
-        })
-    );
-    assert_eq!(rt; sink.taken(), &[0, 1][..]);
-    Ok(())
+    over_both(&rt, rt.alloc(), &STALLED, 100)
 }
+
+/// Bytes that no sink of ours took are booked, as long as there is a place for it.
+const BOOKED_LATER: Story = Story {
+    sink: &[],
+    after: 0,
+    by_one: false,
+    rows: &[
+        Row {
+            step: Step::Write(&[Block(3), Block(5)]),
+            seen: (3, 200, 0),
+            taken: &[],
+        },
+        Row {
+            step: Step::Book(4, Ok(Answer::Count(1))),
+            seen: (4, 101, 1),
+            taken: &[],
+        },
+        Row {
+            step: Step::Book(4, Err(Refusal::HistoryFull)),
+            seen: (4, 101, 1),
+            taken: &[],
+        },
+    ],
+    units: 0,
+    failures: 0,
+    settled: &[Outcome::Success],
+};
 
 #[test]
 fn bytes_are_booked_later(rt: HostRuntime) -> Result<(), Fail> {
-    let alloc = rt.alloc();
-    let mut booked = recorded(alloc, 4)?;
-    write_blocks(alloc, &mut booked, &[3, 5])?;
-    let receipt = book(&mut booked, 4)?;
-    assert_eq!(rt; receipt.command, Command::RemoveBytes(4));
-    let reply = receipt.reply?;
-    assert_eq!(rt; reply.answer, Answer::Count(1));
-    assert_eq!(rt; book(&mut booked, 4).err(), Some(Refusal::HistoryFull));
-    Ok(())
+    over_both(&rt, rt.alloc(), &BOOKED_LATER, 4)
 }
