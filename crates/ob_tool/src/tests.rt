@@ -4,6 +4,7 @@ mod doubles;
 mod drive_reading;
 mod drive_rows;
 mod faults;
+mod play;
 mod rows;
 mod statuses;
 mod texts;

@@ -4,8 +4,12 @@ use crate::entry::entry;
 use crate::run_fault::RunFault;
 use crate::script::read_script;
 use crate::tests::doubles::{Page, Script};
-use std::io::ErrorKind;
+use std::io::{ErrorKind, Read};
+use std::process::Abort;
+use std::sync::Wait;
 use std::test::Fail;
+use std::thread::Threads;
+use std::time::Clock;
 
 static WORDS: [&str; 6] = ["ob_tool", "run", "--low", "200", "--high", "400"];
 
@@ -17,27 +21,48 @@ static TRACE: &str =
 /// More calls than any of these runs makes.
 const MANY: u32 = 1000;
 
+/// Runs the program, and compares the status and what is told. The number says which of several runs it is.
+fn tells<H: Abort + AllocGlobal + Threads + Wait + Clock + Sync, R: Read>(
+    rt: &H,
+    number: u32,
+    reader: &mut R,
+    writer: &mut Page,
+    status: u8,
+    told: &str,
+) {
+    let mut errors = Page::new(256, MANY);
+    let ended = entry(rt, &WORDS, reader, writer, &mut errors);
+    assert_eq!(rt; errors.text(), told.as_bytes(), "{number}");
+    assert_eq!(rt; ended, status, "{number}");
+}
+
+/// Runs the program on a script of which one byte comes a call, and whose call behind so many fails.
+fn reads<H: Abort + AllocGlobal + Threads + Wait + Clock + Sync>(
+    rt: &H,
+    calls: u32,
+    status: u8,
+    told: &str,
+    trace: &str,
+) {
+    let mut reader = Script {
+        bytes: SCRIPT.as_bytes(),
+        piece: 1,
+        calls,
+        failure: ErrorKind::BrokenPipe,
+    };
+    let mut writer = Page::new(256, MANY);
+    tells(rt, calls, &mut reader, &mut writer, status, told);
+    assert_eq!(rt; writer.text(), trace.as_bytes(), "{calls}");
+}
+
 /// The 15 bytes of the script come one a call, and then its end: each of these 16 calls may fail.
 #[test]
 fn tells_each_failed_read(rt: HostRuntime) {
-    for calls in 0..20 {
-        let mut reader = Script {
-            bytes: SCRIPT.as_bytes(),
-            piece: 1,
-            calls,
-            failure: ErrorKind::BrokenPipe,
-        };
-        let mut writer = Page::new(256, MANY);
-        let mut errors = Page::new(256, MANY);
-        let status = entry(&rt, &WORDS, &mut reader, &mut writer, &mut errors);
-        if calls < 16 {
-            assert_eq!(rt; status, 3, "{calls}");
-            assert_eq!(rt; errors.text(), b"read fault\n".as_slice(), "{calls}");
-            assert_eq!(rt; writer.len, 0, "{calls}");
-        } else {
-            assert_eq!(rt; status, 0, "{calls}");
-            assert_eq!(rt; writer.text(), TRACE.as_bytes(), "{calls}");
-        }
+    for calls in 0..16 {
+        reads(&rt, calls, 3, "read fault\n", "");
+    }
+    for calls in 16..20 {
+        reads(&rt, calls, 0, "", TRACE);
     }
 }
 
@@ -45,18 +70,21 @@ fn tells_each_failed_read(rt: HostRuntime) {
 #[test]
 fn tells_each_failed_write(rt: HostRuntime) {
     let all = TRACE.len() as u32 + 1;
-    for calls in 0..all + 3 {
-        let mut reader = SCRIPT.as_bytes();
+    for calls in 0..all {
         let mut writer = Page::new(1, calls);
-        let mut errors = Page::new(256, MANY);
-        let status = entry(&rt, &WORDS, &mut reader, &mut writer, &mut errors);
-        if calls < all {
-            assert_eq!(rt; status, 3, "{calls}");
-            assert_eq!(rt; errors.text(), b"write fault\n".as_slice(), "{calls}");
-        } else {
-            assert_eq!(rt; status, 0, "{calls}");
-            assert_eq!(rt; writer.text(), TRACE.as_bytes(), "{calls}");
-        }
+        tells(
+            &rt,
+            calls,
+            &mut SCRIPT.as_bytes(),
+            &mut writer,
+            3,
+            "write fault\n",
+        );
+    }
+    for calls in all..all + 3 {
+        let mut writer = Page::new(1, calls);
+        tells(&rt, calls, &mut SCRIPT.as_bytes(), &mut writer, 0, "");
+        assert_eq!(rt; writer.text(), TRACE.as_bytes(), "{calls}");
     }
 }
 
@@ -79,17 +107,18 @@ fn counts_the_bytes_of_a_script(rt: HostRuntime) -> Result<(), Fail> {
         (16777216, 2, "line 1: fault 6\n"),
         (16777217, 3, "script too long\n"),
     ];
-    for (len, status, text) in cases {
+    for (len, status, told) in cases {
         let script = vec![in rt.alloc(); b'f'; len]?;
-        let mut reader = script.as_slice();
         let mut writer = Page::new(256, MANY);
-        let mut errors = Page::new(256, MANY);
-        assert_eq!(rt;
-            entry(&rt, &WORDS, &mut reader, &mut writer, &mut errors),
-            status
+        tells(
+            &rt,
+            len as u32,
+            &mut script.as_slice(),
+            &mut writer,
+            status,
+            told,
         );
-        assert_eq!(rt; errors.text(), text.as_bytes());
-        assert_eq!(rt; writer.len, 0);
+        assert_eq!(rt; writer.len, 0, "{len}");
     }
     Ok(())
 }
@@ -117,14 +146,14 @@ fn tries_interrupted_reads_again(rt: HostRuntime) {
         calls: 2,
         failure: ErrorKind::Interrupted,
     };
-    assert_eq!(rt;
-        read_script(rt.alloc(), &mut reader, 100).err(),
-        Some(RunFault::Read)
-    );
-    assert_eq!(rt; reader.bytes.len(), SCRIPT.len() - 8);
+    let first = read_script(rt.alloc(), &mut reader, 100).err();
+    let left = reader.bytes.len();
     reader.calls = MANY;
     let rest = read_script(rt.alloc(), &mut reader, 100).map(|script| script.len());
-    assert_eq!(rt; rest, Ok(SCRIPT.len() - 8));
+    assert_eq!(rt;
+        (first, left, rest),
+        (Some(RunFault::Read), SCRIPT.len() - 8, Ok(SCRIPT.len() - 8))
+    );
 }
 
 /// With ample memory the whole trace is written. Where an allocation fails, as `rt try --test --fail-alloc` has it,
@@ -135,14 +164,15 @@ fn writes_whole_lines_where_memory_runs_out(rt: HostRuntime) {
     let mut writer = Page::new(256, MANY);
     let mut errors = Page::new(256, MANY);
     let status = entry(&rt, &WORDS, &mut reader, &mut writer, &mut errors);
+    let trace = TRACE.as_bytes();
     let written = writer.text();
-    assert!(rt; TRACE.as_bytes().starts_with(written));
     if status == 0 {
-        assert_eq!(rt; written, TRACE.as_bytes());
-        assert_eq!(rt; errors.len, 0);
+        assert_eq!(rt; (written, errors.len), (trace, 0));
     } else {
-        assert_eq!(rt; status, 4);
-        assert_eq!(rt; errors.text(), b"no memory\n".as_slice());
-        assert!(rt; written.is_empty() || written.ends_with(b"\n"));
+        let whole = written.is_empty() || written.ends_with(b"\n");
+        assert_eq!(rt;
+            (status, errors.text(), whole && trace.starts_with(written)),
+            (4, b"no memory\n".as_slice(), true)
+        );
     }
 }

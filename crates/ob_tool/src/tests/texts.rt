@@ -1,8 +1,9 @@
 //! The texts of faults, of `--help` and of `--version`.
 
-use crate::entry::entry;
 use crate::entry_fault::EntryFault;
+use crate::tests::play::told;
 use ob_core::{AskFault, WorldFault};
+use std::fmt::Display;
 use std::process::Abort;
 use std::sync::Wait;
 use std::test::Fail;
@@ -10,7 +11,7 @@ use std::thread::Threads;
 use std::time::Clock;
 
 /// What `ob_tool run --help` tells.
-static HELP_OF_RUN: &str = "\
+const HELP_OF_RUN: &str = "\
 Reads a script from standard input, and writes one line for each of its lines to standard output
 
 Usage: ob_tool run [OPTIONS]
@@ -71,128 +72,114 @@ Faults, and help and the version where they are asked for, go to standard error.
 Status: 0 done, 1 the command line (help and the version too), 2 a line, 3 reading or writing, 4 memory
 ";
 
-/// Gives the program these words, which end it before it reads, and answers what it tells.
-fn told<H: Abort + AllocGlobal + Threads + Wait + Clock + Sync>(rt: &H, words: &[&str]) -> Vec<u8> {
-    let mut reader: &[u8] = b"f\n";
-    let mut written: Vec<u8> = Vec::new(rt.alloc());
-    let mut told: Vec<u8> = Vec::new(rt.alloc());
-    let status = entry(rt, words, &mut reader, &mut written, &mut told);
-    assert_eq!(rt; status, 1, "{words:?}");
-    assert_eq!(rt; written.len(), 0, "{words:?}");
-    assert_eq!(rt; reader.len(), 2, "{words:?}");
-    told
-}
+/// Words that ask for a text, and the whole of it.
+static WHOLE: [(&str, &str); 3] = [
+    ("ob_tool run --help", HELP_OF_RUN),
+    ("ob_tool run -h", HELP_OF_RUN),
+    ("ob_tool --version", "ob_tool 0.1.0\n"),
+];
 
 #[test]
-fn help_of_run(rt: HostRuntime) {
-    let help = told(&rt, &["ob_tool", "run", "--help"]);
-    assert_eq!(rt; help.as_slice(), HELP_OF_RUN.as_bytes());
-    let short = told(&rt, &["ob_tool", "run", "-h"]);
-    assert_eq!(rt; short.as_slice(), HELP_OF_RUN.as_bytes());
+fn help_of_run_and_version(rt: HostRuntime) -> Result<(), Fail> {
+    for (words, text) in &WHOLE {
+        assert_eq!(rt; told(&rt, words)?.as_str(), *text, "{words}");
+    }
+    Ok(())
 }
 
 /// The lines of a core script, and the fault that only such a line has.
-#[test]
-fn help_of_core(rt: HostRuntime) -> Result<(), Fail> {
-    let help = String::from_utf8(told(&rt, &["ob_tool", "core", "--help"]))?;
-    let parts = [
-        "Usage: ob_tool core [OPTIONS]\n",
-        "  ob_tool core --low 50 --high 100 < FILE\n",
-        "\n  lane R B  a lane with room R, which holds the bits of the mask B\n  c L N  ",
-        "\n  d L  ",
-        "\n  u L I V  ",
-        "\n  w L  ",
-        "\n  t L  ",
-        "\n  k L  ",
-        "\nEach line gives one line on standard output; `lane K` for a lane, EVENT t=T w=W CHANGE for a turn:\n  EVENT  ",
-        "\nThe numbers F of `!F`:\n  1 no such lane ",
-        "\n  6  it has more than 200 bytes\n  7  a lane behind a turn, a turn before the first lane, ",
-    ];
-    for part in parts {
-        assert!(rt; help.contains(part), "{part}");
-    }
-    Ok(())
-}
+static HELP_OF_CORE: [&str; 11] = [
+    "Usage: ob_tool core [OPTIONS]\n",
+    "  ob_tool core --low 50 --high 100 < FILE\n",
+    "\n  lane R B  a lane with room R, which holds the bits of the mask B\n  c L N  ",
+    "\n  d L  ",
+    "\n  u L I V  ",
+    "\n  w L  ",
+    "\n  t L  ",
+    "\n  k L  ",
+    "\nEach line gives one line on standard output; `lane K` for a lane, EVENT t=T w=W CHANGE for a turn:\n  EVENT  ",
+    "\nThe numbers F of `!F`:\n  1 no such lane ",
+    "\n  6  it has more than 200 bytes\n  7  a lane behind a turn, a turn before the first lane, ",
+];
 
 /// What a drive is for, the lines of its script and of its report, and the faults and the status that it alone has.
-#[test]
-fn help_of_drive(rt: HostRuntime) -> Result<(), Fail> {
-    let help = String::from_utf8(told(&rt, &["ob_tool", "drive", "--help"]))?;
-    let parts = [
-        "Usage: ob_tool drive [OPTIONS]\n",
-        "\n      --task <BYTES>      Bytes that a message counts beside its own while it is handed over (32 where ",
-        "\nIt loads one buffer as a server does, to see that nothing is lost: ",
-        "\n  b W N K  writer W writes K blocks, 1 to 1024, of N bytes, at most 1048576\n  r W N  ",
-        "\n  o W N  ",
-        "\n  f W  ",
-        "\n  x W ID  ",
-        "\n  u W I V  ",
-        "\n  take N  ",
-        "\n  fail C  ",
-        "\n  then N  ",
-        "\n  turns N  ",
-        "\n  writes, flushes, cancels, bits  ",
-        "\n  taken  ",
-        "\n  success, failed, cancelled, left ",
-        "\n  hand  ",
-        "\nFaults of a drive, told as `drive: fault N`; ",
-        "\n  6  it has more than 200 bytes\n  7  a second `then`, or a second `turns`\n",
-        ", 4 memory, 5 the drive\n",
-    ];
+static HELP_OF_DRIVE: [&str; 19] = [
+    "Usage: ob_tool drive [OPTIONS]\n",
+    "\n      --task <BYTES>      Bytes that a message counts beside its own while it is handed over (32 where ",
+    "\nIt loads one buffer as a server does, to see that nothing is lost: ",
+    "\n  b W N K  writer W writes K blocks, 1 to 1024, of N bytes, at most 1048576\n  r W N  ",
+    "\n  o W N  ",
+    "\n  f W  ",
+    "\n  x W ID  ",
+    "\n  u W I V  ",
+    "\n  take N  ",
+    "\n  fail C  ",
+    "\n  then N  ",
+    "\n  turns N  ",
+    "\n  writes, flushes, cancels, bits  ",
+    "\n  taken  ",
+    "\n  success, failed, cancelled, left ",
+    "\n  hand  ",
+    "\nFaults of a drive, told as `drive: fault N`; ",
+    "\n  6  it has more than 200 bytes\n  7  a second `then`, or a second `turns`\n",
+    ", 4 memory, 5 the drive\n",
+];
+
+/// Asks the program for help, and looks for each of these parts in it.
+fn tells_parts<H: Abort + AllocGlobal + Threads + Wait + Clock + Sync>(
+    rt: &H,
+    words: &str,
+    parts: &[&str],
+) -> Result<(), Fail> {
+    let help = told(rt, words)?;
     for part in parts {
-        assert!(rt; help.contains(part), "{part}");
+        assert!(rt; help.contains(*part), "{words}: {part}");
     }
     Ok(())
 }
 
 #[test]
-fn version(rt: HostRuntime) {
-    let version = told(&rt, &["ob_tool", "--version"]);
-    assert_eq!(rt; version.as_slice(), b"ob_tool 0.1.0\n".as_slice());
+fn help_of_core_and_drive(rt: HostRuntime) -> Result<(), Fail> {
+    tells_parts(&rt, "ob_tool core --help", &HELP_OF_CORE)?;
+    tells_parts(&rt, "ob_tool drive --help", &HELP_OF_DRIVE)
+}
+
+static ASK_FAULTS: [(AskFault, &str); 6] = [
+    (AskFault::UnknownLane, "there is no such lane"),
+    (AskFault::NoRoom, "the charge is above the room of the lane"),
+    (AskFault::Owing, "the lane owes a charge already"),
+    (AskFault::NotOwing, "the lane owes nothing"),
+    (AskFault::NotHeld, "the lane does not hold the bit"),
+    (AskFault::NotInside, "the lane is in the middle of no call"),
+];
+
+static WORLD_FAULTS: [(WorldFault, &str); 4] = [
+    (WorldFault::BadCount, "a world has 1 to 64 lanes"),
+    (
+        WorldFault::TooMuchRoom,
+        "the rooms of the lanes add up to more than 4294967295",
+    ),
+    (
+        WorldFault::BitsTwice,
+        "a bit is held twice, or bit 0 is held",
+    ),
+    (WorldFault::NoMemory, "out of memory"),
+];
+
+/// Looks at the text of each fault.
+fn are_told<T: Display, H: Abort + AllocGlobal>(rt: &H, faults: &[(T, &str)]) -> Result<(), Fail> {
+    for (fault, text) in faults {
+        let told = format!(in rt.alloc(); "{fault}")?;
+        assert_eq!(rt; told.as_str(), *text);
+    }
+    Ok(())
 }
 
 #[test]
-fn names_no_subcommand(rt: HostRuntime) -> Result<(), Fail> {
-    let text = format!(in rt.alloc(); "{}", EntryFault::NoSubcommand)?;
-    assert_eq!(rt; text.as_str(), "no subcommand");
+fn texts_of_faults(rt: HostRuntime) -> Result<(), Fail> {
+    are_told(&rt, &[(EntryFault::NoSubcommand, "no subcommand")])?;
+    are_told(&rt, &ASK_FAULTS)?;
+    are_told(&rt, &WORLD_FAULTS)?;
     assert_eq!(rt; EntryFault::NoSubcommand.status(), 1);
-    Ok(())
-}
-
-#[test]
-fn faults_of_asks(rt: HostRuntime) -> Result<(), Fail> {
-    let cases = [
-        (AskFault::UnknownLane, "there is no such lane"),
-        (AskFault::NoRoom, "the charge is above the room of the lane"),
-        (AskFault::Owing, "the lane owes a charge already"),
-        (AskFault::NotOwing, "the lane owes nothing"),
-        (AskFault::NotHeld, "the lane does not hold the bit"),
-        (AskFault::NotInside, "the lane is in the middle of no call"),
-    ];
-    for (fault, text) in cases {
-        let shown = format!(in rt.alloc(); "{fault}")?;
-        assert_eq!(rt; shown.as_str(), text);
-    }
-    Ok(())
-}
-
-#[test]
-fn faults_of_worlds(rt: HostRuntime) -> Result<(), Fail> {
-    let cases = [
-        (WorldFault::BadCount, "a world has 1 to 64 lanes"),
-        (
-            WorldFault::TooMuchRoom,
-            "the rooms of the lanes add up to more than 4294967295",
-        ),
-        (
-            WorldFault::BitsTwice,
-            "a bit is held twice, or bit 0 is held",
-        ),
-        (WorldFault::NoMemory, "out of memory"),
-    ];
-    for (fault, text) in cases {
-        let shown = format!(in rt.alloc(); "{fault}")?;
-        assert_eq!(rt; shown.as_str(), text);
-    }
     Ok(())
 }
