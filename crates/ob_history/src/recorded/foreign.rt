@@ -43,10 +43,10 @@ impl Recorded {
     }
 
     /// The index of the first look that is not of the history, as `check_seen` asks it; nothing where each is. It gives
-    /// a new buffer the commands, once where the places of the looks rise, and again from the first record for a look
-    /// at an earlier place than the one before it; it changes nothing here. `NoMemory` comes where the allocator
-    /// refused, or a block has more owners than can be counted, and not where the first look names more records than
-    /// there are, or there is none.
+    /// a new buffer the commands, once as long as the places of the looks do not fall, and all again for a look at an
+    /// earlier place than the one before it; it changes nothing here. `NoMemory` comes where the allocator refused, or
+    /// a block has more owners than can be counted, and not where the first look names more records than there are, or
+    /// there is none.
     pub fn first_foreign_seen(&self, seen: &[Seen]) -> Result<Option<usize>, Refusal>
         ensures seen { IfOk result (λ found.
             IsNone found ↔ All (IsSeenIn self.now.settings self.now.records) seen.now) }
