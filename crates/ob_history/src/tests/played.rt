@@ -1,6 +1,7 @@
 //! A recorded buffer on which a table of steps is played.
 
 ghost use Rattle.std.specs.Prelude.{◌<◌, ◌≤◌};
+ghost use Rattle.ob_history.specs.History.{most_records};
 
 use crate::{Receipt, Recorded, Seen};
 use bytes::Bytes;
@@ -11,7 +12,7 @@ use std::test::Fail;
 /// An empty buffer with a place for so many records.
 pub fn recorded(alloc: Global, limit: u32) -> Result<Recorded, Refusal>
     requires some_record { 0 < limit }
-    requires few_records { limit ≤ 1048576 }
+    requires few_records { limit ≤ most_records }
 {
     let estimate = Estimate {
         overhead: 96,
@@ -86,7 +87,7 @@ pub struct Played {
 impl Played {
     pub fn new(alloc: Global, limit: u32) -> Result<Played, Fail>
         requires some_record { 0 < limit }
-        requires few_records { limit ≤ 1048576 }
+        requires few_records { limit ≤ most_records }
     {
         let recorded = recorded(alloc, limit)?;
         let seen = vec![in alloc; recorded.look()]?;

@@ -16,7 +16,7 @@ use std::thread::{Threads, map_vec};
 
 /// What each of many callers asks for.
 #[derive(Clone, Copy)]
-enum Asks {
+enum Mix {
     /// Writes, flushes and removals in turn.
     InTurn,
     /// Commands of all ten kinds, by chance.
@@ -26,14 +26,14 @@ enum Asks {
 #[test]
 fn four_threads_of_250_calls(rt: HostRuntime) -> Result<(), Fail> {
     let opening = opening(rt.alloc(), 1000, 4)?;
-    let recorded = all_made::<Brand, _>(&rt, rt.alloc(), opening, Asks::InTurn)?;
+    let recorded = all_made::<Brand, _>(&rt, rt.alloc(), opening, Mix::InTurn)?;
     is_of_one_thread(&rt, rt.alloc(), &recorded, 1000)
 }
 
 #[test]
 fn eight_threads_of_250_calls_by_chance(rt: HostRuntime) -> Result<(), Fail> {
     let opening = opening(rt.alloc(), 2000, 8)?;
-    let recorded = all_made::<Brand, _>(&rt, rt.alloc(), opening, Asks::ByChance)?;
+    let recorded = all_made::<Brand, _>(&rt, rt.alloc(), opening, Mix::ByChance)?;
     is_of_one_thread(&rt, rt.alloc(), &recorded, 2000)
 }
 
@@ -42,7 +42,7 @@ fn all_made<L: Named + Send + Sync, R: Threads + Wait + Sync>(
     rt: &R,
     alloc: Global,
     opening: Opening,
-    asks: Asks,
+    asks: Mix,
 ) -> Result<Recorded, Fail>
     requires { IsNameOf opening L.opened L.name L.parts }
 {
@@ -58,7 +58,7 @@ fn calls<L: Named, R: Wait>(
     alloc: Global,
     buffer: &SharedBuffer<L>,
     share: Share<L>,
-    asks: Asks,
+    asks: Mix,
 ) -> Done<L> {
     let mut dice = Dice::new(share.caller());
     let mut caller = begun(alloc, share);
@@ -75,10 +75,10 @@ fn calls<L: Named, R: Wait>(
     caller
 }
 
-fn command(alloc: Global, dice: &mut Dice, asks: Asks, number: u32) -> Result<Command, AllocError> {
+fn command(alloc: Global, dice: &mut Dice, asks: Mix, number: u32) -> Result<Command, AllocError> {
     match asks {
-        Asks::ByChance => dice.command(alloc),
-        Asks::InTurn => match number % 3 {
+        Mix::ByChance => dice.command(alloc),
+        Mix::InTurn => match number % 3 {
             0 => block(alloc, 4),
             1 => Ok(Command::Flush),
             _ => Ok(Command::Remove),

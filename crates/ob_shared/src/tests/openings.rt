@@ -1,6 +1,7 @@
 //! What tests begin with, and what their callers do.
 
 ghost use Rattle.std.specs.Prelude.{◌<◌, ◌≤◌, vec_capacity, vec_len};
+ghost use Rattle.ob_history.specs.History.{most_records};
 
 use crate::{Done, Named, Opening, Share, SharedBuffer};
 use bytes::Bytes;
@@ -13,7 +14,7 @@ use std::test::Fail;
 /// An opening with Netty's marks and sizes.
 pub fn opening(alloc: Global, limit: u32, callers: u32) -> Result<Opening, Refusal>
     requires some_record { 0 < limit }
-    requires few_records { limit ≤ 1048576 }
+    requires few_records { limit ≤ most_records }
     requires some_caller { 0 < callers }
     requires few_callers { callers ≤ 65 }
 {

@@ -2,6 +2,7 @@
 //! is (a + k) mod 256.
 
 ghost use Rattle.std.specs.Prelude.{◌<◌, ◌≤◌};
+ghost use Rattle.ob_history.specs.History.{most_records};
 
 use crate::{Limits, Pass};
 use bytes::Bytes;
@@ -25,7 +26,7 @@ const ESTIMATE: Estimate = Estimate {
 /// An empty buffer with a place for so many records, in the hands of caller 7.
 pub fn recorded(alloc: Global, limit: u32) -> Result<As, Refusal>
     requires some_record { 0 < limit }
-    requires few_records { limit ≤ 1048576 }
+    requires few_records { limit ≤ most_records }
 {
     Ok(As {
         recorded: Recorded::new(alloc, WaterMark::new(200, 400)?, ESTIMATE, limit),
@@ -36,7 +37,7 @@ pub fn recorded(alloc: Global, limit: u32) -> Result<As, Refusal>
 /// What a buffer of one caller is opened with, otherwise the same.
 pub fn opening(alloc: Global, limit: u32) -> Result<Opening, Refusal>
     requires some_record { 0 < limit }
-    requires few_records { limit ≤ 1048576 }
+    requires few_records { limit ≤ most_records }
 {
     Opening::new(alloc, WaterMark::new(200, 400)?, ESTIMATE, limit, 1)
 }

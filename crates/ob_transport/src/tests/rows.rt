@@ -1,6 +1,7 @@
 //! Stories of passes, each over a recorded buffer of one thread and over a desk that is lent.
 
 ghost use Rattle.std.specs.Prelude.{◌<◌, ◌≤◌};
+ghost use Rattle.ob_history.specs.History.{most_records};
 ghost use Rattle.ob_shared.specs.Opened.{IsNameOf};
 
 use crate::tests::buffers::Piece::Block;
@@ -23,7 +24,7 @@ pub fn over_both<R: Wait + Abort>(
     limit: u32,
 ) -> Result<(), Fail>
     requires some_record { 0 < limit }
-    requires few_records { limit ≤ 1048576 }
+    requires few_records { limit ≤ most_records }
 {
     let mut single = Kept {
         booked: recorded(alloc, limit)?,
@@ -99,7 +100,7 @@ fn a_sink_fault_takes_nothing(rt: HostRuntime) -> Result<(), Fail> {
 }
 
 /// The sink takes at most 6 units. The other message is given up.
-const OVER_REGIONS: Story = Story {
+const REGIONS_AND_OTHERS: Story = Story {
     sink: &[],
     after: 6,
     by_one: false,
@@ -146,7 +147,7 @@ const OVER_REGIONS: Story = Story {
 
 #[test]
 fn regions_and_others_pass(rt: HostRuntime) -> Result<(), Fail> {
-    over_both(&rt, rt.alloc(), &OVER_REGIONS, 100)
+    over_both(&rt, rt.alloc(), &REGIONS_AND_OTHERS, 100)
 }
 
 /// The sink is offered one block at a time. It stalls at first, and then takes it.
