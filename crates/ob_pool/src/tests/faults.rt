@@ -1,92 +1,91 @@
 //! Drives that come to no report.
 
-use crate::tests::plans::{config, flushed, writes, zeros};
-use crate::{Config, DriveFault, OpenGate, Plan, drive};
-use ob_transport::{PassFault, ScriptSink};
+use crate::tests::plans::{Alike, MANY, ended};
+use crate::{DriveFault, OpenGate, Plan};
+use ob_transport::PassFault;
 use ob_types::{Command, Refusal};
-use std::alloc::Global;
 use std::test::Fail;
 
+/// Plans that are refused before a writer begins.
+static REFUSED: [(Alike, DriveFault); 3] = [
+    (
+        Alike {
+            writers: 0,
+            count: 1,
+            length: 1,
+            flushes: true,
+        },
+        DriveFault::BadCount,
+    ),
+    (
+        Alike {
+            writers: 65,
+            count: 0,
+            length: 1,
+            flushes: false,
+        },
+        DriveFault::BadCount,
+    ),
+    // 64 times 67108864 bytes are 4294967296, without what a message counts beside its own.
+    (
+        Alike {
+            writers: 64,
+            count: 1,
+            length: 67108864,
+            flushes: false,
+        },
+        DriveFault::TooMuchRoom,
+    ),
+];
+
 #[test]
-fn a_drive_has_one_to_sixty_four_plans(rt: HostRuntime) -> Result<(), Fail> {
-    let alloc = rt.alloc();
-    let mut sink = ScriptSink::new(Vec::new(alloc), 1);
-    let end = drive(&rt, alloc, &OpenGate, Vec::new(alloc), &mut sink, config()?);
-    assert_eq!(rt; end.err(), Some(DriveFault::BadCount));
-    let mut plans = Vec::new(alloc);
-    for _ in 0..65u32 {
-        plans.push(Plan {
-            commands: Vec::new(alloc),
-        })?;
+fn plans_are_refused(rt: HostRuntime) -> Result<(), Fail> {
+    for (alike, fault) in &REFUSED {
+        let plans = alike.plans(rt.alloc())?;
+        let end = ended(&rt, &OpenGate, plans, MANY)?;
+        assert_eq!(rt; end, Some(*fault), "{} writers", alike.writers);
     }
-    let end = drive(&rt, alloc, &OpenGate, plans, &mut sink, config()?);
-    assert_eq!(rt; end.err(), Some(DriveFault::BadCount));
     Ok(())
 }
 
 #[test]
 fn a_removal_stands_in_no_plan(rt: HostRuntime) -> Result<(), Fail> {
-    let alloc = rt.alloc();
-    let plans = vec![in alloc;
-        Plan {
-            commands: vec![in alloc; Command::Remove]?
-        },
-    ]?;
-    let mut sink = ScriptSink::new(Vec::new(alloc), 1);
-    let end = drive(&rt, alloc, &OpenGate, plans, &mut sink, config()?);
+    let commands = vec![in rt.alloc(); Command::Remove]?;
+    let plans = vec![in rt.alloc(); Plan { commands }]?;
     let bad = DriveFault::BadPlan { writer: 0, step: 0 };
-    assert_eq!(rt; end.err(), Some(bad));
-    assert_eq!(rt; bad.number(), 2);
+    let end = ended(&rt, &OpenGate, plans, MANY)?;
+    assert_eq!(rt; (end, bad.number()), (Some(bad), 2));
     Ok(())
 }
 
-#[test]
-fn all_rooms_fit_a_word(rt: HostRuntime) -> Result<(), Fail> {
-    let alloc = rt.alloc();
-    let block = zeros(alloc, 67108864)?;
-    let mut plans = Vec::new(alloc);
-    for _ in 0..64u32 {
-        plans.push(writes(alloc, &block, 1)?)?;
-    }
-    let mut sink = ScriptSink::new(Vec::new(alloc), 1);
-    let end = drive(&rt, alloc, &OpenGate, plans, &mut sink, config()?);
-    assert_eq!(rt; end.err(), Some(DriveFault::TooMuchRoom));
-    Ok(())
-}
-
+/// Three writes, and a place for two.
 #[test]
 fn a_full_history_refuses_a_writer(rt: HostRuntime) -> Result<(), Fail> {
-    let alloc = rt.alloc();
-    let mut plans = Vec::new(alloc);
-    plans.push(writes(alloc, &zeros(alloc, 1)?, 3)?)?;
-    let mut sink = ScriptSink::new(Vec::new(alloc), 1);
-    let config = Config {
-        limit: 2,
-        ..config()?
+    let alike = Alike {
+        writers: 1,
+        count: 3,
+        length: 1,
+        flushes: false,
     };
-    let end = drive(&rt, alloc, &OpenGate, plans, &mut sink, config);
     let refused = DriveFault::Refused {
         writer: 0,
         refusal: Refusal::HistoryFull,
     };
-    assert_eq!(rt; end.err(), Some(refused));
+    let end = ended(&rt, &OpenGate, alike.plans(rt.alloc())?, 2)?;
+    assert_eq!(rt; end, Some(refused));
     Ok(())
 }
 
+/// A write and a flush, and one place more, where a pass reserves two.
 #[test]
 fn a_full_history_ends_the_transport(rt: HostRuntime) -> Result<(), Fail> {
-    let alloc = rt.alloc();
-    let mut plans = Vec::new(alloc);
-    plans.push(flushed(alloc, &zeros(alloc, 1)?, 1)?)?;
-    let mut sink = ScriptSink::new(Vec::new(alloc), 1);
-    let config = Config {
-        limit: 3,
-        ..config()?
+    let alike = Alike {
+        writers: 1,
+        count: 1,
+        length: 1,
+        flushes: true,
     };
-    let end = drive(&rt, alloc, &OpenGate, plans, &mut sink, config);
-    assert_eq!(rt;
-        end.err(),
-        Some(DriveFault::Transport(PassFault::HistoryFull))
-    );
+    let end = ended(&rt, &OpenGate, alike.plans(rt.alloc())?, 3)?;
+    assert_eq!(rt; end, Some(DriveFault::Transport(PassFault::HistoryFull)));
     Ok(())
 }

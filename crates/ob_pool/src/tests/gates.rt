@@ -1,12 +1,12 @@
 //! Writers that are held at gates.
 
-use crate::tests::plans::{config, writes, zeros};
-use crate::{DriveFault, Gate, Stuck, drive};
+use crate::tests::plans::{Alike, MANY, config, ended};
+use crate::{DriveFault, Gate, Report, Stuck, drive};
 use ob_transport::ScriptSink;
 use std::sync::Wait;
 use std::sync::atomic::{AtomicU64, Ordering};
 use std::test::Fail;
-use std::thread::sleep;
+use std::thread::{Threads, sleep};
 use std::time::{Clock, Duration};
 
 /// Where two writers meet. A total is 0 as long as its writer has not come.
@@ -62,22 +62,37 @@ impl Gate for Crossing {
     }
 }
 
+/// Two writers of three blocks of a byte, who cross.
+fn crossed<R: AllocGlobal + Threads + Wait + Clock + Sync>(
+    rt: &R,
+    gate: &Crossing,
+) -> Result<Report, Fail> {
+    let alike = Alike {
+        writers: 2,
+        count: 3,
+        length: 1,
+        flushes: false,
+    };
+    let config = config(MANY)?;
+    let plans = alike.plans(rt.alloc())?;
+    let mut sink = ScriptSink::new(Vec::new(rt.alloc()), 1);
+    Ok(drive(rt, rt.alloc(), gate, plans, &mut sink, config)?)
+}
+
 #[test]
 fn gate_crosses(rt: HostRuntime) -> Result<(), Fail> {
-    let alloc = rt.alloc();
-    let block = zeros(alloc, 1)?;
-    let plans = vec![in alloc; writes(alloc, &block, 3)?, writes(alloc, &block, 3)?]?;
     let gate = Crossing {
         first: AtomicU64::new(0),
         second: AtomicU64::new(0),
         answered: AtomicU64::new(0),
     };
-    let mut sink = ScriptSink::new(Vec::new(alloc), 1);
-    let report = drive(&rt, alloc, &gate, plans, &mut sink, config()?)?;
-    assert_eq!(rt; (report.writes, report.left, report.hand), (6, 6, (0, 0)));
+    let report = crossed(&rt, &gate)?;
     let first = gate.first.load(Ordering::SeqCst);
     let second = gate.second.load(Ordering::SeqCst);
-    assert_eq!(rt; first.max(second), 66);
+    assert_eq!(rt;
+        (report.writes, report.left, report.hand, first.max(second)),
+        (6, 6, (0, 0), 66)
+    );
     Ok(())
 }
 
@@ -107,14 +122,13 @@ impl Gate for Closed {
 
 #[test]
 fn the_least_stuck_writer_is_named(rt: HostRuntime) -> Result<(), Fail> {
-    let alloc = rt.alloc();
-    let block = zeros(alloc, 1)?;
-    let mut plans = Vec::new(alloc);
-    for _ in 0..3u32 {
-        plans.push(writes(alloc, &block, 2)?)?;
-    }
-    let mut sink = ScriptSink::new(Vec::new(alloc), 1);
-    let end = drive(&rt, alloc, &Closed, plans, &mut sink, config()?);
-    assert_eq!(rt; end.err(), Some(DriveFault::Stuck { writer: 1 }));
+    let alike = Alike {
+        writers: 3,
+        count: 2,
+        length: 1,
+        flushes: false,
+    };
+    let end = ended(&rt, &Closed, alike.plans(rt.alloc())?, MANY)?;
+    assert_eq!(rt; end, Some(DriveFault::Stuck { writer: 1 }));
     Ok(())
 }

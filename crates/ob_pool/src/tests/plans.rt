@@ -1,16 +1,25 @@
-//! What tests drive.
+//! What tests drive, and what their drives end with.
 
-ghost use Rattle.std.specs.Prelude.{IfOk};
+ghost use Rattle.std.specs.Prelude.{◌<◌, ◌≤◌, IfOk};
+ghost use Rattle.ob_history.specs.History.{most_records};
 ghost use Rattle.ob_pool.specs.Config.{AreWithin};
 
-use crate::{Config, Plan, TASK_OVERHEAD};
+use crate::{Config, DriveFault, Gate, Plan, TASK_OVERHEAD, drive};
 use bytes::Bytes;
-use ob_transport::Limits;
+use ob_transport::{Limits, ScriptSink};
 use ob_types::{Command, Estimate, Message, Refusal, WaterMark};
 use std::alloc::{AllocError, Global};
+use std::sync::Wait;
+use std::thread::Threads;
+use std::time::Clock;
 
-/// Netty's marks and sizes, with passes of at most 16 blocks and 65536 bytes.
-pub fn config() -> Result<Config, Refusal>
+/// The most records of a history.
+pub const MANY: u32 = 1048576;
+
+/// Netty's marks and sizes, with a place for so many records, and passes of at most 16 blocks and 65536 bytes.
+pub fn config(limit: u32) -> Result<Config, Refusal>
+    requires some_record { 0 < limit }
+    requires few_records { limit ≤ most_records }
     ensures { IfOk result (λ config. AreWithin config) }
 {
     Ok(Config {
@@ -20,7 +29,7 @@ pub fn config() -> Result<Config, Refusal>
             unknown: 8,
         },
         task: TASK_OVERHEAD,
-        limit: 1048576,
+        limit,
         limits: Limits {
             max_count: 16,
             max_bytes: 65536,
@@ -29,37 +38,55 @@ pub fn config() -> Result<Config, Refusal>
     })
 }
 
-/// So many zero bytes.
-pub fn zeros(alloc: Global, length: usize) -> Result<Bytes, AllocError> {
-    Ok(Bytes::from_vec(vec![in alloc; 0u8; length]?)?)
+/// Plans that are alike, of writers who write the same block again and again.
+#[derive(Drop)]
+pub struct Alike {
+    /// How many there are.
+    pub writers: u32,
+    /// How often each writes the block.
+    pub count: u32,
+    /// The bytes of the block.
+    pub length: usize,
+    /// Whether each flushes behind that.
+    pub flushes: bool,
 }
 
-/// A plan that writes the same block so many times.
-pub fn writes(alloc: Global, block: &Bytes, count: u32) -> Result<Plan, AllocError> {
-    let mut commands = Vec::new(alloc);
-    for _ in 0..count {
-        commands.push(Command::Write(Message::Block(block.clone()?)))?;
+impl Alike {
+    /// All of them. The bytes of the block are zeros.
+    pub fn plans(&self, alloc: Global) -> Result<Vec<Plan>, AllocError> {
+        let block = Bytes::from_vec(vec![in alloc; 0u8; self.length]?)?;
+        let mut plans = Vec::new(alloc);
+        for _ in 0..self.writers {
+            plans.push(self.plan(alloc, &block)?)?;
+        }
+        Ok(plans)
     }
-    Ok(Plan { commands })
-}
 
-/// As `writes`, with a flush behind.
-pub fn flushed(alloc: Global, block: &Bytes, count: u32) -> Result<Plan, AllocError> {
-    let mut plan = writes(alloc, block, count)?;
-    plan.commands.push(Command::Flush)?;
-    Ok(plan)
-}
-
-/// So many plans that write the same block so many times each, and flush.
-pub fn all_flushed(
-    alloc: Global,
-    block: &Bytes,
-    count: u32,
-    writers: u32,
-) -> Result<Vec<Plan>, AllocError> {
-    let mut plans = Vec::new(alloc);
-    for _ in 0..writers {
-        plans.push(flushed(alloc, block, count)?)?;
+    /// One of them.
+    fn plan(&self, alloc: Global, block: &Bytes) -> Result<Plan, AllocError> {
+        let mut commands = Vec::new(alloc);
+        for _ in 0..self.count {
+            commands.push(Command::Write(Message::Block(block.clone()?)))?;
+        }
+        if self.flushes {
+            commands.push(Command::Flush)?;
+        }
+        Ok(Plan { commands })
     }
-    Ok(plans)
+}
+
+/// The fault with which a drive of these plans ends, whose sink takes a byte a call; nothing where it ends with a
+/// report.
+pub fn ended<R: AllocGlobal + Threads + Wait + Clock + Sync, G: Gate + Sync>(
+    rt: &R,
+    gate: &G,
+    plans: Vec<Plan>,
+    limit: u32,
+) -> Result<Option<DriveFault>, Refusal>
+    requires some_record { 0 < limit }
+    requires few_records { limit ≤ most_records }
+{
+    let config = config(limit)?;
+    let mut sink = ScriptSink::new(Vec::new(rt.alloc()), 1);
+    Ok(drive(rt, rt.alloc(), gate, plans, &mut sink, config).err())
 }
