@@ -45,6 +45,13 @@ pub fn request_of<'a, S: AsStr>(alloc: Global, words: &'a [S]) -> Result<Request
     ensures { IfErr result (λ fault. (exit_status_of fault ≡ 1) ⊎ (exit_status_of fault ≡ 4)) }
 {
     let matches = command(alloc)?.try_get_matches_from(words)?;
+    request(&matches)
+}
+
+/// What the subcommand and its options ask for.
+fn request(matches: &ArgMatches<'_>) -> Result<Request, EntryFault>
+    ensures err { IfErr result (λ fault. exit_status_of fault ≡ 1) }
+{
     match matches.subcommand() {
         Some(("run", given)) => Ok(Request::Run(options_of(given, TASK)?)),
         Some(("core", given)) => Ok(Request::Core(given_marks(given)?)),
@@ -128,68 +135,81 @@ fn marks(low: u32, high: u32) -> Result<WaterMark, EntryFault>
 
 /// What the program takes.
 fn command<'a>(alloc: Global) -> Result<Command<'a>, AllocError> {
-    Command::new(alloc, "ob_tool")
+    let program = Command::new(alloc, "ob_tool")
         .version(VERSION)
         .about(
             "Carries out scripts of commands on the outbound buffer of a channel, and shows what each command does",
         )
-        .subcommand_required(true)
-        .subcommand(run_command(alloc)?)?
-        .subcommand(core_command(alloc)?)?
-        .subcommand(drive_command(alloc)?)
+        .subcommand_required(true);
+    let program = with_subcommand(program, run_command(alloc))?;
+    let program = with_subcommand(program, core_command(alloc))?;
+    with_subcommand(program, drive_command(alloc))
+}
+
+/// The program with a subcommand more, where that was made.
+fn with_subcommand<'a>(
+    program: Command<'a>,
+    subcommand: Result<Command<'a>, AllocError>,
+) -> Result<Command<'a>, AllocError> {
+    program.subcommand(subcommand?)
 }
 
 /// The subcommand `run`.
 fn run_command<'a>(alloc: Global) -> Result<Command<'a>, AllocError> {
-    let command = Command::new(alloc, "run")
+    let options = options_of_buffer(alloc)?;
+    Command::new(alloc, "run")
         .about(
             "Reads a script from standard input, and writes one line for each of its lines to standard output",
         )
-        .after_help(help::RUN);
-    with_options(alloc, command)
-}
-
-/// A subcommand with the options of a buffer and of its history.
-fn with_options<'a>(alloc: Global, command: Command<'a>) -> Result<Command<'a>, AllocError> {
-    command
-        .arg(low_mark(alloc))?
-        .arg(high_mark(alloc))?
-        .arg(size(
-            alloc,
-            "overhead",
-            "Bytes that each message counts beside its own (96 where it is not given)",
-        ))?
-        .arg(size(
-            alloc,
-            "unknown",
-            "Bytes that a message of unknown size counts (8 where it is not given)",
-        ))?
-        .arg(limit(alloc))
+        .after_help(help::RUN)
+        .args(options)
 }
 
 /// The subcommand `core`.
 fn core_command<'a>(alloc: Global) -> Result<Command<'a>, AllocError> {
+    let options = vec![in alloc; low_mark(alloc), high_mark(alloc)]?;
     Command::new(alloc, "core")
         .about(
             "Reads a script of lanes and turns from standard input, and writes one line for each to standard output",
         )
         .after_help(help::CORE)
-        .arg(low_mark(alloc))?
-        .arg(high_mark(alloc))
+        .args(options)
 }
 
 /// The subcommand `drive`.
 fn drive_command<'a>(alloc: Global) -> Result<Command<'a>, AllocError> {
-    let command = Command::new(alloc, "drive")
-        .about(
-            "Reads a script of writers from standard input, runs them in threads, and counts what came of it",
-        )
-        .after_help(help::DRIVE);
-    with_options(alloc, command)?.arg(size(
+    let options = options_of_buffer(alloc)?;
+    let task = size(
         alloc,
         "task",
         "Bytes that a message counts beside its own while it is handed over (32 where it is not given)",
-    ))
+    );
+    Command::new(alloc, "drive")
+        .about(
+            "Reads a script of writers from standard input, runs them in threads, and counts what came of it",
+        )
+        .after_help(help::DRIVE)
+        .args(options)?
+        .arg(task)
+}
+
+/// The options of a buffer and of its history.
+fn options_of_buffer<'a>(alloc: Global) -> Result<Vec<Arg<'a>>, AllocError> {
+    Ok(vec![in alloc;
+        low_mark(alloc),
+        high_mark(alloc),
+        size(
+            alloc,
+            "overhead",
+            "Bytes that each message counts beside its own (96 where it is not given)",
+        ),
+        size(
+            alloc,
+            "unknown",
+            "Bytes that a message of unknown size counts (8 where it is not given)",
+        ),
+        limit(alloc),
+    ]?)
 }
 
 /// The option `--low`.

@@ -1,7 +1,7 @@
 use ob_core::{LaneStart, Turn};
 
 /// What one line of a core script asks.
-#[derive(Clone, Copy, Debug, PartialEq, Eq)]
+#[derive(Clone, Copy)]
 pub enum CoreLine {
     /// One lane more, with its room and its bits.
     Lane(LaneStart),

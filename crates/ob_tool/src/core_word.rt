@@ -8,7 +8,7 @@ use crate::range::Range;
 use ob_core::{Ask, LaneStart, Turn};
 
 /// The first word of a line of `core`.
-#[derive(Clone, Copy, Debug, PartialEq, Eq)]
+#[derive(Clone, Copy)]
 pub enum CoreWord {
     /// `lane R B`: a lane with room R that holds the bits of the mask B.
     Lane,

@@ -2,7 +2,7 @@ use crate::writer_line::WriterLine;
 use ob_transport::SinkStep;
 
 /// What one line of a drive script asks.
-#[derive(Debug, Drop)]
+#[derive(Drop)]
 pub enum DriveLine {
     /// A writer is to do something.
     Writer(WriterLine),

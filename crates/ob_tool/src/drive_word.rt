@@ -9,7 +9,7 @@ use ob_transport::SinkStep;
 use ob_types::{Command, Message, PromiseId};
 
 /// The first word of a line of `drive`.
-#[derive(Clone, Copy, Debug, PartialEq, Eq)]
+#[derive(Clone, Copy)]
 pub enum DriveWord {
     /// `b W N K`: writer W writes K blocks of N bytes.
     Blocks,

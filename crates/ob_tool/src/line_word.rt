@@ -6,7 +6,7 @@ use crate::script_line::ScriptLine;
 use ob_types::{Cause, Command, Message, PromiseId};
 
 /// The first word of a line of `run`.
-#[derive(Clone, Copy, Debug, PartialEq, Eq)]
+#[derive(Clone, Copy)]
 pub enum LineWord {
     /// `b N`: write a block of N bytes.
     Block,

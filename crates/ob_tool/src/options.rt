@@ -6,7 +6,7 @@ use ob_types::{Estimate, WaterMark};
 
 /// What a run or a drive is given beside its script. The two numbers of the estimate and that of the task are at most
 /// 65535 bytes, and the limit is 1 to 1048576 records.
-#[derive(Clone, Copy, Debug, PartialEq, Eq)]
+#[derive(Clone, Copy)]
 pub struct Options {
     /// The water marks of the buffer.
     pub marks: WaterMark,

@@ -8,7 +8,7 @@ ghost use Rattle.ob_tool.specs.Numbers.{is_number, number_in};
 use crate::line_fault::LineFault;
 
 /// The numbers that a word of a script line may be.
-#[derive(Clone, Copy, Debug, PartialEq, Eq)]
+#[derive(Clone, Copy)]
 pub struct Range {
     /// The least of them.
     pub least: u64,

@@ -2,7 +2,7 @@ use crate::options::Options;
 use ob_types::WaterMark;
 
 /// What the words of the command line ask for.
-#[derive(Clone, Copy, Debug, PartialEq, Eq)]
+#[derive(Clone, Copy)]
 pub enum Request {
     /// A run of a script on a buffer.
     Run(Options),

@@ -1,7 +1,7 @@
 use ob_types::Command;
 
 /// What one line of a script asks.
-#[derive(Debug, Drop)]
+#[derive(Drop)]
 pub enum ScriptLine {
     /// To write a block of so many bytes, which are made up where the line is carried out.
     Block(u64),

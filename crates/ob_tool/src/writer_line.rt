@@ -1,7 +1,7 @@
 use ob_types::Command;
 
 /// What a line of a drive script asks of a writer.
-#[derive(Debug, Drop)]
+#[derive(Drop)]
 pub struct WriterLine {
     /// The number of the writer, from 0 on.
     pub writer: u8,
@@ -10,7 +10,7 @@ pub struct WriterLine {
 }
 
 /// What a writer is to do.
-#[derive(Debug, Drop)]
+#[derive(Drop)]
 pub enum Asked {
     /// To write blocks: of how many bytes each, and how many. They are made up where the plan is.
     Blocks(u64, u32),
