@@ -147,6 +147,7 @@ fn command<'a>(alloc: Global) -> Result<Command<'a>, AllocError> {
 }
 
 /// The program with a subcommand more, where that was made.
+// A function of its own, since each further command that a failing call would drop makes a proof longer than the last.
 fn with_subcommand<'a>(
     program: Command<'a>,
     subcommand: Result<Command<'a>, AllocError>,
