@@ -16,6 +16,7 @@ use Rattle.ob_history.specs.declared.receipt.Receipt.{Receipt}
 use Rattle.ob_history.specs.declared.record.Record.{Record}
 use Rattle.ob_shared.specs.Finished.{HandsInAll}
 use Rattle.ob_shared.specs.Handed.{Handed, made_by}
+use Rattle.ob_pool.specs.HandedIn.{HaveHandedIn}
 use Rattle.ob_pool.specs.Keeping.{failings_in}
 use Rattle.ob_pool.specs.CarriedOut.{AreCarriedOut, commands_of}
 use Rattle.ob_pool.specs.Counts.{failings_of, is_failing}
@@ -226,12 +227,6 @@ deeds_stand records dones plans same all =
 All-front : {X : Type 0} (P : X → Type 0) (xs ys : List X) → All P (xs ++ ys) → All P xs
 All-front P xs ys all = subst (All P) (take-append_seam xs ys) (All-take P (length xs) (xs ++ ys) all)
 
--- writers that have handed in what was asked have carried their plans out
-pub all_carried : (records : List Record) (dones more : List Handed) (plans : List (List Command)) →
-    map done_by dones ≡ deeds_from 0 plans → All (HandsInAll records) (dones ++ more) → AreCarriedOut records plans
-all_carried records dones more plans same all =
-    plans_carried records plans (deeds_stand records dones plans same (All-front (HandsInAll records) dones more all))
-
 -- how many records deeds have made together
 abbrev made_in : List Deed → ℕ
 made_in deeds = sum_by (λ deed. deed.made) deeds
@@ -266,27 +261,30 @@ as_many_made dones plans same = of_dones dones ∙ ap made_in same ∙ of_plans 
 pub record HaveEnded (records : List Record) (dones : List Handed) (done : Handed)
     (plans : List (List Command)) : Type 0 where
   pub same : map done_by dones ≡ deeds_from 0 plans
-  pub all : All (HandsInAll records) (dones ++ done ∷ [])
-  pub counted : length records ≡ made_by (dones ++ done ∷ [])
+  pub handed : HaveHandedIn records (dones ++ done ∷ [])
   pub last : done.maker.caller ≡ length plans
   pub made : done.maker.made ≡ length done.receipts
 
 module _ (records : List Record) (dones : List Handed) (done : Handed) (plans : List (List Command))
     (ended : HaveEnded records dones done plans) where
   stand : All (Stands records) (deeds_from 0 plans)
-  stand = deeds_stand records dones plans ended.same (All-front (HandsInAll records) dones (done ∷ []) ended.all)
+  stand = deeds_stand records dones plans ended.same (All-front (HandsInAll records) dones (done ∷ []) ended.handed.own)
+
+  -- the writers have carried their plans out
+  pub all_carried : AreCarriedOut records plans
+  all_carried = plans_carried records plans stand
 
   its : commands_of (length plans) records ≡ commands_in done.receipts
   its =
       ap (λ caller. commands_of caller records) (sym ended.last)
       ∙ deed_stands records done
-      (All-contains (HandsInAll records) (dones ++ done ∷ []) done ended.all (Contains-push dones done))
+      (All-contains (HandsInAll records) (dones ++ done ∷ []) done ended.handed.own (Contains-push dones done))
 
   as_many : sum_by length plans + length (commands_in done.receipts) ≡ length records
   as_many =
       omega (
         arith,
-        ended.counted,
+        ended.handed.counted,
         ended.made,
         as_many_made dones plans ended.same,
         sum_by_push (λ (one : Handed). one.maker.made) dones done,

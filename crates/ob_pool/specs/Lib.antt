@@ -5,6 +5,7 @@ pub mod Counts
 pub mod DriveFault
 pub mod Errand
 pub mod HandOff
+pub mod HandedIn
 pub mod Keeping
 pub mod Kind
 pub mod Plan

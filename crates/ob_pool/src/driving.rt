@@ -12,7 +12,7 @@ ghost use Rattle.ob_types.specs.declared.refusal.Refusal.TheVariants.{HistoryFul
 ghost use Rattle.ob_history.specs.Legal.{IsLegal};
 ghost use Rattle.ob_shared.specs.Finished.{HandsInAll};
 ghost use Rattle.ob_shared.specs.Handed.{made_by};
-ghost use Rattle.ob_shared.specs.Maker.{new_makers};
+ghost use Rattle.ob_shared.specs.Maker.{new_maker, new_makers};
 ghost use Rattle.ob_shared.specs.Opened.{IsAsOpened, IsNameOf};
 ghost use Rattle.ob_pool.specs.CarriedOut.{AreCarriedOut};
 ghost use Rattle.ob_pool.specs.Config.{AreWithin};
@@ -22,6 +22,7 @@ ghost use Rattle.ob_pool.specs.Counted.{IsCounted};
 ghost use Rattle.ob_pool.specs.DriveFault.{ComesOfWork, number_of};
 ghost use Rattle.ob_pool.specs.Errand.{AreDone, IsRoomy, asked, deeds_from, room_for};
 ghost use Rattle.ob_pool.specs.HandOff.{rooms_of};
+ghost use Rattle.ob_pool.specs.HandedIn.{HaveHandedIn};
 ghost use Rattle.ob_pool.specs.Keeping.{failings_in};
 ghost use Rattle.ob_pool.specs.PlansFault.{plans_fault};
 ghost use Rattle.ob_pool.specs.declared.fault.DriveFault.TheVariants.{Refused};
@@ -150,13 +151,7 @@ fn driven<L: Named + Send + Sync, R: Threads + Wait + Clock + Sync, G: Gate + Sy
     let Some(room) = rooms_of(config.estimate, config.task, &plans) else {
         unreachable!()
     };
-    let Ok((shared, mut shares)) = opening.begin::<L>() else {
-        return Err(DriveFault::NoMemory);
-    };
-    let Some(share) = shares.pop() else {
-        unreachable!()
-    };
-    let writers = writers_of(alloc, config.estimate, config.task, plans, shares)?;
+    let (shared, writers, share) = begun::<L>(alloc, config.estimate, config.task, plans, opening)?;
     let Ok((words, lane)) = lanes(alloc, config.marks, room, 0) else {
         return Err(DriveFault::NoMemory);
     };
@@ -169,12 +164,34 @@ fn driven<L: Named + Send + Sync, R: Threads + Wait + Clock + Sync, G: Gate + Sy
         ended: AtomicBool::new(false),
     };
     let ((lane, dones), carried) = run(rt, gate, &bench, lane, writers, share, sink, config);
-    let Bench { shared, words, .. } = bench;
-    let recorded = finished(shared, dones?, carried?)?;
-    let Ok(hand) = lane.finish(words) else {
+    told(bench, lane, dones?, carried?, count)
+}
+
+/// The shared buffer of an opening, each plan with a share of it, and the share that is left for the transport.
+fn begun<L: Named>(
+    alloc: Global,
+    estimate: Estimate,
+    task: u32,
+    plans: Vec<Plan>,
+    opening: Opening,
+) -> Result<(SharedBuffer<L>, Vec<Writer<L>>, Share<L>), DriveFault>
+    requires name { IsNameOf opening L.opened L.name L.parts }
+    requires callers { opening.callers ≡ length plans.items + 1 }
+    requires fits { rooms_of estimate task plans.items ≤ greatest_room }
+    ensures no_memory { IsOkUnless result DriveFault.NoMemory }
+    ensures asked { IfOk result (λ begun. map asked begun.1.items ≡ deeds_from 0 plans.items) }
+    ensures roomy { IfOk result (λ begun. All (IsRoomy estimate task) begun.1.items) }
+    ensures room { IfOk result (λ begun. room_for begun.1.items ≡ rooms_of estimate task plans.items) }
+    ensures share { IfOk result (λ begun. begun.2 ≡ new_maker (length plans.items)) }
+{
+    let Ok((shared, mut shares)) = opening.begin::<L>() else {
+        return Err(DriveFault::NoMemory);
+    };
+    let Some(share) = shares.pop() else {
         unreachable!()
     };
-    Ok(report_of(recorded, count, hand))
+    let writers = writers_of(alloc, estimate, task, plans, shares)?;
+    Ok((shared, writers, share))
 }
 
 /// Each plan with a share, and the room that it needs.
@@ -318,16 +335,43 @@ fn work<L: Named + Send + Sync, R: Threads + Wait + Clock + Sync, G: Gate + Sync
     worked
 }
 
+/// The report of a drive whose threads have ended: so many writers, with what they and the transport hand in.
+fn told<L: Named>(
+    bench: Bench<L>,
+    lane: Lane,
+    dones: Vec<Done<L>>,
+    done: Done<L>,
+    writers: u32,
+) -> Result<Report, DriveFault>
+    requires words { lane.words ≡ bench.words }
+    requires whole { bench.words.opening.room ≤ lane.lane.room }
+    requires no_bit { bench.words.opening.bits ≡ 0 }
+    ensures fault { IfErr result ComesOfWork }
+    ensures opened { IfOk result (λ report. IsAsOpened L.opened report.recorded) }
+    ensures handed { IfOk result (λ report. HaveHandedIn report.recorded.records (dones.items ++ done ∷ [])) }
+    ensures counts { IfOk result (λ report. IsCounted writers report) }
+    ensures total { IfOk result (λ report. report.hand.0 ≡ 0) }
+    ensures clear { IfOk result (λ report. (index : ℕ) → 0 < index → bit_at report.hand.1 index ≡ 0) }
+    ensures mark { 0 < bench.words.opening.marks.low → IfOk result (λ report. is_set report.hand.1 0 ≡ false) }
+{
+    let Bench { shared, words, .. } = bench;
+    let recorded = finished(shared, dones, done)?;
+    let Ok(hand) = lane.finish(words) else {
+        unreachable!()
+    };
+    Ok(report_of(recorded, writers, hand))
+}
+
 /// The history of a shared buffer at its end, with what its writers and its transport hand in.
 fn finished<L: Named>(
     shared: SharedBuffer<L>,
     mut dones: Vec<Done<L>>,
     done: Done<L>,
 ) -> Result<Recorded, DriveFault>
-    ensures planned { IfErr result ComesOfWork }
+    ensures fault { IfErr result ComesOfWork }
     ensures opened { IfOk result (λ recorded. IsAsOpened L.opened recorded) }
-    ensures counted { IfOk result (λ recorded. length recorded.records ≡ made_by (dones.items ++ done ∷ [])) }
     ensures own { IfOk result (λ recorded. All (HandsInAll recorded.records) (dones.items ++ done ∷ [])) }
+    ensures counted { IfOk result (λ recorded. length recorded.records ≡ made_by (dones.items ++ done ∷ [])) }
 {
     if dones.push(done).is_err() {
         return Err(DriveFault::NoMemory);
