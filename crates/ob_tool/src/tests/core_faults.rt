@@ -1,61 +1,10 @@
 //! Faulty lines of core scripts.
 
-use crate::tests::play::{Around, Row, holds, play, tells_faults};
+use crate::tests::play::{Around, play, tells_faults};
 use std::alloc::{AllocError, Global};
 use std::test::Fail;
 
 const CORE: &str = "ob_tool core";
-
-/// Each kind of line that is misplaced or does not fit.
-static MISPLACED: [Row; 6] = [
-    Row {
-        about: "a lane after another line",
-        words: CORE,
-        script: "lane 9 0\nw 0\nlane 9 0\nw 0\n",
-        written: "lane 0\nword t=0 w=00000000\n",
-        fault: Some((2, "line 3: fault 7\n")),
-    },
-    Row {
-        about: "a bit held twice",
-        words: CORE,
-        script: "lane 9 2\nlane 9 4\nlane 9 6\n",
-        written: "lane 0\nlane 1\n",
-        fault: Some((2, "line 3: fault 7\n")),
-    },
-    Row {
-        about: "bit 0 in a mask",
-        words: CORE,
-        script: "lane 9 3\n",
-        written: "",
-        fault: Some((2, "line 1: fault 7\n")),
-    },
-    Row {
-        about: "bit 0 in the mask of a second lane",
-        words: CORE,
-        script: "lane 9 0\nlane 9 1\n",
-        written: "lane 0\n",
-        fault: Some((2, "line 2: fault 7\n")),
-    },
-    Row {
-        about: "rooms that add up to more than 4294967295",
-        words: CORE,
-        script: "lane 4294967295 0\nlane 0 0\nlane 1 0\n",
-        written: "lane 0\nlane 1\n",
-        fault: Some((2, "line 3: fault 7\n")),
-    },
-    Row {
-        about: "a first line that is no lane",
-        words: CORE,
-        script: "k 0\nlane 9 0\n",
-        written: "",
-        fault: Some((2, "line 1: fault 7\n")),
-    },
-];
-
-#[test]
-fn tells_misplaced_lines(rt: HostRuntime) -> Result<(), Fail> {
-    holds(&rt, &MISPLACED)
-}
 
 /// The trace of so many lanes.
 fn trace_of_lanes(alloc: Global, count: u32) -> Result<String, AllocError> {

@@ -6,8 +6,12 @@ use std::test::Fail;
 /// The command line of most rows.
 const LOW_50_HIGH_100: &str = "ob_tool core --low 50 --high 100";
 
-/// Lanes, their turns, and how they end.
-static TURNS: [Row; 8] = [
+const NO_OPTIONS: &str = "ob_tool core";
+
+/// Scripts of a core, by what they are about.
+static ROWS: [Row; 14] = [
+    // Lanes, their turns, and how they end.
+
     Row {
         about: "a mark stuck below low",
         words: LOW_50_HIGH_100,
@@ -76,7 +80,7 @@ static TURNS: [Row; 8] = [
     // 65536 raises nothing, and 65537 does.
     Row {
         about: "the marks where none are given",
-        words: "ob_tool core",
+        words: NO_OPTIONS,
         script: "lane 99999 0\nc 0 65536\nd 0\nk 0\nc 0 65537\nk 0\nd 0\nk 0\n",
         written: "\
             lane 0\nadd t=65536 w=00000000\nsub t=0 w=00000000\nlower t=0 w=00000000\n\
@@ -84,9 +88,54 @@ static TURNS: [Row; 8] = [
             lower t=0 w=00000000 +\nend quiet owed=0\n",
         fault: None,
     },
+
+    // Each kind of line that is misplaced or does not fit.
+
+    Row {
+        about: "a lane after another line",
+        words: NO_OPTIONS,
+        script: "lane 9 0\nw 0\nlane 9 0\nw 0\n",
+        written: "lane 0\nword t=0 w=00000000\n",
+        fault: Some((2, "line 3: fault 7\n")),
+    },
+    Row {
+        about: "a bit held twice",
+        words: NO_OPTIONS,
+        script: "lane 9 2\nlane 9 4\nlane 9 6\n",
+        written: "lane 0\nlane 1\n",
+        fault: Some((2, "line 3: fault 7\n")),
+    },
+    Row {
+        about: "bit 0 in a mask",
+        words: NO_OPTIONS,
+        script: "lane 9 3\n",
+        written: "",
+        fault: Some((2, "line 1: fault 7\n")),
+    },
+    Row {
+        about: "bit 0 in the mask of a second lane",
+        words: NO_OPTIONS,
+        script: "lane 9 0\nlane 9 1\n",
+        written: "lane 0\n",
+        fault: Some((2, "line 2: fault 7\n")),
+    },
+    Row {
+        about: "rooms that add up to more than 4294967295",
+        words: NO_OPTIONS,
+        script: "lane 4294967295 0\nlane 0 0\nlane 1 0\n",
+        written: "lane 0\nlane 1\n",
+        fault: Some((2, "line 3: fault 7\n")),
+    },
+    Row {
+        about: "a first line that is no lane",
+        words: NO_OPTIONS,
+        script: "k 0\nlane 9 0\n",
+        written: "",
+        fault: Some((2, "line 1: fault 7\n")),
+    },
 ];
 
 #[test]
 fn core_scripts(rt: HostRuntime) -> Result<(), Fail> {
-    holds(&rt, &TURNS)
+    holds(&rt, &ROWS)
 }

@@ -5,8 +5,10 @@ use std::test::Fail;
 
 const NO_OPTIONS: &str = "ob_tool drive";
 
-/// Drives that come to a report.
-static REPORTS: [Row; 7] = [
+/// Drive scripts, by what they are about.
+static ROWS: [Row; 11] = [
+    // Drives that come to a report.
+
     Row {
         about: "four writers",
         words: NO_OPTIONS,
@@ -74,15 +76,9 @@ static REPORTS: [Row; 7] = [
             cancelled 0\nleft 1\nhand 0 00000000\n",
         fault: None,
     },
-];
 
-#[test]
-fn drive_scripts(rt: HostRuntime) -> Result<(), Fail> {
-    holds(&rt, &REPORTS)
-}
+    // Drives that come to none.
 
-/// Drives that come to none.
-static NO_REPORTS: [Row; 4] = [
     Row {
         about: "no line, so no writer",
         words: NO_OPTIONS,
@@ -115,6 +111,6 @@ static NO_REPORTS: [Row; 4] = [
 ];
 
 #[test]
-fn drives_without_a_report(rt: HostRuntime) -> Result<(), Fail> {
-    holds(&rt, &NO_REPORTS)
+fn drive_scripts(rt: HostRuntime) -> Result<(), Fail> {
+    holds(&rt, &ROWS)
 }

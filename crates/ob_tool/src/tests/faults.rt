@@ -32,8 +32,11 @@ fn tells<H: Abort + AllocGlobal + Threads + Wait + Clock + Sync, R: Read>(
 ) {
     let mut errors = Page::new(256, MANY);
     let ended = entry(rt, &WORDS, reader, writer, &mut errors);
-    assert_eq!(rt; errors.text(), told.as_bytes(), "{number}");
-    assert_eq!(rt; ended, status, "{number}");
+    assert_eq!(rt;
+        (ended, errors.text()),
+        (status, told.as_bytes()),
+        "{number}"
+    );
 }
 
 /// Runs the program on a script of which one byte comes a call, and whose call behind so many fails.

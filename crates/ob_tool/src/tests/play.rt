@@ -65,9 +65,16 @@ fn play_words<H: AllocGlobal + Threads + Wait + Clock + Sync>(
 impl Left {
     /// Compares all that was left by a script that was read to its end.
     pub fn compare<H: Abort>(&self, rt: &H, about: &str, status: u8, told: &str, written: &str) {
-        assert_eq!(rt; self.told.as_str(), told, "{about}");
-        assert_eq!(rt; self.written.as_str(), written, "{about}");
-        assert_eq!(rt; (self.status, self.unread), (status, 0), "{about}");
+        assert_eq!(rt;
+            (
+                self.status,
+                self.told.as_str(),
+                self.written.as_str(),
+                self.unread
+            ),
+            (status, told, written, 0),
+            "{about}"
+        );
     }
 }
 
@@ -90,8 +97,11 @@ pub fn told<H: Abort + AllocGlobal + Threads + Wait + Clock + Sync>(
     words: &str,
 ) -> Result<String, Fail> {
     let left = play(rt, words, "f\n")?;
-    assert_eq!(rt; left.written.as_str(), "", "{words}");
-    assert_eq!(rt; (left.status, left.unread), (1, 2), "{words}");
+    assert_eq!(rt;
+        (left.status, left.written.as_str(), left.unread),
+        (1, "", 2),
+        "{words}"
+    );
     Ok(left.told)
 }
 

@@ -14,8 +14,8 @@ const NO_OPTIONS: &str = "ob_tool run";
 
 const LIMIT_3: &str = "ob_tool run --limit 3";
 
-/// The two marks, met and crossed, and what a look tells of them.
-static MARKS: [Row; 10] = [
+/// The two marks, met and crossed, and what a look tells of them. Messages that are no blocks.
+static MARKS: [Row; 12] = [
     Row {
         about: "no line",
         words: LOW_200_HIGH_400,
@@ -97,15 +97,6 @@ static MARKS: [Row; 10] = [
             n 2 t=0 w=00000001 0:ok 1:ok\n",
         fault: None,
     },
-];
-
-#[test]
-fn marks_and_equality(rt: HostRuntime) -> Result<(), Fail> {
-    holds(&rt, &MARKS)
-}
-
-/// Messages that are no blocks.
-static MESSAGES: [Row; 2] = [
     // A region counts its overhead alone, another message the bytes of an unknown size besides.
     Row {
         about: "regions and other messages",
@@ -128,12 +119,12 @@ static MESSAGES: [Row; 2] = [
 ];
 
 #[test]
-fn regions_and_other_messages(rt: HostRuntime) -> Result<(), Fail> {
-    holds(&rt, &MESSAGES)
+fn marks_and_messages(rt: HostRuntime) -> Result<(), Fail> {
+    holds(&rt, &MARKS)
 }
 
-/// Promises that are cancelled, and entries that are voided.
-static CANCELLED: [Row; 5] = [
+/// Promises that are cancelled, and entries that are voided. Progress, and what is removed as a message or as bytes.
+static REMOVALS: [Row; 11] = [
     // A cancelled entry counts until the flush, and then keeps its place in the line.
     Row {
         about: "a cancelled entry is voided at the flush",
@@ -175,15 +166,6 @@ static CANCELLED: [Row; 5] = [
             size=0 cur=0 bu=401 bw=0 t=0 w=00000000\n",
         fault: None,
     },
-];
-
-#[test]
-fn cancelled_and_voided(rt: HostRuntime) -> Result<(), Fail> {
-    holds(&rt, &CANCELLED)
-}
-
-/// Progress, and what is removed as a message or as bytes.
-static REMOVALS: [Row; 6] = [
     // A removal from an empty buffer, and a flush of nothing.
     Row {
         about: "nothing to flush or remove",
@@ -244,12 +226,13 @@ static REMOVALS: [Row; 6] = [
 ];
 
 #[test]
-fn progress_and_removals(rt: HostRuntime) -> Result<(), Fail> {
+fn cancellations_and_removals(rt: HostRuntime) -> Result<(), Fail> {
     holds(&rt, &REMOVALS)
 }
 
-/// Blocks that are gathered, and blocks that are not.
-static GATHERINGS: [Row; 2] = [
+/// Blocks that are gathered, and blocks that are not. Bits of the word that are not the mark. All flushed messages
+/// failed, and the rest by closing. Histories that are full. Options at their bounds, and a script that is cut short.
+static GATHERINGS: [Row; 12] = [
     // A voided entry is passed over, and the first block comes in any case.
     Row {
         about: "a gathering skips voided entries",
@@ -272,15 +255,6 @@ static GATHERINGS: [Row; 2] = [
             yes t=194 w=00000000 0:ok\ng t=194 w=00000000\n",
         fault: None,
     },
-];
-
-#[test]
-fn gathered_blocks(rt: HostRuntime) -> Result<(), Fail> {
-    holds(&rt, &GATHERINGS)
-}
-
-/// Bits of the word that are not the mark.
-static USER_BITS: [Row; 2] = [
     // The buffer is writable again once the mark and every user bit are clear.
     Row {
         about: "user bits share the word",
@@ -301,15 +275,6 @@ static USER_BITS: [Row; 2] = [
             ok t=0 w=00000000 +\nok t=0 w=80000000 -\n",
         fault: None,
     },
-];
-
-#[test]
-fn user_bits(rt: HostRuntime) -> Result<(), Fail> {
-    holds(&rt, &USER_BITS)
-}
-
-/// All flushed messages failed, and the rest by closing.
-static FAILING: [Row; 2] = [
     // A fall without notice clears nothing, and neither does closing.
     Row {
         about: "failing without notice keeps the mark",
@@ -329,15 +294,6 @@ static FAILING: [Row; 2] = [
             n 1 t=100 w=00000000 + 0:f7\nn 1 t=0 w=00000000 1:f7\n!4 t=0 w=00000000\n",
         fault: None,
     },
-];
-
-#[test]
-fn failing_and_closing(rt: HostRuntime) -> Result<(), Fail> {
-    holds(&rt, &FAILING)
-}
-
-/// Histories that are full.
-static LIMITS: [Row; 3] = [
     // Each write counts 1 byte and 96 more; the fourth command finds three records.
     Row {
         about: "the history limit",
@@ -364,9 +320,31 @@ static LIMITS: [Row; 3] = [
             size=1 cur=1 bu=65438 bw=0 t=99 w=00000000\ng 2 t=99 w=00000000\n!11 t=99 w=00000000\n",
         fault: None,
     },
+    Row {
+        about: "the greatest options",
+        words: "ob_tool run --low 2147483647 --high 2147483647 --overhead 65535 --unknown 65535 --limit 1048576",
+        script: "b 1\no 7\n",
+        written: "id 0 t=65536 w=00000000\nid 1 t=196606 w=00000000\n",
+        fault: None,
+    },
+    // It leaves room for one record, and the flush finds none.
+    Row {
+        about: "the least limit",
+        words: "ob_tool run --limit 1",
+        script: "b 1\nf\n",
+        written: "id 0 t=97 w=00000000\n!11 t=97 w=00000000\n",
+        fault: None,
+    },
+    Row {
+        about: "a missing number",
+        words: NO_OPTIONS,
+        script: "b 1\nb\nb 1\n",
+        written: "id 0 t=97 w=00000000\n",
+        fault: Some((2, "line 2: fault 4\n")),
+    },
 ];
 
 #[test]
-fn limits_of_the_history(rt: HostRuntime) -> Result<(), Fail> {
-    holds(&rt, &LIMITS)
+fn gathering_user_bits_and_ends(rt: HostRuntime) -> Result<(), Fail> {
+    holds(&rt, &GATHERINGS)
 }

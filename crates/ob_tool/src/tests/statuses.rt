@@ -1,6 +1,6 @@
-//! The statuses of the program, its options, and the faulty lines of a run.
+//! The command lines that the program refuses, and the faulty lines of a run.
 
-use crate::tests::play::{Around, Row, holds, play, tells_faults, told};
+use crate::tests::play::{Around, play, tells_faults, told};
 use std::test::Fail;
 
 const RUN: &str = "ob_tool run";
@@ -18,37 +18,6 @@ fn tells_bad_marks_before_it_reads(rt: HostRuntime) -> Result<(), Fail> {
         assert_eq!(rt; told(&rt, words)?.as_str(), "bad marks\n", "{words}");
     }
     Ok(())
-}
-
-/// Options at their bounds, and a script that is cut short.
-static OPTIONS: [Row; 3] = [
-    Row {
-        about: "the greatest options",
-        words: "ob_tool run --low 2147483647 --high 2147483647 --overhead 65535 --unknown 65535 --limit 1048576",
-        script: "b 1\no 7\n",
-        written: "id 0 t=65536 w=00000000\nid 1 t=196606 w=00000000\n",
-        fault: None,
-    },
-    // It leaves room for one record, and the flush finds none.
-    Row {
-        about: "the least limit",
-        words: "ob_tool run --limit 1",
-        script: "b 1\nf\n",
-        written: "id 0 t=97 w=00000000\n!11 t=97 w=00000000\n",
-        fault: None,
-    },
-    Row {
-        about: "a missing number",
-        words: RUN,
-        script: "b 1\nb\nb 1\n",
-        written: "id 0 t=97 w=00000000\n",
-        fault: Some((2, "line 2: fault 4\n")),
-    },
-];
-
-#[test]
-fn options_and_statuses(rt: HostRuntime) -> Result<(), Fail> {
-    holds(&rt, &OPTIONS)
 }
 
 /// Words that are refused, or ask for help or the version.
