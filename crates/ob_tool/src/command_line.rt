@@ -135,24 +135,24 @@ fn marks(low: u32, high: u32) -> Result<WaterMark, EntryFault>
 
 /// What the program takes.
 fn command<'a>(alloc: Global) -> Result<Command<'a>, AllocError> {
-    let program = Command::new(alloc, "ob_tool")
+    let subcommands = subcommands(alloc)?;
+    Command::new(alloc, "ob_tool")
         .version(VERSION)
         .about(
             "Carries out scripts of commands on the outbound buffer of a channel, and shows what each command does",
         )
-        .subcommand_required(true);
-    let program = with_subcommand(program, run_command(alloc))?;
-    let program = with_subcommand(program, core_command(alloc))?;
-    with_subcommand(program, drive_command(alloc))
+        .subcommand_required(true)
+        .subcommands(subcommands)
 }
 
-/// The program with a subcommand more, where that was made.
-// A function of its own, since each further command that a failing call would drop makes a proof longer than the last.
-fn with_subcommand<'a>(
-    program: Command<'a>,
-    subcommand: Result<Command<'a>, AllocError>,
-) -> Result<Command<'a>, AllocError> {
-    program.subcommand(subcommand?)
+/// The subcommands of the program.
+// A list that grows, since each further command that a failing call would drop makes a proof longer than the last.
+fn subcommands<'a>(alloc: Global) -> Result<Vec<Command<'a>>, AllocError> {
+    let mut subcommands = Vec::new(alloc);
+    subcommands.push(run_command(alloc)?)?;
+    subcommands.push(core_command(alloc)?)?;
+    subcommands.push(drive_command(alloc)?)?;
+    Ok(subcommands)
 }
 
 /// The subcommand `run`.
@@ -179,19 +179,18 @@ fn core_command<'a>(alloc: Global) -> Result<Command<'a>, AllocError> {
 
 /// The subcommand `drive`.
 fn drive_command<'a>(alloc: Global) -> Result<Command<'a>, AllocError> {
-    let options = options_of_buffer(alloc)?;
-    let task = size(
+    let mut options = options_of_buffer(alloc)?;
+    options.push(size(
         alloc,
         "task",
         "Bytes that a message counts beside its own while it is handed over (32 where it is not given)",
-    );
+    ))?;
     Command::new(alloc, "drive")
         .about(
             "Reads a script of writers from standard input, runs them in threads, and counts what came of it",
         )
         .after_help(help::DRIVE)
-        .args(options)?
-        .arg(task)
+        .args(options)
 }
 
 /// The options of a buffer and of its history.

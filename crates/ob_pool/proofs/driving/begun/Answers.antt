@@ -1,9 +1,9 @@
-use Rattle.std.proofs.Common.{◌≡◌, ◌<◌, length, ap, ◌∙◌, arith, rules}
+use Rattle.std.proofs.Common.{◌<◌, length, ap, ◌∙◌, arith, rules}
 use Rattle.std.specs.Prelude.{vec_len}
 use Rattle.std.proofs.lemmas.List.{length-map}
 use Rattle.std.proofs.lemmas.List.FromFn.{length-range_with_len}
 use Rattle.std.specs.List.{range_with_len}
-use Rattle.ob_shared.specs.Maker.{new_maker, new_makers}
+use Rattle.ob_shared.specs.Maker.{new_maker}
 use Rattle.ob_pool.proofs.Shares.{last_maker}
 use Rattle.ob_pool.proofs.driving.begun.Goals as goal
 

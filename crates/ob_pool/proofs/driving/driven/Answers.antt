@@ -2,7 +2,7 @@ use Rattle.std.proofs.Common.{◌≡◌, ◌+◌, ◌≤◌, ◌++◌, [], ◌�
 use Rattle.std.proofs.lemmas.Result.{IfOk-at_ok, IfOk-weaker}
 use Rattle.ob_shared.specs.Maker.{Maker}
 use Rattle.ob_pool.specs.Counted.{IsCounted}
-use Rattle.ob_pool.specs.Errand.{AreDone, deeds_from, done_by}
+use Rattle.ob_pool.specs.Errand.{AreDone}
 use Rattle.ob_pool.specs.HandedIn.{HaveHandedIn}
 use Rattle.ob_pool.specs.Keeping.{failings_in}
 use Rattle.ob_pool.specs.declared.report.Report.{Report}

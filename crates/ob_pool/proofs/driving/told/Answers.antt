@@ -1,4 +1,4 @@
-use Rattle.std.proofs.Common.{◌++◌, [], ◌∷◌, sym, subst}
+use Rattle.std.proofs.Common.{◌++◌, [], ◌∷◌, sym, subst, rules}
 use Rattle.ob_history.specs.History.{History}
 use Rattle.ob_pool.specs.HandedIn.{HaveHandedIn}
 use Rattle.ob_pool.proofs.driving.told.Goals as goal
@@ -8,3 +8,11 @@ returns-clause-handed g c =
     subst (λ (history : History). HaveHandedIn history.records (c.args.dones.items ++ c.args.done ∷ []))
     (sym c.report_of.ensures.recorded)
     (record { own = c.in_ok-recorded.ensures.own; counted = c.in_ok-recorded.ensures.counted })
+
+-- `search` finds these by itself. They are named since a must-fail edit fails here, and a goal without an answer that
+-- fails takes much longer to be told (CONTRIBUTING.md).
+pub returns-clause-clear : goal.returns-clause-clear
+returns-clause-clear g c = search rules
+
+pub returns-clause-mark : goal.returns-clause-mark
+returns-clause-mark g c = search rules
