@@ -148,33 +148,49 @@ fn command<'a>(alloc: Global) -> Result<Command<'a>, AllocError> {
 /// The subcommands of the program.
 // A list that grows, since each further command that a failing call would drop makes a proof longer than the last.
 fn subcommands<'a>(alloc: Global) -> Result<Vec<Command<'a>>, AllocError> {
-    let mut subcommands = Vec::new(alloc);
-    subcommands.push(run_command(alloc)?)?;
-    subcommands.push(core_command(alloc)?)?;
-    subcommands.push(drive_command(alloc)?)?;
+    let mut subcommands = Vec::with_capacity(alloc, 3)?;
+    subcommands.push_reserved(run_command(alloc)?);
+    subcommands.push_reserved(core_command(alloc)?);
+    subcommands.push_reserved(drive_command(alloc)?);
     Ok(subcommands)
+}
+
+/// A subcommand of this name, which does what `about` says. Its help ends with `help`.
+fn subcommand<'a>(
+    alloc: Global,
+    name: &'a str,
+    about: &'a str,
+    help: &'a str,
+    options: Vec<Arg<'a>>,
+) -> Result<Command<'a>, AllocError> {
+    Command::new(alloc, name)
+        .about(about)
+        .after_help(help)
+        .args(options)
 }
 
 /// The subcommand `run`.
 fn run_command<'a>(alloc: Global) -> Result<Command<'a>, AllocError> {
     let options = options_of_buffer(alloc)?;
-    Command::new(alloc, "run")
-        .about(
-            "Reads a script from standard input, and writes one line for each of its lines to standard output",
-        )
-        .after_help(help::RUN)
-        .args(options)
+    subcommand(
+        alloc,
+        "run",
+        "Reads a script from standard input, and writes one line for each of its lines to standard output",
+        help::RUN,
+        options,
+    )
 }
 
 /// The subcommand `core`.
 fn core_command<'a>(alloc: Global) -> Result<Command<'a>, AllocError> {
     let options = vec![in alloc; low_mark(alloc), high_mark(alloc)]?;
-    Command::new(alloc, "core")
-        .about(
-            "Reads a script of lanes and turns from standard input, and writes one line for each to standard output",
-        )
-        .after_help(help::CORE)
-        .args(options)
+    subcommand(
+        alloc,
+        "core",
+        "Reads a script of lanes and turns from standard input, and writes one line for each to standard output",
+        help::CORE,
+        options,
+    )
 }
 
 /// The subcommand `drive`.
@@ -185,12 +201,13 @@ fn drive_command<'a>(alloc: Global) -> Result<Command<'a>, AllocError> {
         "task",
         "Bytes that a message counts beside its own while it is handed over (32 where it is not given)",
     ))?;
-    Command::new(alloc, "drive")
-        .about(
-            "Reads a script of writers from standard input, runs them in threads, and counts what came of it",
-        )
-        .after_help(help::DRIVE)
-        .args(options)
+    subcommand(
+        alloc,
+        "drive",
+        "Reads a script of writers from standard input, runs them in threads, and counts what came of it",
+        help::DRIVE,
+        options,
+    )
 }
 
 /// The options of a buffer and of its history.
