@@ -1,7 +1,7 @@
 -- What two lists of writers do is what their list does.
 use Rattle.std.proofs.Common.{◌≡◌, ℕ, ◌+◌, ◌≤◌, true, false, eqb, List, ◌++◌, map, take, drop, refl, sym, ap, ◌∙◌, ap₂}
 use Rattle.std.proofs.Common.{subst, arith}
-use Rattle.std.specs.Prelude.{bit_or, nat_lt, None}
+use Rattle.std.specs.Prelude.{bit_or, nat_lt, IfOk, IsOkAnd, None, Result, Ok, Err}
 use Rattle.std.proofs.lemmas.Bool.{eq-eqb}
 use Rattle.std.proofs.lemmas.Bool.Decides.{nat_tests}
 use Rattle.std.proofs.lemmas.Nat.Bits.{bit_at-zero, bit_at_or, same_from_bits}
@@ -17,6 +17,17 @@ pub both_done : (errands others : List Errand) (dones more all : List Handed) �
     AreDone others more → all ≡ dones ++ more → AreDone (errands ++ others) all
 both_done errands others dones more all done too is =
     ap (map done_by) is ∙ map-append done_by dones more ∙ ap₂ ◌++◌ done too ∙ sym (map-append asked errands others)
+
+-- and where both lists are handed in, as one
+pub both_handed_done : {Dones Fault : Type 0} (first second : Result Dones Fault) (items : Dones → List Handed)
+    (errands others : List Errand) (all : List Handed) →
+    IsOkAnd first (λ dones. IsOkAnd second (λ more. all ≡ items dones ++ items more)) →
+    IfOk first (λ dones. AreDone errands (items dones)) → IfOk second (λ more. AreDone others (items more)) →
+    AreDone (errands ++ others) all
+both_handed_done (Ok dones) (Ok more) items errands others all is done too =
+    both_done errands others (items dones) (items more) all done too is
+both_handed_done (Ok dones) (Err fault) items errands others all is done too = absurd is
+both_handed_done (Err fault) second items errands others all is done too = absurd is
 
 -- the two parts of a list of errands
 pub parts_done : (at : ℕ) (errands first second : List Errand) (dones : List Handed) → first ≡ take at errands →

@@ -1,6 +1,7 @@
 use Rattle.std.proofs.Common.{ap, arith}
+use Rattle.std.proofs.lemmas.Result.{IfOk-weaker}
 use Rattle.ob_pool.specs.Errand.{room_for}
-use Rattle.ob_pool.proofs.Halves.{rooms_of_parts, splits}
+use Rattle.ob_pool.proofs.Halves.{both_handed_done, parts_done, rooms_of_parts, splits}
 use Rattle.ob_pool.proofs.writers.+work.Goals as goal
 
 pub work_all-room_for-requires : goal.work_all-room_for-requires
@@ -34,3 +35,15 @@ work_all-both_halves-requires-clause-room g t c = λ κs lives.
       shares.rooms,
       shares.second_room,
     )
+
+pub work_all-returns-clause-done : goal.work_all-returns-clause-done
+work_all-returns-clause-done g t c =
+    IfOk-weaker c.both_halves.result.1 _ _
+    (λ dones done. parts_done _ _ _ _ _ c.in-Ok.ensures.items c.in-Ok.ensures.tail done) c.both_halves.ensures.done
+
+pub both_halves-returns-clause-done : goal.both_halves-returns-clause-done
+both_halves-returns-clause-done g t c =
+    IfOk-weaker c.both_handed.result _ _
+    (λ all is. both_handed_done c.join-lane.result.0.1 c.join-lane.result.1.1 (λ dones. dones.items)
+    c.args.writers.items c.args.others.items all.items is c.join-lane.ensures.first.1.1.0
+    c.join-lane.ensures.second.1.1.0) c.both_handed.ensures.first
