@@ -54,3 +54,9 @@ pub returns-clause-counts : goal.returns-clause-counts
 returns-clause-counts g c =
     let count : c.len-count.result ≡ length c.args.plans.items = search rules in
     subst (λ writers. IfOk c.told.result (IsCounted writers)) count c.told.ensures.counts
+
+pub returns-clause-total : goal.returns-clause-total
+returns-clause-total g c = c.told.ensures.total
+
+pub returns-clause-clear : goal.returns-clause-clear
+returns-clause-clear g c = c.told.ensures.clear
