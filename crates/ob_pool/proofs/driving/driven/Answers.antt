@@ -55,6 +55,7 @@ returns-clause-counts g c =
     let count : c.len-count.result ≡ length c.args.plans.items = search rules in
     subst (λ writers. IfOk c.told.result (IsCounted writers)) count c.told.ensures.counts
 
+-- the search for these takes seconds
 pub returns-clause-total : goal.returns-clause-total
 returns-clause-total g c = c.told.ensures.total
 
