@@ -164,7 +164,7 @@ fn driven<L: Named + Send + Sync, R: Threads + Wait + Clock + Sync, G: Gate + Sy
         ended: AtomicBool::new(false),
     };
     let ((lane, dones), carried) = run(rt, gate, &bench, lane, writers, share, sink, config);
-    told(bench, lane, dones?, carried?, count)
+    reported(bench, lane, dones?, carried?, count)
 }
 
 /// The shared buffer of an opening, each plan with a share of it, and the share that is left for the transport.
@@ -336,7 +336,7 @@ fn work<L: Named + Send + Sync, R: Threads + Wait + Clock + Sync, G: Gate + Sync
 }
 
 /// The report of a drive whose threads have ended: so many writers, with what they and the transport hand in.
-fn told<L: Named>(
+fn reported<L: Named>(
     bench: Bench<L>,
     lane: Lane,
     dones: Vec<Done<L>>,

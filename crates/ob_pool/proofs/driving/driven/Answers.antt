@@ -11,10 +11,10 @@ use Rattle.ob_pool.proofs.PlannedSteps.{no_failing_step}
 use Rattle.ob_pool.proofs.driving.driven.Goals as goal
 
 pub returns-clause-legal : goal.returns-clause-legal
-returns-clause-legal g c = IfOk-weaker c.told.result _ _ (λ report opened. opened.legal) c.told.ensures.opened
+returns-clause-legal g c = IfOk-weaker c.reported.result _ _ (λ report opened. opened.legal) c.reported.ensures.opened
 
 -- all have handed in what they were asked
-have_ended : (g : _) (c : goal.After-told g) (report : Report) →
+have_ended : (g : _) (c : goal.After-reported g) (report : Report) →
     HaveHandedIn report.recorded.records (c.in_ok-dones.field-0.items ++ c.in_ok-carried.field-0 ∷ []) →
     HaveEnded report.recorded.records c.in_ok-dones.field-0.items c.in_ok-carried.field-0 c.args.plans.items
 have_ended g c report handed =
@@ -33,31 +33,31 @@ have_ended g c report handed =
 
 pub returns-clause-plans : goal.returns-clause-plans
 returns-clause-plans g c =
-    IfOk-weaker c.told.result _ _ (λ report handed. all_carried _ _ _ _ (have_ended g c report handed))
-    c.told.ensures.handed
+    IfOk-weaker c.reported.result _ _ (λ report handed. all_carried _ _ _ _ (have_ended g c report handed))
+    c.reported.ensures.handed
 
 pub returns-clause-callers : goal.returns-clause-callers
 returns-clause-callers g c =
-    IfOk-weaker c.told.result _ _ (λ report handed. callers_told _ _ _ _ (have_ended g c report handed))
-    c.told.ensures.handed
+    IfOk-weaker c.reported.result _ _ (λ report handed. callers_told _ _ _ _ (have_ended g c report handed))
+    c.reported.ensures.handed
 
 pub returns-clause-failings : goal.returns-clause-failings
 returns-clause-failings g c =
     let none = no_failing_step c.args.config.estimate c.args.config.task c.args.plans.items c.requires.plans in
     let sink = IfOk-at_ok (λ done. failings_in done.receipts + (g.S.Sink.content c.args.sink.now).failures
     ≤ (g.S.Sink.content c.run-lane.new.sink).failures) c.in_ok-carried.was c.run-lane.ensures.failings in
-    IfOk-weaker c.told.result _ _
+    IfOk-weaker c.reported.result _ _
     (λ report handed. omega (arith, failings_told _ _ _ _ (have_ended g c report handed) none, sink))
-    c.told.ensures.handed
+    c.reported.ensures.handed
 
 pub returns-clause-counts : goal.returns-clause-counts
 returns-clause-counts g c =
     let count : c.len-count.result ≡ length c.args.plans.items = search rules in
-    subst (λ writers. IfOk c.told.result (IsCounted writers)) count c.told.ensures.counts
+    subst (λ writers. IfOk c.reported.result (IsCounted writers)) count c.reported.ensures.counts
 
 -- the search for these takes seconds
 pub returns-clause-total : goal.returns-clause-total
-returns-clause-total g c = c.told.ensures.total
+returns-clause-total g c = c.reported.ensures.total
 
 pub returns-clause-clear : goal.returns-clause-clear
-returns-clause-clear g c = c.told.ensures.clear
+returns-clause-clear g c = c.reported.ensures.clear

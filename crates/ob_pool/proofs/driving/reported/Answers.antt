@@ -1,7 +1,7 @@
 use Rattle.std.proofs.Common.{◌++◌, [], ◌∷◌, sym, subst, rules}
 use Rattle.ob_history.specs.History.{History}
 use Rattle.ob_pool.specs.HandedIn.{HaveHandedIn}
-use Rattle.ob_pool.proofs.driving.told.Goals as goal
+use Rattle.ob_pool.proofs.driving.reported.Goals as goal
 
 pub returns-clause-handed : goal.returns-clause-handed
 returns-clause-handed g c =
