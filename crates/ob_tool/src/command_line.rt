@@ -146,7 +146,7 @@ fn command<'a>(alloc: Global) -> Result<Command<'a>, AllocError> {
 }
 
 /// The subcommands of the program.
-// A list that grows, since each further command that a failing call would drop makes a proof longer than the last.
+// Each goes into the list at once, since a further command that a failing call would drop makes the proof far longer.
 fn subcommands<'a>(alloc: Global) -> Result<Vec<Command<'a>>, AllocError> {
     let mut subcommands = Vec::with_capacity(alloc, 3)?;
     subcommands.push_reserved(run_command(alloc)?);

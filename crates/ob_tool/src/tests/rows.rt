@@ -232,7 +232,7 @@ fn cancellations_and_removals(rt: HostRuntime) -> Result<(), Fail> {
 
 /// Blocks that are gathered, and blocks that are not. Bits of the word that are not the mark. All flushed messages
 /// failed, and the rest by closing. Histories that are full. Options at their bounds, and a script that is cut short.
-static GATHERINGS: [Row; 12] = [
+static OTHERS: [Row; 12] = [
     // A voided entry is passed over, and the first block comes in any case.
     Row {
         about: "a gathering skips voided entries",
@@ -346,5 +346,5 @@ static GATHERINGS: [Row; 12] = [
 
 #[test]
 fn gathering_user_bits_and_ends(rt: HostRuntime) -> Result<(), Fail> {
-    holds(&rt, &GATHERINGS)
+    holds(&rt, &OTHERS)
 }
