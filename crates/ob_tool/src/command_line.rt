@@ -5,19 +5,13 @@ ghost use Rattle.ob_tool.specs.Options.{first_history};
 ghost use Rattle.ob_tool.specs.Entry.{exit_status_of};
 
 use crate::entry_fault::EntryFault;
-use crate::help;
 use crate::options::Options;
 use crate::request::Request;
-use clap::{Arg, ArgAction, ArgMatches, Command, value_parser};
+use crate::subcommands::{MAX_RECORDS, command};
+use clap::ArgMatches;
 use ob_types::{Estimate, WaterMark};
-use std::alloc::{AllocError, Global};
+use std::alloc::Global;
 use std::convert::AsStr;
-
-/// What `--version` tells.
-const VERSION: &str = "0.1.0";
-
-/// The greatest mark, in bytes.
-const MAX_MARK: i64 = 2147483647;
 
 /// The low mark where none is given, in bytes.
 const LOW: u32 = 32768;
@@ -33,9 +27,6 @@ const UNKNOWN: u16 = 8;
 
 /// The bytes that a hand-off adds to a message where no number is given.
 const TASK: u16 = 32;
-
-/// The most records of a history, which is also its limit where none is given.
-const MAX_RECORDS: u32 = 1048576;
 
 /// What the program's words ask for: its name, a subcommand, and the options of that.
 ///
@@ -53,13 +44,23 @@ fn request(matches: &ArgMatches<'_>) -> Result<Request, EntryFault>
     ensures err { IfErr result (λ fault. exit_status_of fault ≡ 1) }
 {
     match matches.subcommand() {
-        Some(("run", given)) => Ok(Request::Run(options_of(given, TASK)?)),
-        Some(("core", given)) => Ok(Request::Core(given_marks(given)?)),
-        Some(("drive", given)) => {
+        Some((name, given)) => request_of_subcommand(name, given),
+        None => Err(EntryFault::NoSubcommand),
+    }
+}
+
+/// What the options of this subcommand ask for.
+fn request_of_subcommand(name: &str, given: &ArgMatches<'_>) -> Result<Request, EntryFault>
+    ensures err { IfErr result (λ fault. exit_status_of fault ≡ 1) }
+{
+    match name {
+        "run" => Ok(Request::Run(options_of(given, TASK)?)),
+        "core" => Ok(Request::Core(given_marks(given)?)),
+        "drive" => {
             let task = given.get_one("task").unwrap_or(TASK);
             Ok(Request::Drive(options_of(given, task)?))
         }
-        // `clap` lets no other command line through, but none of its clauses says so.
+        // `clap` lets no other name through, but none of its clauses says so.
         _ => Err(EntryFault::NoSubcommand),
     }
 }
@@ -131,148 +132,4 @@ fn marks(low: u32, high: u32) -> Result<WaterMark, EntryFault>
         Ok(marks) => Ok(marks),
         Err(_) => Err(EntryFault::BadMarks),
     }
-}
-
-/// What the program takes.
-fn command<'a>(alloc: Global) -> Result<Command<'a>, AllocError> {
-    let subcommands = subcommands(alloc)?;
-    Command::new(alloc, "ob_tool")
-        .version(VERSION)
-        .about(
-            "Carries out scripts of commands on the outbound buffer of a channel, and shows what each command does",
-        )
-        .subcommand_required(true)
-        .subcommands(subcommands)
-}
-
-/// The subcommands of the program.
-// Each goes into the list at once, since a further command that a failing call would drop makes the proof far longer.
-fn subcommands<'a>(alloc: Global) -> Result<Vec<Command<'a>>, AllocError> {
-    let mut subcommands = Vec::with_capacity(alloc, 3)?;
-    subcommands.push_reserved(run_command(alloc)?);
-    subcommands.push_reserved(core_command(alloc)?);
-    subcommands.push_reserved(drive_command(alloc)?);
-    Ok(subcommands)
-}
-
-/// A subcommand of this name, which does what `about` says. Its help ends with `help`.
-fn subcommand<'a>(
-    alloc: Global,
-    name: &'a str,
-    about: &'a str,
-    help: &'a str,
-    options: Vec<Arg<'a>>,
-) -> Result<Command<'a>, AllocError> {
-    Command::new(alloc, name)
-        .about(about)
-        .after_help(help)
-        .args(options)
-}
-
-/// The subcommand `run`.
-fn run_command<'a>(alloc: Global) -> Result<Command<'a>, AllocError> {
-    let options = options_of_buffer(alloc)?;
-    subcommand(
-        alloc,
-        "run",
-        "Reads a script from standard input, and writes one line for each of its lines to standard output",
-        help::RUN,
-        options,
-    )
-}
-
-/// The subcommand `core`.
-fn core_command<'a>(alloc: Global) -> Result<Command<'a>, AllocError> {
-    let options = vec![in alloc; low_mark(alloc), high_mark(alloc)]?;
-    subcommand(
-        alloc,
-        "core",
-        "Reads a script of lanes and turns from standard input, and writes one line for each to standard output",
-        help::CORE,
-        options,
-    )
-}
-
-/// The subcommand `drive`.
-fn drive_command<'a>(alloc: Global) -> Result<Command<'a>, AllocError> {
-    let mut options = options_of_buffer(alloc)?;
-    options.push(size(
-        alloc,
-        "task",
-        "Bytes that a message counts beside its own while it is handed over (32 where it is not given)",
-    ))?;
-    subcommand(
-        alloc,
-        "drive",
-        "Reads a script of writers from standard input, runs them in threads, and counts what came of it",
-        help::DRIVE,
-        options,
-    )
-}
-
-/// The options of a buffer and of its history.
-fn options_of_buffer<'a>(alloc: Global) -> Result<Vec<Arg<'a>>, AllocError> {
-    Ok(vec![in alloc;
-        low_mark(alloc),
-        high_mark(alloc),
-        size(
-            alloc,
-            "overhead",
-            "Bytes that each message counts beside its own (96 where it is not given)",
-        ),
-        size(
-            alloc,
-            "unknown",
-            "Bytes that a message of unknown size counts (8 where it is not given)",
-        ),
-        limit(alloc),
-    ]?)
-}
-
-/// The option `--low`.
-fn low_mark<'a>(alloc: Global) -> Arg<'a> {
-    mark(
-        alloc,
-        "low",
-        "Writers may go on once fewer bytes than this are pending (32768 where it is not given)",
-    )
-}
-
-/// The option `--high`.
-fn high_mark<'a>(alloc: Global) -> Arg<'a> {
-    mark(
-        alloc,
-        "high",
-        "Writers should stop once more bytes than this are pending (65536 where it is not given)",
-    )
-}
-
-/// An option that is a mark.
-fn mark<'a>(alloc: Global, name: &'a str, help: &'a str) -> Arg<'a> {
-    option(alloc, name, "BYTES", help).value_parser(value_parser!(u32).range(0..=MAX_MARK))
-}
-
-/// An option that is a number of bytes up to 65535.
-fn size<'a>(alloc: Global, name: &'a str, help: &'a str) -> Arg<'a> {
-    option(alloc, name, "BYTES", help).value_parser(value_parser!(u16))
-}
-
-/// The option `--limit`.
-fn limit<'a>(alloc: Global) -> Arg<'a> {
-    option(
-        alloc,
-        "limit",
-        "RECORDS",
-        "Commands that are recorded, 1 to 1048576; further ones are refused (1048576 where it is not given)",
-    )
-    .value_parser(value_parser!(u32).range(1..=i64::from(MAX_RECORDS)))
-}
-
-/// An option with a number of these.
-fn option<'a>(alloc: Global, name: &'a str, unit: &'a str, help: &'a str) -> Arg<'a> {
-    Arg::new(alloc, name)
-        .long(name)
-        .value_name(unit)
-        .action(ArgAction::Set)
-        .help(help)
 }

@@ -34,6 +34,7 @@ mod run_fault;
 mod script;
 mod script_line;
 mod session;
+mod subcommands;
 #[cfg(test)]
 mod tests;
 mod text;
