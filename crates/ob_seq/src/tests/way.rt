@@ -13,9 +13,8 @@ pub enum Way {
 }
 
 impl Way {
-    /// Gives a copy of the command in this way.
-    pub fn give(self, buffer: &mut Buffer, command: &Command) -> Result<Reply, Refusal> {
-        let command = command.copy()?;
+    /// Gives the command in this way.
+    pub fn give(self, buffer: &mut Buffer, command: Command) -> Result<Reply, Refusal> {
         match self {
             Way::ByName => by_name(buffer, command),
             Way::ByApply => buffer.apply(command),
