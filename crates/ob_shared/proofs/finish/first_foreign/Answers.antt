@@ -1,4 +1,4 @@
-use Rattle.std.proofs.Common.{refl, subst, arith}
+use Rattle.std.proofs.Common.{refl, subst, arith, rules}
 use Rattle.std.specs.List.{All}
 use Rattle.std.proofs.lemmas.List.Elements.{All-more}
 use Rattle.ob_history.proofs.First.{up_to_end}
@@ -18,3 +18,8 @@ returns-clause-stands g c = λ none.
     let stored = c.args.recorded.now in
     up_to_end (All (StandsIn stored.settings stored.records)) c.args.dones.now c.loop-done.done-index
     (omega arith) c.loop-done.invariant
+
+-- `search` finds this by itself. It is named since a must-fail edit fails here, and a goal without an answer that fails
+-- takes much longer to be told (CONTRIBUTING.md).
+pub returns-in-Some-clause-foreign : goal.returns-in-Some-clause-foreign
+returns-in-Some-clause-foreign g c = search rules

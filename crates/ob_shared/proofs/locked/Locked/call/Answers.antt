@@ -1,3 +1,5 @@
+use Rattle.std.proofs.Common.{rules, arith}
+use Rattle.std.proofs.lemmas.Grind.{common_steps}
 use Rattle.ob_shared.proofs.locked.Locked.call.Goals as goal
 
 pub returns-clause-answer : goal.returns-clause-answer
@@ -5,3 +7,17 @@ returns-clause-answer g c = λ spared. rw (← c.self.view_is, ← c.caller.ensu
 
 pub returns-clause-after : goal.returns-clause-after
 returns-clause-after g c = λ spared. rw (← c.self.view_is, ← c.caller.ensures) (c.in_ok-receipt.ensures.after spared)
+
+-- The check finds these by itself. They are named since must-fail edits fail here, and a goal without an answer that
+-- fails takes much longer to be told (CONTRIBUTING.md).
+pub invariant_of-self-2 : goal.invariant_of-self-2
+invariant_of-self-2 g c = grind (arith, common_steps)
+
+pub returns-clause-made : goal.returns-clause-made
+returns-clause-made g c = search rules
+
+pub returns-in_err-receipt-clause-no_memory_last : goal.returns-in_err-receipt-clause-no_memory_last
+returns-in_err-receipt-clause-no_memory_last g c = search rules
+
+pub returns-in_err-receipt-clause-frugal : goal.returns-in_err-receipt-clause-frugal
+returns-in_err-receipt-clause-frugal g c = search rules

@@ -1,4 +1,4 @@
-use Rattle.std.proofs.Common.{◌≡◌, Some, ap, refl, subst}
+use Rattle.std.proofs.Common.{◌≡◌, Some, ap, refl, subst, rules}
 use Rattle.std.specs.Prelude.{slice_get}
 use Rattle.std.specs.Result.{is_ok}
 use Rattle.ob_history.specs.History.{History}
@@ -41,3 +41,8 @@ returns-in_ok-settling-in-Some-Settled-clause-frugal g c = λ freely refused.
     subst (λ (history : History). slice_get history.records one.place ≡ Some one) c.self.view_is found.ensures.there in
     let free = copied_freely c.args.self.now.records c.args.id one.place one there found.ensures.settles freely in
     absurd (cc (c.receipt.ensures.succeeds free, ap is_ok refused))
+
+-- `search` finds this by itself. It is named since a must-fail edit fails here, and a goal without an answer that fails
+-- takes much longer to be told (CONTRIBUTING.md).
+pub returns-in_ok-settling-in-Some-Settled-clause-told : goal.returns-in_ok-settling-in-Some-Settled-clause-told
+returns-in_ok-settling-in-Some-Settled-clause-told g c = search rules

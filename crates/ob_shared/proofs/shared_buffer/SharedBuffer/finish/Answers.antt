@@ -40,3 +40,13 @@ returns-clause-once g c = λ id.
     subst (λ (history : History). times_settled id (settlements_in history.records) ≤ 1)
     (sym c.into_recorded.ensures.recorded)
     (c.a_history_settles_each_promise_once.ensures.once stored.settings stored.records id c.is_as_opened.ensures.legal)
+
+-- `search` finds these three by itself, but needs seconds to give each up where a must-fail edit makes it false.
+pub returns-clause-opened : goal.returns-clause-opened
+returns-clause-opened g c = rw c.into_recorded.ensures.recorded c.is_as_opened.ensures
+
+pub returns-clause-counted : goal.returns-clause-counted
+returns-clause-counted g c = c.into_recorded.ensures.counted
+
+pub returns-clause-own : goal.returns-clause-own
+returns-clause-own g c = c.into_recorded.ensures.own
