@@ -1,4 +1,4 @@
-use Rattle.std.proofs.Common.{◌≡◌, ◌≢◌, ◌<◌, ℕ, false, get_or, length, Result, Ok, sym, ap, ◌∙◌, arith}
+use Rattle.std.proofs.Common.{◌≡◌, ◌≢◌, ◌<◌, ℕ, false, get_or, length, Result, Ok, sym, ap, ◌∙◌, arith, rules}
 use Rattle.std.proofs.lemmas.Bool.{ne_eqb}
 use Rattle.std.specs.Vec.{vec_len}
 use Rattle.ob_types.specs.declared.command.Command.{Command}
@@ -14,6 +14,11 @@ use Rattle.ob_history.specs.declared.record.Record.{Record}
 use Rattle.ob_history.specs.declared.recorded.Recorded.TheInside.{Inside}
 use Rattle.ob_history.proofs.Calls.{answer_with_place, record_at_place}
 use Rattle.ob_history.proofs.recorded.Recorded.call.Goals as goal
+
+-- `search` finds this by itself. It is named since a must-fail edit fails here, and a goal without an answer that fails
+-- takes much longer to be told (CONTRIBUTING.md).
+pub returns-in_err-copies-clause-no_memory_last : goal.returns-in_err-copies-clause-no_memory_last
+returns-in_err-copies-clause-no_memory_last c = search rules
 
 -- the first free place of a history, and what stands there after the call
 record Placed (before after : Inside) (caller : ℕ) (command : Command) (place : ℕ) (other : Record) : Type 0 where

@@ -1,8 +1,13 @@
-use Rattle.std.proofs.Common.{subst, sym, ap, ◌∙◌}
+use Rattle.std.proofs.Common.{subst, sym, ap, ◌∙◌, rules}
 use Rattle.ob_seq.specs.Settings.{Settings}
 use Rattle.ob_history.specs.History.{History}
 use Rattle.ob_history.specs.Legal.{IsLegal}
 use Rattle.ob_history.proofs.recorded.Recorded.check_along.Goals as goal
+
+-- `search` finds this by itself. It is named since a must-fail edit fails here, and a goal without an answer that fails
+-- takes much longer to be told (CONTRIBUTING.md).
+pub returns-then-place-len-clause-answer : goal.returns-then-place-len-clause-answer
+returns-then-place-len-clause-answer c = search rules
 
 pub go_on-requires-clause-legal : goal.go_on-requires-clause-legal
 go_on-requires-clause-legal c =

@@ -1,4 +1,4 @@
-use Rattle.std.proofs.Common.{◌≡◌, false, [], ◌∷◌, ◌++◌, length, sym, ap, ◌∙◌, subst, arith}
+use Rattle.std.proofs.Common.{◌≡◌, false, [], ◌∷◌, ◌++◌, length, sym, ap, ◌∙◌, subst, arith, rules}
 use Rattle.std.proofs.lemmas.Bool.{ne_eqb}
 use Rattle.ob_seq.specs.Answer.{answer_to, commands_after, commands_with}
 use Rattle.ob_seq.specs.Pending.{StandsFor}
@@ -11,6 +11,32 @@ use Rattle.ob_history.proofs.Rooms.{IsSound-more_room}
 use Rattle.ob_history.proofs.Histories.{legal_with_next, accepted_with_next, same_record, same_history}
 use Rattle.ob_history.specs.declared.record.Record.{Record}
 use Rattle.ob_history.proofs.recorded.Recorded.record.Goals as goal
+
+-- `search` finds these by itself. They are named since must-fail edits fail here, and a goal without an answer that
+-- fails takes much longer to be told (CONTRIBUTING.md).
+pub returns-in_err-reserve-clause-frugal : goal.returns-in_err-reserve-clause-frugal
+returns-in_err-reserve-clause-frugal c = search rules
+
+pub returns-in_err-reserve-clause-full : goal.returns-in_err-reserve-clause-full
+returns-in_err-reserve-clause-full c = search rules
+
+pub returns-in_err-asked-clause-full : goal.returns-in_err-asked-clause-full
+returns-in_err-asked-clause-full c = search rules
+
+pub returns-in_err-reply-clause-full : goal.returns-in_err-reply-clause-full
+returns-in_err-reply-clause-full c = search rules
+
+pub returns-clause-full : goal.returns-clause-full
+returns-clause-full c = search rules
+
+pub returns-in_err-reply-clause-no_memory : goal.returns-in_err-reply-clause-no_memory
+returns-in_err-reply-clause-no_memory c = search rules
+
+pub returns-in_err-reply-clause-after : goal.returns-in_err-reply-clause-after
+returns-in_err-reply-clause-after c = search rules
+
+pub returns-in_err-reply-clause-frugal : goal.returns-in_err-reply-clause-frugal
+returns-in_err-reply-clause-frugal c = search rules
 
 pub invariant_of-self : goal.invariant_of-self
 invariant_of-self c =
