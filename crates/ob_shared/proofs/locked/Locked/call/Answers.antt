@@ -10,11 +10,11 @@ returns-clause-after g c = λ spared. rw (← c.self.view_is, ← c.caller.ensur
 
 -- The check finds these by itself. They are named since must-fail edits fail here, and a goal without an answer that
 -- fails takes much longer to be told (CONTRIBUTING.md).
-pub invariant_of-self-2 : goal.invariant_of-self-2
-invariant_of-self-2 g c = grind (arith, common_steps)
-
 pub returns-clause-made : goal.returns-clause-made
 returns-clause-made g c = search rules
+
+pub invariant_of-self-2 : goal.invariant_of-self-2
+invariant_of-self-2 g c = grind (arith, common_steps)
 
 pub returns-in_err-receipt-clause-no_memory_last : goal.returns-in_err-receipt-clause-no_memory_last
 returns-in_err-receipt-clause-no_memory_last g c = search rules
