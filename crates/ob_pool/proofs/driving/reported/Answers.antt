@@ -9,8 +9,7 @@ returns-clause-handed g c =
     (sym c.report_of.ensures.recorded)
     (record { own = c.in_ok-recorded.ensures.own; counted = c.in_ok-recorded.ensures.counted })
 
--- `search` finds these by itself. They are named since a must-fail edit fails here, and a goal without an answer that
--- fails takes much longer to be told (CONTRIBUTING.md).
+-- Named for the must-fail edits that fail here: `search` finds it unasked (CONTRIBUTING.md).
 pub returns-clause-clear : goal.returns-clause-clear
 returns-clause-clear g c = search rules
 

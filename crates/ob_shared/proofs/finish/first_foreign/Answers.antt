@@ -19,7 +19,6 @@ returns-clause-stands g c = λ none.
     up_to_end (All (StandsIn stored.settings stored.records)) c.args.dones.now c.loop-done.done-index
     (omega arith) c.loop-done.invariant
 
--- `search` finds this by itself. It is named since a must-fail edit fails here, and a goal without an answer that fails
--- takes much longer to be told (CONTRIBUTING.md).
+-- Named for the must-fail edits that fail here: `search` finds it unasked (CONTRIBUTING.md).
 pub returns-in-Some-clause-foreign : goal.returns-in-Some-clause-foreign
 returns-in-Some-clause-foreign g c = search rules

@@ -1,8 +1,7 @@
 use Rattle.std.proofs.Common.{rules}
 use Rattle.ob_tool.proofs.entry.entry.Goals as goal
 
--- `search` finds these by itself. They are named since must-fail edits fail here, and a goal without an answer that
--- fails takes much longer to be told (CONTRIBUTING.md).
+-- Named for the must-fail edits that fail here: `search` finds it unasked (CONTRIBUTING.md).
 pub returns-in-Err-clause-traced : goal.returns-in-Err-clause-traced
 returns-in-Err-clause-traced g c = search rules
 

@@ -1,8 +1,7 @@
 use Rattle.std.proofs.Common.{rules}
 use Rattle.ob_history.proofs.booked.AsBooked.call.Goals as goal
 
--- `search` finds these by itself. They are named since must-fail edits fail here, and a goal without an answer that
--- fails takes much longer to be told (CONTRIBUTING.md).
+-- Named for the must-fail edits that fail here: `search` finds it unasked (CONTRIBUTING.md).
 pub returns-clause-answer : goal.returns-clause-answer
 returns-clause-answer c = search rules
 

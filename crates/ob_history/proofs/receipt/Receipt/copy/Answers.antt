@@ -1,7 +1,6 @@
 use Rattle.std.proofs.Common.{rules}
 use Rattle.ob_history.proofs.receipt.Receipt.copy.Goals as goal
 
--- `search` finds this by itself. It is named since a must-fail edit fails here, and a goal without an answer that fails
--- takes much longer to be told (CONTRIBUTING.md).
+-- Named for the must-fail edits that fail here: `search` finds it unasked (CONTRIBUTING.md).
 pub returns-clause-same : goal.returns-clause-same
 returns-clause-same c = search rules

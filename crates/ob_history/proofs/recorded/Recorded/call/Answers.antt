@@ -15,8 +15,7 @@ use Rattle.ob_history.specs.declared.recorded.Recorded.TheInside.{Inside}
 use Rattle.ob_history.proofs.Calls.{answer_with_place, record_at_place}
 use Rattle.ob_history.proofs.recorded.Recorded.call.Goals as goal
 
--- `search` finds this by itself. It is named since a must-fail edit fails here, and a goal without an answer that fails
--- takes much longer to be told (CONTRIBUTING.md).
+-- Named for the must-fail edits that fail here: `search` finds it unasked (CONTRIBUTING.md).
 pub returns-in_err-copies-clause-no_memory_last : goal.returns-in_err-copies-clause-no_memory_last
 returns-in_err-copies-clause-no_memory_last c = search rules
 

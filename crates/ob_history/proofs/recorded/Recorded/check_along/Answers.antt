@@ -4,8 +4,7 @@ use Rattle.ob_history.specs.History.{History}
 use Rattle.ob_history.specs.Legal.{IsLegal}
 use Rattle.ob_history.proofs.recorded.Recorded.check_along.Goals as goal
 
--- `search` finds this by itself. It is named since a must-fail edit fails here, and a goal without an answer that fails
--- takes much longer to be told (CONTRIBUTING.md).
+-- Named for the must-fail edits that fail here: `search` finds it unasked (CONTRIBUTING.md).
 pub returns-then-place-len-clause-answer : goal.returns-then-place-len-clause-answer
 returns-then-place-len-clause-answer c = search rules
 

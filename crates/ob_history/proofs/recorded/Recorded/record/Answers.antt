@@ -12,8 +12,7 @@ use Rattle.ob_history.proofs.Histories.{legal_with_next, accepted_with_next, sam
 use Rattle.ob_history.specs.declared.record.Record.{Record}
 use Rattle.ob_history.proofs.recorded.Recorded.record.Goals as goal
 
--- `search` finds these by itself. They are named since must-fail edits fail here, and a goal without an answer that
--- fails takes much longer to be told (CONTRIBUTING.md).
+-- Named for the must-fail edits that fail here: `search` finds it unasked (CONTRIBUTING.md).
 pub returns-in_err-reserve-clause-frugal : goal.returns-in_err-reserve-clause-frugal
 returns-in_err-reserve-clause-frugal c = search rules
 

@@ -8,8 +8,7 @@ returns-clause-answer g c = λ spared. rw (← c.self.view_is, ← c.caller.ensu
 pub returns-clause-after : goal.returns-clause-after
 returns-clause-after g c = λ spared. rw (← c.self.view_is, ← c.caller.ensures) (c.in_ok-receipt.ensures.after spared)
 
--- The check finds these by itself. They are named since must-fail edits fail here, and a goal without an answer that
--- fails takes much longer to be told (CONTRIBUTING.md).
+-- Named for the must-fail edits that fail here: `search` finds it unasked (CONTRIBUTING.md).
 pub returns-clause-made : goal.returns-clause-made
 returns-clause-made g c = search rules
 

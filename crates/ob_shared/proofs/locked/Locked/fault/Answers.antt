@@ -9,8 +9,7 @@ returns-in-Ok-None-clause-stands g c = λ none.
     subst (λ (history : History). All (StandsIn history.settings history.records) c.args.dones.now) c.self.view_is
     ((rw c.in-Ok-None.field-0-is at c.in-Ok-None.ensures.stands) refl)
 
--- `search` finds these by itself. They are named since must-fail edits fail here, and a goal without an answer that
--- fails takes much longer to be told (CONTRIBUTING.md).
+-- Named for the must-fail edits that fail here: `search` finds it unasked (CONTRIBUTING.md).
 pub returns-in-Ok-None-clause-foreign : goal.returns-in-Ok-None-clause-foreign
 returns-in-Ok-None-clause-foreign g c = search rules
 

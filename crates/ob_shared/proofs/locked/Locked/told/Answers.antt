@@ -42,7 +42,6 @@ returns-in_ok-settling-in-Some-Settled-clause-frugal g c = λ freely refused.
     let free = copied_freely c.args.self.now.records c.args.id one.place one there found.ensures.settles freely in
     absurd (cc (c.receipt.ensures.succeeds free, ap is_ok refused))
 
--- `search` finds this by itself. It is named since a must-fail edit fails here, and a goal without an answer that fails
--- takes much longer to be told (CONTRIBUTING.md).
+-- Named for the must-fail edits that fail here: `search` finds it unasked (CONTRIBUTING.md).
 pub returns-in_ok-settling-in-Some-Settled-clause-told : goal.returns-in_ok-settling-in-Some-Settled-clause-told
 returns-in_ok-settling-in-Some-Settled-clause-told g c = search rules

@@ -1,8 +1,7 @@
 use Rattle.std.proofs.Common.{rules}
 use Rattle.ob_shared.proofs.opening.Opening.begin.Goals as goal
 
--- `search` finds these by itself. They are named since must-fail edits fail here, and a goal without an answer that
--- fails takes much longer to be told (CONTRIBUTING.md).
+-- Named for the must-fail edits that fail here: `search` finds it unasked (CONTRIBUTING.md).
 pub new-locked-requires-clause-opened : goal.new-locked-requires-clause-opened
 new-locked-requires-clause-opened g c = search rules
 

@@ -1,8 +1,7 @@
 use Rattle.std.proofs.Common.{rules}
 use Rattle.ob_shared.proofs.share.Share.count.Goals as goal
 
--- `search` finds these by itself. They are named since a must-fail edit fails here, and a goal without an answer that
--- fails takes much longer to be told (CONTRIBUTING.md).
+-- Named for the must-fail edits that fail here: `search` finds it unasked (CONTRIBUTING.md).
 pub invariant_of-self : goal.invariant_of-self
 invariant_of-self g c = search rules
 

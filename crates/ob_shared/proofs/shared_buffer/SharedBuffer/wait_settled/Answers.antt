@@ -5,8 +5,7 @@ pub returns-in-Some-told-clause-settled : goal.returns-in-Some-told-clause-settl
 returns-in-Some-told-clause-settled g c = rw (c.new.ensures.history, ← c.deref.ensures)
     (λ known unsettled. absurd (cc (c.in-Some-told.ensures.waits.1 (known, unsettled))))
 
--- `search` finds these by itself. They are named since must-fail edits fail here, and a goal without an answer that
--- fails takes much longer to be told (CONTRIBUTING.md).
+-- Named for the must-fail edits that fail here: `search` finds it unasked (CONTRIBUTING.md).
 pub returns-in-Some-told-clause-unknown : goal.returns-in-Some-told-clause-unknown
 returns-in-Some-told-clause-unknown g c = search rules
 
