@@ -3,11 +3,12 @@
 ghost use Rattle.std.specs.Prelude.{◌<◌, ◌≤◌};
 ghost use Rattle.ob_history.specs.History.{most_records};
 
-use crate::{Receipt, Recorded, Seen};
+use crate::{As, Booked, Receipt, Recorded, Seen};
 use bytes::Bytes;
+use ob_seq::{Buffer, Look};
 use ob_types::{Answer, Command, Estimate, Message, Outcome, PromiseId, Refusal, WaterMark};
 use std::alloc::{AllocError, Global};
-use std::test::Fail;
+use std::process::Abort;
 
 /// An empty buffer with a place for so many records.
 pub fn recorded(alloc: Global, limit: u32) -> Result<Recorded, Refusal>
@@ -26,6 +27,8 @@ pub fn recorded(alloc: Global, limit: u32) -> Result<Recorded, Refusal>
 pub enum Given {
     /// A write of a block of so many bytes.
     Block(usize),
+    /// A write of a message that is neither a block nor a region.
+    Other(u32),
     Flush,
     Remove,
     RemoveBytes(u64),
@@ -37,6 +40,7 @@ impl Given {
     pub fn command(self, alloc: Global) -> Result<Command, AllocError> {
         Ok(match self {
             Given::Block(length) => Command::Write(block(alloc, length)?),
+            Given::Other(value) => Command::Write(Message::Other(value)),
             Given::Flush => Command::Flush,
             Given::Remove => Command::Remove,
             Given::RemoveBytes(count) => Command::RemoveBytes(count),
@@ -51,7 +55,7 @@ fn block(alloc: Global, length: usize) -> Result<Message, AllocError> {
 }
 
 /// What a call comes to.
-#[derive(Clone, Copy, Debug, PartialEq, Eq)]
+#[derive(Clone, Copy, PartialEq, Eq)]
 pub enum Comes {
     /// A record in this place, with this answer of the buffer.
     Answer(u32, Answer),
@@ -61,7 +65,25 @@ pub enum Comes {
     Nothing(Refusal),
 }
 
-/// A step, and what it comes to.
+/// A receipt that is handed in.
+#[derive(Clone, Copy)]
+pub enum Held {
+    /// That of this call.
+    Of(usize),
+    /// That of this call, but that it tells of a flush.
+    Forged(usize),
+    /// That of this call, but that it names this place.
+    At(usize, u32),
+}
+
+/// A look that is handed in: behind so many steps it was seen, and this place is told of it.
+#[derive(Clone, Copy)]
+pub struct Told {
+    pub steps: usize,
+    pub place: u32,
+}
+
+/// A step, and what it comes to. A table of steps is a static, since the prover makes a constant anew where it is named.
 #[derive(Clone, Copy)]
 pub enum Step {
     /// This caller gives this.
@@ -70,111 +92,290 @@ pub enum Step {
     Reserve(u32, Result<(), Refusal>),
     /// How many promises this would settle now.
     Settles(Given, u32),
+    /// What the calls settled, in order.
+    Settled(&'static [(PromiseId, Outcome)]),
     /// Place and caller of the record that settles the promise of this id, and there is one.
     Settling(u32, Option<(u32, u32)>),
+    /// Who made the calls, in order.
+    Callers(&'static [u32]),
+    /// How many records there are, and what a look at the buffer shows.
+    Sees(u32, Look),
+    /// Whether this look is of the history at this place.
+    CheckSeen(u32, Look, bool),
+    /// Whether this receipt is of the history.
+    Check(Held, bool),
+    /// The index of the first receipt that is not of the history, or whose copy is not.
+    OtherReceipt(Option<usize>),
+    /// Of receipts that this caller hands in, the index of the first that is not its own, and of the first that is of no
+    /// record.
+    ForeignReceipt(u32, &'static [Held], Option<usize>, Option<usize>),
+    /// The index of the first of these looks that is not of the history.
+    ForeignLook(&'static [Told], Option<usize>),
+}
+
+/// Plays the steps on a new buffer with a place for so many records, and on another by the calls of `Booked`, and wants
+/// each to come to what its row says.
+pub fn plays(rt: &impl Abort, alloc: Global, limit: u32, steps: &[Step])
+    requires some_record { 0 < limit }
+    requires few_records { limit ≤ most_records }
+{
+    let recorded = first_other(alloc, limit, Way::Recorded, steps);
+    let booked = first_other(alloc, limit, Way::Booked, steps);
+    assert_eq!(rt; (recorded, booked), (Ok(None), Ok(None)));
+}
+
+/// Plays the steps on a new buffer, up to the first that comes to something else: its index. A row that names a call or a
+/// look that is not there is an `UnknownPromise`.
+fn first_other(
+    alloc: Global,
+    limit: u32,
+    way: Way,
+    steps: &[Step],
+) -> Result<Option<usize>, Refusal>
+    requires some_record { 0 < limit }
+    requires few_records { limit ≤ most_records }
+{
+    let booked = As {
+        recorded: recorded(alloc, limit)?,
+        caller: 0,
+    };
+    let mut played = Played {
+        way,
+        booked,
+        receipts: Vec::new(alloc),
+        seen: Vec::new(alloc),
+    };
+    played.first_other(steps)
+}
+
+/// Whose calls are made.
+#[derive(Clone, Copy)]
+enum Way {
+    Recorded,
+    Booked,
+}
+
+impl Way {
+    fn call(self, booked: &mut As, caller: u32, command: Command) -> Result<Receipt, Refusal> {
+        match self {
+            Way::Recorded => booked.recorded.call(caller, command),
+            Way::Booked => {
+                booked.caller = caller;
+                booked.call(command)
+            }
+        }
+    }
+
+    fn reserve(self, booked: &mut As, count: u32) -> Result<(), Refusal> {
+        match self {
+            Way::Recorded => booked.recorded.reserve(count),
+            Way::Booked => booked.reserve(count),
+        }
+    }
+
+    fn buffer(self, booked: &As) -> &Buffer {
+        match self {
+            Way::Recorded => booked.recorded.buffer(),
+            Way::Booked => booked.buffer(),
+        }
+    }
 }
 
 /// A recorded buffer, and what was seen of it.
 #[derive(Drop)]
-pub struct Played {
-    pub recorded: Recorded,
+struct Played {
+    way: Way,
+    booked: As,
     /// The receipts of its calls, in order.
-    pub receipts: Vec<Receipt>,
-    /// What was seen before the first step, and behind each.
-    pub seen: Vec<Seen>,
+    receipts: Vec<Receipt>,
+    /// What was seen before each step.
+    seen: Vec<Seen>,
 }
 
 impl Played {
-    pub fn new(alloc: Global, limit: u32) -> Result<Played, Fail>
-        requires some_record { 0 < limit }
-        requires few_records { limit ≤ most_records }
-    {
-        let recorded = recorded(alloc, limit)?;
-        let seen = vec![in alloc; recorded.look()]?;
-        Ok(Played {
-            recorded,
-            receipts: Vec::new(alloc),
-            seen,
-        })
-    }
-
-    /// Plays the steps, up to the first that comes to something else: its index.
-    pub fn first_other(&mut self, steps: &[Step]) -> Result<Option<usize>, Fail> {
+    fn first_other(&mut self, steps: &[Step]) -> Result<Option<usize>, Refusal> {
         for (index, step) in steps.iter().enumerate() {
+            self.seen.push(self.booked.recorded.look())?;
             if !self.comes(*step)? {
                 return Ok(Some(index));
             }
-            self.seen.push(self.recorded.look())?;
         }
         Ok(None)
     }
 
     /// Whether a step comes to what its row says.
-    fn comes(&mut self, step: Step) -> Result<bool, Fail> {
-        Ok(match step {
-            Step::Call(caller, given, comes) => self.call(caller, given)? == comes,
-            Step::Reserve(count, answer) => self.recorded.reserve(count) == answer,
-            Step::Settles(given, count) => self.settles(given)? == count,
-            Step::Settling(id, found) => self.settling(PromiseId(id))? == found,
-        })
+    fn comes(&mut self, step: Step) -> Result<bool, Refusal> {
+        match step {
+            Step::Call(caller, given, comes) => self.call(caller, given, comes),
+            Step::Reserve(count, answer) => {
+                Ok(self.way.reserve(&mut self.booked, count) == answer)
+            }
+            _ => self.shows(step),
+        }
     }
 
-    fn call(&mut self, caller: u32, given: Given) -> Result<Comes, Fail> {
+    /// Whether the history and its buffer show what a row says.
+    fn shows(&self, step: Step) -> Result<bool, Refusal> {
+        match step {
+            Step::Settles(given, count) => self.settles(given, count),
+            Step::Settled(settled) => Ok(self.has_settled(settled)),
+            Step::Settling(id, found) => self.settling(PromiseId(id), found),
+            Step::Callers(callers) => Ok(self.has_callers(callers)),
+            Step::Sees(place, look) => Ok(self.sees(place, look)),
+            _ => self.finds(step),
+        }
+    }
+
+    /// Whether what is handed in is of the history, or is not, as a row says.
+    fn finds(&self, step: Step) -> Result<bool, Refusal> {
+        match step {
+            Step::CheckSeen(place, look, is_of) => self.check_seen(place, look, is_of),
+            Step::Check(held, is_of) => self.check(held, is_of),
+            Step::OtherReceipt(index) => self.other_receipt(index),
+            Step::ForeignReceipt(caller, held, foreign, untold) => {
+                self.foreign_receipt(caller, held, (foreign, untold))
+            }
+            Step::ForeignLook(told, foreign) => self.foreign_look(told, foreign),
+            _ => Ok(false),
+        }
+    }
+
+    fn call(&mut self, caller: u32, given: Given, comes: Comes) -> Result<bool, Refusal> {
         let command = given.command(*self.receipts.allocator())?;
-        Ok(match self.recorded.call(caller, command) {
-            Ok(receipt) => self.keep(receipt)?,
-            Err(refusal) => Comes::Nothing(refusal),
-        })
+        match self.way.call(&mut self.booked, caller, command) {
+            Ok(receipt) => self.keep(receipt, comes),
+            Err(refusal) => Ok(comes == Comes::Nothing(refusal)),
+        }
     }
 
-    fn keep(&mut self, receipt: Receipt) -> Result<Comes, Fail> {
-        let comes = match &receipt.reply {
+    /// Keeps the receipt of a call, and tells whether the call came to this.
+    fn keep(&mut self, receipt: Receipt, comes: Comes) -> Result<bool, Refusal> {
+        let came = match &receipt.reply {
             Ok(reply) => Comes::Answer(receipt.place, reply.answer),
             Err(refusal) => Comes::Refusal(receipt.place, *refusal),
         };
         self.receipts.push(receipt)?;
-        Ok(comes)
+        Ok(came == comes)
     }
 
-    fn settles(&self, given: Given) -> Result<u32, AllocError> {
+    fn settles(&self, given: Given, count: u32) -> Result<bool, Refusal> {
         let command = given.command(*self.receipts.allocator())?;
-        Ok(self.recorded.buffer().settles(&command))
+        Ok(self.way.buffer(&self.booked).settles(&command) == count)
     }
 
-    /// Place and caller of a settling record, whose receipt has to be of the history.
-    fn settling(&self, id: PromiseId) -> Result<Option<(u32, u32)>, Fail> {
-        let Some(one) = self.recorded.settling(id) else {
-            return Ok(None);
-        };
-        if !self.recorded.check(&one.receipt()?) {
-            return Err(Fail::from("a settling record with another receipt"));
+    fn has_settled(&self, settled: &[(PromiseId, Outcome)]) -> bool {
+        let mut rest = settled;
+        for receipt in &self.receipts {
+            let Some(later) = rest.strip_prefix(settled_by(receipt)) else {
+                return false;
+            };
+            rest = later;
         }
-        Ok(Some((one.place, one.caller)))
+        rest.is_empty()
     }
 
-    /// The index of the first receipt that is not of the history, or whose copy is not.
-    pub fn first_other_receipt(&self) -> Result<Option<usize>, AllocError> {
-        for (index, receipt) in self.receipts.iter().enumerate() {
-            if !self.keeps(receipt)? {
-                return Ok(Some(index));
+    /// Whether this is found of a promise, and the receipt of a settling record is of the history.
+    fn settling(&self, id: PromiseId, found: Option<(u32, u32)>) -> Result<bool, Refusal> {
+        let Some(one) = self.booked.recorded.settling(id) else {
+            return Ok(found.is_none());
+        };
+        let receipt = one.receipt()?;
+        Ok(self.booked.recorded.check(&receipt) && found == Some((one.place, one.caller)))
+    }
+
+    fn has_callers(&self, callers: &[u32]) -> bool {
+        let records = self.booked.recorded.records();
+        for (index, one) in records.iter().enumerate() {
+            if callers.get(index) != Some(&one.caller) {
+                return false;
             }
         }
-        Ok(None)
+        records.len() == callers.len()
+    }
+
+    fn sees(&self, place: u32, look: Look) -> bool {
+        let seen = self.booked.recorded.look();
+        seen == Seen { place, look } && self.way.buffer(&self.booked).look() == look
+    }
+
+    fn check_seen(&self, place: u32, look: Look, is_of: bool) -> Result<bool, Refusal> {
+        let answer = self.booked.recorded.check_seen(&Seen { place, look })?;
+        Ok(answer == is_of)
+    }
+
+    fn check(&self, held: Held, is_of: bool) -> Result<bool, Refusal> {
+        let receipt = self.receipt(held)?;
+        Ok(self.booked.recorded.check(&receipt) == is_of)
+    }
+
+    fn other_receipt(&self, other: Option<usize>) -> Result<bool, Refusal> {
+        for (index, receipt) in self.receipts.iter().enumerate() {
+            if !self.keeps(receipt)? {
+                return Ok(other == Some(index));
+            }
+        }
+        Ok(other.is_none())
     }
 
     /// Whether a receipt and its copy are of the history.
-    fn keeps(&self, receipt: &Receipt) -> Result<bool, AllocError> {
+    fn keeps(&self, receipt: &Receipt) -> Result<bool, Refusal> {
         let copy = receipt.copy()?;
-        Ok(self.recorded.check(receipt) && self.recorded.check(&copy))
+        Ok(self.booked.recorded.check(receipt) && self.booked.recorded.check(&copy))
     }
 
-    /// What the calls settled, in order.
-    pub fn settled(&self) -> Result<Vec<(PromiseId, Outcome)>, AllocError> {
-        let mut settled = Vec::new(*self.receipts.allocator());
-        for receipt in &self.receipts {
-            settled.extend_from_slice(settled_by(receipt))?;
+    fn foreign_receipt(
+        &self,
+        caller: u32,
+        held: &[Held],
+        found: (Option<usize>, Option<usize>),
+    ) -> Result<bool, Refusal> {
+        let receipts = self.handed_in(held)?;
+        let recorded = &self.booked.recorded;
+        let foreign = recorded.first_foreign_receipt(caller, &receipts);
+        Ok((foreign, recorded.first_foreign_told(&receipts)) == found)
+    }
+
+    fn handed_in(&self, held: &[Held]) -> Result<Vec<Receipt>, Refusal> {
+        let mut receipts = Vec::new(*self.receipts.allocator());
+        for one in held {
+            receipts.push(self.receipt(*one)?)?;
         }
-        Ok(settled)
+        Ok(receipts)
+    }
+
+    fn receipt(&self, held: Held) -> Result<Receipt, Refusal> {
+        let (Held::Of(call) | Held::Forged(call) | Held::At(call, _)) = held;
+        let Some(receipt) = self.receipts.get(call) else {
+            return Err(Refusal::UnknownPromise);
+        };
+        let mut receipt = receipt.copy()?;
+        match held {
+            Held::Of(_) => {}
+            Held::Forged(_) => receipt.command = Command::Flush,
+            Held::At(_, place) => receipt.place = place,
+        }
+        Ok(receipt)
+    }
+
+    fn foreign_look(&self, told: &[Told], foreign: Option<usize>) -> Result<bool, Refusal> {
+        let looks = self.looks(told)?;
+        Ok(self.booked.recorded.first_foreign_seen(&looks)? == foreign)
+    }
+
+    fn looks(&self, told: &[Told]) -> Result<Vec<Seen>, Refusal> {
+        let mut looks = Vec::new(*self.receipts.allocator());
+        for one in told {
+            looks.push(self.look(*one)?)?;
+        }
+        Ok(looks)
+    }
+
+    fn look(&self, told: Told) -> Result<Seen, Refusal> {
+        let place = told.place;
+        match self.seen.get(told.steps) {
+            Some(Seen { look, .. }) => Ok(Seen { place, look: *look }),
+            None => Err(Refusal::UnknownPromise),
+        }
     }
 }
 
@@ -183,13 +384,4 @@ fn settled_by(receipt: &Receipt) -> &[(PromiseId, Outcome)] {
         Ok(reply) => reply.settled.as_slice(),
         Err(_) => &[],
     }
-}
-
-/// Who made the calls of a history, in order.
-pub fn callers(alloc: Global, recorded: &Recorded) -> Result<Vec<u32>, Fail> {
-    let mut callers = Vec::new(alloc);
-    for kept in recorded.records() {
-        callers.push(kept.caller)?;
-    }
-    Ok(callers)
 }

@@ -11,12 +11,29 @@ fn flush(rt: &impl Wait, shared: &Mutex<Recorded>, caller: u32) -> Result<Receip
     shared.lock(rt).call(caller, Command::Flush)
 }
 
+/// Whether a call answered a receipt of the history.
+fn is_of(recorded: &Recorded, answer: Result<Receipt, Refusal>) -> Result<bool, Refusal> {
+    Ok(recorded.check(&answer?))
+}
+
+/// Of two calls, whether each answered a receipt of the history, and how many calls are recorded.
+fn told(
+    recorded: Recorded,
+    one: Result<Receipt, Refusal>,
+    other: Result<Receipt, Refusal>,
+) -> (Result<bool, Refusal>, Result<bool, Refusal>, usize) {
+    (
+        is_of(&recorded, one),
+        is_of(&recorded, other),
+        recorded.records().len(),
+    )
+}
+
 #[test]
 fn a_locked_history_crosses_threads(rt: HostRuntime) -> Result<(), Fail> {
     let shared = Mutex::new(recorded(rt.alloc(), 2)?);
     let (one, other) = thread::join(&rt, || flush(&rt, &shared, 0), || flush(&rt, &shared, 1));
-    let recorded = shared.into_inner();
-    let checked = (recorded.check(&one?), recorded.check(&other?));
-    assert_eq!(rt; (checked, recorded.records().len()), ((true, true), 2));
+    let told = told(shared.into_inner(), one, other);
+    assert_eq!(rt; told, (Ok(true), Ok(true), 2));
     Ok(())
 }
