@@ -279,8 +279,7 @@ impl Played {
         let Some(one) = self.booked.recorded.settling(id) else {
             return Ok(found.is_none());
         };
-        let receipt = one.receipt()?;
-        Ok(self.booked.recorded.check(&receipt) && found == Some((one.place, one.caller)))
+        Ok(is_kept(&self.booked.recorded, one.receipt()?) && found == Some((one.place, one.caller)))
     }
 
     fn has_callers(&self, callers: &[u32]) -> bool {
@@ -304,8 +303,7 @@ impl Played {
     }
 
     fn check(&self, held: Held, is_of: bool) -> Result<bool, Refusal> {
-        let receipt = self.receipt(held)?;
-        Ok(self.booked.recorded.check(&receipt) == is_of)
+        Ok(is_kept(&self.booked.recorded, self.receipt(held)?) == is_of)
     }
 
     fn other_receipt(&self, other: Option<usize>) -> Result<bool, Refusal> {
@@ -319,8 +317,8 @@ impl Played {
 
     /// Whether a receipt and its copy are of the history.
     fn keeps(&self, receipt: &Receipt) -> Result<bool, Refusal> {
-        let copy = receipt.copy()?;
-        Ok(self.booked.recorded.check(receipt) && self.booked.recorded.check(&copy))
+        let recorded = &self.booked.recorded;
+        Ok(recorded.check(receipt) && is_kept(recorded, receipt.copy()?))
     }
 
     fn foreign_receipt(
@@ -384,4 +382,9 @@ fn settled_by(receipt: &Receipt) -> &[(PromiseId, Outcome)] {
         Ok(reply) => reply.settled.as_slice(),
         Err(_) => &[],
     }
+}
+
+/// Whether a receipt is of the history. It is dropped here, so that the prover follows that drop in one function.
+pub fn is_kept(recorded: &Recorded, receipt: Receipt) -> bool {
+    recorded.check(&receipt)
 }

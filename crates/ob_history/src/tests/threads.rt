@@ -1,6 +1,6 @@
 //! A recorded buffer behind a lock, which two threads take in turn.
 
-use crate::tests::played::recorded;
+use crate::tests::played::{is_kept, recorded};
 use crate::{Receipt, Recorded};
 use ob_types::{Command, Refusal};
 use std::sync::{Mutex, Wait};
@@ -12,8 +12,8 @@ fn flush(rt: &impl Wait, shared: &Mutex<Recorded>, caller: u32) -> Result<Receip
 }
 
 /// Whether a call answered a receipt of the history.
-fn is_of(recorded: &Recorded, answer: Result<Receipt, Refusal>) -> Result<bool, Refusal> {
-    Ok(recorded.check(&answer?))
+fn answers_kept(recorded: &Recorded, answer: Result<Receipt, Refusal>) -> Result<bool, Refusal> {
+    Ok(is_kept(recorded, answer?))
 }
 
 /// Of two calls, whether each answered a receipt of the history, and how many calls are recorded.
@@ -23,8 +23,8 @@ fn told(
     other: Result<Receipt, Refusal>,
 ) -> (Result<bool, Refusal>, Result<bool, Refusal>, usize) {
     (
-        is_of(&recorded, one),
-        is_of(&recorded, other),
+        answers_kept(&recorded, one),
+        answers_kept(&recorded, other),
         recorded.records().len(),
     )
 }
