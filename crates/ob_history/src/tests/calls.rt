@@ -4,19 +4,8 @@ use crate::tests::played::Given::{Block, Cancel, Flush, Other, Progress, Remove,
 use crate::tests::played::Step::{
     Call, Callers, Check, CheckSeen, OtherReceipt, Reserve, Sees, Settled, Settles, Settling,
 };
-use crate::tests::played::{Comes, Held, Step, plays};
-use ob_seq::Look;
+use crate::tests::played::{Comes, EMPTY, Held, Step, plays};
 use ob_types::{Answer, Outcome, PromiseId, Refusal};
-
-/// What is seen of an empty buffer.
-const EMPTY: Look = Look {
-    total: 0,
-    word: 0,
-    size: 0,
-    before_unwritable: 65537,
-    before_writable: 0,
-    current_progress: 0,
-};
 
 /// Three places: more are not reserved, and a fourth call is refused, whatever it is. A receipt of the first call is of
 /// the history at the first place alone, and so is a look at an empty buffer.

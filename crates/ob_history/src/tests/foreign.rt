@@ -1,9 +1,11 @@
 //! Receipts and looks that are handed in, and the first of them that is foreign.
 
+use crate::Seen;
 use crate::tests::played::Given::{Block, Flush, Remove};
 use crate::tests::played::Held::{Forged, Of};
-use crate::tests::played::Step::{Call, ForeignLook, ForeignReceipt};
-use crate::tests::played::{Comes, Step, Told, plays};
+use crate::tests::played::Step::{Call, ForeignLook, ForeignReceipt, Sees};
+use crate::tests::played::{Comes, EMPTY, Step, plays};
+use ob_seq::Look;
 use ob_types::{Answer, PromiseId};
 
 /// A block is written by one caller, flushed and removed by another.
@@ -28,31 +30,53 @@ fn the_first_foreign_receipt_is_found(rt: HostRuntime) {
     plays(&rt, rt.alloc(), 3, &RECEIPTS);
 }
 
-/// Looks before and behind a write and a flush.
-static LOOKS: [Step; 5] = [
+/// What is seen of a buffer behind the write of four bytes: its message takes 96 more.
+const WRITTEN: Look = Look {
+    total: 100,
+    before_unwritable: 65437,
+    ..EMPTY
+};
+
+/// What is seen once it is flushed.
+const FLUSHED: Look = Look { size: 1, ..WRITTEN };
+
+const START: Seen = Seen {
+    place: 0,
+    look: EMPTY,
+};
+
+const BEHIND_WRITE: Seen = Seen {
+    place: 1,
+    look: WRITTEN,
+};
+
+const BEHIND_FLUSH: Seen = Seen {
+    place: 2,
+    look: FLUSHED,
+};
+
+/// What was not yet to be seen at its place.
+const TOO_EARLY: Seen = Seen {
+    place: 1,
+    look: FLUSHED,
+};
+
+/// A look behind more calls than are recorded.
+const TOO_FAR: Seen = Seen {
+    place: 3,
+    look: FLUSHED,
+};
+
+static LOOKS: [Step; 8] = [
+    Sees(0, EMPTY),
     Call(1, Block(4), Comes::Answer(0, Answer::Id(PromiseId(0)))),
+    Sees(1, WRITTEN),
     Call(1, Flush, Comes::Answer(1, Answer::Count(1))),
+    Sees(2, FLUSHED),
     // Each at its place, in any order.
-    ForeignLook(
-        &[
-            Told { steps: 2, place: 2 },
-            Told { steps: 0, place: 0 },
-            Told { steps: 1, place: 1 },
-        ],
-        None,
-    ),
-    // One that was not yet to be seen at its place.
-    ForeignLook(
-        &[
-            Told { steps: 0, place: 0 },
-            Told { steps: 1, place: 1 },
-            Told { steps: 2, place: 1 },
-            Told { steps: 2, place: 2 },
-        ],
-        Some(2),
-    ),
-    // One behind more calls than are recorded.
-    ForeignLook(&[Told { steps: 2, place: 3 }], Some(0)),
+    ForeignLook(&[BEHIND_FLUSH, START, BEHIND_WRITE], None),
+    ForeignLook(&[START, BEHIND_WRITE, TOO_EARLY, BEHIND_FLUSH], Some(2)),
+    ForeignLook(&[TOO_FAR], Some(0)),
 ];
 
 #[test]

@@ -22,6 +22,16 @@ pub fn recorded(alloc: Global, limit: u32) -> Result<Recorded, Refusal>
     Ok(Recorded::new(alloc, WaterMark::new(32768, 65536)?, estimate, limit))
 }
 
+/// What is seen of an empty buffer.
+pub const EMPTY: Look = Look {
+    total: 0,
+    word: 0,
+    size: 0,
+    before_unwritable: 65537,
+    before_writable: 0,
+    current_progress: 0,
+};
+
 /// What a caller gives to a buffer.
 #[derive(Clone, Copy)]
 pub enum Given {
@@ -76,13 +86,6 @@ pub enum Held {
     At(usize, u32),
 }
 
-/// A look that is handed in: behind so many steps it was seen, and this place is told of it.
-#[derive(Clone, Copy)]
-pub struct Told {
-    pub steps: usize,
-    pub place: u32,
-}
-
 /// A step, and what it comes to. A table of steps is a static, since the prover makes a constant anew where it is named.
 #[derive(Clone, Copy)]
 pub enum Step {
@@ -110,7 +113,7 @@ pub enum Step {
     /// record.
     ForeignReceipt(u32, &'static [Held], Option<usize>, Option<usize>),
     /// The index of the first of these looks that is not of the history.
-    ForeignLook(&'static [Told], Option<usize>),
+    ForeignLook(&'static [Seen], Option<usize>),
 }
 
 /// Plays the steps on a new buffer with a place for so many records, and on another by the calls of `Booked`, and wants
@@ -124,8 +127,8 @@ pub fn plays(rt: &impl Abort, alloc: Global, limit: u32, steps: &[Step])
     assert_eq!(rt; (recorded, booked), (Ok(None), Ok(None)));
 }
 
-/// Plays the steps on a new buffer, up to the first that comes to something else: its index. A row that names a call or a
-/// look that is not there is an `UnknownPromise`.
+/// Plays the steps on a new buffer, up to the first that comes to something else: its index. A row that names a call which
+/// has no receipt is an `UnknownPromise`.
 fn first_other(
     alloc: Global,
     limit: u32,
@@ -143,7 +146,6 @@ fn first_other(
         way,
         booked,
         receipts: Vec::new(alloc),
-        seen: Vec::new(alloc),
     };
     played.first_other(steps)
 }
@@ -181,21 +183,18 @@ impl Way {
     }
 }
 
-/// A recorded buffer, and what was seen of it.
+/// A recorded buffer, and what its calls answered.
 #[derive(Drop)]
 struct Played {
     way: Way,
     booked: As,
     /// The receipts of its calls, in order.
     receipts: Vec<Receipt>,
-    /// What was seen before each step.
-    seen: Vec<Seen>,
 }
 
 impl Played {
     fn first_other(&mut self, steps: &[Step]) -> Result<Option<usize>, Refusal> {
         for (index, step) in steps.iter().enumerate() {
-            self.seen.push(self.booked.recorded.look())?;
             if !self.comes(*step)? {
                 return Ok(Some(index));
             }
@@ -235,7 +234,7 @@ impl Played {
             Step::ForeignReceipt(caller, held, foreign, untold) => {
                 self.foreign_receipt(caller, held, (foreign, untold))
             }
-            Step::ForeignLook(told, foreign) => self.foreign_look(told, foreign),
+            Step::ForeignLook(looks, foreign) => self.foreign_look(looks, foreign),
             _ => Ok(false),
         }
     }
@@ -355,25 +354,8 @@ impl Played {
         Ok(receipt)
     }
 
-    fn foreign_look(&self, told: &[Told], foreign: Option<usize>) -> Result<bool, Refusal> {
-        let looks = self.looks(told)?;
-        Ok(self.booked.recorded.first_foreign_seen(&looks)? == foreign)
-    }
-
-    fn looks(&self, told: &[Told]) -> Result<Vec<Seen>, Refusal> {
-        let mut looks = Vec::new(*self.receipts.allocator());
-        for one in told {
-            looks.push(self.look(*one)?)?;
-        }
-        Ok(looks)
-    }
-
-    fn look(&self, told: Told) -> Result<Seen, Refusal> {
-        let place = told.place;
-        match self.seen.get(told.steps) {
-            Some(Seen { look, .. }) => Ok(Seen { place, look: *look }),
-            None => Err(Refusal::UnknownPromise),
-        }
+    fn foreign_look(&self, looks: &[Seen], foreign: Option<usize>) -> Result<bool, Refusal> {
+        Ok(self.booked.recorded.first_foreign_seen(looks)? == foreign)
     }
 }
 
