@@ -86,7 +86,8 @@ pub enum Held {
     At(usize, u32),
 }
 
-/// A step, and what it comes to. A table of steps is a static, since the prover makes a constant anew where it is named.
+/// A step, and what it comes to. A table of steps is a static, since the prover makes a constant anew wherever it is
+/// named.
 #[derive(Clone, Copy)]
 pub enum Step {
     /// This caller gives this.
@@ -109,8 +110,8 @@ pub enum Step {
     Check(Held, bool),
     /// The index of the first receipt that is not of the history, or whose copy is not.
     OtherReceipt(Option<usize>),
-    /// Of receipts that this caller hands in, the index of the first that is not its own, and of the first that is of no
-    /// record.
+    /// Of receipts that this caller hands in, the index of the first that is not its own, and of the first that is of
+    /// no record.
     ForeignReceipt(u32, &'static [Held], Option<usize>, Option<usize>),
     /// The index of the first of these looks that is not of the history.
     ForeignLook(&'static [Seen], Option<usize>),
@@ -127,8 +128,8 @@ pub fn plays(rt: &impl Abort, alloc: Global, limit: u32, steps: &[Step])
     assert_eq!(rt; (recorded, booked), (Ok(None), Ok(None)));
 }
 
-/// Plays the steps on a new buffer, up to the first that comes to something else: its index. A row that names a call which
-/// has no receipt is an `UnknownPromise`.
+/// Plays the steps on a new buffer, up to the first that comes to something else: its index. A row that names a call
+/// which has no receipt is an `UnknownPromise`.
 fn first_other(
     alloc: Global,
     limit: u32,
