@@ -5,16 +5,12 @@ use crate::tests::steps::Order::{Cancel, Flush, Progress, Remove, RemoveBytes};
 use crate::tests::steps::Piece::{Block, Other, Region};
 use crate::tests::steps::Said::{Answers, Refused, Settles};
 use crate::tests::steps::Step::{Flushed, Gather, Give, Promise, Shows, Write};
-use crate::tests::steps::{Said, Story, hold};
+use crate::tests::steps::{Said, Story, UNWRITABLE, WRITABLE, hold};
 use ob_types::Answer::{Count, Done, Id, Yes};
 use ob_types::Outcome::{Cancelled, Success};
 use ob_types::Refusal::TooManyBytes;
-use ob_types::{Change, PromiseId, PromiseState};
+use ob_types::{PromiseId, PromiseState};
 use std::test::Fail;
-
-const UNWRITABLE: Option<Change> = Some(Change::Unwritable);
-
-const WRITABLE: Option<Change> = Some(Change::Writable);
 
 const BOTH: Said = Settles(Count(2), &[0, 1], Success);
 

@@ -5,32 +5,19 @@ use crate::tests::steps::Order::{Cancel, Flush, Progress, Remove, RemoveWith};
 use crate::tests::steps::Piece::{Block, Region};
 use crate::tests::steps::Said::{Answers, Refused, Settles};
 use crate::tests::steps::Step::{Current, Give, Promise, Shows, Write};
-use crate::tests::steps::{Piece, Said, Story, hold};
+use crate::tests::steps::{EMPTY, Piece, Said, Story, UNWRITABLE, WRITABLE, hold};
 use ob_types::Answer::{Count, Done, Id, Yes};
 use ob_types::Outcome::{Cancelled, Failed, Success};
 use ob_types::PromiseState::{Fixed, Settled, Waiting};
 use ob_types::Refusal::{NothingFlushed, Oversize, UnknownPromise};
-use ob_types::{Cause, Change, PromiseId};
+use ob_types::{Cause, PromiseId};
 use std::test::Fail;
-
-const UNWRITABLE: Option<Change> = Some(Change::Unwritable);
-
-const WRITABLE: Option<Change> = Some(Change::Writable);
 
 const TOO_LONG: Piece = Region(9223372036854775808);
 
 const CANCELLED: Said = Settles(Yes(true), &[0], Cancelled);
 
 const GIVEN_UP: Said = Settles(Yes(true), &[0], Failed(Cause(9)));
-
-const EMPTY: Look = Look {
-    total: 0,
-    word: 0,
-    size: 0,
-    before_unwritable: 65537,
-    before_writable: 0,
-    current_progress: 0,
-};
 
 const FULL: Look = Look {
     total: 496,

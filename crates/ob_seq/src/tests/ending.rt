@@ -7,17 +7,13 @@ use crate::tests::steps::Order::{
 use crate::tests::steps::Piece::{Block, Other, Region};
 use crate::tests::steps::Said::{Answers, Refused, Settles};
 use crate::tests::steps::Step::{BitClear, Give, Promise, Shows, State, Write};
-use crate::tests::steps::{Piece, Said, Story, hold};
+use crate::tests::steps::{Piece, Said, Story, UNWRITABLE, WRITABLE, hold};
 use ob_types::Answer::{Count, Done, Id, Yes};
 use ob_types::Outcome::{Cancelled, Failed, Success};
 use ob_types::PromiseState::Settled;
 use ob_types::Refusal::{BadIndex, Closed, FlushedLeft};
-use ob_types::{Cause, Change, Outcome, PromiseId};
+use ob_types::{Cause, Outcome, PromiseId};
 use std::test::Fail;
-
-const UNWRITABLE: Option<Change> = Some(Change::Unwritable);
-
-const WRITABLE: Option<Change> = Some(Change::Writable);
 
 const CAUSE: Cause = Cause(7);
 

@@ -5,7 +5,7 @@ use crate::tests::steps::Order::{FailFlushed, Flush, Remove};
 use crate::tests::steps::Piece::{Other, Region};
 use crate::tests::steps::Said::{Answers, Refused, Settles, SettlesFirst};
 use crate::tests::steps::Step::{Cycles, Give, Promise, Regions, Shows, Write};
-use crate::tests::steps::{Said, Story};
+use crate::tests::steps::{EMPTY, Said, Story};
 use crate::tests::way::Way;
 use ob_types::Answer::{Count, Yes};
 use ob_types::Outcome::{Failed, Success};
@@ -32,22 +32,9 @@ const FULL: Look = Look {
     current_progress: 0,
 };
 
-const EMPTY: Look = Look {
-    total: 0,
-    word: 0,
-    size: 0,
-    before_unwritable: 65537,
-    before_writable: 0,
-    current_progress: 0,
-};
-
 const FLUSHED: Look = Look {
-    total: 0,
-    word: 0,
     size: MOST_WRITES,
-    before_unwritable: 65537,
-    before_writable: 0,
-    current_progress: 0,
+    ..EMPTY
 };
 
 static PAST_THE_LIMIT: Story = Story {

@@ -11,6 +11,22 @@ use std::alloc::{AllocError, Global};
 use std::process::Abort;
 use std::test::Fail;
 
+/// The change of a call that writers should stop after.
+pub const UNWRITABLE: Option<Change> = Some(Change::Unwritable);
+
+/// The change of a call that writers may go on after.
+pub const WRITABLE: Option<Change> = Some(Change::Writable);
+
+/// What is seen of an empty buffer with Netty's marks.
+pub const EMPTY: Look = Look {
+    total: 0,
+    word: 0,
+    size: 0,
+    before_unwritable: 65537,
+    before_writable: 0,
+    current_progress: 0,
+};
+
 /// Steps on a new buffer.
 #[derive(Clone, Copy)]
 pub struct Story {

@@ -8,7 +8,7 @@ returns-clause-answer g c = λ spared. rw (← c.self.view_is, ← c.caller.ensu
 pub returns-clause-after : goal.returns-clause-after
 returns-clause-after g c = λ spared. rw (← c.self.view_is, ← c.caller.ensures) (c.in_ok-receipt.ensures.after spared)
 
--- Named for the must-fail edits that fail here: `search` finds it unasked (CONTRIBUTING.md).
+-- Named for the must-fail edits that fail here (CONTRIBUTING.md).
 pub returns-clause-made : goal.returns-clause-made
 returns-clause-made g c = search rules
 
