@@ -2,16 +2,16 @@
 use Rattle.ob_seq.proofs.Words.{◌≡◌, ℕ, Bool, true, refl, ap, ◌∙◌, arith, None, nat_tests, Marks, Command, Write, Flush}
 use Rattle.ob_seq.proofs.Words.{Remove, RemoveWith, RemoveBytes, Progress, Cancel, FailFlushed, Close, UserBit, Success}
 use Rattle.ob_seq.proofs.Words.{Failed, Refusal, Cut, blocks_left, Pending, Settings, bit_step, front_taken, step_of}
-use Rattle.ob_seq.proofs.Words.{times, whole_cut, false, List, ◌<◌, length, Reply, answer_to, Accepts, Answers}
+use Rattle.ob_seq.proofs.Words.{times, whole_cut, false, List, ◌<◌, length, Reply, answer_to}
 use Rattle.ob_seq.proofs.Words.{StandsFor, SparesMemory, settled_by_step, ◌++◌, map, sym, append_assoc, append-nil}
 use Rattle.ob_seq.proofs.Words.{length-map, Count, Row, flushed_row, reached_row, rows_after, flush_step, next_flushed}
 use Rattle.ob_seq.proofs.Words.{[], ◌∷◌, map-append, counted_size, total, front, line, entry_of, progressed_row}
 use Rattle.ob_seq.proofs.Words.{with_front, outcome_of, first_changed, progress_step}
-use Rattle.std.specs.Prelude.{Result, Ok, Err, IsErrOf, OnErr}
+use Rattle.std.specs.Prelude.{Result, Ok, Err, IsErrOf}
 use Rattle.ob_types.specs.Limits.{inline_settlements}
 use Rattle.ob_types.specs.declared.refusal.Refusal.TheVariants.{NoMemory}
 use Rattle.ob_seq.specs.Answer.{commands_with, refusal_of_progress}
-use Rattle.ob_seq.specs.Pending.{Follows}
+use Rattle.ob_seq.specs.Pending.{Follows, Obeys}
 use Rattle.ob_seq.specs.Settles.{Settles}
 use Rattle.ob_seq.specs.Steps.{Step, answer_by, bytes_step, first_of_step, held_by, progressed_entry}
 use Rattle.ob_seq.proofs.Blocks.{few_entries}
@@ -188,13 +188,7 @@ module _ (command : Command) (old : Pending) where
         (same : ¬ IsErrOf result NoMemory → result ≡ answer_by old step)
         (last : IsErrOf result NoMemory → first_of_step old step ≡ None) where
       -- what a call promises that may want memory
-      pub called_wanting : record {
-        answer : ¬ IsErrOf result NoMemory → Answers told command result;
-        stands : Follows told command result new;
-        settings : new.settings ≡ told.settings;
-        refused : OnErr result (new ≡ told);
-        no_memory_last : IsErrOf result NoMemory → Accepts told command;
-      }
+      pub called_wanting : Obeys told command result new
       called_wanting = let stay = (simulated command old).settings in rw (← is, held) record {
         answer = λ other commands stands. same other ∙ answer_is commands stands;
         stands = follows result same;
@@ -205,33 +199,23 @@ module _ (command : Command) (old : Pending) where
 
       -- one that wants it only where it settles more promises than want none
       pub called_sparing : (IsErrOf result NoMemory → inline_settlements < length step.reply.settled) → record {
-        answer : ¬ IsErrOf result NoMemory → Answers told command result;
-        stands : Follows told command result new;
-        settings : new.settings ≡ told.settings;
-        refused : OnErr result (new ≡ told);
-        no_memory_last : IsErrOf result NoMemory → Accepts told command;
+        obeys : Obeys told command result new;
         spares : SparesMemory told command result;
       }
-      called_sparing many =
-          let all = called_wanting in
-          let sparing : SparesMemory told command result = rw (← is) (λ commands stands few wants.
-          let count : settled_by_step old step ≡ length step.reply.settled = rw (last wants) in
-          let same = settles commands stands in
-          let most = many wants in
-          absurd (omega arith)) in
-          assumption
+      called_sparing many = record {
+        obeys = called_wanting;
+        spares = rw (← is) (λ commands stands few wants.
+            let count : settled_by_step old step ≡ length step.reply.settled = rw (last wants) in
+            let same = settles commands stands in
+            let most = many wants in
+            absurd (omega arith));
+      }
 
     -- and one that never does
     pub called : {told : Pending} → old ≡ told →
         record { answer : result ≡ answer_by old step; after : new ≡ held_by old step result } →
-        ¬ IsErrOf result NoMemory → record {
-          answer : Answers told command result;
-          stands : Follows told command result new;
-          settings : new.settings ≡ told.settings;
-          refused : OnErr result (new ≡ told);
-          frugal : ¬ IsErrOf result NoMemory;
-        }
-    called is done frugal =
-        let all = called_wanting is done.after (λ wants. done.answer) (λ wants. absurd (frugal wants)) in
-        let answer = all.answer frugal in
-        assumption
+        ¬ IsErrOf result NoMemory → record { obeys : Obeys told command result new; frugal : ¬ IsErrOf result NoMemory }
+    called is done frugal = record {
+      obeys = called_wanting is done.after (λ wants. done.answer) (λ wants. absurd (frugal wants));
+      frugal = frugal;
+    }

@@ -1,5 +1,5 @@
 -- What a contract sees of a buffer, and the history that it stands for.
-use Rattle.std.specs.Prelude.{◌≡◌, ℕ, Bool, true, false, List, [], map, Result, Option}
+use Rattle.std.specs.Prelude.{◌≡◌, ℕ, Bool, true, false, List, [], map, Result, Option, IsErrOf, OnErr}
 use Rattle.ob_types.specs.WaterMark.{Marks}
 use Rattle.ob_types.specs.declared.command.Command.{Command}
 use Rattle.ob_types.specs.declared.command.Command.TheVariants.{Write, Flush, Remove, RemoveWith, RemoveBytes, Progress}
@@ -9,6 +9,7 @@ use Rattle.ob_types.specs.declared.promise.PromiseId.{PromiseId}
 use Rattle.ob_types.specs.declared.promise.PromiseState.{PromiseState}
 use Rattle.ob_types.specs.declared.reply.Reply.{Reply}
 use Rattle.ob_types.specs.declared.refusal.Refusal.{Refusal}
+use Rattle.ob_types.specs.declared.refusal.Refusal.TheVariants.{NoMemory}
 use Rattle.ob_seq.specs.Settings.{Settings}
 use Rattle.ob_seq.specs.MarksInForce.{marks_after}
 use Rattle.ob_seq.specs.Line.{line, unflushed}
@@ -61,6 +62,15 @@ Accepts old command = Gives old (λ settings commands. is_accepted settings comm
 abbrev pub Follows : Pending → Command → Result Reply Refusal → Pending → Type 0
 Follows old command result new =
     (commands : List Command) → StandsFor old commands → StandsFor new (commands_with commands command result)
+
+-- a buffer obeys a command where it gives the answer to it, unless memory is wanted, and then holds what follows; its
+-- settings stay, a refusal changes nothing, and memory is wanted only where the command is accepted
+pub record Obeys (old : Pending) (command : Command) (result : Result Reply Refusal) (new : Pending) : Type 0 where
+  pub answer : ¬ IsErrOf result NoMemory → Answers old command result
+  pub stands : Follows old command result new
+  pub settings : new.settings ≡ old.settings
+  pub refused : OnErr result (new ≡ old)
+  pub no_memory_last : IsErrOf result NoMemory → Accepts old command
 
 -- whatever history the buffer stands for, the look is the look after it
 abbrev pub Shows : Pending → Look → Type 0

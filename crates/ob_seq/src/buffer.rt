@@ -1,8 +1,8 @@
-ghost use Rattle.std.specs.Prelude.{◌≡◌, ◌≤◌, false, [], List, IsTrue, IsErrOf, OnErr};
+ghost use Rattle.std.specs.Prelude.{◌≡◌, ◌≤◌, false, [], List, IsTrue, IsErrOf};
 ghost use Rattle.ob_types.specs.Limits.{greatest_overhead, greatest_unknown};
 ghost use Rattle.ob_types.specs.Write.{is_write};
 ghost use Rattle.ob_types.specs.declared.command.Command.{Command};
-ghost use Rattle.ob_seq.specs.Pending.{StandsFor, Answers, Follows, Accepts, takes_no_memory};
+ghost use Rattle.ob_seq.specs.Pending.{StandsFor, Obeys, takes_no_memory};
 ghost use Rattle.ob_seq.specs.Settles.{SparesMemory};
 
 mod commands;
@@ -60,13 +60,9 @@ impl Buffer {
     /// `NoMemory` comes for a write, and for another command that settles more than four promises, where the allocator
     /// refused.
     pub fn apply(&mut self, command: Command) -> Result<Reply, Refusal>
-        ensures answer { ¬ IsErrOf result Refusal.NoMemory → Answers self.old command result }
-        ensures stands { Follows self.old command result self.new }
-        ensures settings { self.new.settings ≡ self.old.settings }
+        ensures obeys { Obeys self.old command result self.new }
 
-        // A refusal changes nothing. Memory is wanted by some commands alone, and only when nothing else refuses them.
-        ensures refused { OnErr result (self.new ≡ self.old) }
-        ensures no_memory_last { IsErrOf result Refusal.NoMemory → Accepts self.old command }
+        // Memory is wanted by some commands alone.
         ensures frugal { IsTrue (takes_no_memory command) → ¬ IsErrOf result Refusal.NoMemory }
         ensures spares { is_write command ≡ false → SparesMemory self.old command result }
     {

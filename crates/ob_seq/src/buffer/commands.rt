@@ -1,9 +1,9 @@
 //! One call for each command.
 
-ghost use Rattle.std.specs.Prelude.{◌≡◌, IsErrOf, OnErr};
+ghost use Rattle.std.specs.Prelude.{IsErrOf};
 ghost use Rattle.ob_types.specs.declared.command.Command.TheVariants.{Write, Flush, Remove, RemoveWith, RemoveBytes};
 ghost use Rattle.ob_types.specs.declared.command.Command.TheVariants.{Progress, Cancel, FailFlushed, Close, UserBit};
-ghost use Rattle.ob_seq.specs.Pending.{Answers, Follows, Accepts};
+ghost use Rattle.ob_seq.specs.Pending.{Obeys};
 ghost use Rattle.ob_seq.specs.Settles.{SparesMemory};
 
 use crate::buffer::Buffer;
@@ -18,11 +18,7 @@ impl Buffer {
     /// 1048576 writes were accepted, and then `NoMemory` where the allocator refused. Each leaves everything as it was,
     /// but for the message, which is dropped.
     pub fn write(&mut self, message: Message) -> Result<Reply, Refusal>
-        ensures answer { ¬ IsErrOf result Refusal.NoMemory → Answers self.old (Write message) result }
-        ensures stands { Follows self.old (Write message) result self.new }
-        ensures settings { self.new.settings ≡ self.old.settings }
-        ensures refused { OnErr result (self.new ≡ self.old) }
-        ensures no_memory_last { IsErrOf result Refusal.NoMemory → Accepts self.old (Write message) }
+        ensures { Obeys self.old (Write message) result self.new }
     {
         self.contents.write(message)
     }
@@ -34,10 +30,7 @@ impl Buffer {
     ///
     /// `Closed` comes where the buffer is closed.
     pub fn flush(&mut self) -> Result<Reply, Refusal>
-        ensures answer { Answers self.old Flush result }
-        ensures stands { Follows self.old Flush result self.new }
-        ensures settings { self.new.settings ≡ self.old.settings }
-        ensures refused { OnErr result (self.new ≡ self.old) }
+        ensures obeys { Obeys self.old Flush result self.new }
         ensures frugal { ¬ IsErrOf result Refusal.NoMemory }
     {
         self.contents.flush()
@@ -49,10 +42,7 @@ impl Buffer {
     ///
     /// `Closed` comes where the buffer is closed.
     pub fn remove(&mut self) -> Result<Reply, Refusal>
-        ensures answer { Answers self.old Remove result }
-        ensures stands { Follows self.old Remove result self.new }
-        ensures settings { self.new.settings ≡ self.old.settings }
-        ensures refused { OnErr result (self.new ≡ self.old) }
+        ensures obeys { Obeys self.old Remove result self.new }
         ensures frugal { ¬ IsErrOf result Refusal.NoMemory }
     {
         self.contents.remove()
@@ -63,10 +53,7 @@ impl Buffer {
     ///
     /// `Closed` comes where the buffer is closed.
     pub fn remove_with(&mut self, cause: Cause) -> Result<Reply, Refusal>
-        ensures answer { Answers self.old (RemoveWith cause) result }
-        ensures stands { Follows self.old (RemoveWith cause) result self.new }
-        ensures settings { self.new.settings ≡ self.old.settings }
-        ensures refused { OnErr result (self.new ≡ self.old) }
+        ensures obeys { Obeys self.old (RemoveWith cause) result self.new }
         ensures frugal { ¬ IsErrOf result Refusal.NoMemory }
     {
         self.contents.remove_with(cause)
@@ -85,11 +72,7 @@ impl Buffer {
     /// message hold fewer bytes, and then `NoMemory` where more than four promises are settled and the allocator
     /// refused; all leave everything as it was.
     pub fn remove_bytes(&mut self, n: u64) -> Result<Reply, Refusal>
-        ensures answer { ¬ IsErrOf result Refusal.NoMemory → Answers self.old (RemoveBytes n) result }
-        ensures stands { Follows self.old (RemoveBytes n) result self.new }
-        ensures settings { self.new.settings ≡ self.old.settings }
-        ensures refused { OnErr result (self.new ≡ self.old) }
-        ensures no_memory_last { IsErrOf result Refusal.NoMemory → Accepts self.old (RemoveBytes n) }
+        ensures obeys { Obeys self.old (RemoveBytes n) result self.new }
         ensures spares { SparesMemory self.old (RemoveBytes n) result }
     {
         self.contents.remove_bytes(n)
@@ -101,10 +84,7 @@ impl Buffer {
     /// `Closed` comes where the buffer is closed, then `NothingFlushed` where no message is flushed, and then `TooFar`
     /// where the progress would pass 9223372036854775807.
     pub fn progress(&mut self, n: u64) -> Result<Reply, Refusal>
-        ensures answer { Answers self.old (Progress n) result }
-        ensures stands { Follows self.old (Progress n) result self.new }
-        ensures settings { self.new.settings ≡ self.old.settings }
-        ensures refused { OnErr result (self.new ≡ self.old) }
+        ensures obeys { Obeys self.old (Progress n) result self.new }
         ensures frugal { ¬ IsErrOf result Refusal.NoMemory }
     {
         self.contents.progress(n)
@@ -116,10 +96,7 @@ impl Buffer {
     ///
     /// `Closed` comes where the buffer is closed, and then `UnknownPromise` where no write was accepted under the id.
     pub fn cancel(&mut self, id: PromiseId) -> Result<Reply, Refusal>
-        ensures answer { Answers self.old (Cancel id) result }
-        ensures stands { Follows self.old (Cancel id) result self.new }
-        ensures settings { self.new.settings ≡ self.old.settings }
-        ensures refused { OnErr result (self.new ≡ self.old) }
+        ensures obeys { Obeys self.old (Cancel id) result self.new }
         ensures frugal { ¬ IsErrOf result Refusal.NoMemory }
     {
         self.contents.cancel(id)
@@ -133,11 +110,7 @@ impl Buffer {
     /// `Closed` comes where the buffer is closed, and then `NoMemory` where more than four promises are settled and the
     /// allocator refused; both leave all as it was.
     pub fn fail_flushed(&mut self, cause: Cause, notify: bool) -> Result<Reply, Refusal>
-        ensures answer { ¬ IsErrOf result Refusal.NoMemory → Answers self.old (FailFlushed cause notify) result }
-        ensures stands { Follows self.old (FailFlushed cause notify) result self.new }
-        ensures settings { self.new.settings ≡ self.old.settings }
-        ensures refused { OnErr result (self.new ≡ self.old) }
-        ensures no_memory_last { IsErrOf result Refusal.NoMemory → Accepts self.old (FailFlushed cause notify) }
+        ensures obeys { Obeys self.old (FailFlushed cause notify) result self.new }
         ensures spares { SparesMemory self.old (FailFlushed cause notify) result }
     {
         self.contents.fail_flushed(cause, notify)
@@ -152,11 +125,7 @@ impl Buffer {
     /// ones too, and then `NoMemory` where more than four promises are settled and the allocator refused; all leave
     /// everything as it was.
     pub fn close(&mut self, cause: Cause) -> Result<Reply, Refusal>
-        ensures answer { ¬ IsErrOf result Refusal.NoMemory → Answers self.old (Close cause) result }
-        ensures stands { Follows self.old (Close cause) result self.new }
-        ensures settings { self.new.settings ≡ self.old.settings }
-        ensures refused { OnErr result (self.new ≡ self.old) }
-        ensures no_memory_last { IsErrOf result Refusal.NoMemory → Accepts self.old (Close cause) }
+        ensures obeys { Obeys self.old (Close cause) result self.new }
         ensures spares { SparesMemory self.old (Close cause) result }
     {
         self.contents.close(cause)
@@ -168,10 +137,7 @@ impl Buffer {
     ///
     /// `Closed` comes where the buffer is closed, and then `BadIndex` where the index is not 1 to 31.
     pub fn user_bit(&mut self, index: u32, writable: bool) -> Result<Reply, Refusal>
-        ensures answer { Answers self.old (UserBit index writable) result }
-        ensures stands { Follows self.old (UserBit index writable) result self.new }
-        ensures settings { self.new.settings ≡ self.old.settings }
-        ensures refused { OnErr result (self.new ≡ self.old) }
+        ensures obeys { Obeys self.old (UserBit index writable) result self.new }
         ensures frugal { ¬ IsErrOf result Refusal.NoMemory }
     {
         self.contents.user_bit(index, writable)
