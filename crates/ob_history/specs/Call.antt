@@ -1,11 +1,11 @@
 -- One more call of a stored history.
 use Rattle.std.specs.Prelude.{ℕ, ◌-◌, ◌<◌, ◌≤◌, ◌≡◌, ◌==◌, Bool, false, [], ◌∷◌, ◌++◌, length, if◌then◌else◌, Result}
-use Rattle.std.specs.Prelude.{Ok, Err}
+use Rattle.std.specs.Prelude.{Ok, Err, IsErrOf, IsOk, OnErr}
 use Rattle.ob_types.specs.Limits.{inline_settlements}
 use Rattle.ob_types.specs.Write.{is_write}
 use Rattle.ob_types.specs.declared.command.Command.{Command}
 use Rattle.ob_types.specs.declared.refusal.Refusal.{Refusal}
-use Rattle.ob_types.specs.declared.refusal.Refusal.TheVariants.{HistoryFull}
+use Rattle.ob_types.specs.declared.refusal.Refusal.TheVariants.{HistoryFull, NoMemory}
 use Rattle.ob_seq.specs.Answer.{answer_to}
 use Rattle.ob_seq.specs.Settles.{settled_after}
 use Rattle.ob_history.specs.Accepted.{accepted_commands}
@@ -46,3 +46,13 @@ pub record IsCovered (history : History) (command : Command) : Type 0 where
   pub reserved : 0 < history.reserved
   pub no_write : is_write command ≡ false
   pub few : settled_after history.settings (accepted_commands history.records) command ≤ inline_settlements
+
+-- one more call of a history gives its answer and leaves the history after it, unless memory is wanted; memory is
+-- wanted only where the history is not full, and not by a covered call; what is refused leaves the history as it was
+pub record IsCall (old : History) (caller : ℕ) (command : Command) (result : Result Receipt Refusal) (new : History)
+    : Type 0 where
+  pub answer : ¬ IsErrOf result NoMemory → result ≡ call_answer old caller command
+  pub after : ¬ IsErrOf result NoMemory → new ≡ history_after old caller command
+  pub no_memory_last : IsErrOf result NoMemory → is_full old ≡ false
+  pub frugal : IsCovered old command → IsOk result
+  pub refused : OnErr result (new ≡ old)

@@ -1,5 +1,8 @@
 -- What a contract sees of a stored history.
-use Rattle.std.specs.Prelude.{ℕ, ◌+◌, ◌<◌, ◌≤◌, List, [], length, max}
+use Rattle.std.specs.Prelude.{◌≡◌, ◌↔◌, ℕ, ◌+◌, ◌<◌, ◌≤◌, List, [], length, max, Result, IsErrOf, IsOk, IsOkUnless}
+use Rattle.std.specs.Prelude.{OnOk, OnErr}
+use Rattle.ob_types.specs.declared.refusal.Refusal.{Refusal}
+use Rattle.ob_types.specs.declared.refusal.Refusal.TheVariants.{HistoryFull, NoMemory}
 use Rattle.ob_seq.specs.Settings.{Settings}
 use Rattle.ob_history.specs.declared.record.Record.{Record}
 
@@ -31,3 +34,14 @@ LacksPlaces history count = history.limit < length history.records + count
 -- a history with at least so many calls reserved
 abbrev pub with_reserved : History → ℕ → History
 with_reserved history count = record history { reserved = max history.reserved count }
+
+-- a reservation leaves at least so many calls reserved; it is refused as full just where the history lacks so many
+-- places, and else for want of memory alone, but not where so many are reserved already; what is refused leaves the
+-- history as it was
+pub record IsReservation (old : History) (count : ℕ) {A : Type 0} (result : Result A Refusal) (new : History)
+    : Type 0 where
+  pub reserved : OnOk result (new ≡ with_reserved old count)
+  pub full : IsErrOf result HistoryFull ↔ LacksPlaces old count
+  pub no_memory : ¬ LacksPlaces old count → IsOkUnless result NoMemory
+  pub frugal : count ≤ old.reserved → IsOk result
+  pub refused : OnErr result (new ≡ old)

@@ -2,7 +2,9 @@
 use Rattle.std.specs.Prelude.{◌≡◌, ℕ, List, Some, slice_get, take}
 use Rattle.ob_seq.specs.Settings.{Settings}
 use Rattle.ob_seq.specs.Answer.{answer_to}
+use Rattle.ob_seq.specs.Pending.{Pending, StandsFor}
 use Rattle.ob_history.specs.Accepted.{accepted_commands}
+use Rattle.ob_history.specs.History.{History, IsBounded}
 use Rattle.ob_history.specs.declared.record.Record.{Record}
 
 -- a record stands rightly at an index: that is its place, and its reply is the answer to its command after the
@@ -15,3 +17,11 @@ pub record IsRecordAt (settings : Settings) (records : List Record) (index : ℕ
 abbrev pub IsLegal : Settings → List Record → Type 0
 IsLegal settings records =
     (index : ℕ) (one : Record) → slice_get records index ≡ Some one → IsRecordAt settings records index one
+
+-- a buffer is that of a history where it stands for the accepted commands of its records, by its settings; and the
+-- history is legal and bounded
+pub record IsBufferOf (history : History) (buffer : Pending) : Type 0 where
+  pub stands : StandsFor buffer (accepted_commands history.records)
+  pub settings : buffer.settings ≡ history.settings
+  pub legal : IsLegal history.settings history.records
+  pub bounded : IsBounded history

@@ -3,7 +3,7 @@ use Rattle.std.specs.Prelude.{◌≡◌, ◌≤◌, List, length, take}
 use Rattle.ob_seq.specs.Settings.{Settings}
 use Rattle.ob_seq.specs.Looks.{look_after}
 use Rattle.ob_history.specs.Accepted.{accepted_commands}
-use Rattle.ob_history.specs.History.{History}
+use Rattle.ob_history.specs.History.{History, IsBounded}
 use Rattle.ob_history.specs.declared.record.Record.{Record}
 use Rattle.ob_history.specs.declared.seen.Seen.{Seen}
 
@@ -13,6 +13,11 @@ seen_now history = record {
   place = length history.records;
   look = look_after history.settings (accepted_commands history.records);
 }
+
+-- a look is at a history where it is what is seen of it now, and the history is bounded
+pub record IsLookAt (history : History) (look : Seen) : Type 0 where
+  pub seen : look ≡ seen_now history
+  pub bounded : IsBounded history
 
 -- a look is of a history where its place is at most the number of records, and it shows what a new buffer shows after
 -- the accepted commands of so many first records

@@ -1,9 +1,7 @@
-ghost use Rattle.std.specs.Prelude.{◌≡◌, ℕ, ◌≤◌, ◌↔◌, false, IsErrOf, IsOk, IsOkUnless, OnOk, OnErr};
-ghost use Rattle.ob_seq.specs.Pending.{StandsFor};
-ghost use Rattle.ob_history.specs.Accepted.{accepted_commands};
-ghost use Rattle.ob_history.specs.Call.{IsCovered, call_answer, history_after, is_full};
-ghost use Rattle.ob_history.specs.History.{History, IsBounded, LacksPlaces, with_reserved};
-ghost use Rattle.ob_history.specs.Legal.{IsLegal};
+ghost use Rattle.std.specs.Prelude.{◌≡◌, ℕ};
+ghost use Rattle.ob_history.specs.Call.{IsCall};
+ghost use Rattle.ob_history.specs.History.{History, IsReservation};
+ghost use Rattle.ob_history.specs.Legal.{IsBufferOf};
 
 use crate::receipt::Receipt;
 use crate::recorded::Recorded;
@@ -26,32 +24,17 @@ pub trait Booked {
 
     /// Gives the buffer one command, records the call, and answers the receipt of the record, as `Recorded::call`.
     fn call(&mut self, command: Command) -> Result<Receipt, Refusal>
-        ensures answer { ¬ IsErrOf result Refusal.NoMemory
-            → result ≡ call_answer (history self.old) (caller self.old) command }
-        ensures after { ¬ IsErrOf result Refusal.NoMemory
-            → history self.new ≡ history_after (history self.old) (caller self.old) command }
-        ensures caller { caller self.new ≡ caller self.old }
-
-        ensures no_memory_last { IsErrOf result Refusal.NoMemory → is_full (history self.old) ≡ false }
-        ensures frugal { IsCovered (history self.old) command → IsOk result }
-        ensures refused { OnErr result (history self.new ≡ history self.old) };
+        ensures is_call { IsCall (history self.old) (caller self.old) command result (history self.new) }
+        ensures caller { caller self.new ≡ caller self.old };
 
     /// Reserves so many calls, as `Recorded::reserve`.
     fn reserve(&mut self, count: u32) -> Result<(), Refusal>
-        ensures reserved { OnOk result (history self.new ≡ with_reserved (history self.old) count) }
-        ensures caller { caller self.new ≡ caller self.old }
-
-        ensures full { IsErrOf result Refusal.HistoryFull ↔ LacksPlaces (history self.old) count }
-        ensures no_memory { ¬ LacksPlaces (history self.old) count → IsOkUnless result Refusal.NoMemory }
-        ensures frugal { count ≤ (history self.old).reserved → IsOk result }
-        ensures refused { OnErr result (history self.new ≡ history self.old) };
+        ensures is_reservation { IsReservation (history self.old) count result (history self.new) }
+        ensures caller { caller self.new ≡ caller self.old };
 
     /// The buffer after the accepted commands of the records. It takes no memory.
     fn buffer(&self) -> &Buffer
-        ensures stands { StandsFor result.now (accepted_commands (history self.now).records) }
-        ensures settings { result.now.settings ≡ (history self.now).settings }
-        ensures legal { IsLegal (history self.now).settings (history self.now).records }
-        ensures bounded { IsBounded (history self.now) };
+        ensures { IsBufferOf (history self.now) result.now };
 }
 
 /// A recorded buffer, all of whose calls are made in the name of one caller.

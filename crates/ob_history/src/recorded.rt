@@ -1,8 +1,6 @@
 ghost use Rattle.std.specs.Prelude.{◌≡◌, ◌<◌, ◌≤◌};
 ghost use Rattle.ob_types.specs.Limits.{greatest_overhead, greatest_unknown};
-ghost use Rattle.ob_seq.specs.Pending.{StandsFor};
-ghost use Rattle.ob_history.specs.Accepted.{accepted_commands};
-ghost use Rattle.ob_history.specs.Legal.{IsLegal};
+ghost use Rattle.ob_history.specs.Legal.{IsBufferOf, IsLegal};
 ghost use Rattle.ob_history.specs.History.{IsBounded, new_history, most_records};
 
 mod call;
@@ -75,10 +73,7 @@ impl Recorded {
 
     /// The buffer after the accepted commands of the records, which are a legal history. It takes no memory.
     pub fn buffer(&self) -> &Buffer
-        ensures stands { StandsFor result.now (accepted_commands self.now.records) }
-        ensures settings { result.now.settings ≡ self.now.settings }
-        ensures legal { IsLegal self.now.settings self.now.records }
-        ensures bounded { IsBounded self.now }
+        ensures { IsBufferOf self.now result.now }
     {
         &self.buffer
     }

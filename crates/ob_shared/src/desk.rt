@@ -1,12 +1,10 @@
-ghost use Rattle.std.specs.Prelude.{◌≡◌, ◌≤◌, ◌↔◌, false, [], IsTrue, IsErrOf, IsOk, IsOkUnless, OnOk, OnErr};
+ghost use Rattle.std.specs.Prelude.{◌≡◌, ◌↔◌, [], IsTrue, OnOk, OnErr};
 ghost use Rattle.std.specs.Sync.Mutex.{mutex_guard_value};
-ghost use Rattle.ob_seq.specs.Pending.{StandsFor};
 ghost use Rattle.ob_seq.specs.Settles.{settled_by};
-ghost use Rattle.ob_history.specs.Accepted.{accepted_commands};
-ghost use Rattle.ob_history.specs.Call.{IsCovered, call_answer, history_after, is_full};
-ghost use Rattle.ob_history.specs.History.{IsBounded, LacksPlaces, with_reserved};
-ghost use Rattle.ob_history.specs.Legal.{IsLegal};
-ghost use Rattle.ob_history.specs.Seen.{seen_now};
+ghost use Rattle.ob_history.specs.Call.{IsCall};
+ghost use Rattle.ob_history.specs.History.{IsReservation};
+ghost use Rattle.ob_history.specs.Legal.{IsBufferOf};
+ghost use Rattle.ob_history.specs.Seen.{IsLookAt};
 ghost use Rattle.ob_shared.specs.Maker.{one_more};
 ghost use Rattle.ob_shared.specs.Opened.{IsAsOpened};
 
@@ -64,8 +62,7 @@ impl<'b, L: Named> Desk<'b, L> {
 
     /// What is pending now, and how many calls are recorded. It takes no memory.
     pub fn look(&self) -> Seen
-        ensures seen { result ≡ seen_now self.now.history }
-        ensures bounded { IsBounded self.now.history }
+        ensures { IsLookAt self.now.history result }
     {
         self.locked.look()
     }
@@ -101,16 +98,9 @@ impl<'b, L: Named> Booked for Desk<'b, L> {
     ghost caller = { λ desk. desk.maker.caller };
 
     fn call(&mut self, command: Command) -> Result<Receipt, Refusal>
-        ensures answer { ¬ IsErrOf result Refusal.NoMemory
-            → result ≡ call_answer self.old.history self.old.maker.caller command }
-        ensures after { ¬ IsErrOf result Refusal.NoMemory
-            → self.new.history ≡ history_after self.old.history self.old.maker.caller command }
+        ensures is_call { IsCall self.old.history self.old.maker.caller command result self.new.history }
         ensures made { OnOk result (self.new.maker ≡ one_more self.old.maker) }
         ensures caller { self.new.maker.caller ≡ self.old.maker.caller }
-
-        ensures no_memory_last { IsErrOf result Refusal.NoMemory → is_full self.old.history ≡ false }
-        ensures frugal { IsCovered self.old.history command → IsOk result }
-        ensures refused { OnErr result (self.new.history ≡ self.old.history) }
         ensures none_made { OnErr result (self.new.maker ≡ self.old.maker) }
     {
         let Desk {
@@ -126,14 +116,9 @@ impl<'b, L: Named> Booked for Desk<'b, L> {
     }
 
     fn reserve(&mut self, count: u32) -> Result<(), Refusal>
-        ensures reserved { OnOk result (self.new.history ≡ with_reserved self.old.history count) }
+        ensures is_reservation { IsReservation self.old.history count result self.new.history }
         ensures caller { self.new.maker.caller ≡ self.old.maker.caller }
         ensures made { self.new.maker.made ≡ self.old.maker.made }
-
-        ensures full { IsErrOf result Refusal.HistoryFull ↔ LacksPlaces self.old.history count }
-        ensures no_memory { ¬ LacksPlaces self.old.history count → IsOkUnless result Refusal.NoMemory }
-        ensures frugal { count ≤ self.old.history.reserved → IsOk result }
-        ensures refused { OnErr result (self.new.history ≡ self.old.history) }
     {
         let Desk {
             shared: _,
@@ -146,10 +131,7 @@ impl<'b, L: Named> Booked for Desk<'b, L> {
     }
 
     fn buffer(&self) -> &Buffer
-        ensures stands { StandsFor result.now (accepted_commands self.now.history.records) }
-        ensures settings { result.now.settings ≡ self.now.history.settings }
-        ensures legal { IsLegal self.now.history.settings self.now.history.records }
-        ensures bounded { IsBounded self.now.history }
+        ensures { IsBufferOf self.now.history result.now }
     {
         self.locked.buffer()
     }

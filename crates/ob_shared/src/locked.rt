@@ -1,16 +1,15 @@
-ghost use Rattle.std.specs.Prelude.{◌≡◌, ℕ, None, ◌+◌, ◌<◌, ◌≤◌, ◌↔◌, false, length, Some, IfSome, IsNone, IfOk};
+ghost use Rattle.std.specs.Prelude.{◌≡◌, ℕ, None, ◌+◌, ◌≤◌, ◌↔◌, length, Some, IfSome, IsNone, IfOk};
 ghost use Rattle.std.specs.Prelude.{IsErrOf, IsOk, IsOkUnless, OnOk, OnErr};
 ghost use Rattle.std.specs.List.{All, Contains};
 ghost use Rattle.ob_types.specs.declared.promise.Outcome.{Outcome};
 ghost use Rattle.ob_types.specs.declared.promise.PromiseState.TheVariants.{Settled};
 ghost use Rattle.ob_seq.specs.Looks.{promise_after};
-ghost use Rattle.ob_seq.specs.Pending.{StandsFor};
 ghost use Rattle.ob_history.specs.Accepted.{accepted_commands};
-ghost use Rattle.ob_history.specs.Call.{IsCovered, call_answer, history_after, is_full};
-ghost use Rattle.ob_history.specs.History.{IsBounded, LacksPlaces, new_history, with_reserved};
-ghost use Rattle.ob_history.specs.Legal.{IsLegal};
+ghost use Rattle.ob_history.specs.Call.{IsCall};
+ghost use Rattle.ob_history.specs.History.{IsReservation, new_history};
+ghost use Rattle.ob_history.specs.Legal.{IsBufferOf};
 ghost use Rattle.ob_history.specs.Receipt.{receipt_of};
-ghost use Rattle.ob_history.specs.Seen.{seen_now};
+ghost use Rattle.ob_history.specs.Seen.{IsLookAt};
 ghost use Rattle.ob_history.specs.Settlements.{settlements_in};
 ghost use Rattle.ob_shared.specs.Finished.{HandsInAll, IsForeign, StandsIn, first_short};
 ghost use Rattle.ob_shared.specs.Handed.{LacksShare, made_by};
@@ -80,15 +79,8 @@ impl<L: Named> Locked<L> {
 
     /// One call in the name of the caller of a share.
     pub fn call(&mut self, share: &mut Share<L>, command: Command) -> Result<Receipt, Refusal>
-        ensures answer { ¬ IsErrOf result Refusal.NoMemory
-            → result ≡ call_answer self.old share.old.caller command }
-        ensures after { ¬ IsErrOf result Refusal.NoMemory
-            → self.new ≡ history_after self.old share.old.caller command }
+        ensures is_call { IsCall self.old share.old.caller command result self.new }
         ensures made { OnOk result (share.new ≡ one_more share.old) }
-
-        ensures no_memory_last { IsErrOf result Refusal.NoMemory → is_full self.old ≡ false }
-        ensures frugal { IsCovered self.old command → IsOk result }
-        ensures refused { OnErr result (self.new ≡ self.old) }
         ensures none_made { OnErr result (share.new ≡ share.old) }
     {
         let _records = self.recorded.records();
@@ -99,33 +91,25 @@ impl<L: Named> Locked<L> {
 
     /// Reserves so many calls.
     pub fn reserve(&mut self, count: u32) -> Result<(), Refusal>
-        ensures reserved { OnOk result (self.new ≡ with_reserved self.old count) }
-
-        ensures full { IsErrOf result Refusal.HistoryFull ↔ LacksPlaces self.old count }
-        ensures no_memory { ¬ LacksPlaces self.old count → IsOkUnless result Refusal.NoMemory }
-        ensures frugal { count ≤ self.old.reserved → IsOk result }
-        ensures refused { OnErr result (self.new ≡ self.old) }
+        ensures { IsReservation self.old count result self.new }
     {
         self.recorded.reserve(count)
     }
 
     /// The buffer after the accepted commands of the records.
     pub fn buffer(&self) -> &Buffer
-        ensures stands { StandsFor result.now (accepted_commands self.now.records) }
-        ensures settings { result.now.settings ≡ self.now.settings }
-        ensures legal { IsLegal self.now.settings self.now.records }
-        ensures bounded { IsBounded self.now }
+        ensures { IsBufferOf self.now result.now }
     {
         self.recorded.buffer()
     }
 
     /// What is pending now, and how many calls are recorded.
     pub fn look(&self) -> Seen
-        ensures seen { result ≡ seen_now self.now }
-        ensures bounded { IsBounded self.now }
+        ensures { IsLookAt self.now result }
     {
         self.recorded.look()
     }
+
     /// The receipt of the record that settled a promise, or nothing while it is not settled. It asks what has become of
     /// the promise, and only then looks for the record.
     pub fn told(&self, id: PromiseId) -> Option<Result<Receipt, Refusal>>

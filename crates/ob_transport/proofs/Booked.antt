@@ -7,7 +7,7 @@ use Rattle.ob_types.specs.declared.refusal.Refusal.{Refusal}
 use Rattle.ob_types.specs.declared.refusal.Refusal.TheVariants.{HistoryFull, NoMemory}
 use Rattle.ob_seq.specs.Answer.{are_accepted}
 use Rattle.ob_history.specs.Accepted.{accepted_commands}
-use Rattle.ob_history.specs.Call.{call_answer, history_after, is_full, next_record}
+use Rattle.ob_history.specs.Call.{IsCall, call_answer, history_after, is_full, next_record}
 use Rattle.ob_history.specs.History.{History}
 use Rattle.ob_history.specs.Receipt.{receipt_of}
 use Rattle.ob_history.specs.declared.receipt.Receipt.{Receipt}
@@ -30,13 +30,12 @@ found_place history caller command receipt is = by_test (is_full history) refl i
 pub book_sends : (history new : History) (caller taken : ℕ) (result : Result Receipt Refusal) (bytes rest : List ℕ) →
     are_accepted history.settings [] (accepted_commands history.records) ≡ true →
     length bytes ≡ taken → unread_in history ≡ bytes ++ rest →
-    (¬ IsErrOf result NoMemory → result ≡ call_answer history caller (RemoveBytes taken)) →
-    (¬ IsErrOf result NoMemory → new ≡ history_after history caller (RemoveBytes taken)) →
+    IsCall history caller (RemoveBytes taken) result new →
     OnOk result (sent_bytes_in new ≡ sent_bytes_in history ++ bytes)
-book_sends history new caller taken (Ok receipt) bytes rest all count begins answer after =
+book_sends history new caller taken (Ok receipt) bytes rest all count begins call =
     let told : ¬ IsErrOf {E = Refusal} (Ok receipt) NoMemory = λ no. absurd (cc) in
-    ap sent_bytes_in (after told)
+    ap sent_bytes_in (call.after told)
     ∙ ap (λ n. sent_bytes_in (history_after history caller (RemoveBytes n))) (sym count)
-    ∙ removal_sends history caller all (found_place history caller (RemoveBytes taken) receipt (answer told)) bytes
+    ∙ removal_sends history caller all (found_place history caller (RemoveBytes taken) receipt (call.answer told)) bytes
     rest begins
-book_sends history new caller taken (Err refusal) bytes rest all count begins answer after = tt
+book_sends history new caller taken (Err refusal) bytes rest all count begins call = tt

@@ -1,8 +1,8 @@
 //! The calls that a transport makes on a booked buffer.
 
-ghost use Rattle.std.specs.Prelude.{◌≡◌, ◌++◌, false, List, ℕ, length, IsErrOf, IsOk, OnErr, OnOk};
+ghost use Rattle.std.specs.Prelude.{◌≡◌, ◌++◌, List, ℕ, length, OnOk};
 ghost use Rattle.ob_types.specs.declared.command.Command.TheVariants.{RemoveBytes};
-ghost use Rattle.ob_history.specs.Call.{IsCovered, call_answer, history_after, is_full};
+ghost use Rattle.ob_history.specs.Call.{IsCall};
 ghost use Rattle.ob_transport.specs.Given.{Given, Readied};
 ghost use Rattle.ob_transport.specs.InFront.{sent_bytes_in, unread_in};
 
@@ -33,20 +33,13 @@ pub fn make_ready<B: Booked>(booked: &mut B) -> Result<(), PassFault>
 /// `HistoryFull` comes just where the history is full, and `NoMemory` where the allocator refused, and not to a
 /// reserved call of a removal that settles at most four promises. Then there is no record, and all is as it was.
 pub fn book<B: Booked>(booked: &mut B, taken: u64) -> Result<Receipt, Refusal>
-    ensures answer { ¬ IsErrOf result Refusal.NoMemory
-        → result ≡ call_answer (B.history booked.old) (B.caller booked.old) (RemoveBytes taken) }
-    ensures after { ¬ IsErrOf result Refusal.NoMemory
-        → B.history booked.new ≡ history_after (B.history booked.old) (B.caller booked.old) (RemoveBytes taken) }
+    ensures is_call { IsCall (B.history booked.old) (B.caller booked.old) (RemoveBytes taken) result
+        (B.history booked.new) }
     ensures caller { B.caller booked.new ≡ B.caller booked.old }
 
     // Where the line still begins with the taken bytes, they are sent, and nothing else.
     ensures sent { (bytes rest : List ℕ) → length bytes ≡ taken → unread_in (B.history booked.old) ≡ bytes ++ rest
         → OnOk result (sent_bytes_in (B.history booked.new) ≡ sent_bytes_in (B.history booked.old) ++ bytes) }
-
-    // Memory is wanted only when nothing else refuses the call, and not by a covered one.
-    ensures no_memory_last { IsErrOf result Refusal.NoMemory → is_full (B.history booked.old) ≡ false }
-    ensures frugal { IsCovered (B.history booked.old) (RemoveBytes taken) → IsOk result }
-    ensures refused { OnErr result (B.history booked.new ≡ B.history booked.old) }
 {
     // That the commands of its history were accepted is told with the buffer.
     let _ = booked.buffer();

@@ -1,5 +1,5 @@
 ghost use Rattle.std.specs.Prelude.{◌≡◌, true, false, IsErrOf, IsOk, IsOkUnless, OnErr};
-ghost use Rattle.ob_history.specs.Call.{IsCovered, call_answer, history_after, is_full};
+ghost use Rattle.ob_history.specs.Call.{IsCall, IsCovered, history_after, is_full};
 
 use crate::answer;
 use crate::receipt::Receipt;
@@ -17,13 +17,7 @@ impl Recorded {
     /// be counted, and not to a reserved call of a command that is no write and settles at most four promises. Then
     /// there is no record, and all is as it was.
     pub fn call(&mut self, caller: u32, command: Command) -> Result<Receipt, Refusal>
-        ensures answer { ¬ IsErrOf result Refusal.NoMemory → result ≡ call_answer self.old caller command }
-        ensures after { ¬ IsErrOf result Refusal.NoMemory → self.new ≡ history_after self.old caller command }
-
-        // Memory is wanted only when nothing else refuses the call, and not by a covered one.
-        ensures no_memory_last { IsErrOf result Refusal.NoMemory → is_full self.old ≡ false }
-        ensures frugal { IsCovered self.old command → IsOk result }
-        ensures refused { OnErr result (self.new ≡ self.old) }
+        ensures { IsCall self.old caller command result self.new }
     {
         let place = self.records.len();
         if place == self.limit as usize {

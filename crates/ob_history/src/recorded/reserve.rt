@@ -1,5 +1,4 @@
-ghost use Rattle.std.specs.Prelude.{◌≡◌, ◌≤◌, ◌↔◌, IsErrOf, IsOk, IsOkUnless, OnOk, OnErr};
-ghost use Rattle.ob_history.specs.History.{LacksPlaces, with_reserved};
+ghost use Rattle.ob_history.specs.History.{IsReservation};
 
 use crate::recorded::Recorded;
 use ob_types::Refusal;
@@ -11,12 +10,7 @@ impl Recorded {
     /// `HistoryFull` comes first, and just where fewer places are left; `NoMemory` comes where the allocator refused,
     /// and not where so many calls are reserved already. Then all is as it was.
     pub fn reserve(&mut self, count: u32) -> Result<(), Refusal>
-        ensures reserved { OnOk result (self.new ≡ with_reserved self.old count) }
-
-        ensures full { IsErrOf result Refusal.HistoryFull ↔ LacksPlaces self.old count }
-        ensures no_memory { ¬ LacksPlaces self.old count → IsOkUnless result Refusal.NoMemory }
-        ensures frugal { count ≤ self.old.reserved → IsOk result }
-        ensures refused { OnErr result (self.new ≡ self.old) }
+        ensures { IsReservation self.old count result self.new }
     {
         let count = count as usize;
         if count > self.limit as usize - self.records.len() {

@@ -10,4 +10,4 @@ returns-clause-sent g c bytes rest count begins =
     book_sends history (g.B.Booked.history c.call.new.self)
     (g.B.Booked.caller c.args.booked.now) c.args.taken c.call.result bytes rest
     (accepted_there before c.buffer.result.now c.buffer.ensures.stands c.buffer.ensures.settings)
-    count begins c.call.ensures.answer c.call.ensures.after
+    count begins c.call.ensures.is_call

@@ -16,8 +16,14 @@ use Rattle.ob_history.proofs.Calls.{answer_with_place, record_at_place}
 use Rattle.ob_history.proofs.recorded.Recorded.call.Goals as goal
 
 -- Named for the must-fail edits that fail here: `search` finds it unasked (CONTRIBUTING.md).
-pub returns-in_err-copies-clause-no_memory_last : goal.returns-in_err-copies-clause-no_memory_last
-returns-in_err-copies-clause-no_memory_last c = search rules
+pub returns-in_err-copies : goal.returns-in_err-copies
+returns-in_err-copies c = record {
+  answer = search rules;
+  after = search rules;
+  no_memory_last = search rules;
+  frugal = search rules;
+  refused = search rules;
+}
 
 -- the first free place of a history, and what stands there after the call
 record Placed (before after : Inside) (caller : ℕ) (command : Command) (place : ℕ) (other : Record) : Type 0 where
@@ -61,13 +67,20 @@ receipt-requires-clause-few c =
       ap (λ (other : Record). length (settled_by other.reply)) (c.index.ensures ∙ at.found),
     )
 
-pub returns-clause-answer : goal.returns-clause-answer
-returns-clause-answer c wanted =
+pub returns : goal.returns
+returns c =
     let at = placed c.self.inside c.self-2.inside _ _ c.args.caller c.args.command c.len-place.result c.index.result.now
     c.len-place.ensures c.if-place-self.false c.self.view_is c.self-2.view_is
     (c.in_ok-record.ensures.after (λ wanted. absurd (cc))) in
     let answer : Record → Result Receipt Refusal = λ one. Ok (receipt_of one) in
-    ap (λ (receipt : Receipt). let told : Result Receipt Refusal = Ok receipt in told) c.receipt.ensures
-    ∙ ap answer (c.index.ensures ∙ at.found)
-    ∙ sym (answer_with_place (history_of c.self.inside) c.args.caller c.args.command at.free)
-    ∙ ap (λ before. call_answer before c.args.caller c.args.command) c.self.view_is
+    record {
+      answer = λ wanted.
+          ap (λ (receipt : Receipt). let told : Result Receipt Refusal = Ok receipt in told) c.receipt.ensures
+          ∙ ap answer (c.index.ensures ∙ at.found)
+          ∙ sym (answer_with_place (history_of c.self.inside) c.args.caller c.args.command at.free)
+          ∙ ap (λ before. call_answer before c.args.caller c.args.command) c.self.view_is;
+      after = search rules;
+      no_memory_last = search rules;
+      frugal = search rules;
+      refused = search rules;
+    }

@@ -1,8 +1,0 @@
-use Rattle.std.proofs.Common.{◌∙◌, subst, ap}
-use Rattle.ob_history.specs.History.{History}
-use Rattle.ob_history.specs.Legal.{IsLegal}
-use Rattle.ob_shared.proofs.desk.DeskBooked.buffer.Goals as goal
-
-pub returns-clause-legal : goal.returns-clause-legal
-returns-clause-legal g c = subst (λ (history : History). IsLegal history.settings history.records)
-    (c.deref.ensures ∙ ap (λ held. held.history) c.self.view_is) c.buffer.ensures.legal
