@@ -56,7 +56,7 @@ pub use Rattle.ob_seq.specs.Looks.{promise_after}
 pub use Rattle.ob_seq.specs.Mark.{mark_after}
 pub use Rattle.ob_seq.specs.Moment.{Moment, moments_of, moment_of, moments_along}
 pub use Rattle.ob_seq.specs.Order.{gone, is_gone}
-pub use Rattle.ob_seq.specs.Pending.{Pending, StandsFor, Accepts, Answers}
+pub use Rattle.ob_seq.specs.Pending.{Pending, StandsFor}
 pub use Rattle.ob_seq.specs.Pieces.{bytes_in, pieces_within}
 pub use Rattle.ob_seq.specs.Row.{Row, is_cancelled, is_voided, new_row, unread_part, without_skipped, is_unflushed}
 pub use Rattle.ob_seq.specs.Row.{Gone, Unflushed, Flushed, Voided, is_flushed}

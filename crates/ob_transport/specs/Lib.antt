@@ -4,6 +4,7 @@ pub mod Failures
 pub mod Given
 pub mod GrowAlike
 pub mod InFront
+pub mod IsAccounted
 pub mod IsPass
 pub mod Offer
 pub mod Outcome

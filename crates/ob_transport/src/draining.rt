@@ -1,11 +1,8 @@
-ghost use Rattle.std.specs.Prelude.{◌≡◌, ◌+◌, ◌≤◌, ℕ, None, Err, IfOk, IsErrOf};
-ghost use Rattle.ob_history.specs.History.{LacksPlaces};
+ghost use Rattle.std.specs.Prelude.{◌≡◌, ◌≤◌, None, IfOk};
 ghost use Rattle.ob_transport.specs.Drains.{Drains};
-ghost use Rattle.ob_transport.specs.Failures.{failures_in};
-ghost use Rattle.ob_transport.specs.GrowAlike.{GrowAlike, GrowAlikeBut, IsBooked};
 ghost use Rattle.ob_transport.specs.InFront.{current_in};
+ghost use Rattle.ob_transport.specs.IsAccounted.{IsAccounted};
 ghost use Rattle.ob_transport.specs.Standing.{standing};
-ghost use Rattle.ob_transport.specs.declared.fault.PassFault.TheVariants.{Unbooked};
 
 use crate::fault::{Pass, PassFault};
 use crate::limits::Limits;
@@ -50,14 +47,9 @@ pub fn drain<B: Booked, S: Sink>(
         (standing (B.history booked.new) (S.content sink.new)) }
     ensures caller { B.caller booked.new ≡ B.caller booked.old }
     ensures idle { IfOk result (λ drained. drained.stop ≡ Stop.Idle → current_in (B.history booked.new) ≡ None) }
-    ensures full { IsErrOf result PassFault.HistoryFull → LacksPlaces (B.history booked.new) 2 }
-
-    // What is taken is booked, but for bytes that are told of, and stand at the front.
-    ensures alike { IsBooked result → GrowAlike
-        (standing (B.history booked.old) (S.content sink.old)) (standing (B.history booked.new) (S.content sink.new)) }
-    ensures unbooked { (taken : ℕ) → result ≡ Err (Unbooked taken) → GrowAlikeBut taken
-        (standing (B.history booked.old) (S.content sink.old)) (standing (B.history booked.new) (S.content sink.new)) }
-    ensures failures { (S.content sink.new).failures ≡ (S.content sink.old).failures + failures_in result }
+    ensures accounted { IsAccounted
+        (standing (B.history booked.old) (S.content sink.old)) result
+        (standing (B.history booked.new) (S.content sink.new)) }
 {
     for turn in 0..turns {
         match pass(booked, sink, limits)? {

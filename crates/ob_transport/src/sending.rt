@@ -1,16 +1,13 @@
 ghost use Rattle.std.specs.List.{concat};
-ghost use Rattle.std.specs.Prelude.{◌≡◌, ◌+◌, ◌≤◌, ℕ, None, Ok, Err, IsErrOf};
-ghost use Rattle.ob_history.specs.History.{LacksPlaces};
+ghost use Rattle.std.specs.Prelude.{◌≡◌, ◌≤◌, None, Ok};
 ghost use Rattle.ob_transport.specs.Content.{Content};
-ghost use Rattle.ob_transport.specs.Failures.{failures_in};
-ghost use Rattle.ob_transport.specs.GrowAlike.{GrowAlike, GrowAlikeBut, IsBooked};
 ghost use Rattle.ob_transport.specs.InFront.{current_in};
+ghost use Rattle.ob_transport.specs.IsAccounted.{IsAccounted};
 ghost use Rattle.ob_transport.specs.IsPass.{IsPass};
 ghost use Rattle.ob_transport.specs.Offer.{Ends, offer_of};
 ghost use Rattle.ob_transport.specs.Outcome.{Clears, SendsBytes, SendsUnits};
 ghost use Rattle.ob_transport.specs.Standing.{standing};
 ghost use Rattle.ob_transport.specs.declared.fault.Pass.TheVariants.{Idle};
-ghost use Rattle.ob_transport.specs.declared.fault.PassFault.TheVariants.{Unbooked};
 
 use crate::booking::{give, make_ready};
 use crate::fault::{Pass, PassFault};
@@ -47,14 +44,9 @@ pub fn pass<B: Booked, S: Sink>(
         (standing (B.history booked.new) (S.content sink.new)) }
     ensures caller { B.caller booked.new ≡ B.caller booked.old }
     ensures idle { result ≡ Ok Idle → current_in (B.history booked.new) ≡ None }
-    ensures full { IsErrOf result PassFault.HistoryFull → LacksPlaces (B.history booked.new) 2 }
-
-    // What is taken is booked, but for bytes that are told of, and stand at the front.
-    ensures alike { IsBooked result → GrowAlike
-        (standing (B.history booked.old) (S.content sink.old)) (standing (B.history booked.new) (S.content sink.new)) }
-    ensures unbooked { (taken : ℕ) → result ≡ Err (Unbooked taken) → GrowAlikeBut taken
-        (standing (B.history booked.old) (S.content sink.old)) (standing (B.history booked.new) (S.content sink.new)) }
-    ensures failures { (S.content sink.new).failures ≡ (S.content sink.old).failures + failures_in result }
+    ensures accounted { IsAccounted
+        (standing (B.history booked.old) (S.content sink.old)) result
+        (standing (B.history booked.new) (S.content sink.new)) }
 {
     let next = next_of(booked.buffer(), limits)?;
     act(booked, sink, next)

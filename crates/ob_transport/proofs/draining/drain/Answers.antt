@@ -1,4 +1,4 @@
-use Rattle.std.proofs.Common.{arith, inl, inr, sym, ◌∙◌, subst}
+use Rattle.std.proofs.Common.{arith, rules, inl, inr, sym, ◌∙◌, subst}
 use Rattle.std.proofs.lemmas.Result.{err_from_is_err_and}
 use Rattle.ob_transport.specs.Drains.{GoesOn}
 use Rattle.ob_transport.specs.Standing.{standing}
@@ -8,28 +8,38 @@ use Rattle.ob_transport.specs.declared.fault.PassFault.TheVariants.{Unbooked}
 use Rattle.ob_transport.proofs.Turns.{alike_both, alike_but, booked_with, one_more_pass, same_fault}
 use Rattle.ob_transport.proofs.draining.drain.Goals as goal
 
-pub returns-in_err-pass-clause-alike : goal.returns-in_err-pass-clause-alike
-returns-in_err-pass-clause-alike g c =
+pub returns-in_err-pass-clause-accounted : goal.returns-in_err-pass-clause-accounted
+returns-in_err-pass-clause-accounted g c =
     let p = err_from_is_err_and c.from_residual.result c.from_residual.ensures.1 in
     let fault = c.in_err-pass.field-0.0 in
-    rw (p.1, p.2) (λ booked. alike_both c.loop-turn.invariant.2
-    (c.in_err-pass.ensures.alike (λ taken is. booked taken
-    (same_fault {A = Pass} {B = Drained} fault (Unbooked taken) is))))
+    let passed = c.in_err-pass.ensures.accounted in
+    let kept = c.loop-turn.invariant in
+    rw (p.1, p.2) record {
+      alike = λ booked. alike_both kept.2
+          (passed.alike (λ taken is. booked taken (same_fault {A = Pass} {B = Drained} fault (Unbooked taken) is)));
+      unbooked = λ taken is. alike_but kept.2
+          (passed.unbooked taken (same_fault {A = Drained} {B = Pass} fault (Unbooked taken) is));
+      failures = search rules;
+      full = search rules;
+    }
 
-pub returns-in_err-pass-clause-unbooked : goal.returns-in_err-pass-clause-unbooked
-returns-in_err-pass-clause-unbooked g c =
-    let p = err_from_is_err_and c.from_residual.result c.from_residual.ensures.1 in
-    let fault = c.in_err-pass.field-0.0 in
-    rw (p.1, p.2) (λ taken is. alike_but c.loop-turn.invariant.2
-    (c.in_err-pass.ensures.unbooked taken (same_fault {A = Drained} {B = Pass} fault (Unbooked taken) is)))
+pub returns-in-Idle-clause-accounted : goal.returns-in-Idle-clause-accounted
+returns-in-Idle-clause-accounted g c = record {
+  alike = λ booked.
+      alike_both c.loop-turn.invariant.2 (c.in_ok-pass.ensures.accounted.alike (booked_with c.in_ok-pass.field-0));
+  unbooked = search rules;
+  failures = search rules;
+  full = search rules;
+}
 
-pub returns-in-Idle-clause-alike : goal.returns-in-Idle-clause-alike
-returns-in-Idle-clause-alike g c booked =
-    alike_both c.loop-turn.invariant.2 (c.in_ok-pass.ensures.alike (booked_with c.in_ok-pass.field-0))
-
-pub returns-in-Stalled-clause-alike : goal.returns-in-Stalled-clause-alike
-returns-in-Stalled-clause-alike g c booked =
-    alike_both c.loop-turn.invariant.2 (c.in_ok-pass.ensures.alike (booked_with c.in_ok-pass.field-0))
+pub returns-in-Stalled-clause-accounted : goal.returns-in-Stalled-clause-accounted
+returns-in-Stalled-clause-accounted g c = record {
+  alike = λ booked.
+      alike_both c.loop-turn.invariant.2 (c.in_ok-pass.ensures.accounted.alike (booked_with c.in_ok-pass.field-0));
+  unbooked = search rules;
+  failures = search rules;
+  full = search rules;
+}
 
 pub loop-turn-preserved : goal.loop-turn-preserved
 loop-turn-preserved g c =
@@ -42,6 +52,6 @@ loop-turn-preserved g c =
       one_more_pass c.args.limits (g.B.Booked.caller c.args.booked.now) (g.B.Booked.caller c.loop-turn.booked)
           c.loop-turn.turn before now after c.in_ok-pass.field-0 kept.0 kept.1 goes c.in_ok-pass.ensures.by_front,
       c.in_ok-pass.ensures.caller ∙ kept.1,
-      alike_both kept.2 (c.in_ok-pass.ensures.alike (booked_with c.in_ok-pass.field-0)),
-      omega (arith, c.in_ok-pass.ensures.failures, kept.3),
+      alike_both kept.2 (c.in_ok-pass.ensures.accounted.alike (booked_with c.in_ok-pass.field-0)),
+      omega (arith, c.in_ok-pass.ensures.accounted.failures, kept.3),
     )

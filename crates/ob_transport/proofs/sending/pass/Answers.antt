@@ -1,3 +1,4 @@
+use Rattle.std.proofs.Common.{rules}
 use Rattle.std.specs.Prelude.{Err}
 use Rattle.ob_transport.specs.Offer.{offer_of}
 use Rattle.ob_transport.specs.Standing.{standing}
@@ -14,20 +15,6 @@ returns-clause-by_front g c =
     (offer_of c.in_ok-next.next) c.act.result after
     c.buffer.ensures.stands c.buffer.ensures.settings c.in_ok-next.ensures.offer c.act.ensures.ends
 
-pub returns-clause-alike : goal.returns-clause-alike
-returns-clause-alike g c =
-    let before = standing (g.B.Booked.history c.args.booked.now) (g.S.Sink.content c.args.sink.now) in
-    alike_of c.act.result (pass_grows before c.args.limits (g.B.Booked.caller c.args.booked.now)
-    (accepted_there before c.buffer.result.now c.buffer.ensures.stands c.buffer.ensures.settings)
-    c.act.result _ (returns-clause-by_front g c))
-
-pub returns-clause-unbooked : goal.returns-clause-unbooked
-returns-clause-unbooked g c taken is =
-    let before = standing (g.B.Booked.history c.args.booked.now) (g.S.Sink.content c.args.sink.now) in
-    pass_grows before c.args.limits (g.B.Booked.caller c.args.booked.now)
-    (accepted_there before c.buffer.result.now c.buffer.ensures.stands c.buffer.ensures.settings)
-    (Err (Unbooked taken)) _ (rw is at (returns-clause-by_front g c))
-
 pub returns-clause-idle : goal.returns-clause-idle
 returns-clause-idle g c is =
     let before = standing (g.B.Booked.history c.args.booked.now) (g.S.Sink.content c.args.sink.now) in
@@ -36,8 +23,15 @@ returns-clause-idle g c is =
     let ends = rw is at c.act.ensures.ends in
     idle_of_offer c.args.limits (g.B.Booked.caller c.args.booked.now) before _ (rw there at ends)
 
-pub returns-clause-full : goal.returns-clause-full
-returns-clause-full g c is =
+pub returns-clause-accounted : goal.returns-clause-accounted
+returns-clause-accounted g c =
     let before = standing (g.B.Booked.history c.args.booked.now) (g.S.Sink.content c.args.sink.now) in
-    full_of_offer (g.B.Booked.caller c.args.booked.now) (offer_of c.in_ok-next.next) before _
-    (rw is at c.act.ensures.ends)
+    let all = accepted_there before c.buffer.result.now c.buffer.ensures.stands c.buffer.ensures.settings in
+    let grows = pass_grows before c.args.limits (g.B.Booked.caller c.args.booked.now) all in
+    record {
+      alike = alike_of c.act.result (grows c.act.result _ (returns-clause-by_front g c));
+      unbooked = λ taken is. grows (Err (Unbooked taken)) _ (rw is at (returns-clause-by_front g c));
+      failures = search rules;
+      full = λ is. full_of_offer (g.B.Booked.caller c.args.booked.now) (offer_of c.in_ok-next.next) before _
+          (rw is at c.act.ensures.ends);
+    }
