@@ -1,9 +1,8 @@
 -- The moments at which the pending bytes rose or fell.
-use Rattle.std.specs.Prelude.{ℕ, Bool, true, false, List, [], ◌∷◌, ◌++◌, nat_lt, if◌then◌else◌}
+use Rattle.std.specs.Prelude.{ℕ, Bool, List, [], ◌∷◌, ◌++◌, nat_lt, if◌then◌else◌}
+use Rattle.ob_types.specs.Traits.{traits_of}
 use Rattle.ob_types.specs.declared.estimate.Estimate.{Estimate}
 use Rattle.ob_types.specs.declared.command.Command.{Command}
-use Rattle.ob_types.specs.declared.command.Command.TheVariants.{Write, Flush, Remove, RemoveWith, RemoveBytes, Progress}
-use Rattle.ob_types.specs.declared.command.Command.TheVariants.{Cancel, FailFlushed, Close, UserBit}
 use Rattle.ob_seq.specs.Row.{Row}
 use Rattle.ob_seq.specs.Total.{counted_size, total}
 use Rattle.ob_seq.specs.Effect.{effect}
@@ -37,16 +36,7 @@ moments_along notice passed (was ∷ before) (row ∷ after) =
 -- whether the falls of a command are with notice: a failing of the flushed messages says so itself, and a close never
 -- gives any
 abbrev pub gives_notice : Command → Bool
-gives_notice (Write message) = true
-gives_notice Flush = true
-gives_notice Remove = true
-gives_notice (RemoveWith cause) = true
-gives_notice (RemoveBytes n) = true
-gives_notice (Progress n) = true
-gives_notice (Cancel id) = true
-gives_notice (FailFlushed cause notify) = notify
-gives_notice (Close cause) = false
-gives_notice (UserBit index writable) = true
+gives_notice command = (traits_of command).notice
 
 -- the moments of one more accepted command, in the order of the rows
 abbrev pub moments_of : Estimate → List Row → Command → List Moment

@@ -1,9 +1,8 @@
 -- What a contract sees of a buffer, and the history that it stands for.
-use Rattle.std.specs.Prelude.{◌≡◌, ℕ, Bool, true, false, List, [], map, Result, Option, IsErrOf, OnErr}
+use Rattle.std.specs.Prelude.{◌≡◌, ℕ, Bool, true, not, List, [], map, Result, Option, IsErrOf, OnErr}
+use Rattle.ob_types.specs.Traits.{traits_of}
 use Rattle.ob_types.specs.WaterMark.{Marks}
 use Rattle.ob_types.specs.declared.command.Command.{Command}
-use Rattle.ob_types.specs.declared.command.Command.TheVariants.{Write, Flush, Remove, RemoveWith, RemoveBytes, Progress}
-use Rattle.ob_types.specs.declared.command.Command.TheVariants.{Cancel, FailFlushed, Close, UserBit}
 use Rattle.ob_types.specs.declared.message.Message.{Message}
 use Rattle.ob_types.specs.declared.promise.PromiseId.{PromiseId}
 use Rattle.ob_types.specs.declared.promise.PromiseState.{PromiseState}
@@ -95,13 +94,4 @@ AreGathered buffer max_count max_bytes blocks =
 
 -- whether a command is never in want of memory
 abbrev pub takes_no_memory : Command → Bool
-takes_no_memory (Write message) = false
-takes_no_memory Flush = true
-takes_no_memory Remove = true
-takes_no_memory (RemoveWith cause) = true
-takes_no_memory (RemoveBytes n) = false
-takes_no_memory (Progress n) = true
-takes_no_memory (Cancel id) = true
-takes_no_memory (FailFlushed cause notify) = false
-takes_no_memory (Close cause) = false
-takes_no_memory (UserBit index writable) = true
+takes_no_memory command = not (traits_of command).wants_memory

@@ -24,8 +24,9 @@ use Rattle.ob_transport.specs.Content.{Content, with_more_bytes, with_more_units
 use Rattle.ob_transport.specs.GrowAlike.{GrowAlike, GrowAlikeBut, IsBooked}
 use Rattle.ob_transport.specs.IsPass.{IsPass}
 use Rattle.ob_transport.specs.Outcome.{Clears, SendsBytes, SendsUnits, booked_units, ready}
-use Rattle.ob_transport.specs.SentBytes.{bytes_sent_by, front_bytes, unread_bytes}
-use Rattle.ob_transport.specs.SentUnits.{units_at, units_sent_by}
+use Rattle.ob_transport.specs.SentBy.{front_bytes, units_at, unread_bytes}
+use Rattle.ob_transport.specs.SentBytes.{bytes_sent_by}
+use Rattle.ob_transport.specs.SentUnits.{units_sent_by}
 use Rattle.ob_transport.specs.InFront.{current_in, gathered_in, progress_in, rows_in, sent_bytes_in, sent_units_in}
 use Rattle.ob_transport.specs.InFront.{unread_in}
 use Rattle.ob_transport.specs.Standing.{Standing, standing}

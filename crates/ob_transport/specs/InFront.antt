@@ -8,7 +8,8 @@ use Rattle.ob_seq.specs.Effect.{rows_after}
 use Rattle.ob_seq.specs.Gathering.{gathered_after}
 use Rattle.ob_history.specs.Accepted.{accepted_commands}
 use Rattle.ob_history.specs.History.{History}
-use Rattle.ob_transport.specs.SentBytes.{sent_bytes, unread_bytes}
+use Rattle.ob_transport.specs.SentBy.{unread_bytes}
+use Rattle.ob_transport.specs.SentBytes.{sent_bytes}
 use Rattle.ob_transport.specs.SentUnits.{sent_units}
 use Rattle.ob_transport.specs.declared.limits.Limits.{Limits}
 

@@ -12,6 +12,7 @@ pub mod PassFault
 pub mod Refused
 pub mod InsideScript
 pub mod Script
+pub mod SentBy
 pub mod SentBytes
 pub mod SentUnits
 pub mod Standing

@@ -3,6 +3,7 @@ pub mod Change
 pub mod Limits
 pub mod PendingSize
 pub mod Refusal
+pub mod Traits
 pub mod Waiting
 pub mod WaterMark
 pub mod Write
