@@ -6,7 +6,10 @@ ghost use Rattle.ob_seq.specs.Pending.{StandsFor, Obeys, takes_no_memory};
 ghost use Rattle.ob_seq.specs.Settles.{SparesMemory};
 
 mod commands;
+mod gather;
+mod look;
 mod looks;
+mod state;
 
 use crate::contents::Contents;
 use ob_types::{Command, Estimate, Refusal, Reply, WaterMark};

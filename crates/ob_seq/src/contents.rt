@@ -9,17 +9,14 @@ mod close;
 mod cut;
 mod fail_flushed;
 mod flush;
-mod gather;
-mod look;
 mod progress;
 mod remove;
 mod remove_bytes;
 mod settles;
-mod state;
 mod taking;
 mod user_bit;
-mod word;
-mod write;
+pub(crate) mod word;
+pub(crate) mod write;
 
 use crate::entry::Entry;
 use ob_types::{
@@ -36,18 +33,18 @@ use std::marker::Model;
 /// the first of them off the ring.
 #[derive(Debug, Drop)]
 pub struct Contents {
-    marks: WaterMark,
+    pub(crate) marks: WaterMark,
     estimate: Estimate,
     /// What stands in line, and behind it what no flush has reached, each oldest first.
-    entries: VecDeque<Entry>,
+    pub(crate) entries: VecDeque<Entry>,
     /// How many of the entries stand in line.
-    flushed: usize,
+    pub(crate) flushed: usize,
     /// The state of each promise, by its id.
-    promises: Vec<PromiseState>,
+    pub(crate) promises: Vec<PromiseState>,
     /// The bytes that the entries count together.
-    total: u32,
-    word: u32,
-    closed: bool,
+    pub(crate) total: u32,
+    pub(crate) word: u32,
+    pub(crate) closed: bool,
 }
 
 impl Model for Contents {

@@ -1,33 +1,26 @@
-//! The looks at a buffer, which change nothing.
+//! The looks at the messages and the promises of a buffer.
 
-ghost use Rattle.std.specs.Prelude.{◌≡◌, [], List, IfOk, IfErr, IsOk};
 ghost use Rattle.std.specs.Option.{option_copied};
-ghost use Rattle.ob_types.specs.declared.command.Command.{Command};
-ghost use Rattle.ob_seq.specs.Gathering.{gathered_after};
-ghost use Rattle.ob_seq.specs.Pending.{AreFlushed, AreGathered, Gives, IsCurrent, Shows, StandsFor, Tells};
+ghost use Rattle.ob_seq.specs.Pending.{AreFlushed, IsCurrent, Tells};
 ghost use Rattle.ob_seq.specs.Settles.{Settles};
-ghost use Rattle.ob_seq.specs.State.{writable_after, empty_after, closed_after, user_writable_after, writes_left_after};
 
 use crate::buffer::Buffer;
 use crate::flushed::Flushed;
-use crate::look::Look;
-use bytes::Bytes;
-use ob_types::{Command, Message, PromiseId, PromiseState, Refusal};
+use ob_types::{Command, Message, PromiseId, PromiseState};
 
 impl Buffer {
-    /// What is pending now. It changes nothing, takes the same few steps whatever is pending, and no memory.
-    pub fn look(&self) -> Look
-        ensures { Shows self.now result }
-    {
-        self.contents.look()
-    }
-
     /// What has become of a promise, or nothing where no write was accepted under the id. It takes the same few
     /// steps whatever is pending, and no memory.
     pub fn promise(&self, id: PromiseId) -> Option<PromiseState>
         ensures { Tells self.now id result }
     {
-        self.contents.promise(id)
+        let contents = &self.contents;
+        let at = id.0 as usize;
+        if at < contents.promises.len() {
+            Some(contents.promises[at])
+        } else {
+            None
+        }
     }
 
     /// What is left of the first flushed message: the unread part of a block, which is empty where the message was
@@ -35,7 +28,11 @@ impl Buffer {
     pub fn current(&self) -> Option<&Message>
         ensures { IsCurrent self.now (option_copied result) }
     {
-        self.contents.current()
+        let contents = &self.contents;
+        if contents.flushed == 0 {
+            return None;
+        }
+        Some(&contents.entries[0].message)
     }
 
     /// What is left of each flushed message that was not voided, oldest first (Netty's `forEachFlushedMessage`). It
@@ -43,24 +40,8 @@ impl Buffer {
     pub fn flushed(&self) -> Flushed<'_>
         ensures { AreFlushed self.now result }
     {
-        self.contents.flushed()
-    }
-
-    /// The flushed blocks in front that can be sent at once (Netty's `nioBuffers`): those that hold a byte, up to the
-    /// first message that is no block, at most `max_count` of them, and together at most `max_bytes` bytes; but the
-    /// first of them however long it is, and none where `max_count` is 0. They share their memory with the buffer, which
-    /// stays as it is.
-    ///
-    /// It goes over the blocks that it gives and the empty ones that it passes, and takes memory for the list alone.
-    /// `NoMemory` comes where the allocator refused or a block has more owners than can be counted, and not where
-    /// nothing is gathered.
-    pub fn gather(&self, max_count: u32, max_bytes: u32) -> Result<Vec<Bytes>, Refusal>
-        ensures blocks { IfOk result (λ blocks. AreGathered self.now max_count max_bytes blocks.items) }
-        ensures no_memory { IfErr result (λ refusal. refusal ≡ Refusal.NoMemory) }
-        ensures frugal { (commands : List Command) → StandsFor self.now commands
-            → gathered_after self.now.settings commands max_count max_bytes ≡ [] → IsOk result }
-    {
-        self.contents.gather(max_count, max_bytes)
+        let contents = &self.contents;
+        Flushed::new(contents.entries.range(..contents.flushed))
     }
 
     /// How many promises a command would settle: the number of settlements in its reply, and 0 where it would be
@@ -70,44 +51,5 @@ impl Buffer {
         ensures { Settles self.now command.now result }
     {
         self.contents.settles(command)
-    }
-
-    /// Whether writers may go on: whether neither the mark nor a user bit is set, so that the word is 0 (Netty's
-    /// `isWritable`). A close leaves it as it was. It takes no memory.
-    pub fn is_writable(&self) -> bool
-        ensures { Gives self.now writable_after result }
-    {
-        self.contents.is_writable()
-    }
-
-    /// Whether no message is flushed and not yet removed, voided ones too (Netty's `isEmpty`). As in Netty, messages
-    /// that no flush has reached are not asked for. It takes no memory.
-    pub fn is_empty(&self) -> bool
-        ensures { Gives self.now empty_after result }
-    {
-        self.contents.is_empty()
-    }
-
-    /// Whether a close was accepted: from then on each command is refused as `Closed`. It takes no memory.
-    pub fn is_closed(&self) -> bool
-        ensures { Gives self.now closed_after result }
-    {
-        self.contents.is_closed()
-    }
-
-    /// Whether the user bit of this index is clear (Netty's `getUserDefinedWritability`). The indexes are 1 to 31; of
-    /// any other index no user bit is ever set, so it answers true, where Netty throws. It takes no memory.
-    pub fn user_defined_writability(&self, index: u32) -> bool
-        ensures { Gives self.now (user_writable_after index) result }
-    {
-        self.contents.user_defined_writability(index)
-    }
-
-    /// How many more writes can be accepted: 1048576 less those that were accepted from the opening on, and 0 once the
-    /// buffer is closed. Removals give none back. It takes no memory.
-    pub fn writes_left(&self) -> u32
-        ensures { Gives self.now writes_left_after result }
-    {
-        self.contents.writes_left()
     }
 }

@@ -38,6 +38,16 @@ impl Contents {
     {
         tell(&mut self.entries[0], n);
     }
+
+    /// The progress of the front, or 0.
+    pub(crate) fn current_progress(&self) -> u64
+        ensures { result ≡ first_progress self.now.line }
+    {
+        if self.flushed == 0 {
+            return 0;
+        }
+        self.entries[0].progress
+    }
 }
 
 /// Whether so many more bytes of progress do not pass the limit.

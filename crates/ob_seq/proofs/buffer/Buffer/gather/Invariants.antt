@@ -1,6 +1,6 @@
 use Rattle.ob_seq.proofs.Words.{◌≡◌, ◌++◌, length, drop, blocks_left}
 use Rattle.ob_seq.proofs.Gathered.{more_blocks}
-use Rattle.ob_seq.proofs.contents.Contents.gather.Given as goal
+use Rattle.ob_seq.proofs.buffer.Buffer.gather.Given as goal
 
 abbrev pub invariant-loop-place : goal.invariant-loop-place
 invariant-loop-place l =

@@ -1,7 +1,7 @@
 use Rattle.ob_seq.proofs.Words.{◌≡◌, ◌<◌, ◌≤◌, true, ap, ◌∙◌, arith, nat_tests, Pending}
 use Rattle.ob_seq.specs.UserBit.{is_user_index}
 use Rattle.ob_seq.proofs.WordDigits.{user_bit_shows}
-use Rattle.ob_seq.proofs.contents.Contents.user_defined_writability.Goals as goal
+use Rattle.ob_seq.proofs.buffer.Buffer.user_defined_writability.Goals as goal
 
 pub returns : goal.returns
 returns c commands stands =
@@ -9,5 +9,5 @@ returns c commands stands =
     let some : 0 < index = omega (arith, c.if-index-eq0.false) in
     let few : index ≤ 31 = c.if-index-gt31.false in
     let known : is_user_index index ≡ true = grind (arith, nat_tests) in
-    let word = ap (λ (held : Pending). held.word) c.self.view_is ∙ stands.word in
+    let word = ap (λ (held : Pending). held.word) (c.contents.view_is ∙ c.self.view_is) ∙ stands.word in
     rw (c.has_bit.ensures, word, user_bit_shows c.args.self.now.settings commands index some few, known)
