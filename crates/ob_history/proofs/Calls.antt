@@ -74,16 +74,18 @@ module _ (history : History) (caller : ℕ) (command : Command) where
             limit = bounded.limit;
           }
 
-  pub settings_after : (history_after history caller command).settings ≡ history.settings
-  settings_after = by_full (is_full history)
+  -- what a record leaves alone a call does
+  kept_after : {A : Type 0} (of : History → A) →
+      of (with_record history (next_record history caller command)) ≡ of history →
+      of (history_after history caller command) ≡ of history
+  kept_after of kept = by_full (is_full history)
     where
-      by_full : (full : Bool) → (after_by full).settings ≡ history.settings
+      by_full : (full : Bool) → of (after_by full) ≡ of history
       by_full true = refl
-      by_full false = refl
+      by_full false = kept
+
+  pub settings_after : (history_after history caller command).settings ≡ history.settings
+  settings_after = kept_after (λ held. held.settings) refl
 
   pub limit_after : (history_after history caller command).limit ≡ history.limit
-  limit_after = by_full (is_full history)
-    where
-      by_full : (full : Bool) → (after_by full).limit ≡ history.limit
-      by_full true = refl
-      by_full false = refl
+  limit_after = kept_after (λ held. held.limit) refl

@@ -53,6 +53,32 @@ invariant_of-self-in_err-reply c =
     rw c.in_err-reply.ensures.err
     (IsSound-more_room c.self.inside c.reserve.new.self room.items room.len room.capacity c.self.invariant)
 
+-- the record that is pushed
+abbrev asked_for : goal.After-self-1 → Record
+asked_for c = record {
+  place = c.len-place.result;
+  caller = c.args.caller;
+  command = c.in_ok-asked.asked;
+  reply = c.in_ok-reply.reply;
+}
+
+-- stands behind the others
+pushed : (c : goal.After-self-1) → c.push_reserved.new.self.items ≡ c.self.inside.records.items ++ asked_for c ∷ []
+pushed c =
+    c.push_reserved.ensures.items ∙ ap (λ items. items ++ asked_for c ∷ []) c.reserve.ensures.items
+
+-- at its place
+placed : (c : goal.After-self-1) → c.len-place.result ≡ length c.self.inside.records.items
+placed c = c.len-place.ensures ∙ c.reserve.ensures.len ∙ c.self.inside.records.ok.0
+
+-- and has the answer to its command
+answered : (c : goal.After-self-1) → c.in_ok-reply.reply
+    ≡ answer_to (settings_of c.self.inside) (accepted_commands c.self.inside.records.items) c.args.command
+answered c =
+    let before = accepted_commands c.self.inside.records.items in
+    c.in_ok-reply.ensures.answer before c.self.invariant.stands
+    ∙ ap (λ opened. answer_to opened before c.args.command) c.self.invariant.settings
+
 pub invariant_of-self-2 : goal.invariant_of-self-2
 invariant_of-self-2 c =
     let inside = c.self.inside in
@@ -63,37 +89,28 @@ invariant_of-self-2 c =
     let same = c.in_ok-asked.ensures.same in
     let done = c.in_ok-reply.ensures in
     let stands = c.self.invariant.stands in
-    let one : Record = record {
-      place = c.len-place.result;
-      caller = c.args.caller;
-      command = c.in_ok-asked.asked;
-      reply = c.in_ok-reply.reply;
-    } in
-    let pushed = c.push_reserved.ensures in
+    let one = asked_for c in
     let room = c.reserve.ensures in
-    let records : c.push_reserved.new.self.items ≡ earlier ++ one ∷ [] =
-    pushed.items ∙ ap (λ items. items ++ one ∷ []) room.items in
-    let place : one.place ≡ length earlier = c.len-place.ensures ∙ room.len ∙ inside.records.ok.0 in
-    let reply : one.reply ≡ answer_to settings before one.command = done.answer before stands
-    ∙ ap (λ opened. answer_to opened before asked) c.self.invariant.settings
-    ∙ ap (answer_to settings before) (sym same) in
-    let legal = legal_with_next settings earlier one c.self.invariant.legal place reply in
+    let reply : one.reply ≡ answer_to settings before one.command =
+    answered c ∙ ap (answer_to settings before) (sym same) in
+    let legal = legal_with_next settings earlier one c.self.invariant.legal (placed c) reply in
     let accepted : commands_with before asked c.in_ok-reply.reply ≡ accepted_commands c.push_reserved.new.self.items =
     ap (commands_with before asked) (done.answer before stands)
     ∙ ap (λ opened. commands_after opened before asked) c.self.invariant.settings
     ∙ ap (commands_after settings before) (sym same)
     ∙ sym (accepted_with_next settings earlier one reply)
-    ∙ ap accepted_commands (sym records) in
+    ∙ ap accepted_commands (sym (pushed c)) in
     let left = c.saturating_sub-self-inside.ensures in
+    let behind = c.push_reserved.ensures in
     record {
-      legal = subst (IsLegal settings) (sym records) legal;
+      legal = subst (IsLegal settings) (sym (pushed c)) legal;
       stands = subst (StandsFor c.give.new.buffer) accepted (done.stands before stands);
       settings = done.settings ∙ c.self.invariant.settings;
-      places = omega (arith, pushed.len, room.len, left, c.if-len-self.false, c.len.ensures, c.self.invariant.places);
+      places = omega (arith, behind.len, room.len, left, c.if-len-self.false, c.len.ensures, c.self.invariant.places);
       memory = omega (
         arith,
-        pushed.len,
-        pushed.capacity,
+        behind.len,
+        behind.capacity,
         room.len,
         room.capacity,
         c.in_ok-reserve.ensures.ok,
@@ -108,26 +125,10 @@ invariant_of-self-2 c =
 pub returns-clause-after : goal.returns-clause-after
 returns-clause-after c wanted =
     let inside = c.self.inside in
-    let settings = settings_of inside in
-    let earlier = inside.records.items in
-    let before = accepted_commands earlier in
-    let asked = c.args.command in
     let free : is_full (history_of inside) ≡ false =
     ne_eqb _ _ (λ same. c.if-len-self.false (c.len.ensures ∙ inside.records.ok.0 ∙ same)) in
-    let one : Record = record {
-      place = c.len-place.result;
-      caller = c.args.caller;
-      command = c.in_ok-asked.asked;
-      reply = c.in_ok-reply.reply;
-    } in
-    let room = c.reserve.ensures in
-    let records : c.push_reserved.new.self.items ≡ earlier ++ one ∷ [] =
-    c.push_reserved.ensures.items ∙ ap (λ items. items ++ one ∷ []) room.items in
-    let place : one.place ≡ length earlier = c.len-place.ensures ∙ room.len ∙ inside.records.ok.0 in
-    let reply : one.reply ≡ answer_to settings before asked =
-    c.in_ok-reply.ensures.answer before c.self.invariant.stands
-    ∙ ap (λ opened. answer_to opened before asked) c.self.invariant.settings in
-    same_history settings inside.limit records c.saturating_sub-self-inside.ensures
-    ∙ ap (with_record (history_of inside)) (same_record c.args.caller place c.in_ok-asked.ensures.same reply)
-    ∙ sym (after_with_place (history_of inside) c.args.caller asked free)
-    ∙ ap (λ history. history_after history c.args.caller asked) c.self.view_is
+    same_history (settings_of inside) inside.limit (pushed c) c.saturating_sub-self-inside.ensures
+    ∙ ap (with_record (history_of inside))
+    (same_record c.args.caller (placed c) c.in_ok-asked.ensures.same (answered c))
+    ∙ sym (after_with_place (history_of inside) c.args.caller c.args.command free)
+    ∙ ap (λ history. history_after history c.args.caller c.args.command) c.self.view_is

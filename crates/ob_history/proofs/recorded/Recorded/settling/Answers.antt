@@ -16,18 +16,13 @@ walked c =
 legal : (c : After-first_settling) → IsLegal c.args.self.now.settings c.args.self.now.records
 legal c = subst (λ (history : History). IsLegal history.settings history.records) c.self.view_is c.self.invariant.legal
 
-pub returns-clause-settles : goal.returns-clause-settles
-returns-clause-settles c = found_settles c.args.id c.args.self.now.records c.first_settling.result (walked c)
-
-pub returns-clause-there : goal.returns-clause-there
-returns-clause-there c =
-    found_at_place c.args.id c.args.self.now.records c.args.self.now.settings (legal c) c.first_settling.result
-    (walked c)
-
-pub returns-clause-none : goal.returns-clause-none
-returns-clause-none c = none_settles c.args.id c.args.self.now.records c.first_settling.result (walked c)
-
-pub returns-clause-told : goal.returns-clause-told
-returns-clause-told c =
-    settled_is_found c.args.id c.args.self.now.records c.args.self.now.settings (legal c) c.first_settling.result
-    (walked c)
+pub returns : goal.returns
+returns c =
+    let records = c.args.self.now.records in
+    let settings = c.args.self.now.settings in
+    let found = c.first_settling.result in record {
+      settles = found_settles c.args.id records found (walked c);
+      there = found_at_place c.args.id records settings (legal c) found (walked c);
+      none = none_settles c.args.id records found (walked c);
+      told = settled_is_found c.args.id records settings (legal c) found (walked c);
+    }
