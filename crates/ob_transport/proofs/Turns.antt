@@ -3,8 +3,10 @@ use Rattle.std.proofs.Common.{◌≡◌, ℕ, ◌+◌, ◌++◌, sym, ap, ◌∙
 use Rattle.std.specs.Prelude.{Ok, Err, Result}
 use Rattle.ob_transport.specs.Drains.{GoesOn, Passes}
 use Rattle.ob_transport.specs.GrowAlike.{GrowAlike, GrowAlikeBut, IsBooked}
+use Rattle.ob_transport.specs.IsAccounted.{IsAccounted}
 use Rattle.ob_transport.specs.IsPass.{IsPass}
 use Rattle.ob_transport.specs.Standing.{Standing}
+use Rattle.ob_transport.specs.declared.draining.Drained.{Drained}
 use Rattle.ob_transport.specs.declared.fault.Pass.{Pass}
 use Rattle.ob_transport.specs.declared.fault.PassFault.{PassFault}
 use Rattle.ob_transport.specs.declared.limits.Limits.{Limits}
@@ -57,3 +59,14 @@ same_fault {A} {B} fault fault' is = ap (λ (fault : PassFault). let result : Re
 -- what was taken with a value is booked
 pub booked_with : {A : Type 0} (value : A) → IsBooked {A = A} (Ok value)
 booked_with value taken is = absurd (cc)
+
+-- passes of which all is booked and none failed account, with one more pass, for what that one does
+pub accounted_more : {before middle after : Standing} (pass : Pass) (drained : Drained) → GrowAlike before middle →
+    middle.sink.failures ≡ before.sink.failures → IsAccounted middle (Ok pass) after →
+    IsAccounted before (Ok drained) after
+accounted_more pass drained alike none_failed passed = record {
+  alike = λ booked. alike_both alike (passed.alike (booked_with pass));
+  unbooked = λ taken is. absurd (cc);
+  failures = omega (arith, passed.failures, none_failed);
+  full = λ is. absurd (cc);
+}

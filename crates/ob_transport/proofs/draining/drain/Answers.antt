@@ -5,7 +5,7 @@ use Rattle.ob_transport.specs.Standing.{standing}
 use Rattle.ob_transport.specs.declared.draining.Drained.{Drained}
 use Rattle.ob_transport.specs.declared.fault.Pass.{Pass}
 use Rattle.ob_transport.specs.declared.fault.PassFault.TheVariants.{Unbooked}
-use Rattle.ob_transport.proofs.Turns.{alike_both, alike_but, booked_with, one_more_pass, same_fault}
+use Rattle.ob_transport.proofs.Turns.{accounted_more, alike_both, alike_but, booked_with, one_more_pass, same_fault}
 use Rattle.ob_transport.proofs.draining.drain.Goals as goal
 
 pub returns-in_err-pass-clause-accounted : goal.returns-in_err-pass-clause-accounted
@@ -24,22 +24,12 @@ returns-in_err-pass-clause-accounted g c =
     }
 
 pub returns-in-Idle-clause-accounted : goal.returns-in-Idle-clause-accounted
-returns-in-Idle-clause-accounted g c = record {
-  alike = λ booked.
-      alike_both c.loop-turn.invariant.2 (c.in_ok-pass.ensures.accounted.alike (booked_with c.in_ok-pass.field-0));
-  unbooked = search rules;
-  failures = search rules;
-  full = search rules;
-}
+returns-in-Idle-clause-accounted g c =
+    let kept = c.loop-turn.invariant in accounted_more c.in_ok-pass.field-0 _ kept.2 kept.3 c.in_ok-pass.ensures.accounted
 
 pub returns-in-Stalled-clause-accounted : goal.returns-in-Stalled-clause-accounted
-returns-in-Stalled-clause-accounted g c = record {
-  alike = λ booked.
-      alike_both c.loop-turn.invariant.2 (c.in_ok-pass.ensures.accounted.alike (booked_with c.in_ok-pass.field-0));
-  unbooked = search rules;
-  failures = search rules;
-  full = search rules;
-}
+returns-in-Stalled-clause-accounted g c =
+    let kept = c.loop-turn.invariant in accounted_more c.in_ok-pass.field-0 _ kept.2 kept.3 c.in_ok-pass.ensures.accounted
 
 pub loop-turn-preserved : goal.loop-turn-preserved
 loop-turn-preserved g c =
