@@ -7,7 +7,9 @@ use Rattle.ob_seq.proofs.Words.{refusal_of, entry_of, Pending, StandsFor, front_
 use Rattle.ob_seq.proofs.Words.{times}
 use Rattle.ob_seq.specs.Answer.{answer_of}
 use Rattle.ob_seq.specs.Moment.{gives_notice}
-use Rattle.ob_seq.specs.Steps.{front_removed, front_skipped, is_first_voided, removal_reply, removal_step}
+use Rattle.ob_seq.specs.Steps.Remove.{front_removed, removal_reply, removal_step}
+use Rattle.ob_seq.specs.Steps.RemoveBytes.{front_skipped}
+use Rattle.ob_seq.specs.Steps.Held.{is_first_voided}
 use Rattle.ob_seq.proofs.Fronts.{Carries, carried, rows_of, some_front}
 use Rattle.ob_seq.proofs.Held.{Held, front_id_is, held_of, word_by_moments}
 use Rattle.ob_seq.proofs.History.{moments_after}

@@ -13,7 +13,9 @@ use Rattle.ob_types.specs.declared.refusal.Refusal.TheVariants.{NoMemory}
 use Rattle.ob_seq.specs.Answer.{commands_with, refusal_of_progress}
 use Rattle.ob_seq.specs.Pending.{Follows, Obeys}
 use Rattle.ob_seq.specs.Settles.{Settles}
-use Rattle.ob_seq.specs.Steps.{Step, answer_by, bytes_step, first_of_step, held_by, progressed_entry}
+use Rattle.ob_seq.specs.Steps.Step.{Step, answer_by, first_of_step, held_by}
+use Rattle.ob_seq.specs.Steps.RemoveBytes.{bytes_step}
+use Rattle.ob_seq.specs.Steps.Progress.{progressed_entry}
 use Rattle.ob_seq.proofs.Blocks.{few_entries}
 use Rattle.ob_seq.proofs.BytesRemoved.{bytes_removed_stand, run_is}
 use Rattle.ob_seq.proofs.Cancelled.{cancel_simulates}

@@ -3,7 +3,7 @@ use Rattle.ob_seq.proofs.Words.{[], ◌≡◌, false, List, ◌∷◌, ◌++◌,
 use Rattle.ob_seq.proofs.Words.{refusal_of, reply_of, rows_after, effect, is_close, word_after, settlements_of, Pending}
 use Rattle.ob_seq.proofs.Words.{StandsFor, settled_by_step}
 use Rattle.ob_seq.specs.Answer.{answer_of}
-use Rattle.ob_seq.specs.Steps.{Step, settled_open}
+use Rattle.ob_seq.specs.Steps.Step.{Step, settled_open}
 use Rattle.ob_seq.proofs.Acceptance.{same_reply}
 use Rattle.ob_seq.proofs.Held.{Holds, opening, stands_more}
 

@@ -62,11 +62,19 @@ pub use Rattle.ob_seq.specs.Row.{Row, is_cancelled, is_voided, new_row, unread_p
 pub use Rattle.ob_seq.specs.Row.{Gone, Unflushed, Flushed, Voided, is_flushed}
 pub use Rattle.ob_seq.specs.Settings.{Settings}
 pub use Rattle.ob_seq.specs.Settles.{settled_along, settled_by, SparesMemory}
-pub use Rattle.ob_seq.specs.Steps.{pending_total, first_size, reached_entry, unflushed_id, next_flushed, times}
-pub use Rattle.ob_seq.specs.Steps.{word_after_fall, cut_of, front_id, front_taken, word_after_rise, write_step}
-pub use Rattle.ob_seq.specs.Steps.{bytes_reply, entry_settlements, sum_of, first_progress, first_changed, front_changed}
-pub use Rattle.ob_seq.specs.Steps.{progress_step, entry_settlement, failures, flush_step, failing_step, closed_pending}
-pub use Rattle.ob_seq.specs.Steps.{closing_reply, settled_by_step, bit_step, promise_set, step_of, whole_cut}
+pub use Rattle.ob_seq.specs.Steps.Held.{pending_total, first_size, unflushed_id, times, front_id}
+pub use Rattle.ob_seq.specs.Steps.Flush.{reached_entry, next_flushed, flush_step}
+pub use Rattle.ob_seq.specs.Steps.Word.{word_after_fall, word_after_rise}
+pub use Rattle.ob_seq.specs.Steps.RemoveBytes.{cut_of, bytes_reply, entry_settlements, entry_settlement, whole_cut}
+pub use Rattle.ob_seq.specs.Steps.Remove.{front_taken}
+pub use Rattle.ob_seq.specs.Steps.Write.{write_step}
+pub use Rattle.ob_seq.specs.Steps.Held.{sum_of, first_progress, first_changed, front_changed, promise_set}
+pub use Rattle.ob_seq.specs.Steps.Progress.{progress_step}
+pub use Rattle.ob_seq.specs.Steps.Close.{failures, closed_pending, closing_reply}
+pub use Rattle.ob_seq.specs.Steps.FailFlushed.{failing_step}
+pub use Rattle.ob_seq.specs.Steps.Step.{settled_by_step}
+pub use Rattle.ob_seq.specs.Steps.UserBit.{bit_step}
+pub use Rattle.ob_seq.specs.Steps.OfCommand.{step_of}
 pub use Rattle.ob_seq.specs.Total.{counted_size, total}
 pub use Rattle.ob_seq.specs.UserBit.{bit_request, user_bit}
 pub use Rattle.ob_seq.specs.Word.{bit_value, word_after}

@@ -2,7 +2,7 @@ ghost use Rattle.std.specs.Prelude.{◌≡◌, ◌<◌, ◌≤◌, [], length};
 ghost use Rattle.ob_types.specs.Change.{change_between};
 ghost use Rattle.ob_types.specs.Limits.{greatest_overhead, greatest_unknown};
 ghost use Rattle.ob_seq.specs.Pending.{StandsFor};
-ghost use Rattle.ob_seq.specs.Steps.{pending_total, state_at};
+ghost use Rattle.ob_seq.specs.Steps.Held.{pending_total, state_at};
 
 mod cancel;
 mod close;

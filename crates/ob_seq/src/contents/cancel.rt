@@ -1,5 +1,6 @@
 ghost use Rattle.std.specs.Prelude.{◌≡◌};
-ghost use Rattle.ob_seq.specs.Steps.{answer_by, cancel_step, held_by};
+ghost use Rattle.ob_seq.specs.Steps.Step.{answer_by, held_by};
+ghost use Rattle.ob_seq.specs.Steps.Cancel.{cancel_step};
 
 use crate::contents::Contents;
 use ob_types::{Answer, Outcome, PromiseId, PromiseState, Refusal, Reply, Settlements};

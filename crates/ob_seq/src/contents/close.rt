@@ -1,7 +1,8 @@
 ghost use Rattle.std.specs.Prelude.{◌≡◌, ◌+◌, ◌<◌, ◌≤◌, [], length, drop, None, IsErrOf, IsOk, IfOk};
 ghost use Rattle.ob_types.specs.Limits.{inline_settlements, most_writes};
-ghost use Rattle.ob_seq.specs.Steps.{answer_by, closed_pending, closing_step, failed_from, failures, first_of_step};
-ghost use Rattle.ob_seq.specs.Steps.{held_by, unflushed_id};
+ghost use Rattle.ob_seq.specs.Steps.Step.{answer_by, first_of_step, held_by};
+ghost use Rattle.ob_seq.specs.Steps.Close.{closed_pending, closing_step, failed_from, failures};
+ghost use Rattle.ob_seq.specs.Steps.Held.{unflushed_id};
 
 use crate::contents::Contents;
 use ob_types::{Answer, Cause, Outcome, PromiseId, PromiseState, Refusal, Reply, Settlements};

@@ -1,6 +1,6 @@
 ghost use Rattle.std.specs.Prelude.{◌≡◌, ◌≤◌, length, drop, IfSome};
 ghost use Rattle.ob_seq.specs.Entry.{blocks_left};
-ghost use Rattle.ob_seq.specs.Steps.{cut_of, first_length};
+ghost use Rattle.ob_seq.specs.Steps.RemoveBytes.{cut_of, first_length};
 
 use crate::contents::Contents;
 use ob_types::Message;

@@ -1,6 +1,7 @@
 ghost use Rattle.std.specs.Prelude.{◌≡◌, ◌<◌, length, None, IsErrOf};
 ghost use Rattle.ob_types.specs.Limits.{inline_settlements};
-ghost use Rattle.ob_seq.specs.Steps.{answer_by, failing_step, first_of_step, held_by};
+ghost use Rattle.ob_seq.specs.Steps.Step.{answer_by, first_of_step, held_by};
+ghost use Rattle.ob_seq.specs.Steps.FailFlushed.{failing_step};
 
 use crate::contents::Contents;
 use ob_types::{Answer, Cause, Outcome, Refusal, Reply};

@@ -1,7 +1,9 @@
 ghost use Rattle.std.specs.Prelude.{◌≡◌, ◌<◌, length, true};
 ghost use Rattle.ob_seq.specs.Inside.{pending_entry};
 ghost use Rattle.ob_seq.specs.Row.{is_cancelled as is_cancelled_state};
-ghost use Rattle.ob_seq.specs.Steps.{answer_by, flush_step, held_by, next_flushed, reached_entry, times};
+ghost use Rattle.ob_seq.specs.Steps.Step.{answer_by, held_by};
+ghost use Rattle.ob_seq.specs.Steps.Flush.{flush_step, next_flushed, reached_entry};
+ghost use Rattle.ob_seq.specs.Steps.Held.{times};
 
 use crate::contents::{Contents, word};
 use crate::entry::Entry;

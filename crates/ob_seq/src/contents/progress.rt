@@ -1,8 +1,9 @@
 ghost use Rattle.std.specs.Prelude.{◌≡◌, ◌+◌, ◌<◌, ◌≤◌, nat_le, length};
 ghost use Rattle.ob_types.specs.Limits.{greatest_progress};
 ghost use Rattle.ob_seq.specs.Inside.{pending_entry};
-ghost use Rattle.ob_seq.specs.Steps.{answer_by, first_progress, front_changed, held_by, progress_step};
-ghost use Rattle.ob_seq.specs.Steps.{progressed_entry};
+ghost use Rattle.ob_seq.specs.Steps.Step.{answer_by, held_by};
+ghost use Rattle.ob_seq.specs.Steps.Held.{first_progress, front_changed};
+ghost use Rattle.ob_seq.specs.Steps.Progress.{progress_step, progressed_entry};
 
 use crate::contents::Contents;
 use crate::entry::Entry;

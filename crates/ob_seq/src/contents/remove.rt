@@ -1,6 +1,7 @@
 ghost use Rattle.std.specs.Prelude.{◌≡◌};
 ghost use Rattle.ob_types.specs.declared.promise.Outcome.TheVariants.{Success, Failed};
-ghost use Rattle.ob_seq.specs.Steps.{answer_by, front_removed, held_by, removal_reply, removal_step};
+ghost use Rattle.ob_seq.specs.Steps.Step.{answer_by, held_by};
+ghost use Rattle.ob_seq.specs.Steps.Remove.{front_removed, removal_reply, removal_step};
 
 use crate::contents::Contents;
 use ob_types::{Answer, Cause, Outcome, Refusal, Reply, Settlements};

@@ -2,8 +2,8 @@ ghost use Rattle.std.specs.Prelude.{◌≡◌, ◌<◌, ◌≤◌, length, None,
 ghost use Rattle.ob_types.specs.Limits.{inline_settlements};
 ghost use Rattle.ob_seq.specs.ByteRun.{block_bytes};
 ghost use Rattle.ob_seq.specs.Inside.{pending_entry};
-ghost use Rattle.ob_seq.specs.Steps.{answer_by, bytes_step, first_length, first_of_step, front_skipped, held_by};
-ghost use Rattle.ob_seq.specs.Steps.{skipped_entry};
+ghost use Rattle.ob_seq.specs.Steps.Step.{answer_by, first_of_step, held_by};
+ghost use Rattle.ob_seq.specs.Steps.RemoveBytes.{bytes_step, first_length, front_skipped, skipped_entry};
 
 use crate::contents::Contents;
 use crate::contents::progress::MAX_PROGRESS;

@@ -3,8 +3,13 @@ ghost use Rattle.std.specs.VecDeque.{deque_len};
 ghost use Rattle.ob_types.specs.Waiting.{is_waiting};
 ghost use Rattle.ob_types.specs.declared.promise.Cause.{Cause};
 ghost use Rattle.ob_types.specs.declared.promise.Outcome.{Outcome};
-ghost use Rattle.ob_seq.specs.Steps.{bytes_step, cancel_step, closing_step, removal_step, settled_by_step};
-ghost use Rattle.ob_seq.specs.Steps.{settled_open, step_of, unflushed_id};
+ghost use Rattle.ob_seq.specs.Steps.RemoveBytes.{bytes_step};
+ghost use Rattle.ob_seq.specs.Steps.Cancel.{cancel_step};
+ghost use Rattle.ob_seq.specs.Steps.Close.{closing_step};
+ghost use Rattle.ob_seq.specs.Steps.Remove.{removal_step};
+ghost use Rattle.ob_seq.specs.Steps.Step.{settled_by_step, settled_open};
+ghost use Rattle.ob_seq.specs.Steps.OfCommand.{step_of};
+ghost use Rattle.ob_seq.specs.Steps.Held.{unflushed_id};
 
 use crate::contents::Contents;
 use crate::entry::Entry;

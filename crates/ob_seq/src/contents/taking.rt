@@ -2,7 +2,9 @@
 
 ghost use Rattle.std.specs.Prelude.{◌≡◌, ◌<◌, ◌≤◌, length, take, option_to_list, option_map, IsOk, IfOk};
 ghost use Rattle.ob_types.specs.Limits.{inline_settlements};
-ghost use Rattle.ob_seq.specs.Steps.{entry_settlements, front_id, front_settlement, front_taken, times};
+ghost use Rattle.ob_seq.specs.Steps.RemoveBytes.{entry_settlements};
+ghost use Rattle.ob_seq.specs.Steps.Held.{front_id, times};
+ghost use Rattle.ob_seq.specs.Steps.Remove.{front_settlement, front_taken};
 
 use crate::contents::{Contents, word};
 use ob_types::{Outcome, PromiseId, PromiseState, Settlements};

@@ -1,5 +1,6 @@
 ghost use Rattle.std.specs.Prelude.{◌≡◌};
-ghost use Rattle.ob_seq.specs.Steps.{answer_by, bit_step, held_by};
+ghost use Rattle.ob_seq.specs.Steps.Step.{answer_by, held_by};
+ghost use Rattle.ob_seq.specs.Steps.UserBit.{bit_step};
 
 use crate::contents::{Contents, word};
 use ob_types::{Answer, Refusal, Reply};

@@ -1,6 +1,8 @@
 ghost use Rattle.std.specs.Prelude.{◌≡◌, ◌+◌, ◌<◌, ◌≤◌, length, None, IsErrOf, OnOk, OnErr};
 ghost use Rattle.ob_types.specs.Limits.{greatest_total, most_writes};
-ghost use Rattle.ob_seq.specs.Steps.{answer_by, first_of_step, has_room, held_by, pending_total, write_step, written};
+ghost use Rattle.ob_seq.specs.Steps.Step.{answer_by, first_of_step, held_by};
+ghost use Rattle.ob_seq.specs.Steps.Write.{has_room, write_step, written};
+ghost use Rattle.ob_seq.specs.Steps.Held.{pending_total};
 
 use crate::contents::{Contents, word};
 use crate::entry::Entry;
