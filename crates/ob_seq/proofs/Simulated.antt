@@ -13,7 +13,7 @@ use Rattle.ob_types.specs.declared.refusal.Refusal.TheVariants.{NoMemory}
 use Rattle.ob_seq.specs.Answer.{commands_with, refusal_of_progress}
 use Rattle.ob_seq.specs.Pending.{Follows, Obeys}
 use Rattle.ob_seq.specs.Settles.{Settles}
-use Rattle.ob_seq.specs.Steps.Step.{Step, answer_by, first_of_step, held_by}
+use Rattle.ob_seq.specs.Steps.Step.{Step, Makes, answer_by, held_by}
 use Rattle.ob_seq.specs.Steps.RemoveBytes.{bytes_step}
 use Rattle.ob_seq.specs.Steps.Progress.{progressed_entry}
 use Rattle.ob_seq.proofs.Blocks.{few_entries}
@@ -175,49 +175,27 @@ module _ (command : Command) (old : Pending) where
       (simulated command old).after commands stands opened.0 opened.1
   follows (Err refusal) same commands stands = stands
 
-  module _ {new : Pending} {result : Result Reply Refusal} where
+  module _ {new : Pending} {result : Result Reply Refusal} (made : Makes old step result new) where
     -- some history is still stood for
-    pub stays_wanting : new ≡ held_by old step result → (¬ IsErrOf result NoMemory → result ≡ answer_by old step) →
-        ((commands : List Command) × StandsFor old commands) → (commands : List Command) × StandsFor new commands
-    stays_wanting held same some =
-        (commands_with some.0 command result, rw held (follows result same some.0 some.1))
+    pub stays : ((commands : List Command) × StandsFor old commands) →
+        (commands : List Command) × StandsFor new commands
+    stays some = (commands_with some.0 command result, rw made.after (follows result made.answer some.0 some.1))
 
-    pub stays : record { answer : result ≡ answer_by old step; after : new ≡ held_by old step result } →
-        ((commands : List Command) × StandsFor old commands) → (commands : List Command) × StandsFor new commands
-    stays done = stays_wanting done.after (λ wants. done.answer)
-
-    module _ {told : Pending} (is : old ≡ told) (held : new ≡ held_by old step result)
-        (same : ¬ IsErrOf result NoMemory → result ≡ answer_by old step)
-        (last : IsErrOf result NoMemory → first_of_step old step ≡ None) where
-      -- what a call promises that may want memory
-      pub called_wanting : Obeys told command result new
-      called_wanting = let stay = (simulated command old).settings in rw (← is, held) record {
-        answer = λ other commands stands. same other ∙ answer_is commands stands;
-        stands = follows result same;
-        settings = grind arith;
-        refused = grind arith;
-        no_memory_last = λ wants commands stands. rw (← answer_is commands stands, last wants);
-      }
-
-      -- one that wants it only where it settles more promises than want none
-      pub called_sparing : (IsErrOf result NoMemory → inline_settlements < length step.reply.settled) → record {
-        obeys : Obeys told command result new;
-        spares : SparesMemory told command result;
-      }
-      called_sparing many = record {
-        obeys = called_wanting;
-        spares = rw (← is) (λ commands stands few wants.
-            let count : settled_by_step old step ≡ length step.reply.settled = rw (last wants) in
-            let same = settles commands stands in
-            let most = many wants in
-            absurd (omega arith));
-      }
-
-    -- and one that never does
-    pub called : {told : Pending} → old ≡ told →
-        record { answer : result ≡ answer_by old step; after : new ≡ held_by old step result } →
-        ¬ IsErrOf result NoMemory → record { obeys : Obeys told command result new; frugal : ¬ IsErrOf result NoMemory }
-    called is done frugal = record {
-      obeys = called_wanting is done.after (λ wants. done.answer) (λ wants. absurd (frugal wants));
-      frugal = frugal;
+    -- a call that makes its step obeys its command
+    pub obeys : {told : Pending} → old ≡ told → Obeys told command result new
+    obeys is = let stay = (simulated command old).settings in rw (← is, made.after) record {
+      answer = λ other commands stands. made.answer other ∙ answer_is commands stands;
+      stands = follows result made.answer;
+      settings = grind arith;
+      refused = grind arith;
+      no_memory_last = λ wants commands stands. rw (← answer_is commands stands, made.no_memory_last wants);
     }
+
+    -- and spares memory, where it wants it only if it settles more promises than want none
+    pub spares : {told : Pending} → old ≡ told →
+        (IsErrOf result NoMemory → inline_settlements < length step.reply.settled) → SparesMemory told command result
+    spares is many = rw (← is) (λ commands stands few wants.
+        let count : settled_by_step old step ≡ length step.reply.settled = rw (made.no_memory_last wants) in
+        let same = settles commands stands in
+        let most = many wants in
+        absurd (omega arith))

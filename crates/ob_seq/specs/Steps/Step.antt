@@ -1,6 +1,6 @@
 -- What one command does to a buffer that is not closed. No public clause cites this module.
-use Rattle.std.specs.Prelude.{ℕ, length, if◌then◌else◌, Option, Some, Result, is_ok}
-use Rattle.ob_types.specs.declared.refusal.Refusal.TheVariants.{Closed}
+use Rattle.std.specs.Prelude.{◌≡◌, ℕ, length, if◌then◌else◌, Option, Some, None, Result, is_ok, IsErrOf}
+use Rattle.ob_types.specs.declared.refusal.Refusal.TheVariants.{Closed, NoMemory}
 use Rattle.ob_types.specs.declared.refusal.Refusal.{Refusal}
 use Rattle.ob_types.specs.declared.reply.Reply.{Reply}
 use Rattle.ob_seq.specs.Answer.{unless_refused}
@@ -25,6 +25,13 @@ answer_by old step = unless_refused (first_of_step old step) step.reply
 -- what is held after a step with this answer: a refused one changes nothing
 abbrev pub held_by : Pending → Step → Result Reply Refusal → Pending
 held_by old step answer = if is_ok answer then step.after else old
+
+-- a step is made where its answer is given, unless memory is wanted, and what is held follows; and memory is wanted only
+-- where nothing else refuses the step
+pub record Makes (old : Pending) (step : Step) (result : Result Reply Refusal) (new : Pending) : Type 0 where
+  pub answer : ¬ IsErrOf result NoMemory → result ≡ answer_by old step
+  pub after : new ≡ held_by old step result
+  pub no_memory_last : IsErrOf result NoMemory → first_of_step old step ≡ None
 
 -- how many promises a step of a buffer that is not closed settles: those of its reply, and none where it is refused
 abbrev pub settled_open : Step → ℕ

@@ -1,5 +1,5 @@
-ghost use Rattle.std.specs.Prelude.{◌≡◌};
-ghost use Rattle.ob_seq.specs.Steps.Step.{answer_by, held_by};
+ghost use Rattle.std.specs.Prelude.{IsErrOf};
+ghost use Rattle.ob_seq.specs.Steps.Step.{Makes};
 ghost use Rattle.ob_seq.specs.Steps.Cancel.{cancel_step};
 
 use crate::contents::Contents;
@@ -8,8 +8,8 @@ use ob_types::{Answer, Outcome, PromiseId, PromiseState, Refusal, Reply, Settlem
 impl Contents {
     /// The step of `Buffer::cancel`.
     pub fn cancel(&mut self, id: PromiseId) -> Result<Reply, Refusal>
-        ensures answer { result ≡ answer_by self.old (cancel_step id.0 self.old) }
-        ensures after { self.new ≡ held_by self.old (cancel_step id.0 self.old) result }
+        ensures makes { Makes self.old (cancel_step id.0 self.old) result self.new }
+        ensures frugal { ¬ IsErrOf result Refusal.NoMemory }
     {
         if self.closed {
             return Err(Refusal::Closed);

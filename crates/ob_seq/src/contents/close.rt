@@ -1,6 +1,6 @@
-ghost use Rattle.std.specs.Prelude.{◌≡◌, ◌+◌, ◌<◌, ◌≤◌, [], length, drop, None, IsErrOf, IsOk, IfOk};
+ghost use Rattle.std.specs.Prelude.{◌≡◌, ◌+◌, ◌<◌, ◌≤◌, [], length, drop, IsErrOf, IsOk, IfOk};
 ghost use Rattle.ob_types.specs.Limits.{inline_settlements, most_writes};
-ghost use Rattle.ob_seq.specs.Steps.Step.{answer_by, first_of_step, held_by};
+ghost use Rattle.ob_seq.specs.Steps.Step.{Makes};
 ghost use Rattle.ob_seq.specs.Steps.Close.{closed_pending, closing_step, failed_from, failures};
 ghost use Rattle.ob_seq.specs.Steps.Held.{unflushed_id};
 
@@ -11,10 +11,7 @@ use std::alloc::AllocError;
 impl Contents {
     /// The step of `Buffer::close`.
     pub fn close(&mut self, cause: Cause) -> Result<Reply, Refusal>
-        ensures answer { ¬ IsErrOf result Refusal.NoMemory → result ≡ answer_by self.old (closing_step cause self.old) }
-        ensures after { self.new ≡ held_by self.old (closing_step cause self.old) result }
-        ensures no_memory_last { IsErrOf result Refusal.NoMemory
-            → first_of_step self.old (closing_step cause self.old) ≡ None }
+        ensures makes { Makes self.old (closing_step cause self.old) result self.new }
         ensures frugal { IsErrOf result Refusal.NoMemory
             → inline_settlements < length (closing_step cause self.old).reply.settled }
     {

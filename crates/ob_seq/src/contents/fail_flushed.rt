@@ -1,6 +1,6 @@
-ghost use Rattle.std.specs.Prelude.{◌≡◌, ◌<◌, length, None, IsErrOf};
+ghost use Rattle.std.specs.Prelude.{◌<◌, length, IsErrOf};
 ghost use Rattle.ob_types.specs.Limits.{inline_settlements};
-ghost use Rattle.ob_seq.specs.Steps.Step.{answer_by, first_of_step, held_by};
+ghost use Rattle.ob_seq.specs.Steps.Step.{Makes};
 ghost use Rattle.ob_seq.specs.Steps.FailFlushed.{failing_step};
 
 use crate::contents::Contents;
@@ -9,11 +9,7 @@ use ob_types::{Answer, Cause, Outcome, Refusal, Reply};
 impl Contents {
     /// The step of `Buffer::fail_flushed`.
     pub fn fail_flushed(&mut self, cause: Cause, notify: bool) -> Result<Reply, Refusal>
-        ensures answer { ¬ IsErrOf result Refusal.NoMemory
-            → result ≡ answer_by self.old (failing_step cause notify self.old) }
-        ensures after { self.new ≡ held_by self.old (failing_step cause notify self.old) result }
-        ensures no_memory_last { IsErrOf result Refusal.NoMemory
-            → first_of_step self.old (failing_step cause notify self.old) ≡ None }
+        ensures makes { Makes self.old (failing_step cause notify self.old) result self.new }
         ensures frugal { IsErrOf result Refusal.NoMemory
             → inline_settlements < length (failing_step cause notify self.old).reply.settled }
     {

@@ -1,7 +1,7 @@
-ghost use Rattle.std.specs.Prelude.{◌≡◌, ◌<◌, length, true};
+ghost use Rattle.std.specs.Prelude.{◌≡◌, ◌<◌, length, true, IsErrOf};
 ghost use Rattle.ob_seq.specs.Inside.{pending_entry};
 ghost use Rattle.ob_seq.specs.Row.{is_cancelled as is_cancelled_state};
-ghost use Rattle.ob_seq.specs.Steps.Step.{answer_by, held_by};
+ghost use Rattle.ob_seq.specs.Steps.Step.{Makes};
 ghost use Rattle.ob_seq.specs.Steps.Flush.{flush_step, next_flushed, reached_entry};
 ghost use Rattle.ob_seq.specs.Steps.Held.{times};
 
@@ -14,8 +14,8 @@ use std::mem;
 impl Contents {
     /// The step of `Buffer::flush`.
     pub fn flush(&mut self) -> Result<Reply, Refusal>
-        ensures answer { result ≡ answer_by self.old (flush_step self.old) }
-        ensures after { self.new ≡ held_by self.old (flush_step self.old) result }
+        ensures makes { Makes self.old (flush_step self.old) result self.new }
+        ensures frugal { ¬ IsErrOf result Refusal.NoMemory }
     {
         if self.closed {
             return Err(Refusal::Closed);

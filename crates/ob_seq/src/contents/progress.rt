@@ -1,7 +1,7 @@
-ghost use Rattle.std.specs.Prelude.{◌≡◌, ◌+◌, ◌<◌, ◌≤◌, nat_le, length};
+ghost use Rattle.std.specs.Prelude.{◌≡◌, ◌+◌, ◌<◌, ◌≤◌, nat_le, length, IsErrOf};
 ghost use Rattle.ob_types.specs.Limits.{greatest_progress};
 ghost use Rattle.ob_seq.specs.Inside.{pending_entry};
-ghost use Rattle.ob_seq.specs.Steps.Step.{answer_by, held_by};
+ghost use Rattle.ob_seq.specs.Steps.Step.{Makes};
 ghost use Rattle.ob_seq.specs.Steps.Held.{first_progress, front_changed};
 ghost use Rattle.ob_seq.specs.Steps.Progress.{progress_step, progressed_entry};
 
@@ -15,8 +15,8 @@ pub const MAX_PROGRESS: u64 = 9223372036854775807;
 impl Contents {
     /// The step of `Buffer::progress`.
     pub fn progress(&mut self, n: u64) -> Result<Reply, Refusal>
-        ensures answer { result ≡ answer_by self.old (progress_step n self.old) }
-        ensures after { self.new ≡ held_by self.old (progress_step n self.old) result }
+        ensures makes { Makes self.old (progress_step n self.old) result self.new }
+        ensures frugal { ¬ IsErrOf result Refusal.NoMemory }
     {
         if self.closed {
             return Err(Refusal::Closed);

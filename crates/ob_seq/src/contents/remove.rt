@@ -1,6 +1,6 @@
-ghost use Rattle.std.specs.Prelude.{◌≡◌};
+ghost use Rattle.std.specs.Prelude.{◌≡◌, IsErrOf};
 ghost use Rattle.ob_types.specs.declared.promise.Outcome.TheVariants.{Success, Failed};
-ghost use Rattle.ob_seq.specs.Steps.Step.{answer_by, held_by};
+ghost use Rattle.ob_seq.specs.Steps.Step.{Makes};
 ghost use Rattle.ob_seq.specs.Steps.Remove.{front_removed, removal_reply, removal_step};
 
 use crate::contents::Contents;
@@ -9,8 +9,8 @@ use ob_types::{Answer, Cause, Outcome, Refusal, Reply, Settlements};
 impl Contents {
     /// The step of `Buffer::remove`.
     pub fn remove(&mut self) -> Result<Reply, Refusal>
-        ensures answer { result ≡ answer_by self.old (removal_step Success self.old) }
-        ensures after { self.new ≡ held_by self.old (removal_step Success self.old) result }
+        ensures makes { Makes self.old (removal_step Success self.old) result self.new }
+        ensures frugal { ¬ IsErrOf result Refusal.NoMemory }
     {
         if self.closed {
             return Err(Refusal::Closed);
@@ -20,8 +20,8 @@ impl Contents {
 
     /// The step of `Buffer::remove_with`.
     pub fn remove_with(&mut self, cause: Cause) -> Result<Reply, Refusal>
-        ensures answer { result ≡ answer_by self.old (removal_step (Failed cause) self.old) }
-        ensures after { self.new ≡ held_by self.old (removal_step (Failed cause) self.old) result }
+        ensures makes { Makes self.old (removal_step (Failed cause) self.old) result self.new }
+        ensures frugal { ¬ IsErrOf result Refusal.NoMemory }
     {
         if self.closed {
             return Err(Refusal::Closed);

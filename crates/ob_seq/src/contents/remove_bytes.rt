@@ -1,8 +1,8 @@
-ghost use Rattle.std.specs.Prelude.{◌≡◌, ◌<◌, ◌≤◌, length, None, IsErrOf};
+ghost use Rattle.std.specs.Prelude.{◌≡◌, ◌<◌, ◌≤◌, length, IsErrOf};
 ghost use Rattle.ob_types.specs.Limits.{inline_settlements};
 ghost use Rattle.ob_seq.specs.ByteRun.{block_bytes};
 ghost use Rattle.ob_seq.specs.Inside.{pending_entry};
-ghost use Rattle.ob_seq.specs.Steps.Step.{answer_by, first_of_step, held_by};
+ghost use Rattle.ob_seq.specs.Steps.Step.{Makes};
 ghost use Rattle.ob_seq.specs.Steps.RemoveBytes.{bytes_step, first_length, front_skipped, skipped_entry};
 
 use crate::contents::Contents;
@@ -13,10 +13,7 @@ use ob_types::{Answer, Message, Outcome, Refusal, Reply};
 impl Contents {
     /// The step of `Buffer::remove_bytes`.
     pub fn remove_bytes(&mut self, n: u64) -> Result<Reply, Refusal>
-        ensures answer { ¬ IsErrOf result Refusal.NoMemory → result ≡ answer_by self.old (bytes_step n self.old) }
-        ensures after { self.new ≡ held_by self.old (bytes_step n self.old) result }
-        ensures no_memory_last { IsErrOf result Refusal.NoMemory
-            → first_of_step self.old (bytes_step n self.old) ≡ None }
+        ensures makes { Makes self.old (bytes_step n self.old) result self.new }
         ensures frugal { IsErrOf result Refusal.NoMemory
             → inline_settlements < length (bytes_step n self.old).reply.settled }
     {

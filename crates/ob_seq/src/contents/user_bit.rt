@@ -1,5 +1,5 @@
-ghost use Rattle.std.specs.Prelude.{◌≡◌};
-ghost use Rattle.ob_seq.specs.Steps.Step.{answer_by, held_by};
+ghost use Rattle.std.specs.Prelude.{IsErrOf};
+ghost use Rattle.ob_seq.specs.Steps.Step.{Makes};
 ghost use Rattle.ob_seq.specs.Steps.UserBit.{bit_step};
 
 use crate::contents::{Contents, word};
@@ -8,8 +8,8 @@ use ob_types::{Answer, Refusal, Reply};
 impl Contents {
     /// The step of `Buffer::user_bit`.
     pub fn user_bit(&mut self, index: u32, writable: bool) -> Result<Reply, Refusal>
-        ensures answer { result ≡ answer_by self.old (bit_step index writable self.old) }
-        ensures after { self.new ≡ held_by self.old (bit_step index writable self.old) result }
+        ensures makes { Makes self.old (bit_step index writable self.old) result self.new }
+        ensures frugal { ¬ IsErrOf result Refusal.NoMemory }
     {
         if self.closed {
             return Err(Refusal::Closed);

@@ -1,6 +1,6 @@
-ghost use Rattle.std.specs.Prelude.{◌≡◌, ◌+◌, ◌<◌, ◌≤◌, length, None, IsErrOf, OnOk, OnErr};
+ghost use Rattle.std.specs.Prelude.{◌≡◌, ◌+◌, ◌<◌, ◌≤◌, length, OnOk, OnErr};
 ghost use Rattle.ob_types.specs.Limits.{greatest_total, most_writes};
-ghost use Rattle.ob_seq.specs.Steps.Step.{answer_by, first_of_step, held_by};
+ghost use Rattle.ob_seq.specs.Steps.Step.{Makes};
 ghost use Rattle.ob_seq.specs.Steps.Write.{has_room, write_step, written};
 ghost use Rattle.ob_seq.specs.Steps.Held.{pending_total};
 
@@ -18,10 +18,7 @@ pub const MAX_WRITES: usize = 1048576;
 impl Contents {
     /// The step of `Buffer::write`.
     pub fn write(&mut self, message: Message) -> Result<Reply, Refusal>
-        ensures answer { ¬ IsErrOf result Refusal.NoMemory → result ≡ answer_by self.old (write_step message self.old) }
-        ensures after { self.new ≡ held_by self.old (write_step message self.old) result }
-        ensures no_memory_last { IsErrOf result Refusal.NoMemory
-            → first_of_step self.old (write_step message self.old) ≡ None }
+        ensures { Makes self.old (write_step message self.old) result self.new }
     {
         if self.closed {
             return Err(Refusal::Closed);

@@ -1,9 +1,9 @@
-use Rattle.ob_seq.proofs.Words.{arith, Cancel}
-use Rattle.ob_seq.proofs.Simulated.{called, stays}
+use Rattle.ob_seq.proofs.Words.{Cancel}
+use Rattle.ob_seq.proofs.Simulated.{obeys, stays}
 use Rattle.ob_seq.proofs.buffer.Buffer.cancel.Goals as goal
 
 pub invariant_of-self : goal.invariant_of-self
-invariant_of-self c = stays (Cancel c.args.id) _ c.cancel.ensures c.self.invariant
+invariant_of-self c = stays (Cancel c.args.id) _ c.cancel.ensures.makes c.self.invariant
 
-pub returns : goal.returns
-returns c = called (Cancel c.args.id) _ c.self.view_is c.cancel.ensures (grind arith)
+pub returns-clause-obeys : goal.returns-clause-obeys
+returns-clause-obeys c = obeys (Cancel c.args.id) _ c.cancel.ensures.makes c.self.view_is

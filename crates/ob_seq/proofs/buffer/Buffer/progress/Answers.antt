@@ -1,9 +1,9 @@
-use Rattle.ob_seq.proofs.Words.{arith, Progress}
-use Rattle.ob_seq.proofs.Simulated.{called, stays}
+use Rattle.ob_seq.proofs.Words.{Progress}
+use Rattle.ob_seq.proofs.Simulated.{obeys, stays}
 use Rattle.ob_seq.proofs.buffer.Buffer.progress.Goals as goal
 
 pub invariant_of-self : goal.invariant_of-self
-invariant_of-self c = stays (Progress c.args.n) _ c.progress.ensures c.self.invariant
+invariant_of-self c = stays (Progress c.args.n) _ c.progress.ensures.makes c.self.invariant
 
-pub returns : goal.returns
-returns c = called (Progress c.args.n) _ c.self.view_is c.progress.ensures (grind arith)
+pub returns-clause-obeys : goal.returns-clause-obeys
+returns-clause-obeys c = obeys (Progress c.args.n) _ c.progress.ensures.makes c.self.view_is
