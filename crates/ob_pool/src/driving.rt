@@ -15,10 +15,10 @@ ghost use Rattle.ob_pool.specs.Config.{AreWithin, first_history};
 ghost use Rattle.ob_pool.specs.Counts.{failings_of};
 ghost use Rattle.ob_pool.specs.DriveFault.{ComesOfWork, number_of};
 ghost use Rattle.ob_pool.specs.Driven.{TellsOf};
-ghost use Rattle.ob_pool.specs.Errand.{AreDone, IsRoomy, asked, deeds_from, room_for};
+ghost use Rattle.ob_pool.specs.Errand.{HaveWorked, IsRoomy, MayBegin, asked, deeds_from, room_for};
 ghost use Rattle.ob_pool.specs.HandOff.{rooms_of};
 ghost use Rattle.ob_pool.specs.HandedIn.{TellsEnd};
-ghost use Rattle.ob_pool.specs.Keeping.{failings_in};
+ghost use Rattle.ob_pool.specs.Keeping.{IsCarried};
 ghost use Rattle.ob_pool.specs.PlansFault.{plans_fault};
 ghost use Rattle.ob_pool.specs.declared.fault.DriveFault.TheVariants.{Refused};
 
@@ -199,20 +199,11 @@ fn run<L: Named + Send + Sync, R: Threads + Wait + Clock + Sync, G: Gate + Sync,
     sink: &mut S,
     config: Config,
 ) -> (Worked<L>, Result<Done<L>, DriveFault>)
-    requires words { lane.words ≡ bench.now.words }
-    requires roomy { All (IsRoomy bench.now.estimate bench.now.task) writers.items }
-    requires room { room_for writers.items ≤ lane.lane.room }
-    requires whole { lane.lane.room ≤ lane.words.opening.room }
+    requires ready { MayBegin bench.now.words bench.now.estimate bench.now.task lane writers.items }
     requires some_block { 1 ≤ config.limits.max_count }
     requires some_byte { 1 ≤ config.limits.max_bytes }
-    ensures words { result.0.0.words ≡ lane.words }
-    ensures lane_room { result.0.0.lane.room ≡ lane.lane.room }
-    ensures done { IfOk result.0.1 (λ dones. AreDone writers.items dones.items) }
-    ensures writers { IfErr result.0.1 ComesOfWork }
-    ensures caller { IfOk result.1 (λ done. done.maker.caller ≡ share.caller) }
-    ensures made { IfOk result.1 (λ done. done.maker.made ≡ share.made + length done.receipts) }
-    ensures failings { IfOk result.1 (λ done.
-        failings_in done.receipts + (S.content sink.old).failures ≤ (S.content sink.new).failures) }
+    ensures writers { HaveWorked writers.items lane result.0.0 result.0.1 }
+    ensures carried { IfOk result.1 (IsCarried share (S.content sink.old) (S.content sink.new)) }
     ensures transport { IfErr result.1 ComesOfWork }
 {
     let mut start = Some((lane, writers));
@@ -222,14 +213,9 @@ fn run<L: Named + Send + Sync, R: Threads + Wait + Clock + Sync, G: Gate + Sync,
     };
     let mut work = move || -> Worked<L>
         requires row { IsSync R.row }
-        requires words { IsSomeAnd start (λ s. s.0.words ≡ bench.now.words) }
-        requires roomy { IfSome start (λ s. All (IsRoomy bench.now.estimate bench.now.task) s.1.items) }
-        requires room { IfSome start (λ s. room_for s.1.items ≤ s.0.lane.room) }
-        requires whole { IfSome start (λ s. s.0.lane.room ≤ s.0.words.opening.room) }
-        ensures words { IfSome start.entry (λ s. result.0.words ≡ s.0.words) }
-        ensures lane_room { IfSome start.entry (λ s. result.0.lane.room ≡ s.0.lane.room) }
-        ensures done { IfSome start.entry (λ s. IfOk result.1 (λ dones. AreDone s.1.items dones.items)) }
-        ensures fault { IfErr result.1 ComesOfWork }
+        requires ready { IsSomeAnd start (λ s.
+            MayBegin bench.now.words bench.now.estimate bench.now.task s.0 s.1.items) }
+        ensures { IfSome start.entry (λ s. HaveWorked s.1.items s.0 result.0 result.1) }
     { work(rt, gate, bench, start.take()) };
     let mut carry = || carry(rt, config, &mut side, sink);
     let (carried, worked) = join_mut(rt, &mut carry, &mut work);
@@ -253,11 +239,8 @@ fn carry<L: Named, R: Wait + Clock, S: Sink>(
     requires share { IsSome side.old.share }
     requires some_block { 1 ≤ config.limits.max_count }
     requires some_byte { 1 ≤ config.limits.max_bytes }
-    ensures caller { IfSome side.old.share (λ share. IfOk result (λ done. done.maker.caller ≡ share.caller)) }
-    ensures made { IfSome side.old.share (λ share. IfOk result (λ done.
-        done.maker.made ≡ share.made + length done.receipts)) }
-    ensures failings { IfOk result (λ done.
-        failings_in done.receipts + (S.content sink.old).failures ≤ (S.content sink.new).failures) }
+    ensures carried { IfSome side.old.share (λ share.
+        IfOk result (IsCarried share (S.content sink.old) (S.content sink.new))) }
     ensures fault { IfErr result ComesOfWork }
 {
     let Some(share) = side.share.take() else {
@@ -282,14 +265,9 @@ fn work<L: Named + Send + Sync, R: Threads + Wait + Clock + Sync, G: Gate + Sync
     bench: &Bench<L>,
     start: Option<(Lane, Vec<Writer<L>>)>,
 ) -> Worked<L>
-    requires words { IsSomeAnd start (λ s. s.0.words ≡ bench.now.words) }
-    requires roomy { IfSome start (λ s. All (IsRoomy bench.now.estimate bench.now.task) s.1.items) }
-    requires room { IfSome start (λ s. room_for s.1.items ≤ s.0.lane.room) }
-    requires whole { IfSome start (λ s. s.0.lane.room ≤ s.0.words.opening.room) }
-    ensures words { IfSome start (λ s. result.0.words ≡ s.0.words) }
-    ensures lane_room { IfSome start (λ s. result.0.lane.room ≡ s.0.lane.room) }
-    ensures done { IfSome start (λ s. IfOk result.1 (λ dones. AreDone s.1.items dones.items)) }
-    ensures fault { IfErr result.1 ComesOfWork }
+    requires { IsSomeAnd start (λ s.
+        MayBegin bench.now.words bench.now.estimate bench.now.task s.0 s.1.items) }
+    ensures { IfSome start (λ s. HaveWorked s.1.items s.0 result.0 result.1) }
 {
     let Some((lane, writers)) = start else {
         unreachable!()
