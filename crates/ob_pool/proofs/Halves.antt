@@ -8,9 +8,12 @@ use Rattle.std.proofs.lemmas.Nat.Bits.{bit_at-zero, bit_at_or, same_from_bits}
 use Rattle.ob_core.specs.declared.lane.Lane.{Lane}
 use Rattle.ob_lanes.specs.Split.{split_fault}
 use Rattle.std.proofs.lemmas.List.{map-append, take-append-drop}
+use Rattle.std.proofs.lemmas.List.Elements.{All-drop, All-take}
+use Rattle.std.specs.List.{All}
+use Rattle.ob_types.specs.declared.estimate.Estimate.{Estimate}
 use Rattle.ob_shared.specs.Handed.{Handed}
 use Rattle.std.proofs.lemmas.List.Sums.{sum_by-take-drop}
-use Rattle.ob_pool.specs.Errand.{AreDone, Errand, asked, done_by, room_for}
+use Rattle.ob_pool.specs.Errand.{AreDone, Errand, IsRoomy, asked, done_by, room_for}
 
 -- two lists of errands that are done one behind the other
 pub both_done : (errands others : List Errand) (dones more all : List Handed) → AreDone errands dones →
@@ -53,3 +56,12 @@ pub rooms_of_parts : (at : ℕ) (errands first second : List Errand) → first �
 rooms_of_parts at errands first second front back =
     ap₂ (λ one other. room_for one + room_for other) front back
     ∙ sum_by-take-drop (λ (errand : Errand). errand.room) errands at
+
+-- each of two parts of a list of errands has room for its plans where all have
+pub parts_roomy : (estimate : Estimate) (task at : ℕ) (errands first second : List Errand) → first ≡ take at errands →
+    second ≡ drop at errands → All (IsRoomy estimate task) errands →
+    All (IsRoomy estimate task) first × All (IsRoomy estimate task) second
+parts_roomy estimate task at errands first second front back roomy = (
+  subst (All (IsRoomy estimate task)) (sym front) (All-take (IsRoomy estimate task) at errands roomy),
+  subst (All (IsRoomy estimate task)) (sym back) (All-drop (IsRoomy estimate task) at errands roomy),
+)

@@ -1,4 +1,4 @@
--- A report whose numbers are all counted. No public clause cites this module.
+-- A report whose numbers are all counted.
 use Rattle.std.specs.Prelude.{◌≡◌, ℕ}
 use Rattle.ob_pool.specs.Counts.{bits_of, cancels_of, flushes_of, is_cancelled, is_failed, is_success, left_of}
 use Rattle.ob_pool.specs.Counts.{refused_of, settled_as, taken_of, writes_of}

@@ -1,11 +1,15 @@
 -- What one writer is to do, and what it has done. No public clause cites this module.
-use Rattle.std.specs.Prelude.{◌≡◌, ◌+◌, ◌≤◌, ℕ, suc, List, [], ◌∷◌, length, map, sum_by}
+use Rattle.std.specs.Prelude.{◌≡◌, ◌+◌, ◌≤◌, ℕ, suc, List, [], ◌∷◌, length, map, sum_by, Result, IfErr, IfOk, Vec}
+use Rattle.std.specs.List.{All}
 use Rattle.ob_types.specs.declared.command.Command.{Command}
 use Rattle.ob_types.specs.declared.estimate.Estimate.{Estimate}
 use Rattle.ob_history.specs.declared.receipt.Receipt.{Receipt}
+use Rattle.ob_lanes.specs.RunningLane.{RunningLane, WordsValue}
 use Rattle.ob_shared.specs.Handed.{Handed}
-use Rattle.ob_shared.specs.Maker.{Maker}
+use Rattle.ob_shared.specs.Maker.{Maker, one_more}
+use Rattle.ob_pool.specs.DriveFault.{ComesOfWork}
 use Rattle.ob_pool.specs.HandOff.{room_of}
+use Rattle.ob_pool.specs.declared.fault.DriveFault.{DriveFault}
 
 -- what a writer begins with: its share, its plan, and the room of its lane
 pub record Errand : Type 0 where
@@ -52,3 +56,29 @@ IsRoomy estimate task errand = room_of estimate task errand.plan ≤ errand.room
 -- those who hand in have done what was asked of these errands, in order
 abbrev pub AreDone : List Errand → List Handed → Type 0
 AreDone errands handed = map done_by handed ≡ map asked errands
+
+-- a lane comes back with its words and with all its room
+pub record IsBack (lane back : RunningLane) : Type 0 where
+  pub words : back.words ≡ lane.words
+  pub room : back.lane.room ≡ lane.lane.room
+
+-- one call of a maker answers with the maker of one record more, and with a receipt of its command
+pub record IsOneCall (maker : Maker) (asked : Command) (answer : Maker × Receipt) : Type 0 where
+  pub made : answer.0 ≡ one_more maker
+  pub command : answer.1.command ≡ asked
+
+-- errands may begin: their lane steps on these words and has room for all of them together, and each has room for its
+-- plan
+pub record MayBegin (used : WordsValue) (estimate : Estimate) (task : ℕ) (lane : RunningLane) (errands : List Errand)
+    : Type 0 where
+  pub words : lane.words ≡ used
+  pub roomy : All (IsRoomy estimate task) errands
+  pub room : room_for errands ≤ lane.lane.room
+  pub whole : lane.lane.room ≤ lane.words.opening.room
+
+-- errands have been worked on: their lane is back, and they are done, or a fault of the work ended them
+pub record HaveWorked {Z : Type 0} (errands : List Errand) (lane back : RunningLane)
+    (handed : Result (Vec Handed Z) DriveFault) : Type 0 where
+  pub lane_back : IsBack lane back
+  pub done : IfOk handed (λ dones. AreDone errands dones.items)
+  pub fault : IfErr handed ComesOfWork

@@ -3,6 +3,7 @@ pub mod Config
 pub mod Counted
 pub mod Counts
 pub mod DriveFault
+pub mod Driven
 pub mod Errand
 pub mod HandOff
 pub mod HandedIn

@@ -1,29 +1,24 @@
 //! A drive from its plans to its report.
 
 ghost use Rattle.std.specs.List.{All};
-ghost use Rattle.std.specs.Prelude.{◌≡◌, ◌<◌, ◌≤◌, ◌+◌, ◌++◌, ℕ, [], ◌∷◌, None, false, length, map};
+ghost use Rattle.std.specs.Prelude.{◌≡◌, ◌<◌, ◌≤◌, ◌+◌, ◌++◌, ℕ, [], ◌∷◌, None, length, map};
 ghost use Rattle.std.specs.Prelude.{IfErr, IfOk, IfSome, IsErrOf, IsOkUnless, IsSome, IsSomeAnd};
-ghost use Rattle.std.specs.Int.{bit_at};
 ghost use Rattle.std.specs.Thread.{IsSync};
-ghost use Rattle.ob_core.specs.Bits.{is_set};
 ghost use Rattle.ob_core.specs.Limits.{greatest_room};
 ghost use Rattle.ob_types.specs.declared.refusal.Refusal.{Refusal};
 ghost use Rattle.ob_types.specs.declared.refusal.Refusal.TheVariants.{HistoryFull};
-ghost use Rattle.ob_history.specs.Legal.{IsLegal};
 ghost use Rattle.ob_shared.specs.Finished.{HandsInAll};
 ghost use Rattle.ob_shared.specs.Handed.{made_by};
 ghost use Rattle.ob_shared.specs.Maker.{new_maker, new_makers};
 ghost use Rattle.ob_shared.specs.Opened.{IsAsOpened, IsNameOf};
-ghost use Rattle.ob_pool.specs.CarriedOut.{AreCarriedOut};
-ghost use Rattle.ob_pool.specs.Config.{AreWithin};
-ghost use Rattle.ob_pool.specs.Counts.{bits_of, cancels_of, failings_of, flushes_of, is_cancelled, is_failed};
-ghost use Rattle.ob_pool.specs.Counts.{is_success, left_of, refused_of, settled_as, taken_of, writes_of};
-ghost use Rattle.ob_pool.specs.Counted.{IsCounted};
+ghost use Rattle.ob_pool.specs.Config.{AreWithin, first_history};
+ghost use Rattle.ob_pool.specs.Counts.{failings_of};
 ghost use Rattle.ob_pool.specs.DriveFault.{ComesOfWork, number_of};
-ghost use Rattle.ob_pool.specs.Errand.{AreDone, IsRoomy, asked, deeds_from, room_for};
+ghost use Rattle.ob_pool.specs.Driven.{TellsOf};
+ghost use Rattle.ob_pool.specs.Errand.{HaveWorked, IsRoomy, MayBegin, asked, deeds_from, room_for};
 ghost use Rattle.ob_pool.specs.HandOff.{rooms_of};
-ghost use Rattle.ob_pool.specs.HandedIn.{HaveHandedIn};
-ghost use Rattle.ob_pool.specs.Keeping.{failings_in};
+ghost use Rattle.ob_pool.specs.HandedIn.{TellsEnd};
+ghost use Rattle.ob_pool.specs.Keeping.{IsCarried};
 ghost use Rattle.ob_pool.specs.PlansFault.{plans_fault};
 ghost use Rattle.ob_pool.specs.declared.fault.DriveFault.TheVariants.{Refused};
 
@@ -80,34 +75,10 @@ pub fn drive<R: Threads + Wait + Clock + Sync, G: Gate + Sync, S: Sink + Send>(
     ensures full { (writer : ℕ) (refusal : Refusal) → IsErrOf result (Refused writer refusal)
         → refusal ≡ HistoryFull }
 
-    // The history is one of a single thread, in which each writer has carried its plan out.
-    ensures legal { IfOk result (λ report. IsLegal report.recorded.settings report.recorded.records) }
-    ensures settings { IfOk result (λ report.
-        report.recorded.settings ≡ record { marks = config.marks; estimate = config.estimate }) }
-    ensures limit { IfOk result (λ report. report.recorded.limit ≡ config.limit) }
-    ensures plans { IfOk result (λ report. AreCarriedOut report.recorded.records plans.items) }
-    ensures callers { IfOk result (λ report.
-        All (λ one. one.caller ≤ length plans.items) report.recorded.records) }
+    // The report tells of the plans, and no record fails what is flushed unless the sink failed.
+    ensures report { IfOk result (TellsOf (first_history config) plans.items) }
     ensures failings { IfOk result (λ report.
         failings_of report.recorded.records + (S.content sink.old).failures ≤ (S.content sink.new).failures) }
-
-    // Each number is the count of its line.
-    ensures writes { IfOk result (λ report. report.writes ≡ writes_of report.recorded.records) }
-    ensures flushes { IfOk result (λ report. report.flushes ≡ flushes_of report.recorded.records) }
-    ensures cancels { IfOk result (λ report. report.cancels ≡ cancels_of report.recorded.records) }
-    ensures bits { IfOk result (λ report. report.bits ≡ bits_of report.recorded.records) }
-    ensures refusals { IfOk result (λ report.
-        report.refused ≡ refused_of (length plans.items) report.recorded.records) }
-    ensures taken { IfOk result (λ report. report.taken ≡ taken_of report.recorded.records) }
-    ensures success { IfOk result (λ report. report.success ≡ settled_as is_success report.recorded.records) }
-    ensures failed { IfOk result (λ report. report.failed ≡ settled_as is_failed report.recorded.records) }
-    ensures cancelled { IfOk result (λ report. report.cancelled ≡ settled_as is_cancelled report.recorded.records) }
-    ensures left { IfOk result (λ report. report.left ≡ left_of report.recorded.records) }
-
-    // The words of the hand-off come to rest.
-    ensures total { IfOk result (λ report. report.hand.0 ≡ 0) }
-    ensures clear { IfOk result (λ report. (index : ℕ) → 0 < index → bit_at report.hand.1 index ≡ 0) }
-    ensures mark { 0 < config.marks.low → IfOk result (λ report. is_set report.hand.1 0 ≡ false) }
 {
     if let Some(fault) = plans_fault(config.estimate, config.task, &plans) {
         return Err(fault);
@@ -132,20 +103,13 @@ fn driven<L: Named + Send + Sync, R: Threads + Wait + Clock + Sync, G: Gate + Sy
     requires name { IsNameOf opening L.opened L.name L.parts }
     requires config { AreWithin config }
     requires plans { plans_fault config.estimate config.task plans.items ≡ None }
+    requires settings { opening.settings ≡ (first_history config).settings }
+    requires limit { opening.limit ≡ config.limit }
     requires callers { opening.callers ≡ length plans.items + 1 }
     ensures planned { IfErr result ComesOfWork }
-    ensures legal { IfOk result (λ report. IsLegal report.recorded.settings report.recorded.records) }
-    ensures settings { IfOk result (λ report. report.recorded.settings ≡ opening.settings) }
-    ensures limit { IfOk result (λ report. report.recorded.limit ≡ opening.limit) }
-    ensures plans { IfOk result (λ report. AreCarriedOut report.recorded.records plans.items) }
-    ensures callers { IfOk result (λ report.
-        All (λ one. one.caller ≤ length plans.items) report.recorded.records) }
+    ensures report { IfOk result (TellsOf (first_history config) plans.items) }
     ensures failings { IfOk result (λ report.
         failings_of report.recorded.records + (S.content sink.old).failures ≤ (S.content sink.new).failures) }
-    ensures counts { IfOk result (λ report. IsCounted (length plans.items) report) }
-    ensures total { IfOk result (λ report. report.hand.0 ≡ 0) }
-    ensures clear { IfOk result (λ report. (index : ℕ) → 0 < index → bit_at report.hand.1 index ≡ 0) }
-    ensures mark { 0 < config.marks.low → IfOk result (λ report. is_set report.hand.1 0 ≡ false) }
 {
     let count = plans.len() as u32;
     let Some(room) = rooms_of(config.estimate, config.task, &plans) else {
@@ -235,20 +199,11 @@ fn run<L: Named + Send + Sync, R: Threads + Wait + Clock + Sync, G: Gate + Sync,
     sink: &mut S,
     config: Config,
 ) -> (Worked<L>, Result<Done<L>, DriveFault>)
-    requires words { lane.words ≡ bench.now.words }
-    requires roomy { All (IsRoomy bench.now.estimate bench.now.task) writers.items }
-    requires room { room_for writers.items ≤ lane.lane.room }
-    requires whole { lane.lane.room ≤ lane.words.opening.room }
+    requires ready { MayBegin bench.now.words bench.now.estimate bench.now.task lane writers.items }
     requires some_block { 1 ≤ config.limits.max_count }
     requires some_byte { 1 ≤ config.limits.max_bytes }
-    ensures words { result.0.0.words ≡ lane.words }
-    ensures lane_room { result.0.0.lane.room ≡ lane.lane.room }
-    ensures done { IfOk result.0.1 (λ dones. AreDone writers.items dones.items) }
-    ensures writers { IfErr result.0.1 ComesOfWork }
-    ensures caller { IfOk result.1 (λ done. done.maker.caller ≡ share.caller) }
-    ensures made { IfOk result.1 (λ done. done.maker.made ≡ share.made + length done.receipts) }
-    ensures failings { IfOk result.1 (λ done.
-        failings_in done.receipts + (S.content sink.old).failures ≤ (S.content sink.new).failures) }
+    ensures writers { HaveWorked writers.items lane result.0.0 result.0.1 }
+    ensures carried { IfOk result.1 (IsCarried share (S.content sink.old) (S.content sink.new)) }
     ensures transport { IfErr result.1 ComesOfWork }
 {
     let mut start = Some((lane, writers));
@@ -258,14 +213,9 @@ fn run<L: Named + Send + Sync, R: Threads + Wait + Clock + Sync, G: Gate + Sync,
     };
     let mut work = move || -> Worked<L>
         requires row { IsSync R.row }
-        requires words { IsSomeAnd start (λ s. s.0.words ≡ bench.now.words) }
-        requires roomy { IfSome start (λ s. All (IsRoomy bench.now.estimate bench.now.task) s.1.items) }
-        requires room { IfSome start (λ s. room_for s.1.items ≤ s.0.lane.room) }
-        requires whole { IfSome start (λ s. s.0.lane.room ≤ s.0.words.opening.room) }
-        ensures words { IfSome start.entry (λ s. result.0.words ≡ s.0.words) }
-        ensures lane_room { IfSome start.entry (λ s. result.0.lane.room ≡ s.0.lane.room) }
-        ensures done { IfSome start.entry (λ s. IfOk result.1 (λ dones. AreDone s.1.items dones.items)) }
-        ensures fault { IfErr result.1 ComesOfWork }
+        requires ready { IsSomeAnd start (λ s.
+            MayBegin bench.now.words bench.now.estimate bench.now.task s.0 s.1.items) }
+        ensures { IfSome start.entry (λ s. HaveWorked s.1.items s.0 result.0 result.1) }
     { work(rt, gate, bench, start.take()) };
     let mut carry = || carry(rt, config, &mut side, sink);
     let (carried, worked) = join_mut(rt, &mut carry, &mut work);
@@ -289,11 +239,8 @@ fn carry<L: Named, R: Wait + Clock, S: Sink>(
     requires share { IsSome side.old.share }
     requires some_block { 1 ≤ config.limits.max_count }
     requires some_byte { 1 ≤ config.limits.max_bytes }
-    ensures caller { IfSome side.old.share (λ share. IfOk result (λ done. done.maker.caller ≡ share.caller)) }
-    ensures made { IfSome side.old.share (λ share. IfOk result (λ done.
-        done.maker.made ≡ share.made + length done.receipts)) }
-    ensures failings { IfOk result (λ done.
-        failings_in done.receipts + (S.content sink.old).failures ≤ (S.content sink.new).failures) }
+    ensures carried { IfSome side.old.share (λ share.
+        IfOk result (IsCarried share (S.content sink.old) (S.content sink.new))) }
     ensures fault { IfErr result ComesOfWork }
 {
     let Some(share) = side.share.take() else {
@@ -318,14 +265,9 @@ fn work<L: Named + Send + Sync, R: Threads + Wait + Clock + Sync, G: Gate + Sync
     bench: &Bench<L>,
     start: Option<(Lane, Vec<Writer<L>>)>,
 ) -> Worked<L>
-    requires words { IsSomeAnd start (λ s. s.0.words ≡ bench.now.words) }
-    requires roomy { IfSome start (λ s. All (IsRoomy bench.now.estimate bench.now.task) s.1.items) }
-    requires room { IfSome start (λ s. room_for s.1.items ≤ s.0.lane.room) }
-    requires whole { IfSome start (λ s. s.0.lane.room ≤ s.0.words.opening.room) }
-    ensures words { IfSome start (λ s. result.0.words ≡ s.0.words) }
-    ensures lane_room { IfSome start (λ s. result.0.lane.room ≡ s.0.lane.room) }
-    ensures done { IfSome start (λ s. IfOk result.1 (λ dones. AreDone s.1.items dones.items)) }
-    ensures fault { IfErr result.1 ComesOfWork }
+    requires { IsSomeAnd start (λ s.
+        MayBegin bench.now.words bench.now.estimate bench.now.task s.0 s.1.items) }
+    ensures { IfSome start (λ s. HaveWorked s.1.items s.0 result.0 result.1) }
 {
     let Some((lane, writers)) = start else {
         unreachable!()
@@ -347,12 +289,8 @@ fn reported<L: Named>(
     requires whole { bench.words.opening.room ≤ lane.lane.room }
     requires no_bit { bench.words.opening.bits ≡ 0 }
     ensures fault { IfErr result ComesOfWork }
-    ensures opened { IfOk result (λ report. IsAsOpened L.opened report.recorded) }
-    ensures handed { IfOk result (λ report. HaveHandedIn report.recorded.records (dones.items ++ done ∷ [])) }
-    ensures counts { IfOk result (λ report. IsCounted writers report) }
-    ensures total { IfOk result (λ report. report.hand.0 ≡ 0) }
-    ensures clear { IfOk result (λ report. (index : ℕ) → 0 < index → bit_at report.hand.1 index ≡ 0) }
-    ensures mark { 0 < bench.words.opening.marks.low → IfOk result (λ report. is_set report.hand.1 0 ≡ false) }
+    ensures ended { IfOk result
+        (TellsEnd L.opened bench.words.opening.marks writers (dones.items ++ done ∷ [])) }
 {
     let Bench { shared, words, .. } = bench;
     let recorded = finished(shared, dones, done)?;

@@ -3,7 +3,7 @@
 ghost use Rattle.std.specs.Prelude.{◌≡◌, ◌+◌, ◌≤◌, length, IfErr, IfOk, IfSome};
 ghost use Rattle.ob_pool.specs.Counts.{failings_of};
 ghost use Rattle.ob_pool.specs.DriveFault.{ComesOfWork};
-ghost use Rattle.ob_pool.specs.Keeping.{failings_in};
+ghost use Rattle.ob_pool.specs.Keeping.{IsCarried, failings_in};
 
 use crate::config::Config;
 use crate::fault::DriveFault;
@@ -44,10 +44,7 @@ pub fn transport<L: Named, S: Sink, R: Wait + Clock>(
 ) -> Result<Done<L>, DriveFault>
     requires some_block { 1 ≤ config.limits.max_count }
     requires some_byte { 1 ≤ config.limits.max_bytes }
-    ensures caller { IfOk result (λ done. done.maker.caller ≡ share.caller) }
-    ensures made { IfOk result (λ done. done.maker.made ≡ share.made + length done.receipts) }
-    ensures failings { IfOk result (λ done.
-        failings_in done.receipts + (S.content sink.old).failures ≤ (S.content sink.new).failures) }
+    ensures carried { IfOk result (IsCarried share (S.content sink.old) (S.content sink.new)) }
     ensures fault { IfErr result ComesOfWork }
 {
     let mut share = share;

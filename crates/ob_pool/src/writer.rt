@@ -2,9 +2,8 @@
 
 ghost use Rattle.std.specs.Prelude.{◌≡◌, ◌≤◌, IfOk, IfErr};
 ghost use Rattle.ob_pool.specs.DriveFault.{ComesOfWork};
-ghost use Rattle.ob_pool.specs.Errand.{asked, done_by, IsRoomy};
+ghost use Rattle.ob_pool.specs.Errand.{IsBack, IsOneCall, IsRoomy, asked, done_by};
 ghost use Rattle.ob_pool.specs.HandOff.{charge_for, charge_of};
-ghost use Rattle.ob_shared.specs.Maker.{one_more};
 ghost use Rattle.ob_types.specs.declared.command.Command.TheVariants.{Write};
 
 use crate::bench::Bench;
@@ -60,8 +59,7 @@ impl<L: Named> Writer<L> {
         requires words { lane.words ≡ bench.now.words }
         requires roomy { IsRoomy bench.now.estimate bench.now.task self }
         requires room { self.room ≤ lane.lane.room }
-        ensures words { result.0.words ≡ lane.words }
-        ensures room { result.0.lane.room ≡ lane.lane.room }
+        ensures lane { IsBack lane result.0 }
         ensures done { IfOk result.1 (λ done. done_by done ≡ asked self) }
         ensures fault { IfErr result.1 ComesOfWork }
     {
@@ -112,10 +110,8 @@ fn one_step<L: Named, R: Wait + Clock, G: Gate>(
 ) -> (Lane, Result<(Share<L>, Receipt), Halt>)
     requires words { lane.words ≡ bench.now.words }
     requires room { charge_for bench.now.estimate bench.now.task command ≤ lane.lane.room }
-    ensures words { result.0.words ≡ lane.words }
-    ensures room { result.0.lane.room ≡ lane.lane.room }
-    ensures made { IfOk result.1 (λ made. made.0 ≡ one_more share) }
-    ensures command { IfOk result.1 (λ made. made.1.command ≡ command) }
+    ensures lane { IsBack lane result.0 }
+    ensures call { IfOk result.1 (IsOneCall share command) }
 {
     let writer = share.caller();
     if gate.before(rt, writer, step).is_err() {
@@ -143,10 +139,8 @@ fn write<L: Named, R: Wait + Clock, G: Gate>(
 ) -> (Lane, Result<(Share<L>, Receipt), Halt>)
     requires words { lane.words ≡ bench.now.words }
     requires room { charge_of bench.now.estimate bench.now.task message ≤ lane.lane.room }
-    ensures words { result.0.words ≡ lane.words }
-    ensures room { result.0.lane.room ≡ lane.lane.room }
-    ensures made { IfOk result.1 (λ made. made.0 ≡ one_more share) }
-    ensures command { IfOk result.1 (λ made. made.1.command ≡ Write message) }
+    ensures lane { IsBack lane result.0 }
+    ensures call { IfOk result.1 (IsOneCall share (Write message)) }
 {
     let writer = share.caller();
     let charge = charge_of(bench.estimate, bench.task, &message) as u32;
@@ -169,8 +163,7 @@ fn one_call<L: Named, R: Wait>(
     share: Share<L>,
     command: Command,
 ) -> Result<(Share<L>, Receipt), Halt>
-    ensures made { IfOk result (λ made. made.0 ≡ one_more share) }
-    ensures command { IfOk result (λ made. made.1.command ≡ command) }
+    ensures { IfOk result (IsOneCall share command) }
 {
     let mut desk = shared.desk(rt, share);
     let answer = desk.call(command);

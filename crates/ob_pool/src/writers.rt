@@ -1,10 +1,9 @@
 //! All writers, in threads of their own.
 
 ghost use Rattle.std.specs.Prelude.{◌≡◌, ◌+◌, ◌<◌, ◌≤◌, ◌^◌, ◌++◌, IfErr, IfOk, IsOkAnd, vec_len};
-ghost use Rattle.std.specs.List.{All};
 ghost use Rattle.std.specs.Thread.{IsSync};
 ghost use Rattle.ob_pool.specs.DriveFault.{ComesOfWork};
-ghost use Rattle.ob_pool.specs.Errand.{AreDone, IsRoomy, room_for};
+ghost use Rattle.ob_pool.specs.Errand.{AreDone, HaveWorked, MayBegin, room_for};
 
 use crate::bench::Bench;
 use crate::fault::DriveFault;
@@ -29,14 +28,8 @@ pub fn work_all<L: Named + Send + Sync, R: Threads + Wait + Clock + Sync, G: Gat
     lane: Lane,
     mut writers: Vec<Writer<L>>,
 ) -> Worked<L>
-    requires words { lane.words ≡ bench.now.words }
-    requires roomy { All (IsRoomy bench.now.estimate bench.now.task) writers.items }
-    requires room { room_for writers.items ≤ lane.lane.room }
-    requires whole { lane.lane.room ≤ lane.words.opening.room }
-    ensures words { result.0.words ≡ lane.words }
-    ensures room { result.0.lane.room ≡ lane.lane.room }
-    ensures done { IfOk result.1 (λ dones. AreDone writers.items dones.items) }
-    ensures fault { IfErr result.1 ComesOfWork }
+    requires { MayBegin bench.now.words bench.now.estimate bench.now.task lane writers.items }
+    ensures { HaveWorked writers.items lane result.0 result.1 }
 {
     if writers.len() < 2 {
         return at_most_one(rt, gate, bench, lane, writers);
@@ -65,12 +58,8 @@ fn both_halves<L: Named + Send + Sync, R: Threads + Wait + Clock + Sync, G: Gate
 ) -> Worked<L>
     requires some { 0 < vec_len writers }
     requires some_other { 0 < vec_len others }
-    requires words { lane.words ≡ bench.now.words }
-    requires other_words { other.words ≡ bench.now.words }
-    requires roomy { All (IsRoomy bench.now.estimate bench.now.task) writers.items }
-    requires others_roomy { All (IsRoomy bench.now.estimate bench.now.task) others.items }
-    requires room { room_for writers.items ≤ lane.lane.room }
-    requires other_room { room_for others.items ≤ other.lane.room }
+    requires ready { MayBegin bench.now.words bench.now.estimate bench.now.task lane writers.items }
+    requires other_ready { MayBegin bench.now.words bench.now.estimate bench.now.task other others.items }
     requires whole { lane.lane.room + other.lane.room ≤ lane.words.opening.room }
     ensures words { result.0.words ≡ lane.words }
     ensures room { result.0.lane.room ≡ lane.lane.room + other.lane.room }
@@ -79,25 +68,13 @@ fn both_halves<L: Named + Send + Sync, R: Threads + Wait + Clock + Sync, G: Gate
 {
     let first = move || -> Worked<L>
         requires row { IsSync R.row }
-        requires words { lane.words ≡ bench.now.words }
-        requires roomy { All (IsRoomy bench.now.estimate bench.now.task) writers.items }
-        requires room { room_for writers.items ≤ lane.lane.room }
-        requires whole { lane.lane.room ≤ lane.words.opening.room }
-        ensures words { result.0.words ≡ lane.words }
-        ensures room { result.0.lane.room ≡ lane.lane.room }
-        ensures done { IfOk result.1 (λ dones. AreDone writers.items dones.items) }
-        ensures fault { IfErr result.1 ComesOfWork }
+        requires ready { MayBegin bench.now.words bench.now.estimate bench.now.task lane writers.items }
+        ensures { HaveWorked writers.items lane result.0 result.1 }
     { work_all(rt, gate, bench, lane, writers) };
     let second = move || -> Worked<L>
         requires row { IsSync R.row }
-        requires words { other.words ≡ bench.now.words }
-        requires roomy { All (IsRoomy bench.now.estimate bench.now.task) others.items }
-        requires room { room_for others.items ≤ other.lane.room }
-        requires whole { other.lane.room ≤ other.words.opening.room }
-        ensures words { result.0.words ≡ other.words }
-        ensures room { result.0.lane.room ≡ other.lane.room }
-        ensures done { IfOk result.1 (λ dones. AreDone others.items dones.items) }
-        ensures fault { IfErr result.1 ComesOfWork }
+        requires ready { MayBegin bench.now.words bench.now.estimate bench.now.task other others.items }
+        ensures { HaveWorked others.items other result.0 result.1 }
     { work_all(rt, gate, bench, other, others) };
     let ((lane, dones), (other, more)) = join(rt, first, second);
     (lane.join(&bench.words, other), both_handed(dones, more))
@@ -129,13 +106,8 @@ fn at_most_one<L: Named, R: Wait + Clock, G: Gate>(
     mut writers: Vec<Writer<L>>,
 ) -> Worked<L>
     requires few { vec_len writers < 2 }
-    requires words { lane.words ≡ bench.now.words }
-    requires roomy { All (IsRoomy bench.now.estimate bench.now.task) writers.items }
-    requires room { room_for writers.items ≤ lane.lane.room }
-    ensures words { result.0.words ≡ lane.words }
-    ensures room { result.0.lane.room ≡ lane.lane.room }
-    ensures done { IfOk result.1 (λ dones. AreDone writers.items dones.items) }
-    ensures fault { IfErr result.1 ComesOfWork }
+    requires ready { MayBegin bench.now.words bench.now.estimate bench.now.task lane writers.items }
+    ensures { HaveWorked writers.items lane result.0 result.1 }
 {
     let mut dones = Vec::new(bench.alloc);
     let Some(writer) = writers.pop() else {

@@ -1,5 +1,5 @@
 -- The definitions of drive scripts at worked rows, by computation.
-use Rattle.std.proofs.Common.{◌≡◌, ℕ, List, [], ◌∷◌, ◌++◌, refl, codes, true, false, Some}
+use Rattle.std.proofs.Common.{◌≡◌, ℕ, List, [], ◌∷◌, refl, codes, true, false, Some}
 use Rattle.std.specs.Fmt.{digits, padded_integral, char_count}
 use Rattle.ob_transport.specs.declared.script.SinkStep.TheVariants.{Take, Fail}
 use Rattle.ob_types.specs.declared.command.Command.TheVariants.{Write, Flush, Cancel, UserBit}
@@ -9,15 +9,10 @@ use Rattle.ob_tool.specs.DriveText.{hand_text, number_line}
 use Rattle.ob_tool.specs.Script.{script_fault, script_lines}
 use Rattle.ob_tool.specs.declared.line_fault.LineFault.TheVariants.{Misplaced, OutOfRange}
 
-abbrev newline : List ℕ
-newline = 10 ∷ []
-
 -- a script with a line of each word, and a writer without lines
 abbrev script : List ℕ
 script =
-    codes "b 3 2 2" ++ newline ++ codes "f 1" ++ newline ++ codes "take 4" ++ newline ++ codes "r 1 9" ++ newline
-    ++ codes "o 0 7" ++ newline ++ codes "fail 9" ++ newline ++ codes "x 3 7" ++ newline ++ codes "then 0" ++ newline
-    ++ codes "u 0 255 1" ++ newline ++ codes "turns 5" ++ newline ++ codes "u 0 1 0"
+    codes "b 3 2 2\nf 1\ntake 4\nr 1 9\no 0 7\nfail 9\nx 3 7\nthen 0\nu 0 255 1\nturns 5\nu 0 1 0"
 
 -- the plans of its writers
 the_plans : plans_of (script_lines drive_language script)
@@ -46,18 +41,18 @@ a_million_passes : most_turns (script_lines drive_language []) ≡ 1000000
 a_million_passes = refl
 
 -- a second line with `then`, and a 65th writer
-told_twice : script_fault drive_language (codes "then 7" ++ newline ++ codes "f 0" ++ newline ++ codes "then 7")
+told_twice : script_fault drive_language (codes "then 7\nf 0\nthen 7")
     ≡ Some (3, Misplaced)
 told_twice = refl
 
-no_such_writer : script_fault drive_language (codes "f 63" ++ newline ++ codes "f 64") ≡ Some (2, OutOfRange)
+no_such_writer : script_fault drive_language (codes "f 63\nf 64") ≡ Some (2, OutOfRange)
 no_such_writer = refl
 
 -- two lines of a report
-a_number : number_line (codes "writes") 100 ≡ codes "writes 100" ++ newline
+a_number : number_line (codes "writes") 100 ≡ codes "writes 100\n"
 unfolding digits padded_integral char_count
 a_number = refl
 
-at_rest : hand_text (0, 0) ≡ codes "hand 0 00000000" ++ newline
+at_rest : hand_text (0, 0) ≡ codes "hand 0 00000000\n"
 unfolding digits padded_integral char_count
 at_rest = refl

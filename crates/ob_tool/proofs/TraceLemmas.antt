@@ -1,12 +1,13 @@
 -- The trace of some first lines of a script, one line after another.
 use Rattle.std.proofs.Common.{◌≡◌, ◌∙◌, ℕ, zero, suc, ◌+◌, ◌++◌, Bool, true, false, not, cond, List, [], ◌∷◌, length}
 use Rattle.std.proofs.Common.{take, drop, Result, Ok, Err, Option, None, Some, refl, ap, sym, arith, append_assoc}
-use Rattle.std.proofs.Common.{append-nil, add-one, take-append-drop, take_all}
+use Rattle.std.proofs.Common.{append-nil, add-one, eqb, subst, take-append-drop, take_all}
 use Rattle.std.specs.Prelude.{map}
+use Rattle.std.proofs.lemmas.Bool.{eqb-true}
 use Rattle.std.specs.Io.KnownBytes.{Keeps, append_known}
 use Rattle.ob_tool.specs.Language.{Language}
 use Rattle.ob_tool.specs.Lines.{lines_of}
-use Rattle.ob_tool.specs.Script.{all_placed, first_fault, readings_behind, script_fault, script_lines}
+use Rattle.ob_tool.specs.Script.{all_placed, before_fault, first_fault, readings_behind, script_fault, script_lines}
 use Rattle.ob_tool.specs.Session.{HasTraced}
 use Rattle.ob_tool.specs.Trace.{text_unless, trace_behind, trace_of, trace_of_first, trace_of_lines}
 use Rattle.ob_tool.specs.declared.line_fault.LineFault.{LineFault}
@@ -50,40 +51,43 @@ trace_of_first-more n language script line rest left =
     ∙ trace_behind-append language [] before (line ∷ [])
     ∙ ap (λ t. trace_behind language [] before ++ t) (append-nil (language.line_text before line))
 
--- a line that fits stands before those of the rest
-pub readings-Ok : {L : Type 0} (language : Language L) (before : List L) (script line rest : List ℕ) (asked : L)
-    → lines_of script ≡ line ∷ lines_of rest → language.reading line ≡ Ok asked
-    → language.is_misplaced before asked ≡ false
-    → readings_behind language before script ≡ Ok asked ∷ readings_behind language (before ++ asked ∷ []) rest
-readings-Ok language before script line rest asked first read fits =
-    ap (λ lines. all_placed language before (map language.reading lines)) first
-    ∙ ap (λ r. all_placed language before (r ∷ map language.reading (lines_of rest))) read
-    ∙ ap (λ t. cond t (Err Misplaced) (Ok asked) ∷ readings_behind language (before ++ asked ∷ []) rest) fits
+-- a line that fits is not misplaced, and one that does not is
+misplaced-is : (fits misplaced : Bool) → fits ≡ not misplaced → misplaced ≡ not fits
+misplaced-is fits true same = ap not (sym same)
+misplaced-is fits false same = ap not (sym same)
 
--- a misplaced line ends the script
-pub readings-Misplaced : {L : Type 0} (language : Language L) (before : List L) (script line rest : List ℕ) (asked : L)
-    → lines_of script ≡ line ∷ lines_of rest → language.reading line ≡ Ok asked
-    → language.is_misplaced before asked ≡ true
-    → readings_behind language before script ≡ Err Misplaced ∷ readings_behind language (before ++ asked ∷ []) rest
-readings-Misplaced language before script line rest asked first read misplaced =
+-- a line that can be read stands before those of the rest, or is misplaced where it does not fit; it was read in a
+-- language that is still the same
+pub readings-Ok : {L : Type 0} (now language : Language L) (before : List L) (script line rest : List ℕ) (asked : L)
+    (read : Result L LineFault) (told fits : Bool)
+    → now ≡ language → lines_of script ≡ line ∷ lines_of rest → read ≡ now.reading line → read ≡ Ok asked
+    → told ≡ not (now.is_misplaced before asked) → told ≡ fits
+    → readings_behind language before script
+    ≡ cond (not fits) (Err Misplaced) (Ok asked) ∷ readings_behind language (before ++ asked ∷ []) rest
+readings-Ok now language before script line rest asked read told fits same first reads is tells given =
+    let misplaced = misplaced-is told (language.is_misplaced before asked)
+    (tells ∙ ap (λ (l : Language _). not (l.is_misplaced before asked)) same) ∙ ap not given in
     ap (λ lines. all_placed language before (map language.reading lines)) first
-    ∙ ap (λ r. all_placed language before (r ∷ map language.reading (lines_of rest))) read
+    ∙ ap (λ r. all_placed language before (r ∷ map language.reading (lines_of rest)))
+    (ap (λ (l : Language _). l.reading line) (sym same) ∙ sym reads ∙ is)
     ∙ ap (λ t. cond t (Err Misplaced) (Ok asked) ∷ readings_behind language (before ++ asked ∷ []) rest) misplaced
 
--- and so does another faulty line
-pub readings-Err : {L : Type 0} (language : Language L) (before : List L) (script line rest : List ℕ)
-    (fault : LineFault)
-    → lines_of script ≡ line ∷ lines_of rest → language.reading line ≡ Err fault
+-- a line that cannot be read ends the script
+pub readings-Err : {L : Type 0} (now language : Language L) (before : List L) (script line rest : List ℕ)
+    (fault : LineFault) (read : Result L LineFault)
+    → now ≡ language → lines_of script ≡ line ∷ lines_of rest → read ≡ now.reading line → read ≡ Err fault
     → readings_behind language before script ≡ Err fault ∷ []
-readings-Err language before script line rest fault first read =
+readings-Err now language before script line rest fault read same first reads is =
     ap (λ lines. all_placed language before (map language.reading lines)) first
-    ∙ ap (λ r. all_placed language before (r ∷ map language.reading (lines_of rest))) read
+    ∙ ap (λ r. all_placed language before (r ∷ map language.reading (lines_of rest)))
+    (ap (λ (l : Language _). l.reading line) (sym same) ∙ sym reads ∙ is)
 
 -- a script of no bytes has no lines
-pub readings-nil : {L : Type 0} (language : Language L) (before : List L) (script : List ℕ) → length script ≡ 0
-    → readings_behind language before script ≡ []
+pub readings-nil : {L : Type 0} (language : Language L) (before : List L) (script : List ℕ)
+    → eqb (length script) 0 ≡ true → readings_behind language before script ≡ []
 readings-nil language before [] e = refl
-readings-nil language before (byte ∷ script) e = absurd (omega arith)
+readings-nil language before (byte ∷ script) e =
+    let empty = eqb-true (length (byte ∷ script)) 0 e in absurd (omega (arith, empty))
 
 -- the trace of a script without a fault
 pub trace_of-whole : {L : Type 0} (language : Language L) (script : List ℕ) → script_fault language script ≡ None
@@ -107,16 +111,6 @@ pub all_lines : {L : Type 0} (language : Language L) (script : List ℕ)
 all_lines language script =
     ap (trace_behind language [])
     (take_all (length (script_lines language script)) (script_lines language script) (omega arith))
-
--- a line that does not fit is misplaced
-pub fits-false : (fits misplaced : Bool) → fits ≡ false → fits ≡ not misplaced → misplaced ≡ true
-fits-false fits true e same = refl
-fits-false fits false e same = absurd cc
-
--- and one that fits is not
-pub fits-true : (fits misplaced : Bool) → fits ≡ true → fits ≡ not misplaced → misplaced ≡ false
-fits-true fits true e same = absurd cc
-fits-true fits false e same = refl
 
 -- the fault behind a line that fits is that of the rest
 pub first_fault-more : {L : Type 0} (number : ℕ) (line : L) (readings : List (Result L LineFault))
@@ -144,3 +138,17 @@ HasTraced-kept (Some x) (Some y) (Some z) waiting left text traced kept = kept �
 pub HasTraced-nil : (start : Option (List ℕ)) (waiting : List ℕ) → waiting ≡ [] → HasTraced start start waiting []
 HasTraced-nil None waiting e = tt
 HasTraced-nil (Some x) waiting e = ap (λ t. x ++ t) e
+
+-- where no line is left, all lines are traced, and the fault is what ended them
+pub lines_end : {L : Type 0} (language : Language L) (script : List ℕ) (n : ℕ) (readings ending : List (Result L LineFault))
+    (start held : Option (List ℕ)) (waiting : List ℕ)
+    → drop n (script_lines language script) ≡ before_fault readings → readings ≡ ending → before_fault ending ≡ []
+    → script_fault language script ≡ first_fault (n + 1) readings
+    → HasTraced start held waiting (trace_of_first n language script)
+    → HasTraced start held waiting (trace_of_lines language script)
+    × (script_fault language script ≡ first_fault (n + 1) ending)
+lines_end language script n readings ending start held waiting left here none fault traced =
+    let whole = take-drop_nil n (script_lines language script) (left ∙ ap before_fault here ∙ none) in (
+      subst (λ (some : List _). HasTraced start held waiting (trace_behind language [] some)) whole traced,
+      fault ∙ ap (first_fault (n + 1)) here,
+    )

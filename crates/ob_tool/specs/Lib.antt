@@ -12,6 +12,7 @@ pub mod DriveText
 pub mod Ending
 pub mod Entry
 pub mod Fault
+pub mod Interprets
 pub mod Language
 pub mod Line
 pub mod Lines

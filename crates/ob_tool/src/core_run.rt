@@ -1,9 +1,5 @@
-ghost use Rattle.std.specs.Prelude.{◌≡◌, ◌≤◌, ◌<◌, ℕ, IfErr, IfSome, IsErrOf, length};
-ghost use Rattle.std.specs.Io.KnownBytes.{Appends, IsAtEnd, Keeps};
 ghost use Rattle.ob_tool.specs.CoreScript.{core_language};
-ghost use Rattle.ob_tool.specs.Outcome.{WentThrough, fault_told, status_of};
-ghost use Rattle.ob_tool.specs.Script.{greatest_script, script_fault};
-ghost use Rattle.ob_tool.specs.Trace.{trace_of, trace_of_first};
+ghost use Rattle.ob_tool.specs.Interprets.{Interprets};
 
 use crate::core_session::CoreSession;
 use crate::pipeline::interpret;
@@ -24,28 +20,8 @@ pub fn core<R: Read, W: Write>(
     writer: &mut W,
     marks: WaterMark,
 ) -> Result<(), RunFault>
-    // At the end of the script or at its first faulty line, the trace of what was read is written and nothing else.
-    ensures trace { WentThrough result → IfSome (R.remaining reader.old) (λ script.
-        Appends (W.contents writer.old) (W.contents writer.new) (trace_of (core_language marks) script)) }
-    ensures fault { WentThrough result
-        → IfSome (R.remaining reader.old) (λ script. fault_told result ≡ script_fault (core_language marks) script) }
-    ensures end { WentThrough result → IsAtEnd (R.remaining reader.new) }
-    ensures within { WentThrough result → IfSome (R.remaining reader.old) (λ script. length script ≤ greatest_script) }
-
-    // Where memory runs out, the trace of some first lines is written and nothing else.
-    ensures no_memory { IsErrOf result RunFault.NoMemory → IfSome (R.remaining reader.old) (λ script.
-        (count : ℕ) × Appends (W.contents writer.old) (W.contents writer.new)
-        (trace_of_first count (core_language marks) script)) }
-
-    // A script that was not read leaves the writer alone.
-    ensures unread { IsErrOf result RunFault.Read → Keeps (W.contents writer.old) (W.contents writer.new) }
-    ensures too_long { IsErrOf result RunFault.TooLong
-        → IfSome (R.remaining reader.old) (λ script. greatest_script < length script) }
-    ensures too_long_unwritten { IsErrOf result RunFault.TooLong
-        → Keeps (W.contents writer.old) (W.contents writer.new) }
-
-    // Nothing is driven.
-    ensures undriven { IfErr result (λ fault. status_of fault ≤ 4) }
+    ensures { Interprets (core_language marks) (R.remaining reader.old) (R.remaining reader.new)
+        (W.contents writer.old) (W.contents writer.new) result }
 {
     interpret(alloc, reader, writer, CoreSession::new(alloc, marks))
 }

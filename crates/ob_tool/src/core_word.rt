@@ -4,7 +4,7 @@ ghost use Rattle.ob_tool.specs.declared.core_line.CoreLine.TheVariants as line;
 
 use crate::core_line::CoreLine;
 use crate::first_word::FirstWord;
-use crate::range::Range;
+use crate::range::{ANY_32, BIT_INDEX, FLAG, Range};
 use ob_core::{Ask, LaneStart, Turn};
 
 /// The first word of a line of `core`.
@@ -37,30 +37,14 @@ static CORE_WORDS: [CoreWord; 7] = [
     CoreWord::Go,
 ];
 
-/// Any number of 32 bits.
-const ANY: Range = Range {
-    least: 0,
-    greatest: 4294967295,
-};
-
 /// One number: a lane.
-static ONE_NUMBER: [Range; 1] = [ANY];
+static ONE_NUMBER: [Range; 1] = [ANY_32];
 
 /// Two numbers: a room and a mask, or a lane and an amount.
-static TWO_NUMBERS: [Range; 2] = [ANY, ANY];
+static TWO_NUMBERS: [Range; 2] = [ANY_32, ANY_32];
 
 /// A lane, the index of a bit, and a flag.
-static BIT_NUMBERS: [Range; 3] = [
-    ANY,
-    Range {
-        least: 0,
-        greatest: 255,
-    },
-    Range {
-        least: 0,
-        greatest: 1,
-    },
-];
+static BIT_NUMBERS: [Range; 3] = [ANY_32, BIT_INDEX, FLAG];
 
 impl FirstWord for CoreWord {
     type Line = CoreLine;

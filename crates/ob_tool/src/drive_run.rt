@@ -1,12 +1,15 @@
-ghost use Rattle.std.specs.Prelude.{◌≡◌, ◌≢◌, ◌<◌, ◌≤◌, IfErr, IfOk, IfSome, IsErrOf, OnOk, length};
-ghost use Rattle.std.specs.Io.KnownBytes.{Appends, IsAtEnd, Keeps};
-ghost use Rattle.ob_tool.specs.DriveReport.{TellsOf, WritesReport};
+ghost use Rattle.std.specs.Prelude.{◌≡◌, ◌≢◌, ◌≤◌, IfErr, IfOk, IfSome, OnOk, length};
+ghost use Rattle.std.specs.Io.KnownBytes.{Appends, Keeps};
+ghost use Rattle.ob_pool.specs.Driven.{TellsOf};
+ghost use Rattle.ob_tool.specs.DriveReport.{WritesReport};
 ghost use Rattle.ob_tool.specs.DriveScript.{drive_language, plans_in, plans_of};
 ghost use Rattle.ob_tool.specs.DriveSession.{HasKept};
 ghost use Rattle.ob_tool.specs.DriveText.{report_text};
 ghost use Rattle.ob_tool.specs.Ending.{LinesEnd};
-ghost use Rattle.ob_tool.specs.Outcome.{IsFaultOfDrive, IsWritingFault, WentThrough, fault_told};
-ghost use Rattle.ob_tool.specs.Script.{greatest_script, script_fault, script_lines};
+ghost use Rattle.ob_tool.specs.Interprets.{GoesThrough};
+ghost use Rattle.ob_tool.specs.Options.{first_history};
+ghost use Rattle.ob_tool.specs.Outcome.{IsFaultOfDrive, IsWritingFault};
+ghost use Rattle.ob_tool.specs.Script.{greatest_script, script_lines};
 
 use crate::drive_session::DriveSession;
 use crate::drive_text::push_report;
@@ -46,16 +49,11 @@ pub fn drive_script<H: AllocGlobal + Threads + Wait + Clock + Sync, R: Read, W: 
     ensures report { OnOk result (IfSome (R.remaining reader.old) (λ script.
         WritesReport options (plans_of (script_lines drive_language script))
         (W.contents writer.old) (W.contents writer.new))) }
-    ensures fault { WentThrough result → IfSome (R.remaining reader.old) (λ script.
-        fault_told result ≡ script_fault drive_language script) }
-    ensures end { WentThrough result → IsAtEnd (R.remaining reader.new) }
-    ensures within { WentThrough result → IfSome (R.remaining reader.old) (λ script. length script ≤ greatest_script) }
+    ensures through { GoesThrough drive_language (R.remaining reader.old) (R.remaining reader.new) result }
 
     // Without a report nothing is written, unless the writer fails.
     ensures unwritten { IfErr result (λ fault. fault ≢ RunFault.Write
         → Keeps (W.contents writer.old) (W.contents writer.new)) }
-    ensures too_long { IsErrOf result RunFault.TooLong → IfSome (R.remaining reader.old) (λ script.
-        greatest_script < length script) }
 {
     let script = read_script(rt.alloc(), reader, MAX_READS)?;
     let session = read_lines(rt.alloc(), &script)?;
@@ -82,7 +80,7 @@ fn drive_session<H: AllocGlobal + Threads + Wait + Clock + Sync>(
     session: DriveSession,
     options: Options,
 ) -> Result<Report, RunFault>
-    ensures told { IfOk result (λ report. TellsOf options (plans_in session.writers.items) report) }
+    ensures told { IfOk result (λ report. TellsOf (first_history options) (plans_in session.writers.items) report) }
     ensures faults { IfErr result IsFaultOfDrive }
 {
     let plans = plans(rt.alloc(), &session.writers)?;

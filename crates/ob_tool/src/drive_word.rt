@@ -3,7 +3,7 @@ ghost use Rattle.ob_tool.specs.DriveTable.{drive_table};
 
 use crate::drive_line::DriveLine;
 use crate::first_word::FirstWord;
-use crate::range::Range;
+use crate::range::{ANY_32, ANY_64, BIT_INDEX, BLOCK_BYTES, FLAG, Range};
 use crate::writer_line::{Asked, WriterLine};
 use ob_transport::SinkStep;
 use ob_types::{Command, Message, PromiseId};
@@ -53,19 +53,10 @@ const WRITER: Range = Range {
     greatest: 63,
 };
 
-/// Any number of 32 bits.
-const ANY_32: Range = Range {
-    least: 0,
-    greatest: 4294967295,
-};
-
 /// A writer, the bytes of a block, and how many blocks.
 static BLOCKS_NUMBERS: [Range; 3] = [
     WRITER,
-    Range {
-        least: 0,
-        greatest: 1048576,
-    },
+    BLOCK_BYTES,
     Range {
         least: 1,
         greatest: 1024,
@@ -73,13 +64,7 @@ static BLOCKS_NUMBERS: [Range; 3] = [
 ];
 
 /// A writer, and the bytes of a region.
-static REGION_NUMBERS: [Range; 2] = [
-    WRITER,
-    Range {
-        least: 0,
-        greatest: 18446744073709551615,
-    },
-];
+static REGION_NUMBERS: [Range; 2] = [WRITER, ANY_64];
 
 /// A writer, and what another message means, or an id.
 static WRITER_AND_NUMBER: [Range; 2] = [WRITER, ANY_32];
@@ -88,17 +73,7 @@ static WRITER_AND_NUMBER: [Range; 2] = [WRITER, ANY_32];
 static WRITER_ALONE: [Range; 1] = [WRITER];
 
 /// A writer, the index of a bit, and a flag.
-static BIT_NUMBERS: [Range; 3] = [
-    WRITER,
-    Range {
-        least: 0,
-        greatest: 255,
-    },
-    Range {
-        least: 0,
-        greatest: 1,
-    },
-];
+static BIT_NUMBERS: [Range; 3] = [WRITER, BIT_INDEX, FLAG];
 
 /// How much the sink takes, or the number with which it fails.
 static SINK_NUMBER: [Range; 1] = [ANY_32];

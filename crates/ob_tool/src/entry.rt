@@ -1,9 +1,8 @@
-ghost use Rattle.std.specs.Prelude.{◌≡◌, ◌≤◌, ℕ, None, Some, IfSome, IfErr, IsErrOf, OnOk};
+ghost use Rattle.std.specs.Prelude.{◌≡◌, ◌≤◌, ℕ, IfSome, IfErr, IsErrOf};
 ghost use Rattle.std.specs.Io.KnownBytes.{Appends, Keeps};
-ghost use Rattle.ob_tool.specs.declared.line_fault.LineFault.{LineFault};
 ghost use Rattle.ob_tool.specs.Outcome.{WentThrough, fault_told, status_of};
 ghost use Rattle.ob_tool.specs.Request.{WritesRequested, requested_fault, requested_trace_of_first};
-ghost use Rattle.ob_tool.specs.Entry.{WritesWhole, WritesTraceOfFirst, exit_status_of};
+ghost use Rattle.ob_tool.specs.Entry.{Leaves, status_after};
 
 use crate::command_line::request_of;
 use crate::core_run::core;
@@ -27,25 +26,10 @@ pub fn entry<H: AllocGlobal + Threads + Wait + Clock + Sync, S: AsStr, R: Read, 
     writer: &mut W,
     errors: &mut E,
 ) -> u8
-    // Status 0: the trace of a script without a fault, or the report of its drive, and nothing on `errors`.
-    ensures traced { result ≡ 0 → IfSome (R.remaining reader.old) (λ script.
-        WritesWhole script None (W.contents writer.old) (W.contents writer.new)) }
+    // What is read and written goes by the status; at status 0 nothing is told on `errors`.
+    ensures leaves { Leaves result reader.old reader.new (R.remaining reader.old)
+        (W.contents writer.old) (W.contents writer.new) }
     ensures quiet { result ≡ 0 → Keeps (E.contents errors.old) (E.contents errors.new) }
-
-    // Status 1: the command line is refused, and nothing of the script is read.
-    ensures refused { result ≡ 1 → Keeps (W.contents writer.old) (W.contents writer.new) }
-    ensures unread { result ≡ 1 → reader.new ≡ reader.old }
-
-    // Status 2: the trace up to the faulty line, and nothing of a drive.
-    ensures cut_short { result ≡ 2 → IfSome (R.remaining reader.old) (λ script.
-        (fault : ℕ × LineFault) × WritesWhole script (Some fault) (W.contents writer.old) (W.contents writer.new)) }
-
-    // Status 4: the trace of some first lines.
-    ensures no_memory { result ≡ 4 → IfSome (R.remaining reader.old) (λ script.
-        WritesTraceOfFirst script (W.contents writer.old) (W.contents writer.new)) }
-
-    // Status 5: a drive came to no report, and nothing is written.
-    ensures undriven { result ≡ 5 → Keeps (W.contents writer.old) (W.contents writer.new) }
     ensures within { result ≤ 5 }
 {
     match start(rt, words, reader, writer) {
@@ -64,17 +48,8 @@ fn start<H: AllocGlobal + Threads + Wait + Clock + Sync, S: AsStr, R: Read, W: W
     reader: &mut R,
     writer: &mut W,
 ) -> Result<(), EntryFault>
-    ensures traced { OnOk result (IfSome (R.remaining reader.old) (λ script.
-        WritesWhole script None (W.contents writer.old) (W.contents writer.new))) }
-    ensures refused { IfErr result (λ fault. exit_status_of fault ≡ 1
-        → Keeps (W.contents writer.old) (W.contents writer.new)) }
-    ensures unread { IfErr result (λ fault. exit_status_of fault ≡ 1 → reader.new ≡ reader.old) }
-    ensures cut_short { IfErr result (λ fault. exit_status_of fault ≡ 2 → IfSome (R.remaining reader.old) (λ script.
-        (fault : ℕ × LineFault) × WritesWhole script (Some fault) (W.contents writer.old) (W.contents writer.new))) }
-    ensures no_memory { IfErr result (λ fault. exit_status_of fault ≡ 4 → IfSome (R.remaining reader.old) (λ script.
-        WritesTraceOfFirst script (W.contents writer.old) (W.contents writer.new))) }
-    ensures undriven { IfErr result (λ fault. exit_status_of fault ≡ 5
-        → Keeps (W.contents writer.old) (W.contents writer.new)) }
+    ensures { Leaves (status_after result) reader.old reader.new (R.remaining reader.old)
+        (W.contents writer.old) (W.contents writer.new) }
 {
     let request = match request_of(rt.alloc(), words) {
         Ok(request) => request,

@@ -1,7 +1,7 @@
 ghost use Rattle.ob_tool.specs.RunTable.{run_table};
 
 use crate::first_word::FirstWord;
-use crate::range::Range;
+use crate::range::{ANY_32, ANY_64, BIT_INDEX, BLOCK_BYTES, FLAG, Range};
 use crate::script_line::ScriptLine;
 use ob_types::{Cause, Command, Message, PromiseId};
 
@@ -56,47 +56,20 @@ static LINE_WORDS: [LineWord; 14] = [
     LineWord::Gather,
 ];
 
-/// A flag.
-const FLAG: Range = Range {
-    least: 0,
-    greatest: 1,
-};
-
 /// The number of a block's bytes.
-static BLOCK_NUMBERS: [Range; 1] = [Range {
-    least: 0,
-    greatest: 1048576,
-}];
+static BLOCK_NUMBERS: [Range; 1] = [BLOCK_BYTES];
 
 /// Any number of 32 bits: what another message means, a cause, or an id.
-static NUMBER_OF_32_BITS: [Range; 1] = [Range {
-    least: 0,
-    greatest: 4294967295,
-}];
+static NUMBER_OF_32_BITS: [Range; 1] = [ANY_32];
 
 /// Any number of 64 bits: the bytes of a region, or how many are removed, or told of as progress.
-static NUMBER_OF_64_BITS: [Range; 1] = [Range {
-    least: 0,
-    greatest: 18446744073709551615,
-}];
+static NUMBER_OF_64_BITS: [Range; 1] = [ANY_64];
 
 /// A cause, and a flag.
-static FAIL_NUMBERS: [Range; 2] = [
-    Range {
-        least: 0,
-        greatest: 4294967295,
-    },
-    FLAG,
-];
+static FAIL_NUMBERS: [Range; 2] = [ANY_32, FLAG];
 
 /// The index of a bit, and a flag.
-static BIT_NUMBERS: [Range; 2] = [
-    Range {
-        least: 0,
-        greatest: 255,
-    },
-    FLAG,
-];
+static BIT_NUMBERS: [Range; 2] = [BIT_INDEX, FLAG];
 
 /// How many blocks, and of how many bytes, a transport takes at most.
 static GATHER_NUMBERS: [Range; 2] = [

@@ -1,9 +1,8 @@
-ghost use Rattle.std.specs.Prelude.{◌≡◌, ◌≤◌, ◌<◌, [], ℕ, IfErr, IfSome, IsErrOf, length};
-ghost use Rattle.std.specs.Io.KnownBytes.{Appends, IsAtEnd, Keeps};
+ghost use Rattle.std.specs.Prelude.{◌≤◌, [], length};
+ghost use Rattle.std.specs.Io.KnownBytes.{Appends};
 ghost use Rattle.ob_tool.specs.Ending.{Ends};
-ghost use Rattle.ob_tool.specs.Outcome.{WentThrough, fault_told, status_of};
-ghost use Rattle.ob_tool.specs.Script.{greatest_script, script_fault};
-ghost use Rattle.ob_tool.specs.Trace.{trace_of, trace_of_first};
+ghost use Rattle.ob_tool.specs.Interprets.{Interprets};
+ghost use Rattle.ob_tool.specs.Script.{greatest_script};
 
 use crate::interpreter::Interpreter;
 use crate::run_fault::RunFault;
@@ -23,21 +22,8 @@ pub fn interpret<I: Interpreter, R: Read, W: Write>(
     interpreter: I,
 ) -> Result<(), RunFault>
     requires fresh { I.HasDone interpreter [] }
-    ensures trace { WentThrough result → IfSome (R.remaining reader.old) (λ script.
-        Appends (W.contents writer.old) (W.contents writer.new) (trace_of (I.language interpreter) script)) }
-    ensures fault { WentThrough result
-        → IfSome (R.remaining reader.old) (λ script. fault_told result ≡ script_fault (I.language interpreter) script) }
-    ensures end { WentThrough result → IsAtEnd (R.remaining reader.new) }
-    ensures within { WentThrough result → IfSome (R.remaining reader.old) (λ script. length script ≤ greatest_script) }
-    ensures no_memory { IsErrOf result RunFault.NoMemory → IfSome (R.remaining reader.old) (λ script.
-        (count : ℕ) × Appends (W.contents writer.old) (W.contents writer.new)
-        (trace_of_first count (I.language interpreter) script)) }
-    ensures unread { IsErrOf result RunFault.Read → Keeps (W.contents writer.old) (W.contents writer.new) }
-    ensures too_long { IsErrOf result RunFault.TooLong
-        → IfSome (R.remaining reader.old) (λ script. greatest_script < length script) }
-    ensures too_long_unwritten { IsErrOf result RunFault.TooLong
-        → Keeps (W.contents writer.old) (W.contents writer.new) }
-    ensures undriven { IfErr result (λ fault. status_of fault ≤ 4) }
+    ensures { Interprets (I.language interpreter) (R.remaining reader.old) (R.remaining reader.new)
+        (W.contents writer.old) (W.contents writer.new) result }
 {
     let script = read_script(alloc, reader, MAX_READS)?;
     write_trace(alloc, &script, writer, interpreter)

@@ -16,6 +16,31 @@ pub struct Range {
     pub greatest: u64,
 }
 
+/// The numbers from 0 to this one.
+macro_rules! up_to {
+    ($greatest:literal) => {
+        Range {
+            least: 0,
+            greatest: $greatest,
+        }
+    };
+}
+
+/// Any number of 32 bits.
+pub const ANY_32: Range = up_to!(4294967295);
+
+/// Any number of 64 bits.
+pub const ANY_64: Range = up_to!(18446744073709551615);
+
+/// The number of a block's bytes.
+pub const BLOCK_BYTES: Range = up_to!(1048576);
+
+/// The index of a user bit.
+pub const BIT_INDEX: Range = up_to!(255);
+
+/// A flag.
+pub const FLAG: Range = up_to!(1);
+
 impl Range {
     /// The number that the word writes in decimal digits, where zeros may lead.
     ///

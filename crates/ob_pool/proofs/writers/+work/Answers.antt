@@ -1,7 +1,7 @@
-use Rattle.std.proofs.Common.{ap, arith}
+use Rattle.std.proofs.Common.{ap, arith, rules}
 use Rattle.std.proofs.lemmas.Result.{IfOk-weaker}
 use Rattle.ob_pool.specs.Errand.{room_for}
-use Rattle.ob_pool.proofs.Halves.{both_handed_done, parts_done, rooms_of_parts, splits}
+use Rattle.ob_pool.proofs.Halves.{both_handed_done, parts_done, parts_roomy, rooms_of_parts, splits}
 use Rattle.ob_pool.proofs.writers.+work.Goals as goal
 
 pub work_all-room_for-requires : goal.work_all-room_for-requires
@@ -22,28 +22,49 @@ work_all-unreachable-requires g t c =
     absurd (cc (c.in_default-split.ensures.split (splits c.args.lane.lane c.room_for.result
     (omega (arith, parts, ap room_for c.deref.ensures.value, c.room_for.ensures, c.requires.room)))))
 
-pub work_all-both_halves-requires-clause-room : goal.work_all-both_halves-requires-clause-room
-work_all-both_halves-requires-clause-room g t c = λ κs lives.
+pub work_all-both_halves-requires-clause-ready : goal.work_all-both_halves-requires-clause-ready
+work_all-both_halves-requires-clause-ready g t c = λ κs lives.
     let parts = rooms_of_parts _ _ _ _ c.in-Ok.ensures.items c.in-Ok.ensures.tail in
     let shares = c.in-Ok-split.ensures.shares in
-    omega (
-      arith,
-      parts,
-      ap room_for c.deref.ensures.value,
-      c.room_for.ensures,
-      c.requires.room,
-      shares.rooms,
-      shares.second_room,
-    )
+    record {
+      words = search rules;
+      roomy =
+          (parts_roomy c.args.bench.now.estimate c.args.bench.now.task _ _ _ _ c.in-Ok.ensures.items
+          c.in-Ok.ensures.tail c.requires.roomy).0;
+      room = omega (
+        arith,
+        parts,
+        ap room_for c.deref.ensures.value,
+        c.room_for.ensures,
+        c.requires.room,
+        shares.rooms,
+        shares.second_room,
+      );
+      whole = search rules;
+    }
 
-pub work_all-returns-clause-done : goal.work_all-returns-clause-done
-work_all-returns-clause-done g t c =
-    IfOk-weaker c.both_halves.result.1 _ _
-    (λ dones done. parts_done _ _ _ _ _ c.in-Ok.ensures.items c.in-Ok.ensures.tail done) c.both_halves.ensures.done
+pub work_all-both_halves-requires-clause-other_ready : goal.work_all-both_halves-requires-clause-other_ready
+work_all-both_halves-requires-clause-other_ready g t c = λ κs lives. record {
+  words = search rules;
+  roomy =
+      (parts_roomy c.args.bench.now.estimate c.args.bench.now.task _ _ _ _ c.in-Ok.ensures.items c.in-Ok.ensures.tail
+      c.requires.roomy).1;
+  room = search rules;
+  whole = search rules;
+}
+
+pub work_all-returns : goal.work_all-returns
+work_all-returns g t c = record {
+  lane_back = search rules;
+  done =
+      IfOk-weaker c.both_halves.result.1 _ _
+      (λ dones done. parts_done _ _ _ _ _ c.in-Ok.ensures.items c.in-Ok.ensures.tail done) c.both_halves.ensures.done;
+  fault = search rules;
+}
 
 pub both_halves-returns-clause-done : goal.both_halves-returns-clause-done
 both_halves-returns-clause-done g t c =
     IfOk-weaker c.both_handed.result _ _
     (λ all is. both_handed_done c.join-lane.result.0.1 c.join-lane.result.1.1 (λ dones. dones.items)
-    c.args.writers.items c.args.others.items all.items is c.join-lane.ensures.first.1.1.0
-    c.join-lane.ensures.second.1.1.0) c.both_handed.ensures.first
+    c.args.writers.items c.args.others.items all.items is c.join-lane.ensures.first.done
+    c.join-lane.ensures.second.done) c.both_handed.ensures.first

@@ -1,83 +1,60 @@
-use Rattle.std.proofs.Common.{◌≡◌, ◌∙◌, ◌+◌, sym, ap, subst, true, false, not, List, [], ◌∷◌, ◌++◌, take, drop, length}
-use Rattle.std.proofs.Common.{Ok, Err, arith}
-use Rattle.std.proofs.lemmas.Bool.{eqb-true}
+use Rattle.std.proofs.Common.{◌≡◌, ◌∙◌, ◌+◌, sym, ap, subst, refl, true, false, List, [], ◌∷◌, ◌++◌, take, drop}
+use Rattle.std.proofs.Common.{arith}
 use Rattle.ob_tool.specs.Language.{Language}
 use Rattle.ob_tool.specs.Script.{before_fault, first_fault, readings_behind, script_lines}
 use Rattle.ob_tool.specs.Session.{HasTraced}
-use Rattle.ob_tool.specs.Trace.{trace_behind, trace_of_first}
-use Rattle.ob_tool.proofs.TraceLemmas.{take-one_more, take-drop_nil, HasTraced-more, HasTraced-kept}
-use Rattle.ob_tool.proofs.TraceLemmas.{trace_of_first-more, readings-Ok, readings-Misplaced, readings-Err, readings-nil}
-use Rattle.ob_tool.proofs.TraceLemmas.{first_fault-more, fits-true, fits-false}
+use Rattle.ob_tool.specs.Trace.{trace_of_first}
+use Rattle.ob_tool.proofs.TraceLemmas.{take-one_more, take-drop_nil, HasTraced-more, HasTraced-kept, lines_end}
+use Rattle.ob_tool.proofs.TraceLemmas.{trace_of_first-more, readings-Ok, readings-Err, readings-nil, first_fault-more}
 use Rattle.ob_tool.proofs.trace.trace_lines.Goals as goal
 
 pub returns-in-Err-clause-lines : goal.returns-in-Err-clause-lines
 returns-in-Err-clause-lines g c =
     let language = g.I.Interpreter.language c.args.interpreter.now in
-    let lines = script_lines language c.args.script.now in
-    let n = c.loop-rest.number in
     let inv = c.loop-rest.invariant in
-    let line = c.first_line.result.0.now in
-    let read : language.reading line ≡ Err c.in-Err.fault = ap (λ (l : Language _). l.reading line) (sym inv.same)
-    ∙ sym c.read.ensures ∙ c.in-Err.is in
     let here =
-    readings-Err language (take n lines) c.loop-rest.rest.now line c.first_line.result.1.now c.in-Err.fault
-    c.first_line.ensures.lines read in
-    let whole = take-drop_nil n lines (inv.left ∙ ap before_fault here) in (
-      subst (λ (some : List _). HasTraced (g.W.Write.contents c.args.writer.now)
-          (g.W.Write.contents c.loop-rest.writer) c.loop-rest.waiting.items (trace_behind language [] some)) whole
-          inv.traced,
-      inv.fault ∙ ap (first_fault (n + 1)) here,
-    )
+    readings-Err (g.I.Interpreter.language c.loop-rest.interpreter) language
+    (take c.loop-rest.number (script_lines language c.args.script.now)) c.loop-rest.rest.now
+    c.first_line.result.0.now c.first_line.result.1.now c.in-Err.fault c.read.result inv.same
+    c.first_line.ensures.lines c.read.ensures c.in-Err.is in
+    lines_end language c.args.script.now c.loop-rest.number _ _ _ _ _ inv.left here refl inv.fault inv.traced
 
 pub returns-then-not-branch-clause-lines : goal.returns-then-not-branch-clause-lines
 returns-then-not-branch-clause-lines g c =
     let language = g.I.Interpreter.language c.args.interpreter.now in
     let script = c.args.script.now in
-    let lines = script_lines language script in
     let n = c.loop-rest.number in
     let inv = c.loop-rest.invariant in
-    let before = take n lines in
-    let asked = c.in-Ok.line in
-    let line = c.first_line.result.0.now in
-    let others = c.first_line.result.1.now in
+    let before = take n (script_lines language script) in
     let done = c.in_ok-trace_line-in-Ok.ensures in
-    let read : language.reading line ≡ Ok asked = ap (λ (l : Language _). l.reading line) (sym inv.same)
-    ∙ sym c.read.ensures ∙ c.in-Ok.is in
-    let same = done.fits before inv.done ∙ ap (λ (l : Language _). not (l.is_misplaced before asked)) inv.same in
-    let misplaced : language.is_misplaced before asked ≡ true = fits-false _ _ c.if-not-branch.true same in
     let here =
-    readings-Misplaced language before c.loop-rest.rest.now line others asked c.first_line.ensures.lines read
-    misplaced in
-    let whole = take-drop_nil n lines (inv.left ∙ ap before_fault here) in
-    let kept : c.trace_line.new.waiting.items ≡ c.loop-rest.waiting.items = done.kept (λ e. cc) in (
-      subst (λ (some : List _). HasTraced (g.W.Write.contents c.args.writer.now)
-          (g.W.Write.contents c.loop-rest.writer) c.trace_line.new.waiting.items (trace_behind language [] some)) whole
-          (subst (λ (waits : List _). HasTraced (g.W.Write.contents c.args.writer.now)
-          (g.W.Write.contents c.loop-rest.writer) waits (trace_of_first n language script)) (sym kept) inv.traced),
-      inv.fault ∙ ap (first_fault (n + 1)) here,
-    )
+    readings-Ok (g.I.Interpreter.language c.loop-rest.interpreter) language before c.loop-rest.rest.now
+    c.first_line.result.0.now c.first_line.result.1.now c.in-Ok.line c.read.result c.in_ok-trace_line-in-Ok.field-0
+    false inv.same c.first_line.ensures.lines c.read.ensures c.in-Ok.is (done.fits before inv.done)
+    c.if-not-branch.true in
+    let kept : c.trace_line.new.waiting.items ≡ c.loop-rest.waiting.items = done.kept (λ e. cc) in
+    let traced = subst (λ (waits : List _). HasTraced (g.W.Write.contents c.args.writer.now)
+    (g.W.Write.contents c.loop-rest.writer) waits (trace_of_first n language script)) (sym kept) inv.traced in
+    lines_end language script n _ _ _ _ _ inv.left here refl inv.fault traced
 
 pub loop-rest-preserved : goal.loop-rest-preserved
 loop-rest-preserved g c =
     let language = g.I.Interpreter.language c.args.interpreter.now in
     let script = c.args.script.now in
-    let lines = script_lines language script in
     let n = c.loop-rest.number in
     let inv = c.loop-rest.invariant in
-    let before = take n lines in
+    let before = take n (script_lines language script) in
     let asked = c.in-Ok.line in
-    let line = c.first_line.result.0.now in
     let others = c.first_line.result.1.now in
     let done = c.in_ok-trace_line-in-Ok.ensures in
-    let read : language.reading line ≡ Ok asked = ap (λ (l : Language _). l.reading line) (sym inv.same)
-    ∙ sym c.read.ensures ∙ c.in-Ok.is in
-    let same = done.fits before inv.done ∙ ap (λ (l : Language _). not (l.is_misplaced before asked)) inv.same in
-    let fits : language.is_misplaced before asked ≡ false = fits-true _ _ c.if-not-branch.false same in
     let here =
-    readings-Ok language before c.loop-rest.rest.now line others asked c.first_line.ensures.lines read fits in
-    let left : drop n lines ≡ asked ∷ before_fault (readings_behind language (before ++ asked ∷ []) others) =
+    readings-Ok (g.I.Interpreter.language c.loop-rest.interpreter) language before c.loop-rest.rest.now
+    c.first_line.result.0.now others asked c.read.result c.in_ok-trace_line-in-Ok.field-0 true inv.same
+    c.first_line.ensures.lines c.read.ensures c.in-Ok.is (done.fits before inv.done) c.if-not-branch.false in
+    let left : drop n (script_lines language script)
+    ≡ asked ∷ before_fault (readings_behind language (before ++ asked ∷ []) others) =
     inv.left ∙ ap before_fault here in
-    let more = take-one_more n lines _ asked left in
+    let more = take-one_more n (script_lines language script) _ asked left in
     let told : c.trace_line.new.waiting.items ≡ c.loop-rest.waiting.items ++ language.line_text before asked =
     done.text c.if-not-branch.false before inv.done
     ∙ ap (λ (l : Language _). c.loop-rest.waiting.items ++ l.line_text before asked) inv.same in
@@ -108,26 +85,19 @@ pub returns-clause-lines : goal.returns-clause-lines
 returns-clause-lines g c =
     let language = g.I.Interpreter.language c.args.interpreter.now in
     let lines = script_lines language c.args.script.now in
-    let n = c.loop-rest.number in
     let inv = c.loop-rest.invariant in
-    let rest = c.loop-rest.rest.now in
-    let empty : length rest ≡ 0 = eqb-true (length rest) 0 (sym c.is_empty.ensures ∙ c.loop-rest-test.false) in
-    let here = readings-nil language (take n lines) rest empty in
-    let whole = take-drop_nil n lines (inv.left ∙ ap before_fault here) in (
-      subst (λ (some : List _). HasTraced (g.W.Write.contents c.args.writer.now)
-          (g.W.Write.contents c.loop-rest.writer) c.loop-rest.waiting.items (trace_behind language [] some)) whole
-          inv.traced,
-      inv.fault ∙ ap (first_fault (n + 1)) here,
-    )
+    let here =
+    readings-nil language (take c.loop-rest.number lines) c.loop-rest.rest.now
+    (sym c.is_empty.ensures ∙ c.loop-rest-test.false) in
+    lines_end language c.args.script.now c.loop-rest.number _ _ _ _ _ inv.left here refl inv.fault inv.traced
 
 pub returns-clause-done : goal.returns-clause-done
 returns-clause-done g c =
     let language = g.I.Interpreter.language c.args.interpreter.now in
     let lines = script_lines language c.args.script.now in
-    let n = c.loop-rest.number in
-    let inv = c.loop-rest.invariant in
-    let rest = c.loop-rest.rest.now in
-    let empty : length rest ≡ 0 = eqb-true (length rest) 0 (sym c.is_empty.ensures ∙ c.loop-rest-test.false) in
-    let here = readings-nil language (take n lines) rest empty in
+    let here =
+    readings-nil language (take c.loop-rest.number lines) c.loop-rest.rest.now
+    (sym c.is_empty.ensures ∙ c.loop-rest-test.false) in
     subst (g.I.Interpreter.HasDone c.loop-rest.interpreter)
-    (take-drop_nil n lines (inv.left ∙ ap before_fault here)) inv.done
+    (take-drop_nil c.loop-rest.number lines (c.loop-rest.invariant.left ∙ ap before_fault here))
+    c.loop-rest.invariant.done

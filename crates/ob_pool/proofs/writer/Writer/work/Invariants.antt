@@ -1,13 +1,12 @@
 use Rattle.std.proofs.Common.{◌≡◌, ◌+◌, ◌≤◌, ◌++◌, length}
 use Rattle.std.specs.Prelude.{vec_capacity, vec_len}
-use Rattle.ob_pool.specs.Errand.{commands_in}
+use Rattle.ob_pool.specs.Errand.{IsBack, commands_in}
 use Rattle.ob_pool.specs.HandOff.{room_of}
 use Rattle.ob_pool.proofs.writer.Writer.work.Given as goal
 
 abbrev pub invariant-steps : goal.invariant-steps
 invariant-steps g l = record {
-  words : l.lane.words ≡ l.fn.lane.words;
-  room : l.lane.lane.room ≡ l.fn.lane.lane.room;
+  lane : IsBack l.fn.lane l.lane;
   roomy : room_of l.bench.estimate l.bench.task l.command-iterator.rest.items ≤ l.fn.self.room;
   caller : l.share.caller ≡ l.fn.self.maker.caller;
   made : l.share.made ≡ l.fn.self.maker.made + vec_len l.receipts;
