@@ -7,8 +7,9 @@ use Rattle.std.proofs.lemmas.Bool.Decides.{nat_tests}
 use Rattle.std.proofs.lemmas.List.Elements.{All-set, All-weaker}
 use Rattle.std.proofs.lemmas.Nat.Bits.{bit_at-lt}
 use Rattle.ob_types.specs.WaterMark.{Marks}
+use Rattle.ob_core.specs.AskFault.{is_held}
 use Rattle.ob_core.specs.Accounts.{AccountsHold, BitsAgree, BytesAgree, IsWithinRoom, is_to_lower, lowerers, raisers}
-use Rattle.ob_core.specs.Bits.{is_set, without_bit, AreAmong}
+use Rattle.ob_core.specs.Bits.{is_set, without_bit, PutsBit, AreAmong}
 use Rattle.ob_core.specs.CoreState.{CoreState}
 use Rattle.ob_core.specs.CoreStep.{core_after_step}
 use Rattle.ob_core.specs.LaneStep.{total_after, word_after, lane_after, CanMake}
@@ -21,7 +22,7 @@ use Rattle.ob_core.specs.declared.lane_step.LaneStep.TheVariants.{Add, Subtract,
 use Rattle.ob_core.specs.declared.lane_step.LaneStep.TheVariants.{LoadWord, LoadTotal}
 use Rattle.ob_core.proofs.BitLemmas.{SetsBit-with_bit, ClearsBit-without_bit}
 use Rattle.ob_core.proofs.LaneSums.{all_at, at-le-sum_by, sum_by-put, sum_by-le-each, sum_by-le-outside}
-use Rattle.ob_core.proofs.StepLemmas.{room-lane_after, held-lane_after, moved-step, IsWithinRoom-step, AreAmong-step}
+use Rattle.ob_core.proofs.StepLemmas.{share-lane_after, moved-step, IsWithinRoom-step, AreAmong-step}
 use Rattle.ob_core.proofs.StepLemmas.{is_held-above, shown-step, Raising}
 
 -- ---- what is read off the accounts
@@ -91,7 +92,7 @@ shown-held opening core index lane i agree is_lane held =
           (λ l. bit_at l.raised i) core.lanes index lane is_lane,
     )
 
--- ---- after a step
+-- ---- the lanes about to lower the mark
 
 -- the lane that lowers is there where the total fell below low
 lower-below : (total low : ℕ) → total < low → is_to_lower (if nat_lt total low then ToLower else Idle) ≡ true
@@ -122,9 +123,19 @@ one_lowers lanes index lane new is_lane lower =
 set-one : (word i : ℕ) → is_set word i ≡ true → bit_at word i ≡ 1
 set-one word i is_one = grind (arith, nat_tests)
 
--- bit 0 is set after a step that leaves it only if it was set before
-was_set : (before after : ℕ) → bit_at after 0 ≡ bit_at before 0 → is_set after 0 ≡ true → is_set before 0 ≡ true
-was_set before after same is_one = ap (λ n. eqb n 1) (sym same) ∙ is_one
+-- where the total was 0 before, some lane still is about to lower a mark that was set before
+empty_still : (opening : Opening) (core : CoreState) (index : ℕ) (lane new : Lane)
+    → slice_get core.lanes index ≡ Some lane → is_to_lower new.phase ≡ is_to_lower lane.phase → BytesAgree opening core
+    → 0 < opening.marks.low → core.total ≡ 0 → is_set core.word 0 ≡ true → 0 < lowerers (set core.lanes index new)
+empty_still opening core index lane new is_lane same agree low none is_one =
+    omega (arith, agree.empty low none is_one, same_lowerers core.lanes index lane new is_lane same)
+
+-- the mark was set before where a lane put another bit
+was_set : (value index before after : ℕ) (lane : Lane) → is_held lane index ≡ true → PutsBit value before index after
+    → is_set after 0 ≡ true → is_set before 0 ≡ true
+was_set value index before after lane held puts is_one =
+    let above : 0 < index = is_held-above lane index held in
+    ap (λ n. eqb n 1) (sym (puts.others 0 (λ at. absurd (omega (arith, at, above))))) ∙ is_one
 
 empty-step : (step : LaneStep) (opening : Opening) (core : CoreState) (index : ℕ) (lane : Lane)
     → slice_get core.lanes index ≡ Some lane → CanMake lane step → BytesAgree opening core → 0 < opening.marks.low
@@ -141,58 +152,75 @@ empty-step Raise opening core index lane is_lane may agree low none is_one =
 empty-step Lower opening core index lane is_lane may agree low none is_one =
     absurd (omega (arith, (ClearsBit-without_bit core.word 0).here, set-one (without_bit core.word 0) 0 is_one))
 empty-step (SetBit bit) opening core index lane is_lane may agree low none is_one =
-    let above : 0 < bit = is_held-above lane bit may.1 in
-    let before = agree.empty low none
-    (was_set core.word _ ((SetsBit-with_bit core.word bit).others 0
-    (λ at. absurd (omega (arith, at, above)))) is_one) in
-    omega (
-      arith,
-      before,
-      same_lowerers core.lanes index lane
-          (lane_after (SetBit bit) core.marks core.total lane) is_lane refl,
-    )
+    empty_still opening core index lane _ is_lane refl agree low none
+    (was_set 1 bit core.word _ lane may.1 (SetsBit-with_bit core.word bit) is_one)
 empty-step (ClearBit bit) opening core index lane is_lane may agree low none is_one =
-    let above : 0 < bit = is_held-above lane bit may.1 in
-    let before = agree.empty low none
-    (was_set core.word _ ((ClearsBit-without_bit core.word bit).others 0
-    (λ at. absurd (omega (arith, at, above)))) is_one) in
-    omega (
-      arith,
-      before,
-      same_lowerers core.lanes index lane
-          (lane_after (ClearBit bit) core.marks core.total lane) is_lane refl,
-    )
+    empty_still opening core index lane _ is_lane refl agree low none
+    (was_set 0 bit core.word _ lane may.1 (ClearsBit-without_bit core.word bit) is_one)
 empty-step LoadWord opening core index lane is_lane may agree low none is_one =
-    omega (arith, agree.empty low none is_one, same_lowerers core.lanes index lane lane is_lane refl)
+    empty_still opening core index lane lane is_lane refl agree low none is_one
 empty-step LoadTotal opening core index lane is_lane may agree low none is_one =
-    omega (arith, agree.empty low none is_one, same_lowerers core.lanes index lane lane is_lane refl)
+    empty_still opening core index lane lane is_lane refl agree low none is_one
+
+-- ---- with another lane in its place
+
+module _ (opening : Opening) (core : CoreState) (index : ℕ) (lane new : Lane)
+    (is_lane : slice_get core.lanes index ≡ Some lane) (total word : ℕ) where
+  abbrev after : CoreState
+  after = record { total = total; word = word; marks = core.marks; lanes = set core.lanes index new }
+
+  -- the accounts of the bytes hold where the total moves by as much as the debt, and the room stays
+  BytesAgree-put : BytesAgree opening core → total + owed_by lane ≡ core.total + owed_by new → new.room ≡ lane.room
+      → (IsWithinRoom lane → IsWithinRoom new)
+      → (0 < opening.marks.low → total ≡ 0 → is_set word 0 ≡ true → 0 < lowerers (set core.lanes index new))
+      → BytesAgree opening after
+  BytesAgree-put agree moved room within empty = record {
+    marks = agree.marks;
+    total = omega (arith, sum_by-put owed_by core.lanes index lane new is_lane, moved, agree.total);
+    rooms = omega (arith, sum_by-put (λ l. l.room) core.lanes index lane new is_lane, room, agree.rooms);
+    within = All-set IsWithinRoom core.lanes index new
+        (within (all_at IsWithinRoom core.lanes index lane is_lane agree.within)) agree.within;
+    empty = empty;
+  }
+
+  -- those of the bits hold where the word moves by as much as the raised bits, and the held bits stay
+  BitsAgree-put : BitsAgree opening core → new.held ≡ lane.held
+      → (AreAmong lane.raised lane.held → AreAmong new.raised new.held)
+      → ((i : ℕ) → 0 < i → bit_at word i + bit_at lane.raised i ≡ bit_at core.word i + bit_at new.raised i)
+      → BitsAgree opening after
+  BitsAgree-put agree held among moved =
+      let Among : Lane → Type 0 = λ l. AreAmong l.raised l.held in
+      record {
+        mark = agree.mark;
+        held = λ i. omega (
+          arith,
+          sum_by-put (λ l. bit_at l.held i) core.lanes index lane new is_lane,
+          ap (λ n. bit_at n i) held,
+          agree.held i,
+        );
+        among = All-set Among core.lanes index new
+            (among (all_at Among core.lanes index lane is_lane agree.among)) agree.among;
+        shown = λ i above. omega (
+          arith,
+          sum_by-put (λ l. bit_at l.raised i) core.lanes index lane new is_lane,
+          moved i above,
+          agree.shown i above,
+        );
+      }
+
+-- ---- after a step
 
 pub BytesAgree-step : (opening : Opening) (core : CoreState) (index : ℕ) (lane : Lane) (step : LaneStep)
     → slice_get core.lanes index ≡ Some lane → CanMake lane step → BytesAgree opening core
     → BytesAgree opening (core_after_step core index lane step)
 BytesAgree-step opening core index lane step is_lane may agree =
     let total = total_after step core.total in
-    let new : Lane = lane_after step core.marks total lane in
     let owes : owed_by lane ≤ core.total = owed_by-le-total opening core index lane agree is_lane in
-    record {
-      marks = agree.marks;
-      total = omega (
-        arith,
-        sum_by-put owed_by core.lanes index lane new is_lane,
-        moved-step step core.marks core.total lane may owes,
-        agree.total,
-      );
-      rooms = omega (
-        arith,
-        sum_by-put (λ l. l.room) core.lanes index lane new is_lane,
-        room-lane_after step core.marks total lane,
-        agree.rooms,
-      );
-      within = All-set IsWithinRoom core.lanes index new
-          (IsWithinRoom-step step core.marks total lane may
-          (all_at IsWithinRoom core.lanes index lane is_lane agree.within)) agree.within;
-      empty = λ low none is_one. empty-step step opening core index lane is_lane may agree low none is_one;
-    }
+    BytesAgree-put opening core index lane _ is_lane total (word_after step core.word) agree
+    (moved-step step core.marks core.total lane may owes)
+    (share-lane_after step core.marks total lane).room
+    (IsWithinRoom-step step core.marks total lane may)
+    (empty-step step opening core index lane is_lane may agree)
 
 -- of a bit, those who raise it but for the lane
 raising : (opening : Opening) (core : CoreState) (index : ℕ) (lane : Lane) (i : ℕ)
@@ -208,28 +236,12 @@ pub BitsAgree-step : (opening : Opening) (core : CoreState) (index : ℕ) (lane 
     → BitsAgree opening (core_after_step core index lane step)
 BitsAgree-step opening core index lane step is_lane may agree =
     let total = total_after step core.total in
-    let new : Lane = lane_after step core.marks total lane in
-    let Among : Lane → Type 0 = λ l. AreAmong l.raised l.held in
-    record {
-      mark = agree.mark;
-      held = λ i. omega (
-        arith,
-        sum_by-put (λ l. bit_at l.held i) core.lanes index lane new is_lane,
-        ap
-            (λ n. bit_at n i) (held-lane_after step core.marks total lane),
-        agree.held i,
-      );
-      among = All-set Among core.lanes index new
-          (AreAmong-step step core.marks total lane may
-          (all_at Among core.lanes index lane is_lane agree.among)) agree.among;
-      shown = λ i above. omega (
-        arith,
-        sum_by-put (λ l. bit_at l.raised i) core.lanes index lane new is_lane,
-        at-le-sum_by (λ l. bit_at l.raised i) core.lanes index lane is_lane,
-        shown-step step core.marks total core.word lane i _ may above
-            (raising opening core index lane i is_lane agree above),
-      );
-    }
+    BitsAgree-put opening core index lane _ is_lane total (word_after step core.word) agree
+    (share-lane_after step core.marks total lane).held
+    (AreAmong-step step core.marks total lane may)
+    (λ i above.
+    let raised = raising opening core index lane i is_lane agree above in
+    omega (arith, raised.shown, shown-step step core.marks total core.word lane i _ may above raised))
 
 pub AccountsHold-step : (opening : Opening) (core : CoreState) (index : ℕ) (lane : Lane) (step : LaneStep)
     → slice_get core.lanes index ≡ Some lane → CanMake lane step → AccountsHold opening core
@@ -263,43 +275,17 @@ among_alike lane new alike among =
 pub BytesAgree-alike : (opening : Opening) (core : CoreState) (index : ℕ) (lane new : Lane)
     → slice_get core.lanes index ≡ Some lane → IsAlike lane new → BytesAgree opening core
     → BytesAgree opening (record core { lanes = set core.lanes index new })
-BytesAgree-alike opening core index lane new is_lane alike agree = record {
-  marks = agree.marks;
-  total = omega (arith, sum_by-put owed_by core.lanes index lane new is_lane, alike.debt, agree.total);
-  rooms = omega (arith, sum_by-put (λ l. l.room) core.lanes index lane new is_lane, alike.room, agree.rooms);
-  within = All-set IsWithinRoom core.lanes index new
-      (within_alike lane new alike (all_at IsWithinRoom core.lanes index lane is_lane agree.within)) agree.within;
-  empty = λ low none is_one. omega (
-    arith,
-    agree.empty low none is_one,
-    same_lowerers core.lanes index lane new is_lane (ap is_to_lower alike.phase),
-  );
-}
+BytesAgree-alike opening core index lane new is_lane alike agree =
+    BytesAgree-put opening core index lane new is_lane core.total core.word agree (omega (arith, alike.debt)) alike.room
+    (within_alike lane new alike)
+    (empty_still opening core index lane new is_lane (ap is_to_lower alike.phase) agree)
 
 BitsAgree-alike : (opening : Opening) (core : CoreState) (index : ℕ) (lane new : Lane)
     → slice_get core.lanes index ≡ Some lane → IsAlike lane new → BitsAgree opening core
     → BitsAgree opening (record core { lanes = set core.lanes index new })
 BitsAgree-alike opening core index lane new is_lane alike agree =
-    let Among : Lane → Type 0 = λ l. AreAmong l.raised l.held in
-    record {
-      mark = agree.mark;
-      held = λ i. omega (
-        arith,
-        sum_by-put (λ l. bit_at l.held i) core.lanes index lane new is_lane,
-        ap
-            (λ n. bit_at n i) alike.held,
-        agree.held i,
-      );
-      among = All-set Among core.lanes index new
-          (among_alike lane new alike (all_at Among core.lanes index lane is_lane agree.among)) agree.among;
-      shown = λ i above. omega (
-        arith,
-        sum_by-put (λ l. bit_at l.raised i) core.lanes index lane new is_lane,
-        ap
-            (λ n. bit_at n i) alike.raised,
-        agree.shown i above,
-      );
-    }
+    BitsAgree-put opening core index lane new is_lane core.total core.word agree alike.held (among_alike lane new alike)
+    (λ i above. omega (arith, ap (λ n. bit_at n i) alike.raised))
 
 pub AccountsHold-alike : (opening : Opening) (core : CoreState) (index : ℕ) (lane new : Lane)
     → slice_get core.lanes index ≡ Some lane → IsAlike lane new → AccountsHold opening core

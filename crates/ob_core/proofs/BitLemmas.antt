@@ -10,7 +10,7 @@ use Rattle.std.proofs.Math.Nat.{mul-add-div_right}
 use Rattle.std.proofs.Math.Pow.{pow-lt}
 use Rattle.std.proofs.lemmas.Nat.Bits.{bit_at-lt, bit_at-suc, bit_at_and, bit_at_or, bit_at_not, bit_at-pow_same}
 use Rattle.std.proofs.lemmas.Nat.Bits.{bit_at-pow_other, bit_at_cat_low, bit_at_cat_high, bit_at_above, same_from_bits}
-use Rattle.ob_core.specs.Bits.{is_set, with_bit, without_bit, SetsBit, ClearsBit, AreAmong, ShareOut}
+use Rattle.ob_core.specs.Bits.{is_set, with_bit, without_bit, PutsBit, SetsBit, ClearsBit, AreAmong, ShareOut}
 
 -- ---- one bit and the others
 
@@ -91,50 +91,42 @@ ClearsBit-without_bit word k = without_bit_unless word k (is_set word k) refl
 
 -- ---- the machine's expressions, which give the only word with such bits
 
-same_but : (a b k : ℕ) → bit_at a k ≡ bit_at b k → ((i : ℕ) → i ≢ k → bit_at a i ≡ bit_at b i) → a ≡ b
-same_but a b k here others =
-    same_from_bits a b (λ i. ⊎_elim (λ at. ap (bit_at a) at ∙ here ∙ sym (ap (bit_at b) at)) (others i) (cases_eq i k))
-
-pub is-with_bit : (word k new : ℕ) → SetsBit word k new → new ≡ with_bit word k
-is-with_bit word k new sets =
-    let meant = SetsBit-with_bit word k in
-    same_but new (with_bit word k) k (sets.here ∙ sym meant.here)
-    (λ i other. sets.others i other ∙ sym (meant.others i other))
-
-pub is-without_bit : (word k new : ℕ) → ClearsBit word k new → new ≡ without_bit word k
-is-without_bit word k new clears =
-    let meant = ClearsBit-without_bit word k in
-    same_but new (without_bit word k) k (clears.here ∙ sym meant.here)
-    (λ i other. clears.others i other ∙ sym (meant.others i other))
+puts_alike : (value word k a b : ℕ) → PutsBit value word k a → PutsBit value word k b → a ≡ b
+puts_alike value word k a b one other =
+    same_from_bits a b (λ i. ⊎_elim
+    (λ at. ap (bit_at a) at ∙ one.here ∙ sym (ap (bit_at b) at ∙ other.here))
+    (λ apart. one.others i apart ∙ sym (other.others i apart))
+    (cases_eq i k))
 
 -- "or" with one bit sets it
 pub or-is-with_bit : (word k : ℕ) → bit_or word (2 ^ k) ≡ with_bit word k
-or-is-with_bit word k = is-with_bit word k (bit_or word (2 ^ k)) (record {
+or-is-with_bit word k = puts_alike 1 word k (bit_or word (2 ^ k)) (with_bit word k) (record {
   here = omega (arith, bit_at_or word (2 ^ k) k, bit_at-pow_same k, bit_at-lt word k);
   others = λ i other. omega (arith, bit_at_or word (2 ^ k) i, bit_at-pow_other k i other);
-})
+}) (SetsBit-with_bit word k)
 
 -- "and" with all bits but one clears that, in a word of the width in which these bits are
 pub and-is-without_bit : (w : Width) (word k : ℕ) → word < 2 ^ bits w → k < bits w
     → bit_and word (bit_not w (2 ^ k)) ≡ without_bit word k
-and-is-without_bit w word k fits within = is-without_bit word k (bit_and word (bit_not w (2 ^ k))) (record {
-  here = omega (
-    arith,
-    bit_at_and word (bit_not w (2 ^ k)) k,
-    bit_at_not w (2 ^ k) k (pow-lt within) within,
-    bit_at-pow_same k,
-  );
-  others = λ i other. ⊎_elim
-      (λ below. omega (
+and-is-without_bit w word k fits within = puts_alike 0 word k (bit_and word (bit_not w (2 ^ k))) (without_bit word k)
+    (record {
+      here = omega (
         arith,
-        bit_at_and word (bit_not w (2 ^ k)) i,
-        bit_at_not w (2 ^ k) i (pow-lt within) below,
-        bit_at-pow_other k i other,
-        bit_at-lt word i,
-      ))
-      (λ above. omega (arith, bit_at_and word (bit_not w (2 ^ k)) i, bit_at_above word (bits w) i fits above))
-      (cases_lt i (bits w));
-})
+        bit_at_and word (bit_not w (2 ^ k)) k,
+        bit_at_not w (2 ^ k) k (pow-lt within) within,
+        bit_at-pow_same k,
+      );
+      others = λ i other. ⊎_elim
+          (λ below. omega (
+            arith,
+            bit_at_and word (bit_not w (2 ^ k)) i,
+            bit_at_not w (2 ^ k) i (pow-lt within) below,
+            bit_at-pow_other k i other,
+            bit_at-lt word i,
+          ))
+          (λ above. omega (arith, bit_at_and word (bit_not w (2 ^ k)) i, bit_at_above word (bits w) i fits above))
+          (cases_lt i (bits w));
+    }) (ClearsBit-without_bit word k)
 
 -- ---- masks
 

@@ -25,21 +25,22 @@ use Rattle.ob_core.proofs.AccountsLemmas.{IsAlike}
 use Rattle.ob_core.proofs.Kept.{kept_by_all, kept_by_turn}
 use Rattle.ob_core.proofs.LaneSums.{sum_by-none}
 use Rattle.ob_core.proofs.OpeningLemmas.{BytesAgree-new}
-use Rattle.ob_core.proofs.TurnLemmas.{owed_by-lane_after_nothing, room-lane_after_nothing, held-lane_after_nothing}
-use Rattle.ob_core.proofs.TurnLemmas.{raised-lane_after_nothing, phase-lane_after_nothing}
+use Rattle.ob_core.proofs.TurnLemmas.{owed_by-lane_after_nothing, rest-lane_after_nothing}
 
 -- ---- the accounts
 
 -- an ask that is no step leaves a lane that is like the one before
 pub IsAlike-nothing : (lane : Lane) (ask : Ask) → refusal_of lane ask ≡ None → step_of lane ask ≡ None
     → IsAlike lane (lane_after_nothing lane ask)
-IsAlike-nothing lane ask accepted no_step = record {
-  debt = owed_by-lane_after_nothing lane ask accepted no_step;
-  room = room-lane_after_nothing lane ask;
-  held = held-lane_after_nothing lane ask;
-  raised = raised-lane_after_nothing lane ask;
-  phase = phase-lane_after_nothing lane ask;
-}
+IsAlike-nothing lane ask accepted no_step =
+    let rest = rest-lane_after_nothing lane ask in
+    record {
+      debt = owed_by-lane_after_nothing lane ask accepted no_step;
+      room = ap (λ (l : Lane). l.room) rest;
+      held = ap (λ (l : Lane). l.held) rest;
+      raised = ap (λ (l : Lane). l.raised) rest;
+      phase = ap (λ (l : Lane). l.phase) rest;
+    }
 
 pub AccountsHold-turn : (opening : Opening) (core : CoreState) (turn : Turn) → AccountsHold opening core
     → AccountsHold opening (core_after core turn)

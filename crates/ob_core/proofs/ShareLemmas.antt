@@ -3,21 +3,24 @@ use Rattle.std.proofs.Common.{◌≡◌, ◌≢◌, ℕ, ◌+◌, ◌-◌, ◌^�
 use Rattle.std.proofs.Common.{slice_get, unwrap_or, refl, ap, arith}
 use Rattle.std.specs.Int.{bit_at, bit_not, Width}
 use mir.Val.{bits}
-use Rattle.std.specs.List.{sum_by}
+use Rattle.std.specs.List.{All, sum_by}
 use Rattle.std.proofs.lemmas.List.Elements.{All-set, All-push}
 use Rattle.std.proofs.lemmas.List.Sums.{sum_by_push}
 use Rattle.std.proofs.lemmas.Nat.Bits.{bit_at-zero}
-use Rattle.ob_core.specs.Accounts.{AccountsHold, BitsAgree, BytesAgree, IsWithinRoom, is_to_lower}
+use Rattle.ob_core.specs.Accounts.{AccountsHold, IsWithinRoom, holders, is_to_lower, lowerers, raisers, sum_of_rooms}
 use Rattle.ob_core.specs.Bits.{AreAmong}
 use Rattle.ob_core.specs.CoreState.{CoreState}
 use Rattle.ob_core.specs.Opening.{Opening}
-use Rattle.ob_core.specs.Owed.{owed_by}
+use Rattle.ob_core.specs.Owed.{owed_by, sum_owed}
 use Rattle.ob_core.specs.Shares.{IsFree, AreShares, spent_lane}
 use Rattle.ob_core.specs.declared.lane.Lane.{Lane}
 use Rattle.ob_core.specs.declared.lane.Phase.TheVariants.{Idle}
 use Rattle.ob_core.proofs.AccountsLemmas.{lowers}
 use Rattle.ob_core.proofs.BitLemmas.{AreAmong-and, ShareOut-and}
 use Rattle.ob_core.proofs.LaneSums.{sum_by-put, slice_get-put_other}
+
+abbrev Among : Lane → Type 0
+Among lane = AreAmong lane.raised lane.held
 
 -- ---- free lanes
 
@@ -72,6 +75,25 @@ AreShares-cut w lane room mask free among within held_fits raised_fits mask_fits
 
 -- ---- what is shared out
 
+owed_shared : (whole first second : Lane) → AreShares whole first second
+    → owed_by first + owed_by second ≡ owed_by whole
+owed_shared whole first second shares =
+    omega (
+      arith,
+      owes_nothing whole shares.whole_free,
+      owes_nothing first shares.first_free,
+      owes_nothing second shares.second_free,
+    )
+
+lower_shared : (whole first second : Lane) → AreShares whole first second → lowers first + lowers second ≡ lowers whole
+lower_shared whole first second shares =
+    omega (
+      arith,
+      does_not_lower whole shares.whole_free,
+      does_not_lower first shares.first_free,
+      does_not_lower second shares.second_free,
+    )
+
 -- a sum in which the shares stand for the lane: one in its place, one behind all
 sum_by-divided : (f : Lane → ℕ) (lanes : List Lane) (index : ℕ) (lane kept given : Lane)
     → slice_get lanes index ≡ Some lane → f kept + f given ≡ f lane
@@ -101,114 +123,73 @@ sum_by-merged f core index other lane other_lane both meet same none =
       none,
     )
 
--- ---- division
+-- new lanes have together what the old ones had, and each is as a lane has to be where each old one was
+record HaveTogether (old new : List Lane) : Type 0 where
+  owed : sum_owed new ≡ sum_owed old
+  rooms : sum_of_rooms new ≡ sum_of_rooms old
+  lower : lowerers new ≡ lowerers old
+  held : (i : ℕ) → holders new i ≡ holders old i
+  raised : (i : ℕ) → raisers new i ≡ raisers old i
+  within : All IsWithinRoom old → All IsWithinRoom new
+  among : All Among old → All Among new
 
-BytesAgree-division : (opening : Opening) (core : CoreState) (index : ℕ) (lane kept given : Lane)
-    → slice_get core.lanes index ≡ Some lane → AreShares lane kept given → BytesAgree opening core
-    → BytesAgree opening (record core { lanes = set core.lanes index kept ++ given ∷ [] })
-BytesAgree-division opening core index lane kept given is_lane shares agree =
-    let divided : (f : Lane → ℕ) → f kept + f given ≡ f lane
-    → sum_by f (set core.lanes index kept ++ given ∷ []) ≡ sum_by f core.lanes =
-    λ f same. sum_by-divided f core.lanes index lane kept given is_lane same in
-    let owed = divided owed_by (omega (
-      arith,
-      owes_nothing lane shares.whole_free,
-      owes_nothing kept shares.first_free,
-      owes_nothing given shares.second_free,
-    )) in
-    let lower = divided lowers (omega (
-      arith,
-      does_not_lower lane shares.whole_free,
-      does_not_lower kept shares.first_free,
-      does_not_lower given shares.second_free,
-    )) in
-    record {
-      marks = agree.marks;
-      total = omega (arith, owed, agree.total);
-      rooms = omega (arith, divided (λ l. l.room) shares.rooms, agree.rooms);
-      within = All-push IsWithinRoom (set core.lanes index kept) given
-          (All-set IsWithinRoom core.lanes index kept (within_free kept shares.first_free) agree.within)
-          (within_free given shares.second_free);
-      empty = λ low none is_one. omega (arith, agree.empty low none is_one, lower);
-    }
-
-BitsAgree-division : (opening : Opening) (core : CoreState) (index : ℕ) (lane kept given : Lane)
-    → slice_get core.lanes index ≡ Some lane → AreShares lane kept given → BitsAgree opening core
-    → BitsAgree opening (record core { lanes = set core.lanes index kept ++ given ∷ [] })
-BitsAgree-division opening core index lane kept given is_lane shares agree =
-    let Among : Lane → Type 0 = λ l. AreAmong l.raised l.held in
-    let divided : (f : Lane → ℕ) → f kept + f given ≡ f lane
-    → sum_by f (set core.lanes index kept ++ given ∷ []) ≡ sum_by f core.lanes =
-    λ f same. sum_by-divided f core.lanes index lane kept given is_lane same in
-    record {
-      mark = agree.mark;
-      held = λ i. omega (arith, divided (λ l. bit_at l.held i) (shares.held i), agree.held i);
-      among = All-push Among (set core.lanes index kept) given
-          (All-set Among core.lanes index kept shares.first_among agree.among) shares.second_among;
-      shown = λ i above. omega (arith, divided (λ l. bit_at l.raised i) (shares.raised i), agree.shown i above);
-    }
+-- so their accounts hold
+AccountsHold-together : (opening : Opening) (core : CoreState) (lanes : List Lane) → HaveTogether core.lanes lanes
+    → AccountsHold opening core → AccountsHold opening (record core { lanes = lanes })
+AccountsHold-together opening core lanes have accounts = record {
+  bytes = record {
+    marks = accounts.bytes.marks;
+    total = omega (arith, have.owed, accounts.bytes.total);
+    rooms = omega (arith, have.rooms, accounts.bytes.rooms);
+    within = have.within accounts.bytes.within;
+    empty = λ low none is_one. omega (arith, accounts.bytes.empty low none is_one, have.lower);
+  };
+  bits = record {
+    mark = accounts.bits.mark;
+    held = λ i. omega (arith, have.held i, accounts.bits.held i);
+    among = have.among accounts.bits.among;
+    shown = λ i above. omega (arith, have.raised i, accounts.bits.shown i above);
+  };
+}
 
 pub AccountsHold-division : (opening : Opening) (core : CoreState) (index : ℕ) (lane kept given : Lane)
     → slice_get core.lanes index ≡ Some lane → AreShares lane kept given → AccountsHold opening core
     → AccountsHold opening (record core { lanes = set core.lanes index kept ++ given ∷ [] })
-AccountsHold-division opening core index lane kept given is_lane shares accounts = record {
-  bytes = BytesAgree-division opening core index lane kept given is_lane shares accounts.bytes;
-  bits = BitsAgree-division opening core index lane kept given is_lane shares accounts.bits;
-}
-
--- ---- merger
-
-BytesAgree-merger : (opening : Opening) (core : CoreState) (index other : ℕ) (lane other_lane both : Lane)
-    → Meet core index other lane other_lane → AreShares both lane other_lane → BytesAgree opening core
-    → BytesAgree opening (record core { lanes = set (set core.lanes index both) other spent_lane })
-BytesAgree-merger opening core index other lane other_lane both meet shares agree =
-    let merged : (f : Lane → ℕ) → f lane + f other_lane ≡ f both → f spent_lane ≡ 0
-    → sum_by f (set (set core.lanes index both) other spent_lane) ≡ sum_by f core.lanes =
-    λ f same none. sum_by-merged f core index other lane other_lane both meet same none in
-    let owed = merged owed_by (omega (
-      arith,
-      owes_nothing both shares.whole_free,
-      owes_nothing lane shares.first_free,
-      owes_nothing other_lane shares.second_free,
-    )) refl in
-    let lower = merged lowers (omega (
-      arith,
-      does_not_lower both shares.whole_free,
-      does_not_lower lane shares.first_free,
-      does_not_lower other_lane shares.second_free,
-    )) refl in
-    record {
-      marks = agree.marks;
-      total = omega (arith, owed, agree.total);
-      rooms = omega (arith, merged (λ l. l.room) shares.rooms refl, agree.rooms);
-      within = All-set IsWithinRoom (set core.lanes index both) other spent_lane (within_free spent_lane spent_free)
-          (All-set IsWithinRoom core.lanes index both (within_free both shares.whole_free) agree.within);
-      empty = λ low none is_one. omega (arith, agree.empty low none is_one, lower);
-    }
-
-BitsAgree-merger : (opening : Opening) (core : CoreState) (index other : ℕ) (lane other_lane both : Lane)
-    → Meet core index other lane other_lane → AreShares both lane other_lane → BitsAgree opening core
-    → BitsAgree opening (record core { lanes = set (set core.lanes index both) other spent_lane })
-BitsAgree-merger opening core index other lane other_lane both meet shares agree =
-    let Among : Lane → Type 0 = λ l. AreAmong l.raised l.held in
-    let merged : (f : Lane → ℕ) → f lane + f other_lane ≡ f both → f spent_lane ≡ 0
-    → sum_by f (set (set core.lanes index both) other spent_lane) ≡ sum_by f core.lanes =
-    λ f same none. sum_by-merged f core index other lane other_lane both meet same none in
-    let among_both : AreAmong both.raised both.held =
-    λ i. omega (arith, shares.held i, shares.raised i, shares.first_among i, shares.second_among i) in
-    record {
-      mark = agree.mark;
-      held = λ i. omega (arith, merged (λ l. bit_at l.held i) (shares.held i) (bit_at-zero i), agree.held i);
-      among = All-set Among (set core.lanes index both) other spent_lane (λ i. omega (arith, bit_at-zero i))
-          (All-set Among core.lanes index both among_both agree.among);
-      shown = λ i above.
-          omega (arith, merged (λ l. bit_at l.raised i) (shares.raised i) (bit_at-zero i), agree.shown i above);
-    }
+AccountsHold-division opening core index lane kept given is_lane shares =
+    let put : List Lane = set core.lanes index kept in
+    let divided : (f : Lane → ℕ) → f kept + f given ≡ f lane → sum_by f (put ++ given ∷ []) ≡ sum_by f core.lanes =
+    λ f same. sum_by-divided f core.lanes index lane kept given is_lane same in
+    AccountsHold-together opening core (put ++ given ∷ []) (record {
+      owed = divided owed_by (owed_shared lane kept given shares);
+      rooms = divided (λ l. l.room) shares.rooms;
+      lower = divided lowers (lower_shared lane kept given shares);
+      held = λ i. divided (λ l. bit_at l.held i) (shares.held i);
+      raised = λ i. divided (λ l. bit_at l.raised i) (shares.raised i);
+      within = λ within. All-push IsWithinRoom put given
+          (All-set IsWithinRoom core.lanes index kept (within_free kept shares.first_free) within)
+          (within_free given shares.second_free);
+      among = λ among. All-push Among put given (All-set Among core.lanes index kept shares.first_among among)
+          shares.second_among;
+    })
 
 pub AccountsHold-merger : (opening : Opening) (core : CoreState) (index other : ℕ) (lane other_lane both : Lane)
     → Meet core index other lane other_lane → AreShares both lane other_lane → AccountsHold opening core
     → AccountsHold opening (record core { lanes = set (set core.lanes index both) other spent_lane })
-AccountsHold-merger opening core index other lane other_lane both meet shares accounts = record {
-  bytes = BytesAgree-merger opening core index other lane other_lane both meet shares accounts.bytes;
-  bits = BitsAgree-merger opening core index other lane other_lane both meet shares accounts.bits;
-}
+AccountsHold-merger opening core index other lane other_lane both meet shares =
+    let put : List Lane = set core.lanes index both in
+    let merged : (f : Lane → ℕ) → f lane + f other_lane ≡ f both → f spent_lane ≡ 0
+    → sum_by f (set put other spent_lane) ≡ sum_by f core.lanes =
+    λ f same none. sum_by-merged f core index other lane other_lane both meet same none in
+    let among_both : Among both =
+    λ i. omega (arith, shares.held i, shares.raised i, shares.first_among i, shares.second_among i) in
+    AccountsHold-together opening core (set put other spent_lane) (record {
+      owed = merged owed_by (owed_shared both lane other_lane shares) refl;
+      rooms = merged (λ l. l.room) shares.rooms refl;
+      lower = merged lowers (lower_shared both lane other_lane shares) refl;
+      held = λ i. merged (λ l. bit_at l.held i) (shares.held i) (bit_at-zero i);
+      raised = λ i. merged (λ l. bit_at l.raised i) (shares.raised i) (bit_at-zero i);
+      within = λ within. All-set IsWithinRoom put other spent_lane (within_free spent_lane spent_free)
+          (All-set IsWithinRoom core.lanes index both (within_free both shares.whole_free) within);
+      among = λ among. All-set Among put other spent_lane (λ i. omega (arith, bit_at-zero i))
+          (All-set Among core.lanes index both among_both among);
+    })

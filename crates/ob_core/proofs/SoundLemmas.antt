@@ -3,10 +3,11 @@ use Rattle.std.proofs.Common.{◌≡◌, ℕ, ◌≤◌, List, set, Some, None, 
 use Rattle.std.proofs.lemmas.Bool.Decides.{nat_tests}
 use Rattle.std.proofs.lemmas.List.{length-map}
 use Rattle.ob_types.specs.WaterMark.{Marks}
+use Rattle.ob_core.specs.Accounts.{AccountsHold}
 use Rattle.ob_core.specs.AskFault.{refusal_of}
 use Rattle.ob_core.specs.CoreState.{CoreState}
 use Rattle.ob_core.specs.CoreStep.{core_after_step}
-use Rattle.ob_core.specs.LaneStep.{total_after, lane_after, CanMake, FitsTotal, FitsWord}
+use Rattle.ob_core.specs.LaneStep.{CanMake, FitsTotal, FitsWord}
 use Rattle.ob_core.specs.Limits.{greatest_room}
 use Rattle.ob_core.specs.Opening.{opening_fault, opening_of, new_lane, new_core}
 use Rattle.ob_core.specs.Owed.{owed_by, sum_owed}
@@ -36,32 +37,33 @@ IsSound-new marks starts none =
       few_lanes = omega (arith, length-map starts new_lane, fine.few_lanes);
     }
 
+-- another lane in the place of one leaves their number as it is
+IsSound-put : (core : CoreState) (total word index : ℕ) (lane : Lane) (sound : IsSound core)
+    → AccountsHold sound.opening
+    (record { total = total; word = word; marks = core.marks; lanes = set core.lanes index lane })
+    → IsSound (record { total = total; word = word; marks = core.marks; lanes = set core.lanes index lane })
+IsSound-put core total word index lane sound accounts = record {
+  opening = sound.opening;
+  accounts = accounts;
+  rooms_fit = sound.rooms_fit;
+  some_lane = omega (arith, length-set core.lanes index lane, sound.some_lane);
+  few_lanes = omega (arith, length-set core.lanes index lane, sound.few_lanes);
+}
+
 pub IsSound-step : (core : CoreState) (index : ℕ) (lane : Lane) (step : LaneStep)
     → slice_get core.lanes index ≡ Some lane → CanMake lane step → IsSound core
     → IsSound (core_after_step core index lane step)
 IsSound-step core index lane step is_lane may sound =
-    let same_length = length-set core.lanes index (lane_after step core.marks (total_after step core.total) lane) in
-    record {
-      opening = sound.opening;
-      accounts = AccountsHold-step sound.opening core index lane step is_lane may sound.accounts;
-      rooms_fit = sound.rooms_fit;
-      some_lane = omega (arith, same_length, sound.some_lane);
-      few_lanes = omega (arith, same_length, sound.few_lanes);
-    }
+    IsSound-put core _ _ index _ sound
+    (AccountsHold-step sound.opening core index lane step is_lane may sound.accounts)
 
 pub IsSound-nothing : (core : CoreState) (index : ℕ) (lane : Lane) (ask : Ask)
     → slice_get core.lanes index ≡ Some lane → refusal_of lane ask ≡ None → step_of lane ask ≡ None → IsSound core
     → IsSound (record core { lanes = set core.lanes index (lane_after_nothing lane ask) })
 IsSound-nothing core index lane ask is_lane accepted no_step sound =
-    let same_length = length-set core.lanes index (lane_after_nothing lane ask) in
-    record {
-      opening = sound.opening;
-      accounts = AccountsHold-alike sound.opening core index lane (lane_after_nothing lane ask) is_lane
-          (IsAlike-nothing lane ask accepted no_step) sound.accounts;
-      rooms_fit = sound.rooms_fit;
-      some_lane = omega (arith, same_length, sound.some_lane);
-      few_lanes = omega (arith, same_length, sound.few_lanes);
-    }
+    IsSound-put core core.total core.word index _ sound
+    (AccountsHold-alike sound.opening core index lane _ is_lane (IsAlike-nothing lane ask accepted no_step)
+    sound.accounts)
 
 -- what the lanes owe fits a u32
 pub sum_owed-fits : (core : CoreState) → IsSound core → sum_owed core.lanes ≤ greatest_room

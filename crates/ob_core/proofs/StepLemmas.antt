@@ -7,7 +7,7 @@ use Rattle.std.proofs.lemmas.Bool.Decides.{nat_tests}
 use Rattle.ob_types.specs.WaterMark.{Marks}
 use Rattle.ob_core.specs.Accounts.{IsWithinRoom}
 use Rattle.ob_core.specs.AskFault.{is_held}
-use Rattle.ob_core.specs.Bits.{with_bit, without_bit, AreAmong}
+use Rattle.ob_core.specs.Bits.{PutsBit, AreAmong}
 use Rattle.ob_core.specs.LaneStep.{total_after, word_after, lane_after, CanMake}
 use Rattle.ob_core.specs.Owed.{owed_by}
 use Rattle.ob_core.specs.declared.lane.Lane.{Lane}
@@ -17,28 +17,22 @@ use Rattle.ob_core.specs.declared.lane_step.LaneStep.TheVariants.{Add, Subtract,
 use Rattle.ob_core.specs.declared.lane_step.LaneStep.TheVariants.{LoadWord, LoadTotal}
 use Rattle.ob_core.proofs.BitLemmas.{SetsBit-with_bit, ClearsBit-without_bit}
 
--- a step leaves the room and the held bits of its lane as they are
-pub room-lane_after : (step : LaneStep) (marks : Marks) (total : ℕ) (lane : Lane)
-    → (lane_after step marks total lane).room ≡ lane.room
-room-lane_after (Add amount) marks total lane = refl
-room-lane_after (Subtract amount) marks total lane = refl
-room-lane_after Raise marks total lane = refl
-room-lane_after Lower marks total lane = refl
-room-lane_after (SetBit index) marks total lane = refl
-room-lane_after (ClearBit index) marks total lane = refl
-room-lane_after LoadWord marks total lane = refl
-room-lane_after LoadTotal marks total lane = refl
+-- a lane has the room and the held bits of another
+pub record HasShareOf (old new : Lane) : Type 0 where
+  pub room : new.room ≡ old.room
+  pub held : new.held ≡ old.held
 
-pub held-lane_after : (step : LaneStep) (marks : Marks) (total : ℕ) (lane : Lane)
-    → (lane_after step marks total lane).held ≡ lane.held
-held-lane_after (Add amount) marks total lane = refl
-held-lane_after (Subtract amount) marks total lane = refl
-held-lane_after Raise marks total lane = refl
-held-lane_after Lower marks total lane = refl
-held-lane_after (SetBit index) marks total lane = refl
-held-lane_after (ClearBit index) marks total lane = refl
-held-lane_after LoadWord marks total lane = refl
-held-lane_after LoadTotal marks total lane = refl
+-- a step leaves its lane both
+pub share-lane_after : (step : LaneStep) (marks : Marks) (total : ℕ) (lane : Lane)
+    → HasShareOf lane (lane_after step marks total lane)
+share-lane_after (Add amount) marks total lane = record { room = refl; held = refl }
+share-lane_after (Subtract amount) marks total lane = record { room = refl; held = refl }
+share-lane_after Raise marks total lane = record { room = refl; held = refl }
+share-lane_after Lower marks total lane = record { room = refl; held = refl }
+share-lane_after (SetBit index) marks total lane = record { room = refl; held = refl }
+share-lane_after (ClearBit index) marks total lane = record { room = refl; held = refl }
+share-lane_after LoadWord marks total lane = record { room = refl; held = refl }
+share-lane_after LoadTotal marks total lane = record { room = refl; held = refl }
 
 -- the total moves by as much as the debt of the lane
 pub moved-step : (step : LaneStep) (marks : Marks) (total : ℕ) (lane : Lane) → CanMake lane step
@@ -96,7 +90,15 @@ is_held-set lane index held = grind (arith, nat_tests)
 pub is_held-above : (lane : Lane) (index : ℕ) → is_held lane index ≡ true → 0 < index
 is_held-above lane index held = grind (arith, nat_tests)
 
--- a lane raises only what it holds
+-- a lane that puts a bit raises only what it holds
+among-bit : (value index raised : ℕ) (lane : Lane) → PutsBit value lane.raised index raised
+    → value ≤ bit_at lane.held index → AreAmong lane.raised lane.held → AreAmong raised lane.held
+among-bit value index raised lane puts within among = λ i.
+    ⊎_elim
+    (λ at. subst (λ n. bit_at raised n ≤ bit_at lane.held n) (sym at) (omega (arith, puts.here, within)))
+    (λ other. omega (arith, puts.others i other, among i))
+    (cases_eq i index)
+
 pub AreAmong-step : (step : LaneStep) (marks : Marks) (total : ℕ) (lane : Lane) → CanMake lane step
     → AreAmong lane.raised lane.held
     → AreAmong (lane_after step marks total lane).raised (lane_after step marks total lane).held
@@ -104,20 +106,10 @@ AreAmong-step (Add amount) marks total lane may among = among
 AreAmong-step (Subtract amount) marks total lane may among = among
 AreAmong-step Raise marks total lane may among = among
 AreAmong-step Lower marks total lane may among = among
-AreAmong-step (SetBit index) marks total lane may among = λ i.
-    let sets = SetsBit-with_bit lane.raised index in
-    ⊎_elim
-    (λ at. subst (λ n. bit_at (with_bit lane.raised index) n ≤ bit_at lane.held n) (sym at)
-    (omega (arith, sets.here, is_held-set lane index may.1)))
-    (λ other. omega (arith, sets.others i other, among i))
-    (cases_eq i index)
-AreAmong-step (ClearBit index) marks total lane may among = λ i.
-    let clears = ClearsBit-without_bit lane.raised index in
-    ⊎_elim
-    (λ at. subst (λ n. bit_at (without_bit lane.raised index) n ≤ bit_at lane.held n) (sym at)
-    (omega (arith, clears.here)))
-    (λ other. omega (arith, clears.others i other, among i))
-    (cases_eq i index)
+AreAmong-step (SetBit index) marks total lane may among =
+    among-bit 1 index _ lane (SetsBit-with_bit lane.raised index) (omega (arith, is_held-set lane index may.1)) among
+AreAmong-step (ClearBit index) marks total lane may among =
+    among-bit 0 index _ lane (ClearsBit-without_bit lane.raised index) (omega arith) among
 AreAmong-step LoadWord marks total lane may among = among
 AreAmong-step LoadTotal marks total lane may among = among
 
@@ -127,11 +119,27 @@ pub record Raising (i word : ℕ) (lane : Lane) (others : ℕ) : Type 0 where
   pub shown : others + bit_at lane.raised i ≡ bit_at word i
   pub alone : bit_at lane.held i ≡ 1 → others ≡ 0
 
--- a word in which a bit is set or cleared, and the mask of the lane that did it
-same_bit : (i word raised others new_word new_raised : ℕ) → others + bit_at raised i ≡ bit_at word i
-    → bit_at new_word i ≡ bit_at word i → bit_at new_raised i ≡ bit_at raised i
-    → others + bit_at new_raised i ≡ bit_at new_word i
-same_bit i word raised others new_word new_raised shown is_word is_raised = omega (arith, shown, is_word, is_raised)
+-- it does where the mark is put
+shown-mark : (value word new_word : ℕ) (lane : Lane) (i others : ℕ) → PutsBit value word 0 new_word → 0 < i
+    → Raising i word lane others → others + bit_at lane.raised i ≡ bit_at new_word i
+shown-mark value word new_word lane i others puts above raising =
+    omega (arith, raising.shown, puts.others i (λ at. absurd (omega (arith, at, above))))
+
+-- and where the lane puts a bit that it holds, in the word and in its own mask
+shown-bit : (value word index new_word raised : ℕ) (lane : Lane) (i others : ℕ) → is_held lane index ≡ true
+    → PutsBit value word index new_word → PutsBit value lane.raised index raised → Raising i word lane others
+    → others + bit_at raised i ≡ bit_at new_word i
+shown-bit value word index new_word raised lane i others held of_word of_lane raising =
+    ⊎_elim
+    (λ at. subst (λ n. others + bit_at raised n ≡ bit_at new_word n) (sym at)
+    (omega (
+      arith,
+      of_word.here,
+      of_lane.here,
+      raising.alone (ap (bit_at lane.held) at ∙ is_held-set lane index held),
+    )))
+    (λ other. omega (arith, raising.shown, of_word.others i other, of_lane.others i other))
+    (cases_eq i index)
 
 pub shown-step : (step : LaneStep) (marks : Marks) (total word : ℕ) (lane : Lane) (i others : ℕ) → CanMake lane step
     → 0 < i → Raising i word lane others
@@ -139,40 +147,14 @@ pub shown-step : (step : LaneStep) (marks : Marks) (total word : ℕ) (lane : La
 shown-step (Add amount) marks total word lane i others may above raising = raising.shown
 shown-step (Subtract amount) marks total word lane i others may above raising = raising.shown
 shown-step Raise marks total word lane i others may above raising =
-    same_bit i word lane.raised others (with_bit word 0) lane.raised raising.shown
-    ((SetsBit-with_bit word 0).others i (λ at. absurd (omega (arith, at, above)))) refl
+    shown-mark 1 word _ lane i others (SetsBit-with_bit word 0) above raising
 shown-step Lower marks total word lane i others may above raising =
-    same_bit i word lane.raised others (without_bit word 0) lane.raised raising.shown
-    ((ClearsBit-without_bit word 0).others i (λ at. absurd (omega (arith, at, above)))) refl
+    shown-mark 0 word _ lane i others (ClearsBit-without_bit word 0) above raising
 shown-step (SetBit index) marks total word lane i others may above raising =
-    let of_word = SetsBit-with_bit word index in
-    let of_lane = SetsBit-with_bit lane.raised index in
-    ⊎_elim
-    (λ at. subst (λ n. others + bit_at (with_bit lane.raised index) n ≡ bit_at (with_bit word index) n) (sym at)
-    (omega (
-      arith,
-      of_word.here,
-      of_lane.here,
-      raising.alone
-          (ap (bit_at lane.held) at ∙ is_held-set lane index may.1),
-    )))
-    (λ other. same_bit i word lane.raised others (with_bit word index) (with_bit lane.raised index) raising.shown
-    (of_word.others i other) (of_lane.others i other))
-    (cases_eq i index)
+    shown-bit 1 word index _ _ lane i others may.1 (SetsBit-with_bit word index) (SetsBit-with_bit lane.raised index)
+    raising
 shown-step (ClearBit index) marks total word lane i others may above raising =
-    let of_word = ClearsBit-without_bit word index in
-    let of_lane = ClearsBit-without_bit lane.raised index in
-    ⊎_elim
-    (λ at. subst (λ n. others + bit_at (without_bit lane.raised index) n ≡ bit_at (without_bit word index) n)
-    (sym at) (omega (
-      arith,
-      of_word.here,
-      of_lane.here,
-      raising.alone
-          (ap (bit_at lane.held) at ∙ is_held-set lane index may.1),
-    )))
-    (λ other. same_bit i word lane.raised others (without_bit word index)
-    (without_bit lane.raised index) raising.shown (of_word.others i other) (of_lane.others i other))
-    (cases_eq i index)
+    shown-bit 0 word index _ _ lane i others may.1 (ClearsBit-without_bit word index)
+    (ClearsBit-without_bit lane.raised index) raising
 shown-step LoadWord marks total word lane i others may above raising = raising.shown
 shown-step LoadTotal marks total word lane i others may above raising = raising.shown

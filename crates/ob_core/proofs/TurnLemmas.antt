@@ -137,34 +137,11 @@ pub owed_by-lane_after_nothing : (lane : Lane) (ask : Ask) → refusal_of lane a
 owed_by-lane_after_nothing lane ask accepted no_step = owed_after_in lane.phase lane ask accepted no_step
 
 -- and it leaves the rest of the lane
-pub room-lane_after_nothing : (lane : Lane) (ask : Ask) → (lane_after_nothing lane ask).room ≡ lane.room
-room-lane_after_nothing lane (Charge amount) = refl
-room-lane_after_nothing lane Discharge = refl
-room-lane_after_nothing lane (Bit index writable) = refl
-room-lane_after_nothing lane Word = refl
-room-lane_after_nothing lane Total = refl
-room-lane_after_nothing lane Go = refl
-
-pub held-lane_after_nothing : (lane : Lane) (ask : Ask) → (lane_after_nothing lane ask).held ≡ lane.held
-held-lane_after_nothing lane (Charge amount) = refl
-held-lane_after_nothing lane Discharge = refl
-held-lane_after_nothing lane (Bit index writable) = refl
-held-lane_after_nothing lane Word = refl
-held-lane_after_nothing lane Total = refl
-held-lane_after_nothing lane Go = refl
-
-pub phase-lane_after_nothing : (lane : Lane) (ask : Ask) → (lane_after_nothing lane ask).phase ≡ lane.phase
-phase-lane_after_nothing lane (Charge amount) = refl
-phase-lane_after_nothing lane Discharge = refl
-phase-lane_after_nothing lane (Bit index writable) = refl
-phase-lane_after_nothing lane Word = refl
-phase-lane_after_nothing lane Total = refl
-phase-lane_after_nothing lane Go = refl
-
-pub raised-lane_after_nothing : (lane : Lane) (ask : Ask) → (lane_after_nothing lane ask).raised ≡ lane.raised
-raised-lane_after_nothing lane (Charge amount) = refl
-raised-lane_after_nothing lane Discharge = refl
-raised-lane_after_nothing lane (Bit index writable) = refl
-raised-lane_after_nothing lane Word = refl
-raised-lane_after_nothing lane Total = refl
-raised-lane_after_nothing lane Go = refl
+pub rest-lane_after_nothing : (lane : Lane) (ask : Ask)
+    → lane_after_nothing lane ask ≡ record lane { debt = (lane_after_nothing lane ask).debt }
+rest-lane_after_nothing lane (Charge amount) = refl
+rest-lane_after_nothing lane Discharge = refl
+rest-lane_after_nothing lane (Bit index writable) = refl
+rest-lane_after_nothing lane Word = refl
+rest-lane_after_nothing lane Total = refl
+rest-lane_after_nothing lane Go = refl

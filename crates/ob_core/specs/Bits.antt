@@ -14,15 +14,18 @@ with_bit word index = if is_set word index then word else word + 2 ^ index
 abbrev pub without_bit : ℕ → ℕ → ℕ
 without_bit word index = if is_set word index then word - 2 ^ index else word
 
--- a new word has this bit set, and each other bit as the old word has it
-pub record SetsBit (old index new : ℕ) : Type 0 where
-  pub here : bit_at new index ≡ 1
+-- a new word has this value of this bit, and each other bit as the old word has it
+pub record PutsBit (value old index new : ℕ) : Type 0 where
+  pub here : bit_at new index ≡ value
   pub others : (other : ℕ) → other ≢ index → bit_at new other ≡ bit_at old other
 
+-- a new word has this bit set, and each other bit as the old word has it
+abbrev pub SetsBit : ℕ → ℕ → ℕ → Type 0
+SetsBit old index new = PutsBit 1 old index new
+
 -- a new word has this bit clear, and each other bit as the old word has it
-pub record ClearsBit (old index new : ℕ) : Type 0 where
-  pub here : bit_at new index ≡ 0
-  pub others : (other : ℕ) → other ≢ index → bit_at new other ≡ bit_at old other
+abbrev pub ClearsBit : ℕ → ℕ → ℕ → Type 0
+ClearsBit old index new = PutsBit 0 old index new
 
 -- each bit of the first mask is set in the second
 abbrev pub AreAmong : ℕ → ℕ → Type 0

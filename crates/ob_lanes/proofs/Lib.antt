@@ -1,3 +1,4 @@
+mod Allowed
 mod KeptAccounts
 mod Ends
 mod Halves

@@ -9,9 +9,9 @@ use Rattle.std.specs.Int.{bit_at, bit_not, w64}
 use Rattle.ob_core.specs.AskFault.{is_held}
 use Rattle.ob_core.specs.declared.lane.Lane.{Lane}
 
--- a lane holds bits below 32 alone
-pub held_below : (lane : Lane) (index : ℕ) → IsTrue (is_held lane index) → index < 32
-held_below lane index held = grind (arith, nat_tests, held)
+-- a lane holds bits of a word of 64 alone
+pub held_within : (lane : Lane) (index : ℕ) → IsTrue (is_held lane index) → index < 64
+held_within lane index held = grind (arith, nat_tests, held)
 
 -- what a shift by a small number gives
 pub shifted : (index : ℕ) → index < 64 → 1 * 2 ^ index % 2 ^ 64 ≡ 2 ^ index

@@ -1,9 +1,12 @@
 -- What a charge and a discharge do: the steps that they make, and the change that they report.
-use Rattle.std.specs.Prelude.{◌≡◌, ℕ, Bool, ◌+◌, ◌-◌, ◌==◌, nat_lt, List, [], ◌++◌, Option, Some, None, if◌then◌else◌}
+use Rattle.std.specs.Prelude.{◌≡◌, ℕ, Bool, ◌<◌, ◌+◌, ◌-◌, ◌==◌, nat_lt, List, [], ◌++◌, Option, Some, None}
+use Rattle.std.specs.Prelude.{if◌then◌else◌}
 use Rattle.ob_types.specs.declared.reply.Change.{Change}
 use Rattle.ob_core.specs.Found.{change_found}
 use Rattle.ob_core.specs.declared.lane_step.LaneStep.TheVariants.{Add, Subtract, Raise, Lower}
 use Rattle.ob_lanes.specs.Facts.{one_step}
+use Rattle.ob_lanes.specs.InRun.{StandsInRun}
+use Rattle.ob_lanes.specs.RunningLane.{RunningLane}
 use Rattle.ob_lanes.specs.declared.facts.Made.{Made}
 
 -- the debt of a charge: one of 0 is none
@@ -41,3 +44,14 @@ pub record IsDischarge (low amount : ℕ) (before after : List Made) (change : O
   pub word : ℕ
   pub subtracted : after ≡ before ++ one_step (Subtract amount) total ++ lowered low amount total word
   pub turn : change ≡ (if is_below low amount total then change_found Lower word else None)
+
+-- a call has changed the debt of a lane to this one, and nothing else of it, on the same words; where the amount is above
+-- 0, it made the steps and has the change of such a call, and the lane stands in a run; where it is 0, it made no step
+-- and has no change
+pub record ChangesDebt (debt : Option ℕ) (amount : ℕ) (IsCall : List Made → List Made → Option Change → Type 0)
+    (old new : RunningLane) (change : Option Change) : Type 0 where
+  pub words : new.words ≡ old.words
+  pub owes : new.lane ≡ record old.lane { debt = debt }
+  pub made : 0 < amount → IsCall old.made new.made change
+  pub run : 0 < amount → StandsInRun new
+  pub nothing : amount ≡ 0 → (new.made ≡ old.made) × (change ≡ None)

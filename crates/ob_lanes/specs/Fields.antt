@@ -1,22 +1,21 @@
 -- What the fields of a lane say of what its seat knows. No public clause cites it.
-use Rattle.std.specs.Prelude.{◌≡◌, [], None}
+use Rattle.std.specs.Prelude.{◌≡◌, ℕ, [], Option}
 use Rattle.ob_core.specs.declared.lane.Phase.TheVariants.{Idle}
-use Rattle.ob_lanes.specs.Charge.{debt_of}
-use Rattle.ob_lanes.specs.declared.charged.Charged.TheInside.{Inside as ChargedInside}
-use Rattle.ob_lanes.specs.declared.lane.Lane.TheInside.{Inside as LaneInside}
+use Rattle.ob_lanes.specs.RunningLane.{RunningLane}
+use Rattle.ob_lanes.specs.declared.running.Running.{Running}
 
--- the seat has no slot; room and bits are what it knows; the lane is between two calls and owes nothing
-pub record IsLane (lane : LaneInside) : Type 0 where
-  pub no_slot : lane.seat.me.1 ≡ []
-  pub room : lane.seat.me.0.lane.room ≡ lane.room
-  pub held : lane.seat.me.0.lane.held ≡ lane.held
-  pub idle : lane.seat.me.0.lane.phase ≡ Idle
-  pub debt : lane.seat.me.0.lane.debt ≡ None
+-- what a contract sees of a lane: what its seat knows
+abbrev pub seen : Running → RunningLane
+seen running = record {
+  words = record { table_id = running.seat.table_id; opening = running.seat.me.0.opening };
+  lane = running.seat.me.0.lane;
+  made = running.seat.me.0.made;
+}
 
--- the same of a lane that owes this much
-pub record IsCharged (lane : ChargedInside) : Type 0 where
-  pub no_slot : lane.seat.me.1 ≡ []
-  pub room : lane.seat.me.0.lane.room ≡ lane.room
-  pub held : lane.seat.me.0.lane.held ≡ lane.held
-  pub idle : lane.seat.me.0.lane.phase ≡ Idle
-  pub debt : lane.seat.me.0.lane.debt ≡ debt_of lane.owed
+-- the seat has no slot; room and bits are what it knows; the lane is between two calls, and this is its debt
+pub record IsBetweenCalls (running : Running) (debt : Option ℕ) : Type 0 where
+  pub no_slot : running.seat.me.1 ≡ []
+  pub room : running.seat.me.0.lane.room ≡ running.room
+  pub held : running.seat.me.0.lane.held ≡ running.held
+  pub idle : running.seat.me.0.lane.phase ≡ Idle
+  pub debt_is : running.seat.me.0.lane.debt ≡ debt

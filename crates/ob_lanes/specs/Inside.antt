@@ -6,8 +6,13 @@ use Rattle.atomic_table.specs.Table.{State}
 use Rattle.atomic_table.specs.declared.shared.Seat.{Seat}
 use Rattle.ob_core.specs.Opening.{Opening}
 use Rattle.ob_lanes.specs.Ruled.{Ruled}
+use Rattle.ob_lanes.specs.RunningLane.{WordsValue}
 use Rattle.ob_lanes.specs.declared.facts.Facts.{Facts}
 use Rattle.ob_lanes.specs.declared.words.Words.TheInside.{Inside as WordsInside}
+
+-- what a contract sees of the words: which they are, and what they were opened with
+abbrev pub words_of : WordsInside → WordsValue
+words_of words = record { table_id = words.table.shared.table_id; opening = words.opening }
 
 -- the table has nine words and no slot, and was told what the words were opened with, in 32 bits each
 pub record AreWords (words : WordsInside) : Type 0 where

@@ -6,6 +6,8 @@ pub mod Fields
 pub mod InRun
 pub mod Inside
 pub mod Joined
+pub mod OwnSteps
+pub mod Read
 pub mod RunningLane
 pub mod Run
 pub mod Ruled

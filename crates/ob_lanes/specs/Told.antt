@@ -1,8 +1,8 @@
 -- What a step tells the lane that makes it.
 use Rattle.std.specs.Prelude.{◌≡◌, ◌≤◌, ◌+◌, ◌<◌, ◌^◌, ℕ}
-use Rattle.std.specs.Int.{bit_not, w64}
 use Rattle.atomic_table.specs.Table.{Me, Step}
 use Rattle.ob_core.specs.CoreState.{CoreState}
+use Rattle.ob_core.specs.LaneStep.{CanMake}
 use Rattle.ob_core.specs.Owed.{owed_by}
 use Rattle.ob_core.specs.declared.lane_step.LaneStep.{LaneStep}
 use Rattle.ob_core.specs.declared.lane_step.LaneStep.TheVariants.{Add, Subtract, Raise, Lower, SetBit, ClearBit}
@@ -50,18 +50,13 @@ pub record Told (step : LaneStep) (old : Knows) (found : ℕ) (new : Knows) : Ty
   pub run : KnowsItsRun new.0
   pub tells : Tells step old.0 found
 
--- a step that sets a bit tells so of the bit that its mask is
-pub record ToldSetting (step : Step (Unit {0})) (old : Knows) (found : ℕ) (new : Knows) : Type 0 where
-  pub index : ℕ
-  pub mask : step.first ≡ 2 ^ index
-  pub told : Told (SetBit index) old found new
-
--- a step that clears a bit tells so of the bit that its mask leaves out
-pub record ToldClearing (step : Step (Unit {0})) (old : Knows) (found : ℕ) (new : Knows) : Type 0 where
+-- a step of a bit tells so of the bit that its mask is of
+pub record ToldOfBit (bit_step : ℕ → LaneStep) (mask_of : ℕ → ℕ) (step : Step (Unit {0})) (old : Knows) (found : ℕ)
+    (new : Knows) : Type 0 where
   pub index : ℕ
   pub within : index < 64
-  pub mask : step.first ≡ bit_not w64 (2 ^ index)
-  pub told : Told (ClearBit index) old found new
+  pub mask : step.first ≡ mask_of index
+  pub told : Told (bit_step index) old found new
 
 -- the seat is of these words, and knows what they were opened with
 abbrev pub IsSeatOf : WordsValue → Seat (Unit {0}) Facts → Type 0
@@ -70,3 +65,14 @@ IsSeatOf words seat = (seat.table_id ≡ words.table_id) × (seat.me.0.opening �
 -- the seat is the same, whatever it knows
 abbrev pub IsSameSeat : Seat (Unit {0}) Facts → Seat (Unit {0}) Facts → Type 0
 IsSameSeat old new = (new.table_id ≡ old.table_id) × (new.id ≡ old.id)
+
+-- the seat is of these words, and its lane may make the step
+pub record MayMake (words : WordsValue) (seat : Seat (Unit {0}) Facts) (step : LaneStep) : Type 0 where
+  pub of : IsSeatOf words seat
+  pub may : CanMake seat.me.0.lane step
+
+-- the seat is the same, and its lane has made the step, which told it what it found
+pub record Makes (step : LaneStep) (old : Seat (Unit {0}) Facts) (found : ℕ) (new : Seat (Unit {0}) Facts)
+    : Type 0 where
+  pub same : IsSameSeat old new
+  pub told : Told step old.me found new.me

@@ -1,8 +1,7 @@
 mod discharge;
 mod looks;
 
-use crate::facts::Facts;
-use atomic_table::Seat;
+use crate::running::Running;
 use std::marker::Model;
 
 /// A lane between a charge and its discharge. It may go to another thread, and be discharged there.
@@ -10,9 +9,7 @@ use std::marker::Model;
 /// One that is dropped keeps its charge in the total, and its room, for good: `finish` is refused from then on.
 #[derive(Drop)]
 pub struct Charged {
-    pub(crate) seat: Seat<(), Facts>,
-    pub(crate) room: u32,
-    pub(crate) held: u32,
+    pub(crate) running: Running,
     pub(crate) owed: u32,
 }
 
@@ -21,13 +18,10 @@ impl Model for Charged {
 
     ghost Value = { RunningLane };
 
-    ghost use Rattle.ob_lanes.specs.Fields.{IsCharged};
+    ghost use Rattle.ob_lanes.specs.Charge.{debt_of};
+    ghost use Rattle.ob_lanes.specs.Fields.{seen, IsBetweenCalls};
 
-    ghost view = { λ l. record {
-      words = record { table_id = l.seat.table_id; opening = l.seat.me.0.opening };
-      lane = l.seat.me.0.lane;
-      made = l.seat.me.0.made;
-    } };
+    ghost view = { λ lane. seen lane.running };
 
-    ghost invariant = { IsCharged };
+    ghost invariant = { λ lane. IsBetweenCalls lane.running (debt_of lane.owed) };
 }

@@ -5,8 +5,7 @@ mod join;
 mod looks;
 mod split;
 
-use crate::facts::Facts;
-use atomic_table::Seat;
+use crate::running::Running;
 use std::marker::Model;
 
 /// A lane that owes nothing. It may go to another thread.
@@ -14,9 +13,7 @@ use std::marker::Model;
 /// A lane that is dropped keeps its room and its bits for good: `finish` is refused from then on.
 #[derive(Drop)]
 pub struct Lane {
-    pub(crate) seat: Seat<(), Facts>,
-    pub(crate) room: u32,
-    pub(crate) held: u32,
+    pub(crate) running: Running,
 }
 
 impl Model for Lane {
@@ -24,13 +21,10 @@ impl Model for Lane {
 
     ghost Value = { RunningLane };
 
-    ghost use Rattle.ob_lanes.specs.Fields.{IsLane};
+    ghost use Rattle.std.specs.Prelude.{None};
+    ghost use Rattle.ob_lanes.specs.Fields.{seen, IsBetweenCalls};
 
-    ghost view = { λ l. record {
-      words = record { table_id = l.seat.table_id; opening = l.seat.me.0.opening };
-      lane = l.seat.me.0.lane;
-      made = l.seat.me.0.made;
-    } };
+    ghost view = { λ lane. seen lane.running };
 
-    ghost invariant = { IsLane };
+    ghost invariant = { λ lane. IsBetweenCalls lane.running None };
 }

@@ -16,6 +16,7 @@ mod opened;
 mod opening;
 mod plays;
 mod rule;
+mod running;
 mod shares;
 #[cfg(test)]
 mod tests;

@@ -4,6 +4,7 @@ ghost use Rattle.ob_lanes.specs.Facts.{first_lane};
 
 use crate::lane::Lane;
 use crate::opening::Opening;
+use crate::running::Running;
 use crate::words::Words;
 use atomic_table::Table;
 use ob_types::{Refusal, WaterMark};
@@ -27,10 +28,10 @@ pub fn lanes(
     let opening = Opening { marks, room, bits };
     let (table, seat) = Table::of_words(alloc, &[0; 9], &opening)?;
     let words = Words { table, opening };
-    let lane = Lane {
+    let running = Running {
         seat,
         room,
         held: bits,
     };
-    Ok((words, lane))
+    Ok((words, Lane { running }))
 }

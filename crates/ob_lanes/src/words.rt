@@ -26,9 +26,9 @@ impl Model for Words {
 
     ghost Value = { WordsValue };
 
-    ghost use Rattle.ob_lanes.specs.Inside.{AreWords};
+    ghost use Rattle.ob_lanes.specs.Inside.{words_of, AreWords};
 
-    ghost view = { λ words. record { table_id = words.table.shared.table_id; opening = words.opening } };
+    ghost view = { words_of };
 
     ghost invariant = { AreWords };
 }

@@ -1,7 +1,6 @@
-ghost use Rattle.std.specs.Prelude.{◌≡◌, ◌<◌, None};
+ghost use Rattle.std.specs.Prelude.{◌≡◌, None};
 ghost use Rattle.ob_core.specs.Owed.{owed_by};
-ghost use Rattle.ob_lanes.specs.Charge.{IsDischarge};
-ghost use Rattle.ob_lanes.specs.InRun.{StandsInRun};
+ghost use Rattle.ob_lanes.specs.Charge.{IsDischarge, ChangesDebt};
 
 use super::Charged;
 use crate::change::change_of_clearing;
@@ -16,26 +15,17 @@ impl Charged {
     /// of a charge of 0 touches no word. It never fails.
     pub fn discharge(self, words: &Words) -> (Lane, Option<Change>)
         requires { self.words ≡ words.now }
-        ensures words { result.0.words ≡ self.words }
-        ensures owes { result.0.lane ≡ record self.lane { debt = None } }
-        ensures made { 0 < owed_by self.lane →
-            IsDischarge self.words.opening.marks.low (owed_by self.lane) self.made result.0.made result.1 }
-        ensures run { 0 < owed_by self.lane → StandsInRun result.0 }
-        ensures nothing { owed_by self.lane ≡ 0 → (result.0.made ≡ self.made) × (result.1 ≡ None) }
+        ensures { let owed = owed_by self.lane in
+            ChangesDebt None owed (IsDischarge self.words.opening.marks.low owed) self result.0 result.1 }
     {
-        let Charged {
-            mut seat,
-            room,
-            held,
-            owed,
-        } = self;
+        let Charged { mut running, owed } = self;
         let mut change = None;
         if owed > 0 {
-            let total = words.subtract(&mut seat, owed) - owed as u64;
+            let total = words.subtract(&mut running.seat, owed) - owed as u64;
             if total < words.low() {
-                change = change_of_clearing(words.lower(&mut seat), 0);
+                change = change_of_clearing(words.lower(&mut running.seat), 0);
             }
         }
-        (Lane { seat, room, held }, change)
+        (Lane { running }, change)
     }
 }

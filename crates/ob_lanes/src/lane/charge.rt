@@ -1,6 +1,5 @@
-ghost use Rattle.std.specs.Prelude.{◌≡◌, ◌<◌, ◌≤◌, IsOk, IfOk, IsErrAnd, None};
-ghost use Rattle.ob_lanes.specs.Charge.{debt_of, IsCharge};
-ghost use Rattle.ob_lanes.specs.InRun.{StandsInRun};
+ghost use Rattle.std.specs.Prelude.{◌≡◌, ◌<◌, ◌≤◌, IsOk, IfOk, IsErrAnd};
+ghost use Rattle.ob_lanes.specs.Charge.{debt_of, IsCharge, ChangesDebt};
 
 use super::Lane;
 use crate::change::change_of_setting;
@@ -23,32 +22,22 @@ impl Lane {
         requires { self.words ≡ words.now }
         ensures no_room { self.lane.room < amount → IsErrAnd result (λ refused. refused.0 ≡ self) }
         ensures charged { amount ≤ self.lane.room → IsOk result }
-        ensures words { IfOk result (λ ok. ok.0.words ≡ self.words) }
-        ensures owes { IfOk result (λ ok. ok.0.lane ≡ record self.lane { debt = debt_of amount }) }
-        ensures made { IfOk result (λ ok. 0 < amount →
-            IsCharge self.words.opening.marks.high amount self.made ok.0.made ok.1) }
-        ensures run { IfOk result (λ ok. 0 < amount → StandsInRun ok.0) }
-        ensures nothing { amount ≡ 0 → IfOk result (λ ok. (ok.0.made ≡ self.made) × (ok.1 ≡ None)) }
+        ensures debt { IfOk result (λ ok.
+            ChangesDebt (debt_of amount) amount (IsCharge self.words.opening.marks.high amount) self ok.0 ok.1) }
     {
-        if amount > self.room {
+        if amount > self.running.room {
             return Err((self, NoRoom));
         }
-        let Lane {
-            mut seat,
-            room,
-            held,
-        } = self;
+        let Lane { mut running } = self;
         let mut change = None;
         if amount > 0 {
-            let total = words.add(&mut seat, amount) + amount as u64;
+            let total = words.add(&mut running.seat, amount) + amount as u64;
             if total > words.high() {
-                change = change_of_setting(words.raise(&mut seat));
+                change = change_of_setting(words.raise(&mut running.seat));
             }
         }
         let charged = Charged {
-            seat,
-            room,
-            held,
+            running,
             owed: amount,
         };
         Ok((charged, change))

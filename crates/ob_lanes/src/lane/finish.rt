@@ -25,15 +25,11 @@ impl Lane {
             bit_at words.opening.bits index ≡ 0 → bit_at ok.1 index ≡ 0) }
         ensures run { IfOk result (λ ok. EndsRun self ok.0 ok.1) }
     {
-        if self.room < words.opening.room {
+        if self.running.room < words.opening.room {
             return Err((words, self, RoomOut));
         }
-        let Lane {
-            seat,
-            room: _,
-            held: _,
-        } = self;
-        let (total, word) = words.end(seat);
+        let Lane { running } = self;
+        let (total, word) = words.end(running.seat);
         Ok((total, word as u32))
     }
 }

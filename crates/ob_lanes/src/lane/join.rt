@@ -16,21 +16,12 @@ impl Lane {
         ensures lane { IsJoined self.words.opening.room self.lane other.lane result.lane }
         ensures made { result.made ≡ self.made }
     {
-        let Lane {
-            mut seat,
-            room,
-            held,
-        } = self;
-        let Lane {
-            seat: other_seat,
-            room: other_room,
-            held: other_held,
-        } = other;
-        words.merge_seats::<Brand>(&mut seat, other_seat);
-        Lane {
-            seat,
-            room: room.saturating_add(other_room).min(words.opening.room),
-            held: held | other_held,
-        }
+        let Lane { mut running } = self;
+        let Lane { running: other } = other;
+        words.merge_seats::<Brand>(&mut running.seat, other.seat);
+        let rooms = running.room.saturating_add(other.room);
+        running.room = rooms.min(words.opening.room);
+        running.held |= other.held;
+        Lane { running }
     }
 }

@@ -3,6 +3,7 @@ ghost use Rattle.ob_lanes.specs.Split.{split_fault, IsSplit};
 
 use super::Lane;
 use crate::fault::SplitFault;
+use crate::running::Running;
 use crate::words::Words;
 use std::marker::Brand;
 
@@ -25,28 +26,20 @@ impl Lane {
         ensures shares { IfOk result (λ lanes. IsSplit room bits self.lane lanes.0.lane lanes.1.lane) }
         ensures made { IfOk result (λ lanes. (lanes.0.made ≡ self.made) × (lanes.1.made ≡ [])) }
     {
-        if room > self.room {
+        if room > self.running.room {
             return Err((self, SplitFault::NoRoom));
         }
-        if self.held | bits != self.held {
+        if self.running.held | bits != self.running.held {
             return Err((self, SplitFault::NotHeld));
         }
-        let Lane {
-            mut seat,
-            room: whole,
-            held,
-        } = self;
-        let other = words.divide_seat::<Brand>(&mut seat, room, bits);
-        let kept = Lane {
-            seat,
-            room: whole - room,
-            held: held ^ bits,
-        };
-        let given = Lane {
-            seat: other,
+        let Lane { mut running } = self;
+        let given = Running {
+            seat: words.divide_seat::<Brand>(&mut running.seat, room, bits),
             room,
             held: bits,
         };
-        Ok((kept, given))
+        running.room -= room;
+        running.held ^= bits;
+        Ok((Lane { running }, Lane { running: given }))
     }
 }

@@ -1,9 +1,8 @@
 //! One atomic step each, made by the lane whose seat is passed.
 ghost use Rattle.std.specs.Prelude.{◌≡◌, ◌+◌, ◌<◌, ◌^◌};
-ghost use Rattle.ob_core.specs.LaneStep.{CanMake};
 ghost use Rattle.ob_core.specs.declared.lane_step.LaneStep.TheVariants.{Add, Subtract, Raise, Lower};
 ghost use Rattle.ob_core.specs.declared.lane_step.LaneStep.TheVariants.{SetBit, ClearBit, LoadWord, LoadTotal};
-ghost use Rattle.ob_lanes.specs.Told.{Told, IsSeatOf, IsSameSeat};
+ghost use Rattle.ob_lanes.specs.Told.{MayMake, Makes};
 
 use super::Words;
 use crate::facts::Facts;
@@ -25,10 +24,8 @@ impl Words {
     }
 
     pub(crate) fn add(&self, seat: &mut Seat<(), Facts>, amount: u32) -> u64
-        requires words { IsSeatOf self.now seat.old }
-        requires may { CanMake seat.old.me.0.lane (Add amount) }
-        ensures seat { IsSameSeat seat.old seat.new }
-        ensures told { Told (Add amount) seat.old.me result seat.new.me }
+        requires { MayMake self.now seat.old (Add amount) }
+        ensures made { Makes (Add amount) seat.old result seat.new }
         ensures fits { result + amount < 2 ^ 32 }
     {
         self.table
@@ -37,10 +34,8 @@ impl Words {
     }
 
     pub(crate) fn subtract(&self, seat: &mut Seat<(), Facts>, amount: u32) -> u64
-        requires words { IsSeatOf self.now seat.old }
-        requires may { CanMake seat.old.me.0.lane (Subtract amount) }
-        ensures seat { IsSameSeat seat.old seat.new }
-        ensures told { Told (Subtract amount) seat.old.me result seat.new.me }
+        requires { MayMake self.now seat.old (Subtract amount) }
+        ensures { Makes (Subtract amount) seat.old result seat.new }
     {
         self.table
             .shared
@@ -48,28 +43,22 @@ impl Words {
     }
 
     pub(crate) fn raise(&self, seat: &mut Seat<(), Facts>) -> u64
-        requires words { IsSeatOf self.now seat.old }
-        requires may { CanMake seat.old.me.0.lane Raise }
-        ensures seat { IsSameSeat seat.old seat.new }
-        ensures told { Told Raise seat.old.me result seat.new.me }
+        requires { MayMake self.now seat.old Raise }
+        ensures { Makes Raise seat.old result seat.new }
     {
         self.table.shared.fetch_or::<plays::Raise>(seat, WORD, 1)
     }
 
     pub(crate) fn lower(&self, seat: &mut Seat<(), Facts>) -> u64
-        requires words { IsSeatOf self.now seat.old }
-        requires may { CanMake seat.old.me.0.lane Lower }
-        ensures seat { IsSameSeat seat.old seat.new }
-        ensures told { Told Lower seat.old.me result seat.new.me }
+        requires { MayMake self.now seat.old Lower }
+        ensures { Makes Lower seat.old result seat.new }
     {
         self.table.shared.fetch_and::<plays::Lower>(seat, WORD, !1)
     }
 
     pub(crate) fn set_bit(&self, seat: &mut Seat<(), Facts>, index: u32) -> u64
-        requires words { IsSeatOf self.now seat.old }
-        requires may { CanMake seat.old.me.0.lane (SetBit index) }
-        ensures seat { IsSameSeat seat.old seat.new }
-        ensures told { Told (SetBit index) seat.old.me result seat.new.me }
+        requires { MayMake self.now seat.old (SetBit index) }
+        ensures { Makes (SetBit index) seat.old result seat.new }
     {
         self.table
             .shared
@@ -77,10 +66,8 @@ impl Words {
     }
 
     pub(crate) fn clear_bit(&self, seat: &mut Seat<(), Facts>, index: u32) -> u64
-        requires words { IsSeatOf self.now seat.old }
-        requires may { CanMake seat.old.me.0.lane (ClearBit index) }
-        ensures seat { IsSameSeat seat.old seat.new }
-        ensures told { Told (ClearBit index) seat.old.me result seat.new.me }
+        requires { MayMake self.now seat.old (ClearBit index) }
+        ensures { Makes (ClearBit index) seat.old result seat.new }
     {
         let others = !(1 << index);
         self.table
@@ -89,19 +76,15 @@ impl Words {
     }
 
     pub(crate) fn load_word(&self, seat: &mut Seat<(), Facts>) -> u64
-        requires words { IsSeatOf self.now seat.old }
-        requires may { CanMake seat.old.me.0.lane LoadWord }
-        ensures seat { IsSameSeat seat.old seat.new }
-        ensures told { Told LoadWord seat.old.me result seat.new.me }
+        requires { MayMake self.now seat.old LoadWord }
+        ensures { Makes LoadWord seat.old result seat.new }
     {
         self.table.shared.load::<plays::LoadWord>(seat, WORD)
     }
 
     pub(crate) fn load_total(&self, seat: &mut Seat<(), Facts>) -> u64
-        requires words { IsSeatOf self.now seat.old }
-        requires may { CanMake seat.old.me.0.lane LoadTotal }
-        ensures seat { IsSameSeat seat.old seat.new }
-        ensures told { Told LoadTotal seat.old.me result seat.new.me }
+        requires { MayMake self.now seat.old LoadTotal }
+        ensures { Makes LoadTotal seat.old result seat.new }
     {
         self.table.shared.load::<plays::LoadTotal>(seat, TOTAL)
     }

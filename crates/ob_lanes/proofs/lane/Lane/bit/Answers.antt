@@ -1,4 +1,4 @@
-use Rattle.std.proofs.Common.{ap, ◌∙◌, []}
+use Rattle.std.proofs.Common.{ap, ◌∙◌, [], rules}
 use Rattle.ob_core.specs.declared.lane_step.LaneStep.TheVariants.{ClearBit}
 use Rattle.ob_core.proofs.FoundLemmas.{change_found-between}
 use Rattle.ob_lanes.proofs.lane.Lane.bit.Goals as goal
@@ -10,8 +10,8 @@ returns-then-writable-clause-made c held =
     rw (c.if-writable.true, ← c.self.view_is)
     (record {
       word = found;
+      steps = record { words = search rules; made = ap (λ f. f.made) told.after; run = search rules };
       lane = ap (λ f. f.lane) told.after;
-      made = ap (λ f. f.made) told.after;
       turn = c.change_of_clearing-change.ensures ∙ change_found-between (ClearBit c.args.index)
-          (record { total = 0; word = found; marks = c.self.inside.seat.me.0.opening.marks; lanes = [] });
+          (record { total = 0; word = found; marks = c.self.inside.running.seat.me.0.opening.marks; lanes = [] });
     })

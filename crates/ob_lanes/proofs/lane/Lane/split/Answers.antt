@@ -4,8 +4,8 @@ use Rattle.ob_lanes.proofs.lane.Lane.split.Goals as goal
 
 pub returns-clause-shares : goal.returns-clause-shares
 returns-clause-shares c =
-    let seats = c.divide_seat-other.ensures in
-    let mine = c.self.inside.seat.me.0.lane in
+    let seats = c.divide_seat.ensures in
+    let mine = c.self.inside.running.seat.me.0.lane in
     let room = c.self.invariant.room in
     let held = c.self.invariant.held in
     let has_room = c.if-room-self.false in

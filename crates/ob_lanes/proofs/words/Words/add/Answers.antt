@@ -1,19 +1,12 @@
 use Rattle.std.proofs.Common.{◌≡◌, ap, unwrap_or, arith}
 use Rattle.ob_core.specs.Owed.{owed_by}
 use Rattle.ob_core.specs.Opening.{Opening}
-use Rattle.ob_lanes.proofs.Moves.{add_allowed}
+use Rattle.ob_lanes.proofs.Allowed.{may_add}
 use Rattle.ob_lanes.proofs.words.Words.add.Goals as goal
 
 pub fetch_add-requires : goal.fetch_add-requires
 fetch_add-requires c =
-    let table = c.self.inside.table.shared in
-    let seat = c.args.seat.now in
-    let words = c.self.invariant in (
-      cc,
-      omega (arith, words.nine),
-      add_allowed table.key table.table_id.slots seat.id c.args.amount seat.me
-          c.requires.may words.room_fits,
-    )
+    may_add c.self.inside c.self.invariant _ c.self.view_is c.args.seat.now c.args.amount c.requires
 
 pub returns-clause-fits : goal.returns-clause-fits
 returns-clause-fits c =
