@@ -20,8 +20,8 @@ use Rattle.ob_seq.specs.Answer.{answer_to, are_accepted, commands_after}
 use Rattle.ob_seq.specs.Looks.{promise_after}
 use Rattle.ob_seq.specs.Settings.{Settings}
 use Rattle.ob_seq.specs.Settles.{settled_by}
-use Rattle.ob_seq.proofs.Accepting.{among_are_accepted}
-use Rattle.ob_seq.proofs.Told.{settled_is_told}
+use Rattle.ob_seq.proofs.Rows.Accepting.{among_are_accepted}
+use Rattle.ob_seq.proofs.Rows.Told.{settled_is_told}
 use Rattle.ob_history.specs.Accepted.{accepted_commands}
 use Rattle.ob_history.specs.Legal.{IsLegal}
 use Rattle.ob_history.specs.Settlements.{settlements_in, settles}

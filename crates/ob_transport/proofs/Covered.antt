@@ -15,7 +15,7 @@ use Rattle.ob_seq.specs.Line.{is_in_line}
 use Rattle.ob_seq.specs.Row.{Row}
 use Rattle.ob_seq.specs.Settings.{Settings}
 use Rattle.ob_seq.specs.Settles.{settled_after, settled_by}
-use Rattle.ob_seq.proofs.Along.{settlement_same, settlements_behind}
+use Rattle.ob_seq.proofs.Rows.Along.{settlement_same, settlements_behind}
 use Rattle.ob_history.specs.Accepted.{accepted_commands}
 use Rattle.ob_history.specs.Call.{IsCovered, history_after, is_full, next_record, with_record}
 use Rattle.ob_history.specs.History.{History, LacksPlaces, with_reserved}

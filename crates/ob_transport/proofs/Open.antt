@@ -21,8 +21,8 @@ use Rattle.ob_seq.specs.Closed.{is_close, is_closed}
 use Rattle.ob_seq.specs.Effect.{closed_row, effect, rows_after}
 use Rattle.ob_seq.specs.Line.{front, is_in_line}
 use Rattle.ob_seq.specs.Row.{Row, is_voided, new_row, unread_part, without_skipped}
-use Rattle.ob_seq.proofs.Accepting.{kept_along_accepted, open_and_fit}
-use Rattle.ob_seq.proofs.EachRow.{Shrink, effect_shrinks}
+use Rattle.ob_seq.proofs.Rows.Accepting.{kept_along_accepted, open_and_fit}
+use Rattle.ob_seq.proofs.Rows.EachRow.{Shrink, effect_shrinks}
 use Rattle.std.proofs.lemmas.List.Folds.{list_any-append}
 use Rattle.std.proofs.lemmas.List.Sums.{fold-append}
 

@@ -9,7 +9,7 @@ use ob_types::WaterMark;
 const MARK: u32 = 1;
 
 /// The word after the pending bytes rose by `size` to `total`. A rise by 0 is none.
-#[tactic(auto, using(crate::proofs::WordBits::bit_or_one))]
+#[tactic(auto, using(crate::proofs::Word::WordBits::bit_or_one))]
 pub fn after_rise(marks: WaterMark, word: u32, size: u32, total: u32) -> u32
     ensures { result ≡ word_after_rise marks word size total }
 {

@@ -1,6 +1,6 @@
 use Rattle.ob_seq.proofs.Words.{◌≡◌, ◌≤◌, ℕ, zero, suc, List, [], ◌∷◌, length, arith, None, slice_get_past, promise_at}
 use Rattle.ob_seq.proofs.Words.{rows_after, Row}
-use Rattle.ob_seq.proofs.EachRow.{row_for_each_write}
+use Rattle.ob_seq.proofs.Rows.EachRow.{row_for_each_write}
 use Rattle.ob_seq.proofs.laws.a_promise_is_unknown_past_the_writes.Goals as goal
 
 -- where there is no promise there is no row

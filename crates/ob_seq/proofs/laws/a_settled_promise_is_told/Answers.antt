@@ -1,4 +1,4 @@
-use Rattle.ob_seq.proofs.Told.{accepted_is_told, settled_is_told}
+use Rattle.ob_seq.proofs.Rows.Told.{accepted_is_told, settled_is_told}
 use Rattle.ob_seq.proofs.laws.a_settled_promise_is_told.Goals as goal
 
 pub returns : goal.returns

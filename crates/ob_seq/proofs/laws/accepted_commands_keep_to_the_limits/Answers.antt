@@ -1,4 +1,4 @@
-use Rattle.ob_seq.proofs.Limits.{removal_within, total_within, writes_within}
+use Rattle.ob_seq.proofs.Rows.Limits.{removal_within, total_within, writes_within}
 use Rattle.ob_seq.proofs.laws.accepted_commands_keep_to_the_limits.Goals as goal
 
 pub returns : goal.returns

@@ -1,4 +1,4 @@
-use Rattle.ob_seq.proofs.Told.{outcome_kept, settled_once}
+use Rattle.ob_seq.proofs.Rows.Told.{outcome_kept, settled_once}
 use Rattle.ob_seq.proofs.laws.no_promise_is_settled_twice.Goals as goal
 
 pub returns : goal.returns

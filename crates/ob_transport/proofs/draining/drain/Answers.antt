@@ -25,11 +25,13 @@ returns-in_err-pass-clause-accounted g c =
 
 pub returns-in-Idle-clause-accounted : goal.returns-in-Idle-clause-accounted
 returns-in-Idle-clause-accounted g c =
-    let kept = c.loop-turn.invariant in accounted_more c.in_ok-pass.field-0 _ kept.2 kept.3 c.in_ok-pass.ensures.accounted
+    let kept = c.loop-turn.invariant in
+    accounted_more c.in_ok-pass.field-0 _ kept.2 kept.3 c.in_ok-pass.ensures.accounted
 
 pub returns-in-Stalled-clause-accounted : goal.returns-in-Stalled-clause-accounted
 returns-in-Stalled-clause-accounted g c =
-    let kept = c.loop-turn.invariant in accounted_more c.in_ok-pass.field-0 _ kept.2 kept.3 c.in_ok-pass.ensures.accounted
+    let kept = c.loop-turn.invariant in
+    accounted_more c.in_ok-pass.field-0 _ kept.2 kept.3 c.in_ok-pass.ensures.accounted
 
 pub loop-turn-preserved : goal.loop-turn-preserved
 loop-turn-preserved g c =

@@ -1,5 +1,5 @@
 use Rattle.ob_seq.proofs.Words.{Close}
-use Rattle.ob_seq.proofs.Simulated.{obeys, spares, stays}
+use Rattle.ob_seq.proofs.Simulating.Simulated.{obeys, spares, stays}
 use Rattle.ob_seq.proofs.buffer.Buffer.close.Goals as goal
 
 pub invariant_of-self : goal.invariant_of-self

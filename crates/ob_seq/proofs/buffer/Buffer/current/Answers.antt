@@ -1,6 +1,6 @@
 use Rattle.ob_seq.proofs.Words.{◌∙◌, ◌≡◌, ◌<◌, length, ap, arith, Some, PendingEntry}
-use Rattle.ob_seq.proofs.Fields.{in_line, line_count}
-use Rattle.ob_seq.proofs.Fronts.{fronted, front_is, no_front}
+use Rattle.ob_seq.proofs.Inside.Fields.{in_line, line_count}
+use Rattle.ob_seq.proofs.Rows.Fronts.{fronted, front_is, no_front}
 use Rattle.ob_seq.proofs.buffer.Buffer.current.Goals as goal
 
 pub returns-then-contents-eq0 : goal.returns-then-contents-eq0

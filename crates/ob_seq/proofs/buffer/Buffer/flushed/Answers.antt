@@ -1,6 +1,6 @@
 use Rattle.ob_seq.proofs.Words.{◌≡◌, take, ap, ◌∙◌, deque_iter_rest, take-map, rows_after, Pending, pending_entry}
 use native.Mathlib.Numerals.{unary_clauses}
-use Rattle.ob_seq.proofs.Sending.{to_send_is}
+use Rattle.ob_seq.proofs.Inside.Sending.{to_send_is}
 use Rattle.ob_seq.proofs.buffer.Buffer.flushed.Goals as goal
 
 pub returns : goal.returns

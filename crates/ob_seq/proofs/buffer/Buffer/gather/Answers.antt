@@ -1,9 +1,9 @@
 use Rattle.ob_seq.proofs.Words.{[], ◌≡◌, ℕ, ◌+◌, List, length, drop, refl, sym, ap, ◌∙◌, append-nil, Command}
 use Rattle.ob_seq.proofs.Words.{blocks_left, first_blocks, Pending, StandsFor, with_bytes}
 use Rattle.ob_seq.specs.Gathering.{gathered_after}
-use Rattle.ob_seq.proofs.BytesRemoved.{run_is}
-use Rattle.ob_seq.proofs.Fields.{left_at_block, left_at_end, left_at_other}
-use Rattle.ob_seq.proofs.Gathered.{ended, first_blocks_are, more_blocks, none_left, passed, pushed, something}
+use Rattle.ob_seq.proofs.Simulating.BytesRemoved.{run_is}
+use Rattle.ob_seq.proofs.Inside.Fields.{left_at_block, left_at_end, left_at_other}
+use Rattle.ob_seq.proofs.Inside.Gathered.{ended, first_blocks_are, more_blocks, none_left, passed, pushed, something}
 use Rattle.ob_seq.proofs.buffer.Buffer.gather.Goals as goal
 
 -- what is gathered from all in line is what is gathered after the history

@@ -1,5 +1,5 @@
 use Rattle.ob_seq.proofs.Words.{◌≡◌, ◌++◌, length, drop, blocks_left}
-use Rattle.ob_seq.proofs.Gathered.{more_blocks}
+use Rattle.ob_seq.proofs.Inside.Gathered.{more_blocks}
 use Rattle.ob_seq.proofs.buffer.Buffer.gather.Given as goal
 
 abbrev pub invariant-loop-place : goal.invariant-loop-place

@@ -1,8 +1,8 @@
 use Rattle.ob_seq.proofs.Words.{◌∙◌, ◌≡◌, List, [], ◌∷◌, map, refl, ap, arith, length-map, Row, line, front, rows_after}
 use Rattle.ob_seq.proofs.Words.{entry_of, Pending, first_progress}
 use Rattle.ob_seq.specs.Looks.{progress_of}
-use Rattle.ob_seq.proofs.Fields.{line_count, total_is}
-use Rattle.ob_seq.proofs.Written.{pending_total_stands}
+use Rattle.ob_seq.proofs.Inside.Fields.{line_count, total_is}
+use Rattle.ob_seq.proofs.Simulating.Written.{pending_total_stands}
 use Rattle.ob_seq.proofs.buffer.Buffer.look.Goals as goal
 
 -- the progress of the first entry is that of the front

@@ -1,5 +1,5 @@
 use Rattle.ob_seq.proofs.Words.{Progress}
-use Rattle.ob_seq.proofs.Simulated.{obeys, stays}
+use Rattle.ob_seq.proofs.Simulating.Simulated.{obeys, stays}
 use Rattle.ob_seq.proofs.buffer.Buffer.progress.Goals as goal
 
 pub invariant_of-self : goal.invariant_of-self

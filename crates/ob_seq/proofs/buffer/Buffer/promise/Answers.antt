@@ -1,6 +1,6 @@
 use Rattle.ob_seq.proofs.Words.{◌∙◌, ◌<◌, sym, arith, slice_get-map, slice_get_past, rows_after}
 use Rattle.std.proofs.lemmas.Option.{slice_get_read}
-use Rattle.ob_seq.proofs.Held.{promise_of}
+use Rattle.ob_seq.proofs.Inside.Held.{promise_of}
 use Rattle.ob_seq.proofs.buffer.Buffer.promise.Goals as goal
 
 pub returns-then-at-len : goal.returns-then-at-len

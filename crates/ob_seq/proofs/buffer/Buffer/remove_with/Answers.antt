@@ -1,5 +1,5 @@
 use Rattle.ob_seq.proofs.Words.{RemoveWith}
-use Rattle.ob_seq.proofs.Simulated.{obeys, stays}
+use Rattle.ob_seq.proofs.Simulating.Simulated.{obeys, stays}
 use Rattle.ob_seq.proofs.buffer.Buffer.remove_with.Goals as goal
 
 pub invariant_of-self : goal.invariant_of-self

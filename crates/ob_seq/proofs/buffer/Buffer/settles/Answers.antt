@@ -1,5 +1,5 @@
 use Rattle.ob_seq.proofs.Words.{◌∙◌}
-use Rattle.ob_seq.proofs.Simulated.{settles}
+use Rattle.ob_seq.proofs.Simulating.Simulated.{settles}
 use Rattle.ob_seq.proofs.buffer.Buffer.settles.Goals as goal
 
 pub returns : goal.returns

@@ -1,8 +1,8 @@
 use Rattle.ob_seq.proofs.Words.{◌≤◌, [], ◌∷◌, List, length, sym, ◌∙◌, map-append, PendingEntry, false, arith}
 use Rattle.ob_seq.proofs.Words.{length-map, Entry, pending_entry, pending_entries}
 use Rattle.std.proofs.lemmas.List.{take-append-le, drop-append-le}
-use Rattle.ob_seq.proofs.Entries.{sum_of_entries, sum_of_parts}
-use Rattle.ob_seq.proofs.Fields.{total_is}
+use Rattle.ob_seq.proofs.Inside.Entries.{sum_of_entries, sum_of_parts}
+use Rattle.ob_seq.proofs.Inside.Fields.{total_is}
 use Rattle.ob_seq.proofs.contents.Contents.add.Goals as goal
 
 pub overflow_add-self : goal.overflow_add-self

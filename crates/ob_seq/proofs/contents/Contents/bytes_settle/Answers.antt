@@ -1,7 +1,7 @@
 use Rattle.ob_seq.proofs.Words.{◌≡◌, Bool, not, length, take, ◌∙◌, cond, ltb, arith, Option, Some, None, count_by}
 use Rattle.ob_seq.proofs.Words.{Success, Refusal, TooManyBytes, Cut, unless_refused, PendingEntry, blocks_left, Pending}
 use Rattle.ob_seq.proofs.Words.{bytes_in, settled_by, bytes_reply, front_id, whole_cut}
-use Rattle.ob_seq.proofs.EntrySettlements.{count_of_settlements}
+use Rattle.ob_seq.proofs.Inside.EntrySettlements.{count_of_settlements}
 use Rattle.ob_seq.proofs.contents.Contents.bytes_settle.Goals as goal
 
 -- a removal of bytes that finds a cut settles as many promises as unvoided entries

@@ -2,8 +2,8 @@ use Rattle.ob_seq.proofs.Words.{◌≡◌, true, refl, sym, ap, ◌∙◌, arith
 use Rattle.ob_seq.proofs.Words.{unflushed_id}
 use Rattle.std.proofs.Common.{rules}
 use Rattle.std.proofs.lemmas.List.{with_items_is, places}
-use Rattle.ob_seq.proofs.Fields.{line_count}
-use Rattle.ob_seq.proofs.Kept.{same_pending}
+use Rattle.ob_seq.proofs.Inside.Fields.{line_count}
+use Rattle.ob_seq.proofs.Inside.Kept.{same_pending}
 use Rattle.ob_seq.proofs.contents.Contents.close_with.Goals as goal
 
 pub returns : goal.returns

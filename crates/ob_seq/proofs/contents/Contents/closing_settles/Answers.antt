@@ -1,5 +1,5 @@
 use Rattle.ob_seq.proofs.Words.{◌≡◌, length, drop, sym, ◌∙◌, arith, unflushed_id}
-use Rattle.ob_seq.proofs.Failures.{count_of_failures}
+use Rattle.ob_seq.proofs.Inside.Failures.{count_of_failures}
 use Rattle.ob_seq.proofs.contents.Contents.closing_settles.Goals as goal
 
 pub returns : goal.returns

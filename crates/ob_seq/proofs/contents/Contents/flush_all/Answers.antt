@@ -1,5 +1,5 @@
 use Rattle.ob_seq.proofs.Words.{arith}
-use Rattle.ob_seq.proofs.Times.{unflushed_left}
+use Rattle.ob_seq.proofs.Inside.Times.{unflushed_left}
 use Rattle.ob_seq.proofs.contents.Contents.flush_all.Goals as goal
 
 pub flush_next-requires : goal.flush_next-requires

@@ -1,8 +1,8 @@
 use Rattle.ob_seq.proofs.Words.{[], ◌<◌, true, length, sym, ap, ◌∙◌, arith, length-map, Block, Waiting, PendingEntry}
 use Rattle.ob_seq.proofs.Words.{pending_entry, pending_entries, Settings, next_flushed}
 use Rattle.std.proofs.lemmas.List.{get_or_read, length-drop, map-set, set-get_or}
-use Rattle.ob_seq.proofs.Entries.{entry_at, sum_of_entries}
-use Rattle.ob_seq.proofs.Kept.{kept_next}
+use Rattle.ob_seq.proofs.Inside.Entries.{entry_at, sum_of_entries}
+use Rattle.ob_seq.proofs.Inside.Kept.{kept_next}
 use Rattle.ob_seq.proofs.contents.Contents.flush_next.Goals as goal
 
 pub returns : goal.returns

@@ -1,5 +1,5 @@
 use Rattle.ob_seq.proofs.Words.{sym, ap, pending_entries}
-use Rattle.ob_seq.proofs.Marks.{word_at_start}
+use Rattle.ob_seq.proofs.Word.Marks.{word_at_start}
 use Rattle.ob_seq.proofs.contents.Contents.new.Goals as goal
 
 pub returns-clause-stands : goal.returns-clause-stands

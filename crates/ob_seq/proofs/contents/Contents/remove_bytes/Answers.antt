@@ -1,5 +1,5 @@
 use Rattle.ob_seq.proofs.Words.{true, Success}
-use Rattle.ob_seq.proofs.Times.{line_of_times}
+use Rattle.ob_seq.proofs.Inside.Times.{line_of_times}
 use Rattle.ob_seq.proofs.contents.Contents.remove_bytes.Goals as goal
 
 pub skip_in_front-requires : goal.skip_in_front-requires

@@ -1,7 +1,7 @@
 use Rattle.ob_seq.proofs.Words.{◌≡◌, ◌-◌, ◌<◌, true, false, length, sym, ap, ◌∙◌, append-nil, arith, pending_entry}
 use Rattle.ob_seq.proofs.Words.{front_id}
-use Rattle.ob_seq.proofs.EntrySettlements.{entries_settle, settled_more, settled_room}
-use Rattle.ob_seq.proofs.Fields.{in_line, line_count, promise_count, unflushed_count}
+use Rattle.ob_seq.proofs.Inside.EntrySettlements.{entries_settle, settled_more, settled_room}
+use Rattle.ob_seq.proofs.Inside.Fields.{in_line, line_count, promise_count, unflushed_count}
 use Rattle.ob_seq.proofs.contents.Contents.settlements.Goals.{then-not-index+in_ok-push, else-not-index}
 use Rattle.ob_seq.proofs.contents.Contents.settlements.Goals as goal
 

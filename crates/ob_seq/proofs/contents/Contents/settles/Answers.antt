@@ -1,6 +1,6 @@
 use Rattle.ob_seq.proofs.Words.{step_of, length, sym, ap, ◌∙◌, arith, take_all, Failed, Pending, failing_step, front_id}
-use Rattle.ob_seq.proofs.EntrySettlements.{count_of_settlements}
-use Rattle.ob_seq.proofs.Simulation.{settled_nothing, settled_where_open}
+use Rattle.ob_seq.proofs.Inside.EntrySettlements.{count_of_settlements}
+use Rattle.ob_seq.proofs.Simulating.Simulation.{settled_nothing, settled_where_open}
 use Rattle.ob_seq.proofs.contents.Contents.settles.Goals as goal
 
 pub returns-in-Write : goal.returns-in-Write

@@ -1,6 +1,6 @@
 use Rattle.ob_seq.proofs.Words.{◌≡◌, ◌-◌, length, arith}
 use Rattle.std.proofs.lemmas.List.{length-drop}
-use Rattle.ob_seq.proofs.Times.{line_of_times}
+use Rattle.ob_seq.proofs.Inside.Times.{line_of_times}
 use Rattle.ob_seq.proofs.contents.Contents.take_first.Goals as goal
 
 pub take_front-requires : goal.take_front-requires

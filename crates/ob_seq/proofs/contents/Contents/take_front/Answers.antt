@@ -2,9 +2,9 @@ use Rattle.ob_seq.proofs.Words.{◌≡◌, ◌-◌, ◌<◌, Bool, List, ◌∷�
 use Rattle.ob_seq.proofs.Words.{if◌then◌else◌, length-map, Outcome, Settled, Inside, Entry, IsSound, Settings}
 use Rattle.ob_seq.proofs.Words.{pending_entry, pending_entries, pending_of, Pending, front_taken, sum_of}
 use Rattle.ob_seq.proofs.Words.{word_after_fall}
-use Rattle.ob_seq.proofs.Entries.{sum_of_entries}
-use Rattle.ob_seq.proofs.Fields.{line_count}
-use Rattle.ob_seq.proofs.Kept.{kept, kept_taken}
+use Rattle.ob_seq.proofs.Inside.Entries.{sum_of_entries}
+use Rattle.ob_seq.proofs.Inside.Fields.{line_count}
+use Rattle.ob_seq.proofs.Inside.Kept.{kept, kept_taken}
 use Rattle.ob_seq.proofs.contents.Contents.take_front.Goals as goal
 
 -- what is held once the first entry is off

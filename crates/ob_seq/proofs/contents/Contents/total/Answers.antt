@@ -1,4 +1,4 @@
-use Rattle.ob_seq.proofs.Fields.{total_is}
+use Rattle.ob_seq.proofs.Inside.Fields.{total_is}
 use Rattle.ob_seq.proofs.contents.Contents.total.Goals as goal
 
 pub returns : goal.returns

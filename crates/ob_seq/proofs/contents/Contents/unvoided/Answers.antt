@@ -1,6 +1,6 @@
 use Rattle.ob_seq.proofs.Words.{cond, not, take, arith, take-map, pending_entry}
-use Rattle.ob_seq.proofs.Entries.{sum_seen}
-use Rattle.ob_seq.proofs.Fields.{first_in_line, line_count}
+use Rattle.ob_seq.proofs.Inside.Entries.{sum_seen}
+use Rattle.ob_seq.proofs.Inside.Fields.{first_in_line, line_count}
 use Rattle.ob_seq.proofs.contents.Contents.unvoided.Goals as goal
 
 pub unvoided-requires : goal.unvoided-requires

@@ -1,7 +1,7 @@
 use Rattle.ob_seq.proofs.Words.{◌≡◌, ◌≤◌, ◌<◌, ◌-◌, true, false, length, drop, get_or, sym, ◌∙◌, append-nil, arith}
 use Rattle.ob_seq.proofs.Words.{take_all, drop_all, take-append-drop, Waiting}
 use Rattle.std.proofs.lemmas.List.{length-drop, set-get_or}
-use Rattle.ob_seq.proofs.Failures.{failed_by, one_more_failed}
+use Rattle.ob_seq.proofs.Inside.Failures.{failed_by, one_more_failed}
 use Rattle.ob_seq.proofs.contents.close.fail_waiting.Goals.{then-is_waiting, else-is_waiting}
 use Rattle.ob_seq.proofs.contents.close.fail_waiting.Goals as goal
 

@@ -1,7 +1,7 @@
 use Rattle.ob_seq.proofs.Words.{◌≡◌, true, false, length, get_or, refl, sym, ap, ◌∙◌, append-nil, arith, take_all}
 use Rattle.ob_seq.proofs.Words.{Waiting}
-use Rattle.ob_seq.proofs.EntrySettlements.{settled_more, settled_room}
-use Rattle.ob_seq.proofs.Failures.{failures_settle}
+use Rattle.ob_seq.proofs.Inside.EntrySettlements.{settled_more, settled_room}
+use Rattle.ob_seq.proofs.Inside.Failures.{failures_settle}
 use Rattle.ob_seq.proofs.contents.close.failures_of.Goals.{then-is_waiting+in_ok-push, else-is_waiting}
 use Rattle.ob_seq.proofs.contents.close.failures_of.Goals as goal
 

@@ -11,10 +11,11 @@ use Rattle.std.proofs.Common.{length-drop}
 use Rattle.std.proofs.lemmas.List.Elements.{All-from_recursion, length_all_zip}
 use Rattle.ob_types.specs.Limits.{greatest_total, most_writes}
 use Rattle.ob_seq.specs.Fitting.{FitsItsPlace}
-use Rattle.ob_seq.proofs.Accepting.{kept_along_accepted, not_refused, open_and_fit}
-use Rattle.ob_seq.proofs.EachRow.{Ends, IsKnown, each_as, each_turns, effect_turns, row_for_each_write, total_turns}
-use Rattle.ob_seq.proofs.History.{closed_more, rows_after_more}
-use Rattle.ob_seq.proofs.Order.{IsGone, all_now_gone, each_append}
+use Rattle.ob_seq.proofs.Rows.Accepting.{kept_along_accepted, not_refused, open_and_fit}
+use Rattle.ob_seq.proofs.Rows.EachRow.{Ends, IsKnown, each_as, each_turns, effect_turns, row_for_each_write}
+use Rattle.ob_seq.proofs.Rows.EachRow.{total_turns}
+use Rattle.ob_seq.proofs.Rows.History.{closed_more, rows_after_more}
+use Rattle.ob_seq.proofs.Rows.Order.{IsGone, all_now_gone, each_append}
 
 -- after a close each row is gone
 close_leaves_none : (estimate : Estimate) (rows : List Row) (command : Command) → is_close command ≡ true →

@@ -10,14 +10,15 @@ use Rattle.ob_seq.specs.Moment.{gives_notice}
 use Rattle.ob_seq.specs.Steps.Remove.{front_removed, removal_reply, removal_step}
 use Rattle.ob_seq.specs.Steps.RemoveBytes.{front_skipped}
 use Rattle.ob_seq.specs.Steps.Held.{is_first_voided}
-use Rattle.ob_seq.proofs.Fronts.{Carries, carried, rows_of, some_front}
-use Rattle.ob_seq.proofs.Held.{Held, front_id_is, held_of, word_by_moments}
-use Rattle.ob_seq.proofs.History.{moments_after}
-use Rattle.ob_seq.proofs.Marks.{IsQuiet, half_after}
-use Rattle.ob_seq.proofs.Order.{IsStanding, with_front_gone, with_front_fresh, with_front_standing, layout_of}
-use Rattle.ob_seq.proofs.Sent.{all_taken, settlements_of_taken}
-use Rattle.ob_seq.proofs.Simulation.{Simulates}
-use Rattle.ob_seq.proofs.Skipped.{rows_skipped, settlements_of_skipped, skipped_held, skipped_opening, skipped_same}
+use Rattle.ob_seq.proofs.Rows.Fronts.{Carries, carried, rows_of, some_front}
+use Rattle.ob_seq.proofs.Inside.Held.{Held, front_id_is, held_of, word_by_moments}
+use Rattle.ob_seq.proofs.Rows.History.{moments_after}
+use Rattle.ob_seq.proofs.Word.Marks.{IsQuiet, half_after}
+use Rattle.ob_seq.proofs.Rows.Order.{IsStanding, with_front_gone, with_front_fresh, with_front_standing, layout_of}
+use Rattle.ob_seq.proofs.Rows.Sent.{all_taken, settlements_of_taken}
+use Rattle.ob_seq.proofs.Simulating.Simulation.{Simulates}
+use Rattle.ob_seq.proofs.Inside.Skipped.{rows_skipped, settlements_of_skipped, skipped_held, skipped_opening}
+use Rattle.ob_seq.proofs.Inside.Skipped.{skipped_same}
 
 -- the command asks nothing of a user bit and does not close, and its falls are with or without notice
 pub record IsPlain (command : Command) (notice : Bool) : Type 0 where

@@ -7,11 +7,11 @@ use Rattle.ob_seq.proofs.Words.{user_bit, word_after, reply_of, Pending, StandsF
 use Rattle.std.specs.Int.{bit_not, w32}
 use Rattle.std.proofs.lemmas.Nat.Bits.{bit_at_and, bit_at_not, bit_at-pow_same, bit_at-pow_other}
 use Rattle.ob_seq.specs.Steps.UserBit.{bit_changed, with_user_bit}
-use Rattle.ob_seq.proofs.Acceptance.{open_history}
-use Rattle.ob_seq.proofs.Along.{moments_of_same, settlements_of_same}
-use Rattle.ob_seq.proofs.Digits.{digit_of, word_digits, word_of, word_of_digits}
-use Rattle.ob_seq.proofs.History.{moments_after, moments_after_more, rows_after_more, accepted_more, closed_more}
-use Rattle.ob_seq.proofs.Marks.{mark_of, word_is_from}
+use Rattle.ob_seq.proofs.Rows.Acceptance.{open_history}
+use Rattle.ob_seq.proofs.Rows.Along.{moments_of_same, settlements_of_same}
+use Rattle.ob_seq.proofs.Word.Digits.{digit_of, word_digits, word_of, word_of_digits}
+use Rattle.ob_seq.proofs.Rows.History.{moments_after, moments_after_more, rows_after_more, accepted_more, closed_more}
+use Rattle.ob_seq.proofs.Word.Marks.{mark_of, word_is_from}
 
 -- the user bits after one more command
 bit_by : (requests : List Bool) (here now : Bool) →

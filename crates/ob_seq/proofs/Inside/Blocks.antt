@@ -5,7 +5,7 @@ use Rattle.ob_seq.proofs.Words.{pieces_within}
 use Rattle.std.specs.Prelude.{take_while}
 use Rattle.std.proofs.lemmas.List.Sums.{prefix_len-le-length}
 use Rattle.std.proofs.lemmas.List.Folds.{length-prefix_len}
-use Rattle.ob_seq.proofs.Pieces.{fitting_few, within_is_fitting}
+use Rattle.ob_seq.proofs.Inside.Pieces.{fitting_few, within_is_fitting}
 
 abbrev message_of : PendingEntry → Message
 message_of entry = entry.message

@@ -9,9 +9,10 @@ use Rattle.ob_seq.proofs.Words.{with_skipped, front, counted_size, total, is_in_
 use Rattle.ob_seq.proofs.Words.{AllByRecursion, PromiseState, rows_after, writes_in, length-append, sum_by-cons}
 use Rattle.std.specs.List.{AllZip}
 use Rattle.std.proofs.lemmas.List.Elements.{length_all_zip}
-use Rattle.ob_seq.proofs.Order.{IsFresh, IsGone, IsStanding, Layout, each_append, first_more, first_none, layout_of}
-use Rattle.ob_seq.proofs.Order.{sent}
-pub use Rattle.ob_seq.proofs.Order.{taken_back}
+use Rattle.ob_seq.proofs.Rows.Order.{IsFresh, IsGone, IsStanding, Layout, each_append, first_more, first_none}
+use Rattle.ob_seq.proofs.Rows.Order.{layout_of}
+use Rattle.ob_seq.proofs.Rows.Order.{sent}
+pub use Rattle.ob_seq.proofs.Rows.Order.{taken_back}
 
 -- the outcome with which a promise is settled, if there is such a promise and it is
 abbrev pub outcome_in : Option PromiseState → Option Outcome

@@ -3,12 +3,12 @@ use Rattle.ob_seq.proofs.Words.{◌≡◌, Bool, false, List, [], length, map, r
 use Rattle.ob_seq.proofs.Words.{Command, FailFlushed, Cause, Failed, Count, line, failed_row, entry_of, Pending}
 use Rattle.ob_seq.proofs.Words.{StandsFor, entry_settlements, failing_step, front_id, front_taken}
 use Rattle.ob_seq.specs.Steps.FailFlushed.{failing_reply, line_failed}
-use Rattle.ob_seq.proofs.Fronts.{Carries, rows_of}
-use Rattle.ob_seq.proofs.Held.{held_of, line_count}
-use Rattle.ob_seq.proofs.Order.{layout_of, failed_parts}
-use Rattle.ob_seq.proofs.Removed.{taken_away}
-use Rattle.ob_seq.proofs.Simulation.{Simulates}
-use Rattle.ob_seq.proofs.Times.{settings_of_times}
+use Rattle.ob_seq.proofs.Rows.Fronts.{Carries, rows_of}
+use Rattle.ob_seq.proofs.Inside.Held.{held_of, line_count}
+use Rattle.ob_seq.proofs.Rows.Order.{layout_of, failed_parts}
+use Rattle.ob_seq.proofs.Simulating.Removed.{taken_away}
+use Rattle.ob_seq.proofs.Simulating.Simulation.{Simulates}
+use Rattle.ob_seq.proofs.Inside.Times.{settings_of_times}
 
 -- a buffer without its line carries the failing out
 failed_line : (cause : Cause) (notice : Bool) (old : Pending) (commands : List Command) → StandsFor old commands →

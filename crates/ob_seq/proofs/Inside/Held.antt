@@ -4,10 +4,10 @@ use Rattle.ob_seq.proofs.Words.{AllByRecursion, length-append, length-map, Marks
 use Rattle.ob_seq.proofs.Words.{line, unflushed, total, effect, rows_after, is_close, is_closed, Moment, moments_of}
 use Rattle.ob_seq.proofs.Words.{word_after, are_accepted, refusal_of, None, entry_of, Pending, StandsFor, pending_total}
 use Rattle.ob_seq.proofs.Words.{unflushed_id, front_id, ℕ, ◌+◌, sum_by-cons, counted_size, sum_of, PendingEntry}
-use Rattle.ob_seq.proofs.History.{accepted_more, closed_more, moments_after, rows_after_more}
-use Rattle.ob_seq.proofs.Marks.{IsQuiet, half_after, word_from, word_is_from, word_is_from_more}
-use Rattle.ob_seq.proofs.Order.{IsGone, IsStanding, IsFresh, layout_of}
-use Rattle.ob_seq.proofs.Parts.{line_of_parts, unflushed_of_parts}
+use Rattle.ob_seq.proofs.Rows.History.{accepted_more, closed_more, moments_after, rows_after_more}
+use Rattle.ob_seq.proofs.Word.Marks.{IsQuiet, half_after, word_from, word_is_from, word_is_from_more}
+use Rattle.ob_seq.proofs.Rows.Order.{IsGone, IsStanding, IsFresh, layout_of}
+use Rattle.ob_seq.proofs.Rows.Parts.{line_of_parts, unflushed_of_parts}
 
 -- the entries in line and those that no flush has reached count together what the rows count
 pub sum_of_rows : (rows : List Row) →

@@ -1,7 +1,7 @@
 -- The bits of the word.
 use Rattle.ob_seq.proofs.Words.{◌≡◌, eqb, ℕ, zero, suc, ◌<◌, ◌≤◌, Bool, true, List, ltb, arith, ◌↔◌, bit_at, nat_tests}
 use Rattle.ob_seq.proofs.Words.{Command, mark_after, Settings, user_bit, word_after}
-use Rattle.ob_seq.proofs.Digits.{digit_of, user_bits_even, word_digits, word_of, word_of_digits, word_small}
+use Rattle.ob_seq.proofs.Word.Digits.{digit_of, user_bits_even, word_digits, word_of, word_of_digits, word_small}
 
 module _ (settings : Settings) (commands : List Command) where
   abbrev digits : ℕ → Bool

@@ -8,9 +8,9 @@ use Rattle.std.specs.List.{Contains}
 use Rattle.std.proofs.lemmas.List.Elements.{All-contains_itself, All-filter, All-head}
 use Rattle.std.proofs.lemmas.List.Sums.{length-filter}
 use Rattle.ob_seq.specs.Settles.{times_settled}
-use Rattle.ob_seq.proofs.Accepting.{all_among, none_or_some}
-use Rattle.ob_seq.proofs.EachRow.{StaysSettled, effect_stays, outcome_at, outcome_in}
-use Rattle.ob_seq.proofs.History.{rows_after_more}
+use Rattle.ob_seq.proofs.Rows.Accepting.{all_among, none_or_some}
+use Rattle.ob_seq.proofs.Rows.EachRow.{StaysSettled, effect_stays, outcome_at, outcome_in}
+use Rattle.ob_seq.proofs.Rows.History.{rows_after_more}
 
 -- a promise with an outcome is settled with it
 settled_in : (state : Option PromiseState) (outcome : Outcome) → outcome_in state ≡ Some outcome →

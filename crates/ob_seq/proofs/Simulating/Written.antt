@@ -4,11 +4,11 @@ use Rattle.ob_seq.proofs.Words.{nat_tests, map-append, length-map, filter-append
 use Rattle.ob_seq.proofs.Words.{Message, Command, Write, entry_of, Row, new_row, without_skipped, is_unflushed}
 use Rattle.ob_seq.proofs.Words.{is_in_line, unflushed, total, rows_after, moment_of, moments_of, Pending, StandsFor}
 use Rattle.ob_seq.proofs.Words.{pending_total, word_after_rise, write_step}
-use Rattle.ob_seq.proofs.Simulation.{Simulates, simulates_by}
-use Rattle.ob_seq.proofs.Along.{moments_past, settlements_past}
-use Rattle.ob_seq.proofs.Held.{promise_of, sum_of_rows, word_at_end, word_by_moments}
-use Rattle.ob_seq.proofs.History.{moments_after}
-use Rattle.ob_seq.proofs.Marks.{half_after, word_from_more, word_step}
+use Rattle.ob_seq.proofs.Simulating.Simulation.{Simulates, simulates_by}
+use Rattle.ob_seq.proofs.Rows.Along.{moments_past, settlements_past}
+use Rattle.ob_seq.proofs.Inside.Held.{promise_of, sum_of_rows, word_at_end, word_by_moments}
+use Rattle.ob_seq.proofs.Rows.History.{moments_after}
+use Rattle.ob_seq.proofs.Word.Marks.{half_after, word_from_more, word_step}
 
 -- the bytes pending in a buffer are those of the rows
 pub pending_total_stands : (buffer : Pending) (commands : List Command) → StandsFor buffer commands →

@@ -4,8 +4,8 @@ use Rattle.ob_seq.proofs.Words.{refusal_of, reply_of, rows_after, effect, is_clo
 use Rattle.ob_seq.proofs.Words.{StandsFor, settled_by_step}
 use Rattle.ob_seq.specs.Answer.{answer_of}
 use Rattle.ob_seq.specs.Steps.Step.{Step, settled_open}
-use Rattle.ob_seq.proofs.Acceptance.{same_reply}
-use Rattle.ob_seq.proofs.Held.{Holds, opening, stands_more}
+use Rattle.ob_seq.proofs.Rows.Acceptance.{same_reply}
+use Rattle.ob_seq.proofs.Inside.Held.{Holds, opening, stands_more}
 
 -- whatever history a buffer stands for, its step is refused as the definition says, and else replies as it says and
 -- leaves what stands for the history with the command

@@ -4,13 +4,13 @@ use Rattle.ob_seq.proofs.Words.{sym, ◌∙◌, append_assoc, append-nil, AllByR
 use Rattle.ob_seq.proofs.Words.{taken_row, with_first, Moment, moment_of, moments_along, outcome_of, settlement}
 use Rattle.ob_seq.proofs.Words.{settlements_from, entry_of, Pending, front_taken, entry_settlement, entry_settlements}
 use Rattle.ob_seq.proofs.Words.{times}
-use Rattle.ob_seq.proofs.Along.{moments_behind}
-use Rattle.ob_seq.proofs.Held.{opening, Held}
-use Rattle.ob_seq.proofs.Marks.{word_from}
-use Rattle.ob_seq.proofs.Order.{IsGone, IsStanding, all_now_gone, each_append, first_more, first_none, sent}
-use Rattle.ob_seq.proofs.Order.{with_front_gone, with_front_standing}
-use Rattle.ob_seq.proofs.Taken.{taken_held, taken_word}
-use Rattle.ob_seq.proofs.Times.{times_first}
+use Rattle.ob_seq.proofs.Rows.Along.{moments_behind}
+use Rattle.ob_seq.proofs.Inside.Held.{opening, Held}
+use Rattle.ob_seq.proofs.Word.Marks.{word_from}
+use Rattle.ob_seq.proofs.Rows.Order.{IsGone, IsStanding, all_now_gone, each_append, first_more, first_none, sent}
+use Rattle.ob_seq.proofs.Rows.Order.{with_front_gone, with_front_standing}
+use Rattle.ob_seq.proofs.Inside.Taken.{taken_held, taken_word}
+use Rattle.ob_seq.proofs.Inside.Times.{times_first}
 
 -- the rows when the first in line are gone
 pub with_first_sent : (first gone behind : List Row) → AllByRecursion IsGone gone → AllByRecursion IsStanding first →

@@ -16,25 +16,26 @@ use Rattle.ob_seq.specs.Settles.{Settles}
 use Rattle.ob_seq.specs.Steps.Step.{Step, Makes, answer_by, held_by}
 use Rattle.ob_seq.specs.Steps.RemoveBytes.{bytes_step}
 use Rattle.ob_seq.specs.Steps.Progress.{progressed_entry}
-use Rattle.ob_seq.proofs.Blocks.{few_entries}
-use Rattle.ob_seq.proofs.BytesRemoved.{bytes_removed_stand, run_is}
-use Rattle.ob_seq.proofs.Cancelled.{cancel_simulates}
-use Rattle.ob_seq.proofs.Closing.{closing_simulates}
-use Rattle.ob_seq.proofs.Failing.{failing_simulates}
-use Rattle.ob_seq.proofs.Removed.{removal, removal_simulates, removal_with}
-use Rattle.ob_seq.proofs.Simulation.{Simulates, simulates_by}
-use Rattle.ob_seq.proofs.Skipped.{skipped_opening}
-use Rattle.ob_seq.proofs.Times.{settings_of_times}
-use Rattle.ob_seq.proofs.UserBits.{bit_changed_stands, reply_of_bit}
-use Rattle.ob_seq.proofs.Written.{write_simulates}
-use Rattle.ob_seq.proofs.Along.{moments_past, settlements_past, moment_of_same, moments_in_one, settlement_same}
-use Rattle.ob_seq.proofs.Along.{settlements_in_one}
-use Rattle.ob_seq.proofs.Held.{word_at_end, held_of, held_rows, fresh_count, word_by_moments}
-use Rattle.ob_seq.proofs.History.{moments_after}
-use Rattle.ob_seq.proofs.Marks.{half_after, word_after_same}
-use Rattle.ob_seq.proofs.Order.{Layout, layout_of, flush_parts, with_front_gone, with_front_standing, progressed_stands}
-use Rattle.ob_seq.proofs.Reached.{all_reached, settlements_of_reached}
-use Rattle.ob_seq.proofs.Fronts.{fronted}
+use Rattle.ob_seq.proofs.Inside.Blocks.{few_entries}
+use Rattle.ob_seq.proofs.Simulating.BytesRemoved.{bytes_removed_stand, run_is}
+use Rattle.ob_seq.proofs.Simulating.Cancelled.{cancel_simulates}
+use Rattle.ob_seq.proofs.Simulating.Closing.{closing_simulates}
+use Rattle.ob_seq.proofs.Simulating.Failing.{failing_simulates}
+use Rattle.ob_seq.proofs.Simulating.Removed.{removal, removal_simulates, removal_with}
+use Rattle.ob_seq.proofs.Simulating.Simulation.{Simulates, simulates_by}
+use Rattle.ob_seq.proofs.Inside.Skipped.{skipped_opening}
+use Rattle.ob_seq.proofs.Inside.Times.{settings_of_times}
+use Rattle.ob_seq.proofs.Word.UserBits.{bit_changed_stands, reply_of_bit}
+use Rattle.ob_seq.proofs.Simulating.Written.{write_simulates}
+use Rattle.ob_seq.proofs.Rows.Along.{moments_past, settlements_past, moment_of_same, moments_in_one, settlement_same}
+use Rattle.ob_seq.proofs.Rows.Along.{settlements_in_one}
+use Rattle.ob_seq.proofs.Inside.Held.{word_at_end, held_of, held_rows, fresh_count, word_by_moments}
+use Rattle.ob_seq.proofs.Rows.History.{moments_after}
+use Rattle.ob_seq.proofs.Word.Marks.{half_after, word_after_same}
+use Rattle.ob_seq.proofs.Rows.Order.{Layout, layout_of, flush_parts, with_front_gone, with_front_standing}
+use Rattle.ob_seq.proofs.Rows.Order.{progressed_stands}
+use Rattle.ob_seq.proofs.Rows.Reached.{all_reached, settlements_of_reached}
+use Rattle.ob_seq.proofs.Rows.Fronts.{fronted}
 
 -- the flush simulates the command
 flush_simulates : (old : Pending) → Simulates Flush old (flush_step old)

@@ -7,8 +7,8 @@ use Rattle.ob_seq.specs.Moment.{Rise, NoticedFall, SilentFall}
 use Rattle.ob_seq.specs.Mark.{decides, deciding_from, is_rise, is_set_by}
 use Rattle.ob_seq.specs.Word.{user_bits}
 use Rattle.ob_seq.specs.Steps.Word.{with_mark}
-use Rattle.ob_seq.proofs.Digits.{half_bits, same_number, user_bits_even}
-use Rattle.ob_seq.proofs.History.{moments_from, moments_after, moments_after_more}
+use Rattle.ob_seq.proofs.Word.Digits.{half_bits, same_number, user_bits_even}
+use Rattle.ob_seq.proofs.Rows.History.{moments_from, moments_after, moments_after_more}
 
 -- the mark after moments under these marks
 abbrev pub mark_of : Marks → List Moment → Bool

@@ -5,7 +5,7 @@ use Rattle.ob_seq.proofs.Words.{Cause, PromiseId, Outcome, Failed, PromiseState,
 use Rattle.ob_seq.proofs.Words.{failures, take-append-drop}
 use Rattle.std.proofs.lemmas.List.{get_or-append_right, get_or_default, length-drop, set-append_right}
 use Rattle.std.proofs.lemmas.List.Edits.{map_over_more}
-use Rattle.ob_seq.proofs.EntrySettlements.{SettlesEach, settled_count}
+use Rattle.ob_seq.proofs.Inside.EntrySettlements.{SettlesEach, settled_count}
 
 -- what one promise settles
 abbrev pub failure : Cause → ℕ → PromiseState → List (PromiseId × Outcome)

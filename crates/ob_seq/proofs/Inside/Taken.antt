@@ -4,9 +4,9 @@ use Rattle.ob_seq.proofs.Words.{append_assoc, arith, slice_set, nat_tests, map-a
 use Rattle.ob_seq.proofs.Words.{sum_by-cons, set-append_seam, Settled, Outcome, PromiseState, Row, is_voided}
 use Rattle.ob_seq.proofs.Words.{counted_size, total, taken_row, Moment, moment_of, Pending, first_size, front_taken}
 use Rattle.ob_seq.specs.Steps.Held.{is_first_voided}
-use Rattle.ob_seq.proofs.Held.{Held, promise_of, front_id_is, pending_total_is}
-use Rattle.ob_seq.proofs.Marks.{word_from, word_from_more}
-use Rattle.ob_seq.proofs.Order.{IsStanding, IsGone, each_append}
+use Rattle.ob_seq.proofs.Inside.Held.{Held, promise_of, front_id_is, pending_total_is}
+use Rattle.ob_seq.proofs.Word.Marks.{word_from, word_from_more}
+use Rattle.ob_seq.proofs.Rows.Order.{IsStanding, IsGone, each_append}
 
 -- the bytes pending without one row
 pub total_without : (rows : List Row) (was row : Row) (behind : List Row) → counted_size row ≡ 0 →

@@ -7,13 +7,13 @@ use Rattle.ob_seq.proofs.Words.{refusal_of, settlement, settlements_from, entry_
 use Rattle.ob_seq.proofs.Words.{closing_reply, failures, unflushed_id}
 use Rattle.std.proofs.lemmas.List.{drop_at, nil_from_length, take_at}
 use Rattle.ob_seq.specs.Steps.Close.{closing_step}
-use Rattle.ob_seq.proofs.Failures.{failure}
-use Rattle.ob_seq.proofs.Fronts.{Carries, carried, rows_of, some_front}
-use Rattle.ob_seq.proofs.Simulation.{Simulates}
-use Rattle.ob_seq.proofs.Held.{held_of, line_count, promise_of, unflushed_id_is, word_by_moments}
-use Rattle.ob_seq.proofs.History.{moments_after}
-use Rattle.ob_seq.proofs.Marks.{half_after, word_from, word_from_more}
-use Rattle.ob_seq.proofs.Order.{IsGone, IsFresh, all_now_gone, each_append, layout_of, stay_by}
+use Rattle.ob_seq.proofs.Inside.Failures.{failure}
+use Rattle.ob_seq.proofs.Rows.Fronts.{Carries, carried, rows_of, some_front}
+use Rattle.ob_seq.proofs.Simulating.Simulation.{Simulates}
+use Rattle.ob_seq.proofs.Inside.Held.{held_of, line_count, promise_of, unflushed_id_is, word_by_moments}
+use Rattle.ob_seq.proofs.Rows.History.{moments_after}
+use Rattle.ob_seq.proofs.Word.Marks.{half_after, word_from, word_from_more}
+use Rattle.ob_seq.proofs.Rows.Order.{IsGone, IsFresh, all_now_gone, each_append, layout_of, stay_by}
 
 -- a close leaves rows alone that are gone
 closed_gone : (cause : Cause) (row : Row) → IsGone row → closed_row cause row ≡ row

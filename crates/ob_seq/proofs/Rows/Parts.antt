@@ -2,7 +2,7 @@
 use Rattle.ob_seq.proofs.Words.{◌≡◌, cond, Bool, true, false, List, [], ◌∷◌, ◌++◌, refl, append-nil, arith}
 use Rattle.ob_seq.proofs.Words.{AllByRecursion, filter, Some, filter-append, Row, is_unflushed, is_in_line, line, front}
 use Rattle.ob_seq.proofs.Words.{unflushed}
-use Rattle.ob_seq.proofs.Order.{IsGone, IsStanding, IsFresh, gone_not_in_line, standing_in_line, fresh_not_in_line}
+use Rattle.ob_seq.proofs.Rows.Order.{IsGone, IsStanding, IsFresh, gone_not_in_line, standing_in_line, fresh_not_in_line}
 
 -- a filter that each row passes, or none
 filter_each : (kept : Bool) (P : Row → Type 0) (test : Row → Bool) → ((row : Row) → P row → test row ≡ kept) →

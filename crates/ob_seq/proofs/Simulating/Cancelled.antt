@@ -8,11 +8,11 @@ use Rattle.std.proofs.lemmas.List.{set-get_or}
 use Rattle.std.proofs.lemmas.Option.{slice_get-get_or}
 use Rattle.ob_seq.specs.Steps.Cancel.{cancel_step}
 use Rattle.ob_seq.specs.Steps.Held.{state_at}
-use Rattle.ob_seq.proofs.Along.{moment_of_same, moments_behind, settlement_same, settlements_behind}
-use Rattle.ob_seq.proofs.EachRow.{taken_back}
-use Rattle.ob_seq.proofs.Held.{promise_of}
-use Rattle.ob_seq.proofs.Marks.{word_after_same}
-use Rattle.ob_seq.proofs.Simulation.{Simulates, simulates_by}
+use Rattle.ob_seq.proofs.Rows.Along.{moment_of_same, moments_behind, settlement_same, settlements_behind}
+use Rattle.ob_seq.proofs.Rows.EachRow.{taken_back}
+use Rattle.ob_seq.proofs.Inside.Held.{promise_of}
+use Rattle.ob_seq.proofs.Word.Marks.{word_after_same}
+use Rattle.ob_seq.proofs.Simulating.Simulation.{Simulates, simulates_by}
 
 -- the state of the promise at an index
 abbrev state_of : List Row → ℕ → PromiseState

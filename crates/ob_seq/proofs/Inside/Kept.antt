@@ -4,7 +4,7 @@ use Rattle.ob_seq.proofs.Words.{◌∙◌, length-append, arith, Bool, slice_set
 use Rattle.ob_seq.proofs.Words.{PromiseState, Waiting, Fixed, Settled, PendingEntry, Settings, Pending, sum_of}
 use Rattle.ob_seq.proofs.Words.{front_taken, word_after_fall, next_flushed, reached_entry, is_cancelled}
 use Rattle.std.proofs.lemmas.List.{drop-drop, drop-set-lt, drop_more, take_more_set}
-use Rattle.ob_seq.proofs.Entries.{sum_of_parts}
+use Rattle.ob_seq.proofs.Inside.Entries.{sum_of_parts}
 
 -- what a buffer holds, by its parts
 abbrev pub pending_from : Settings → List PendingEntry → List PendingEntry → List PromiseState → ℕ → Bool → Pending

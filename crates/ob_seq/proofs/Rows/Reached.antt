@@ -6,11 +6,11 @@ use Rattle.ob_seq.proofs.Words.{entry_of, Row, is_cancelled, counted_size, total
 use Rattle.ob_seq.proofs.Words.{moments_along, outcome_of, settlement, settlements_from, Pending, pending_total}
 use Rattle.ob_seq.proofs.Words.{first_size, reached_entry, unflushed_id, next_flushed, times, word_after_fall}
 use Rattle.ob_seq.specs.Steps.Flush.{is_next_cancelled}
-use Rattle.ob_seq.proofs.Held.{opening, Held, promise_of, unflushed_id_is, pending_total_is}
-use Rattle.ob_seq.proofs.Marks.{word_from, word_from_more, word_step}
-use Rattle.ob_seq.proofs.Order.{IsFresh, IsStanding, each_append, reached_stands}
-use Rattle.ob_seq.proofs.Taken.{total_without}
-use Rattle.ob_seq.proofs.Times.{times_first}
+use Rattle.ob_seq.proofs.Inside.Held.{opening, Held, promise_of, unflushed_id_is, pending_total_is}
+use Rattle.ob_seq.proofs.Word.Marks.{word_from, word_from_more, word_step}
+use Rattle.ob_seq.proofs.Rows.Order.{IsFresh, IsStanding, each_append, reached_stands}
+use Rattle.ob_seq.proofs.Inside.Taken.{total_without}
+use Rattle.ob_seq.proofs.Inside.Times.{times_first}
 
 -- a row that a flush reaches as an entry, as a promise, and in the word
 reached_entry_is : (row : Row) → IsFresh row →

@@ -9,12 +9,12 @@ use Rattle.ob_seq.proofs.Words.{Command}
 use Rattle.std.proofs.lemmas.List.{take_at}
 use Rattle.std.proofs.lemmas.Simd.{map-map}
 use Rattle.ob_seq.specs.Steps.RemoveBytes.{bytes_removed}
-use Rattle.ob_seq.proofs.Fronts.{Carries, rows_of}
-use Rattle.ob_seq.proofs.Held.{Held, held_of, line_count}
-use Rattle.ob_seq.proofs.Order.{IsGone, IsStanding, each_append, layout_of}
-use Rattle.ob_seq.proofs.Removed.{taken_away}
-use Rattle.ob_seq.proofs.Sent.{with_first_sent, all_taken_gone, moments_of_sent}
-use Rattle.ob_seq.proofs.Skipped.{rows_skipped, with_skipped_is, moments_of_skipped}
+use Rattle.ob_seq.proofs.Rows.Fronts.{Carries, rows_of}
+use Rattle.ob_seq.proofs.Inside.Held.{Held, held_of, line_count}
+use Rattle.ob_seq.proofs.Rows.Order.{IsGone, IsStanding, each_append, layout_of}
+use Rattle.ob_seq.proofs.Simulating.Removed.{taken_away}
+use Rattle.ob_seq.proofs.Rows.Sent.{with_first_sent, all_taken_gone, moments_of_sent}
+use Rattle.ob_seq.proofs.Inside.Skipped.{rows_skipped, with_skipped_is, moments_of_skipped}
 
 -- the byte run is what the entries in line have left
 pub run_is : (buffer : Pending) (commands : List Command) → StandsFor buffer commands →

@@ -3,7 +3,7 @@ use Rattle.ob_seq.proofs.Words.{[], ◌≡◌, ℕ, suc, ◌+◌, ◌-◌, ◌<�
 use Rattle.ob_seq.proofs.Words.{◌++◌, length, take, refl, sym, ap, ◌∙◌, leb, ltb, arith, nat_tests, append_assoc}
 use Rattle.ob_seq.proofs.Words.{length-append, with_bytes, first_blocks}
 use Rattle.std.proofs.Math.Seq.{take-nil}
-use Rattle.ob_seq.proofs.Pieces.{fitting, within_is_fitting}
+use Rattle.ob_seq.proofs.Inside.Pieces.{fitting, within_is_fitting}
 
 -- with no room no block fits that holds a byte
 no_room : (blocks : List (List ℕ)) → fitting 0 (with_bytes blocks) ≡ 0

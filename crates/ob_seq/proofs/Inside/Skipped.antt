@@ -5,10 +5,10 @@ use Rattle.ob_seq.proofs.Words.{settlements_from, Pending, first_changed, front_
 use Rattle.std.proofs.Math.Seq.{drop-nil}
 use Rattle.std.proofs.lemmas.List.{drop-drop}
 use Rattle.ob_seq.specs.Steps.RemoveBytes.{front_skipped, skipped_entry}
-use Rattle.ob_seq.proofs.Along.{moments_behind, settlements_behind}
-use Rattle.ob_seq.proofs.Held.{Held, promise_of, opening}
-use Rattle.ob_seq.proofs.Order.{IsGone, IsStanding, IsFresh, skipped_stands, with_front_gone, with_front_standing}
-use Rattle.ob_seq.proofs.Order.{with_front_fresh}
+use Rattle.ob_seq.proofs.Rows.Along.{moments_behind, settlements_behind}
+use Rattle.ob_seq.proofs.Inside.Held.{Held, promise_of, opening}
+use Rattle.ob_seq.proofs.Rows.Order.{IsGone, IsStanding, IsFresh, skipped_stands, with_front_gone, with_front_standing}
+use Rattle.ob_seq.proofs.Rows.Order.{with_front_fresh}
 
 -- a skipped row is a skipped entry
 skipped_entry_is : (n : ℕ) (row : Row) → skipped_entry n (entry_of row) ≡ entry_of (skipped_row n row)

@@ -3,8 +3,8 @@ use Rattle.ob_seq.proofs.Words.{◌∙◌, length-map, [], ◌≡◌, ℕ, ◌+�
 use Rattle.ob_seq.proofs.Words.{sym, arith, Block, Entry, Inside, blocks_left, IsSound, pending_entry, pending_entries}
 use Rattle.ob_seq.proofs.Words.{drop_all, pending_of, Pending, pending_total}
 use Rattle.std.proofs.lemmas.List.{drop_more, get_or-take, length-drop, length-take, take-take}
-use Rattle.ob_seq.proofs.Blocks.{left_from_block, left_from_other}
-use Rattle.ob_seq.proofs.Entries.{entry_at, sum_of_entries, sum_of_parts}
+use Rattle.ob_seq.proofs.Inside.Blocks.{left_from_block, left_from_other}
+use Rattle.ob_seq.proofs.Inside.Entries.{entry_at, sum_of_entries, sum_of_parts}
 
 module _ (held : Pending) (inside : Inside) (view : pending_of inside ≡ held) (sound : IsSound inside) where
   -- as many stand in line as the cursor says, and as many behind it as there are more

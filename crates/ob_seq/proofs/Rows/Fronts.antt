@@ -5,13 +5,13 @@ use Rattle.ob_seq.proofs.Words.{is_in_line, front, line, effect, rows_after, mom
 use Rattle.ob_seq.proofs.Words.{settlements_from, reply_of, entry_of, Pending, StandsFor}
 use Rattle.ob_seq.specs.Answer.{answer_of}
 use Rattle.ob_seq.specs.Moment.{gives_notice}
-use Rattle.ob_seq.proofs.Acceptance.{same_reply}
-use Rattle.ob_seq.proofs.Along.{moments_past, settlements_past}
-use Rattle.ob_seq.proofs.Held.{Held, held_of, line_count, opening, stands_after, word_at_end}
-use Rattle.ob_seq.proofs.History.{moments_after}
-use Rattle.ob_seq.proofs.Marks.{IsQuiet, half_after, word_from}
-use Rattle.ob_seq.proofs.Order.{layout_of}
-use Rattle.ob_seq.proofs.Parts.{front_of_parts}
+use Rattle.ob_seq.proofs.Rows.Acceptance.{same_reply}
+use Rattle.ob_seq.proofs.Rows.Along.{moments_past, settlements_past}
+use Rattle.ob_seq.proofs.Inside.Held.{Held, held_of, line_count, opening, stands_after, word_at_end}
+use Rattle.ob_seq.proofs.Rows.History.{moments_after}
+use Rattle.ob_seq.proofs.Word.Marks.{IsQuiet, half_after, word_from}
+use Rattle.ob_seq.proofs.Rows.Order.{layout_of}
+use Rattle.ob_seq.proofs.Rows.Parts.{front_of_parts}
 
 -- the rows of a history
 abbrev pub rows_of : Pending → List Command → List Row

@@ -1,0 +1,14 @@
+-- What a buffer holds, and what its fields say of that.
+pub mod Blocks
+pub mod Entries
+pub mod EntrySettlements
+pub mod Failures
+pub mod Fields
+pub mod Gathered
+pub mod Held
+pub mod Kept
+pub mod Pieces
+pub mod Sending
+pub mod Skipped
+pub mod Taken
+pub mod Times

@@ -1,0 +1,13 @@
+-- The rows of a history, and what commands do to them.
+pub mod Acceptance
+pub mod Accepting
+pub mod Along
+pub mod EachRow
+pub mod Fronts
+pub mod History
+pub mod Limits
+pub mod Order
+pub mod Parts
+pub mod Reached
+pub mod Sent
+pub mod Told
