@@ -1,10 +1,9 @@
 -- The numbers of a finished history.
-use Rattle.std.specs.Prelude.{ℕ, Bool, true, false, not, ◌&&◌, ◌==◌, nat_lt, List, count_by, sum_by}
+use Rattle.std.specs.Prelude.{ℕ, Bool, true, false, not, ◌&&◌, ◌==◌, nat_lt, is_some, List, count_by, sum_by}
 use Rattle.std.specs.List.{range_with_len}
+use Rattle.ob_types.specs.Traits.{traits_of}
 use Rattle.ob_types.specs.Write.{is_write}
 use Rattle.ob_types.specs.declared.command.Command.{Command}
-use Rattle.ob_types.specs.declared.command.Command.TheVariants.{Write, Flush, Remove, RemoveWith, RemoveBytes, Progress}
-use Rattle.ob_types.specs.declared.command.Command.TheVariants.{Cancel, FailFlushed, Close, UserBit}
 use Rattle.ob_types.specs.declared.promise.Outcome.{Outcome}
 use Rattle.ob_types.specs.declared.promise.Outcome.TheVariants.{Success, Failed, Cancelled}
 use Rattle.ob_seq.specs.Settles.{times_settled}
@@ -12,51 +11,25 @@ use Rattle.ob_history.specs.Accepted.{accepted_commands, is_accepted}
 use Rattle.ob_history.specs.Settlements.{settlements_in}
 use Rattle.ob_history.specs.declared.record.Record.{Record}
 
--- what a command is counted as: a flush, a cancellation, a user bit, a failing of what is flushed, and so many bytes
--- removed
-pub record CountedAs : Type 0 where
-  pub flush : Bool
-  pub cancel : Bool
-  pub user_bit : Bool
-  pub failing : Bool
-  pub removed : ℕ
-
--- as nothing of these
-abbrev pub uncounted : CountedAs
-uncounted = record { flush = false; cancel = false; user_bit = false; failing = false; removed = 0 }
-
--- what each command is counted as
-abbrev pub counted_as : Command → CountedAs
-counted_as (Write message) = uncounted
-counted_as Flush = record uncounted { flush = true }
-counted_as Remove = uncounted
-counted_as (RemoveWith cause) = uncounted
-counted_as (RemoveBytes n) = record uncounted { removed = n }
-counted_as (Progress n) = uncounted
-counted_as (Cancel id) = record uncounted { cancel = true }
-counted_as (FailFlushed cause notify) = record uncounted { failing = true }
-counted_as (Close cause) = uncounted
-counted_as (UserBit index writable) = record uncounted { user_bit = true }
-
 -- whether a command is a flush
 abbrev pub is_flush : Command → Bool
-is_flush command = (counted_as command).flush
+is_flush command = (traits_of command).flush
 
 -- whether a command is a cancellation
 abbrev pub is_cancel : Command → Bool
-is_cancel command = (counted_as command).cancel
+is_cancel command = (traits_of command).cancel
 
--- whether a command is a user bit
+-- whether a command is a user bit: it asks something of one
 abbrev pub is_user_bit : Command → Bool
-is_user_bit command = (counted_as command).user_bit
+is_user_bit command = is_some (traits_of command).bit
 
 -- whether a command fails what is flushed
 abbrev pub is_failing : Command → Bool
-is_failing command = (counted_as command).failing
+is_failing command = (traits_of command).failing
 
 -- the bytes that a command removes
 abbrev pub removed_by : Command → ℕ
-removed_by command = (counted_as command).removed
+removed_by command = (traits_of command).removed
 
 -- whether an outcome is a success
 abbrev pub is_success : Outcome → Bool

@@ -1,9 +1,8 @@
 -- What is charged while a message is handed from its writer to the buffer.
-use Rattle.std.specs.Prelude.{ℕ, ◌+◌, max, List, [], ◌∷◌, sum_by}
+use Rattle.std.specs.Prelude.{ℕ, ◌+◌, max, List, [], ◌∷◌, sum_by, option_map, unwrap_or}
 use Rattle.ob_types.specs.PendingSize.{readable_bytes}
+use Rattle.ob_types.specs.Traits.{traits_of}
 use Rattle.ob_types.specs.declared.command.Command.{Command}
-use Rattle.ob_types.specs.declared.command.Command.TheVariants.{Write, Flush, Remove, RemoveWith, RemoveBytes, Progress}
-use Rattle.ob_types.specs.declared.command.Command.TheVariants.{Cancel, FailFlushed, Close, UserBit}
 use Rattle.ob_types.specs.declared.estimate.Estimate.{Estimate}
 use Rattle.ob_types.specs.declared.message.Message.{Message}
 
@@ -13,16 +12,7 @@ charge_of estimate task message = readable_bytes estimate message + task
 
 -- what a command is charged: a write its message, and any other nothing
 abbrev pub charge_for : Estimate → ℕ → Command → ℕ
-charge_for estimate task (Write message) = charge_of estimate task message
-charge_for estimate task Flush = 0
-charge_for estimate task Remove = 0
-charge_for estimate task (RemoveWith cause) = 0
-charge_for estimate task (RemoveBytes n) = 0
-charge_for estimate task (Progress n) = 0
-charge_for estimate task (Cancel id) = 0
-charge_for estimate task (FailFlushed cause notify) = 0
-charge_for estimate task (Close cause) = 0
-charge_for estimate task (UserBit index writable) = 0
+charge_for estimate task command = unwrap_or (option_map (charge_of estimate task) (traits_of command).message) 0
 
 -- the room that a plan needs: the greatest charge of its commands
 abbrev pub room_of : Estimate → ℕ → List Command → ℕ

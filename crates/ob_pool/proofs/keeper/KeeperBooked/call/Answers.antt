@@ -13,8 +13,8 @@ invariant_of-self-2 g c =
     let one = next_record old.desk.history old.desk.maker.caller c.args.command in
     let kept = c.self.invariant in
     let made = receipt_given old.desk.history old.desk.maker.caller c.args.command c.in_ok-receipt.receipt
-    (c.in_ok-receipt.ensures.answer (λ wanting. absurd (cc wanting))) in
-    let after = c.in_ok-receipt.ensures.after (λ wanting. absurd (cc wanting)) ∙ made.1 in
+    (c.in_ok-receipt.ensures.is_call.answer (λ wanting. absurd (cc wanting))) in
+    let after = c.in_ok-receipt.ensures.is_call.after (λ wanting. absurd (cc wanting)) ∙ made.1 in
     let left = ap (λ history. history.reserved) after in
     let records = ap (λ history. history.records) after in
     let places : vec_len c.reserve.new.self + 1 ≤ vec_capacity c.reserve.new.self = search rules in
