@@ -12,8 +12,7 @@ mod lane_step;
 mod laws;
 mod opening;
 mod player;
-#[cfg(test)]
-mod tests;
+mod worked;
 mod world;
 mod world_fault;
 

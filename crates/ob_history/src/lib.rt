@@ -8,8 +8,7 @@ mod receipt;
 mod record;
 mod recorded;
 mod seen;
-#[cfg(test)]
-mod tests;
+mod worked;
 
 pub use booked::{As, Booked};
 pub use laws::{

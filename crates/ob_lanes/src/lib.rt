@@ -18,9 +18,8 @@ mod plays;
 mod rule;
 mod running;
 mod shares;
-#[cfg(test)]
-mod tests;
 mod words;
+mod worked;
 
 pub use charged::Charged;
 pub use facts::Made;

@@ -24,6 +24,3 @@ pub use fault::DriveFault;
 pub use gate::{Gate, OpenGate, Stuck};
 pub use plan::Plan;
 pub use report::Report;
-
-#[cfg(test)]
-mod tests;

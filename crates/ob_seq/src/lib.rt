@@ -7,8 +7,7 @@ mod entry;
 mod flushed;
 mod laws;
 mod look;
-#[cfg(test)]
-mod tests;
+mod worked;
 
 pub use buffer::Buffer;
 pub use flushed::Flushed;

@@ -19,6 +19,3 @@ pub use named::Named;
 pub use opening::Opening;
 pub use share::Share;
 pub use shared_buffer::SharedBuffer;
-
-#[cfg(test)]
-mod tests;

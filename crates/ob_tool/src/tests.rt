@@ -1,10 +1,8 @@
 mod core_faults;
-mod core_rows;
 mod doubles;
 mod drive_reading;
-mod drive_rows;
 mod faults;
 mod play;
-mod rows;
 mod statuses;
+mod stories;
 mod texts;

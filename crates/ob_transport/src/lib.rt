@@ -10,8 +10,7 @@ mod next;
 mod script;
 mod sending;
 mod sink;
-#[cfg(test)]
-mod tests;
+mod worked;
 
 pub use booking::book;
 pub use draining::{Drained, Stop, drain};

@@ -8,8 +8,6 @@ mod promise;
 mod refusal;
 mod reply;
 mod settlements;
-#[cfg(test)]
-mod tests;
 mod water_mark;
 
 pub use command::Command;

@@ -1,4 +1,4 @@
-//! Plays tables of rows: each row is one call of the program, with all that it must leave.
+//! Runs the program, and compares all that it leaves.
 
 use crate::entry::entry;
 use std::process::Abort;
@@ -6,21 +6,6 @@ use std::sync::Wait;
 use std::test::Fail;
 use std::thread::Threads;
 use std::time::Clock;
-
-/// What the program is given, and what it must leave.
-#[derive(Drop)]
-pub struct Row {
-    /// What the row is about. It is told where the program does otherwise.
-    pub about: &'static str,
-    /// The words of the command line, parted by spaces.
-    pub words: &'static str,
-    /// What comes on standard input.
-    pub script: &'static str,
-    /// What goes to standard output: the trace, or the report.
-    pub written: &'static str,
-    /// The status and what goes to standard error, or nothing for status 0 and no word.
-    pub fault: Option<(u8, &'static str)>,
-}
 
 /// What the program left.
 #[derive(Drop)]
@@ -76,19 +61,6 @@ impl Left {
             "{about}"
         );
     }
-}
-
-/// Runs the program on each row, and compares all that it leaves.
-pub fn holds<H: Abort + AllocGlobal + Threads + Wait + Clock + Sync>(
-    rt: &H,
-    rows: &[Row],
-) -> Result<(), Fail> {
-    for row in rows {
-        let left = play(rt, row.words, row.script)?;
-        let (status, told) = row.fault.unwrap_or((0, ""));
-        left.compare(rt, row.about, status, told, row.written);
-    }
-    Ok(())
 }
 
 /// Gives the program words that end it before it reads, and answers what it tells.

@@ -1,0 +1,47 @@
+use Rattle.std.proofs.Common.{◌≡◌, ℕ, None, w32, refl, arith}
+use Rattle.std.proofs.lemmas.Nat.Bits.{bit_at-zero}
+use Rattle.ob_core.specs.Shares.{AreShares}
+use Rattle.ob_core.specs.Worked.{second_lane}
+use Rattle.ob_core.specs.declared.lane.Lane.{Lane}
+use Rattle.ob_core.specs.declared.lane.Phase.TheVariants.{Idle}
+use Rattle.ob_core.proofs.BitLemmas.{ShareOut-and}
+use Rattle.ob_core.proofs.ShareLemmas.{AreShares-cut}
+use Rattle.ob_core.proofs.worked.worked_shares.Goals as goal
+
+pub returns-clause-bit_given : goal.returns-clause-bit_given
+returns-clause-bit_given c =
+    let lane : Lane = record { room = 10; debt = None; held = 6; raised = 2; phase = Idle } in
+    AreShares-cut w32 lane 0 4 (record { idle = refl; debt = refl })
+    (λ i. omega (arith, ShareOut-and w32 6 4 (omega arith) (omega arith) i)) (omega arith) (omega arith) (omega arith)
+    (omega arith)
+
+pub returns-clause-bit_given_and_kept : goal.returns-clause-bit_given_and_kept
+returns-clause-bit_given_and_kept c = λ shares.
+    let wrong : ◌≡◌ {A = ℕ} 2 1 = shares.held 2 in absurd (omega (arith, wrong))
+
+-- half of the room, 40 of it kept and 20 given, with no bit
+forty_and_twenty : AreShares second_lane (record second_lane { room = 40 }) (record second_lane { room = 20; held = 0 })
+forty_and_twenty = record {
+  whole_free = record { idle = refl; debt = refl };
+  first_free = record { idle = refl; debt = refl };
+  second_free = record { idle = refl; debt = refl };
+  rooms = refl;
+  held = λ i. omega (arith, bit_at-zero i);
+  raised = λ i. omega (arith, bit_at-zero i);
+  first_among = λ i. omega (arith, bit_at-zero i);
+  second_among = λ i. omega (arith, bit_at-zero i);
+}
+
+pub returns-clause-divided : goal.returns-clause-divided
+returns-clause-divided c = record { lane = second_lane; is_lane = refl; shares = forty_and_twenty; after = refl }
+
+pub returns-clause-merged : goal.returns-clause-merged
+returns-clause-merged c = record {
+  lane = record second_lane { room = 40 };
+  other_lane = record second_lane { room = 20; held = 0 };
+  is_lane = refl;
+  is_other = refl;
+  apart = λ same. absurd (omega (arith, same));
+  shares = forty_and_twenty;
+  after = refl;
+}

@@ -1,0 +1,35 @@
+use Rattle.std.proofs.Common.{◌≢◌, ℕ, refl, arith}
+use Rattle.std.specs.Int.{bit_at}
+use Rattle.ob_core.specs.Bits.{PutsBit}
+use Rattle.ob_core.proofs.BitLemmas.{SetsBit-with_bit, ClearsBit-without_bit}
+use Rattle.ob_core.proofs.worked.worked_steps.Goals as goal
+
+-- a word with bit 1 put, and three that go apart from it at bit 0, at bit 2 and at that bit
+only_first : (value old new more less : ℕ) → PutsBit value old 1 new → bit_at more 0 ≢ bit_at old 0
+    → bit_at less 2 ≢ bit_at old 2 → bit_at old 1 ≢ value
+    → PutsBit value old 1 new × (PutsBit value old 1 more → ⊥)
+    × (PutsBit value old 1 less → ⊥) × (PutsBit value old 1 old → ⊥)
+only_first value old new more less puts above below other = (
+  puts,
+  (λ wrong. above (wrong.others 0 (λ same. absurd (omega (arith, same))))),
+  (λ wrong. below (wrong.others 2 (λ same. absurd (omega (arith, same))))),
+  (λ wrong. other wrong.here),
+)
+
+pub returns-clause-bit_set : goal.returns-clause-bit_set
+returns-clause-bit_set c =
+    only_first 1 4 6 7 2 (SetsBit-with_bit 4 1) (λ same. absurd (omega (arith, same)))
+    (λ same. absurd (omega (arith, same))) (λ same. absurd (omega (arith, same)))
+
+pub returns-clause-bit_cleared : goal.returns-clause-bit_cleared
+returns-clause-bit_cleared c =
+    only_first 0 6 4 5 0 (ClearsBit-without_bit 6 1) (λ same. absurd (omega (arith, same)))
+    (λ same. absurd (omega (arith, same))) (λ same. absurd (omega (arith, same)))
+
+pub returns-clause-other_left : goal.returns-clause-other_left
+returns-clause-other_left c = (
+  refl,
+  (λ left. absurd (omega (arith, left))),
+  refl,
+  (λ left. absurd (omega (arith, left))),
+)

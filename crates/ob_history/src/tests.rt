@@ -1,5 +1,0 @@
-mod calls;
-mod foreign;
-mod played;
-mod threads;
-mod worked;

@@ -1,5 +1,0 @@
-use Rattle.std.proofs.Common.{◌≡◌}
-use Rattle.ob_lanes.proofs.tests.crossing.come_and_go.Given as goal
-
-abbrev pub invariant-rounds : goal.invariant-rounds
-invariant-rounds l = l.lane.words ≡ l.words

@@ -1,4 +1,0 @@
-mod drives;
-mod faults;
-mod gates;
-mod plans;

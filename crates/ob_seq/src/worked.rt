@@ -1,0 +1,100 @@
+//! The definitions, computed on small histories.
+
+ghost use Rattle.ob_seq.specs.Worked.{TheFirstRun, EqualityWithLow, LowZero, LongRegion, CancelledEntry};
+ghost use Rattle.ob_seq.specs.Worked.{FixedPromise, ProgressTold, RemovedBytes, EmptyFront, EndOfTheByteRun};
+ghost use Rattle.ob_seq.specs.Worked.{MarksOfZero, GatheredBlocks, Looks, SharedWord, SeveralUserBits};
+ghost use Rattle.ob_seq.specs.Worked.{FailedWithoutNotice, FailedWithNotice, FailedVoided, ClosedOnce};
+ghost use Rattle.ob_seq.specs.WorkedBytes.{TwoSkips, LeftAfterTwoSkips, VoidedRegion, LeftOfAVoidedRegion};
+ghost use Rattle.ob_seq.specs.WorkedBytes.{WritableByBytes, WritableByManyBytes, WritableByFailure, RegionInFront};
+ghost use Rattle.ob_seq.specs.WorkedEndings.{ClosedPastAVoided, EachEnd, NothingLeftAfterAClose};
+ghost use Rattle.ob_seq.specs.WorkedEndings.{PromisesAfterAClose, PromisesBeforeAnEnd};
+ghost use Rattle.ob_seq.specs.WorkedHistories.{AcceptedOfThem, FourWrites, SettledInTurn, OneOfEachPlace};
+ghost use Rattle.ob_seq.specs.WorkedHistories.{OutOfOrder, TheFirstTwo, WaitsUnflushedAlone, SentOnlyWhenGone};
+ghost use Rattle.ob_seq.specs.WorkedLimits.{TotalAtItsLimit, LookAtTheLimit, SizesAtTheirLimits, ProgressAtItsTop};
+ghost use Rattle.ob_seq.specs.WorkedLooks.{WritableAtTheMarks, UnwritableAtTheMarks, UnwritableBelowLow};
+ghost use Rattle.ob_seq.specs.WorkedLooks.{UnderAUserBit, UnderALowMarkOfZero};
+ghost use Rattle.ob_seq.specs.WorkedState.{UnwritableByEither, EmptyWithoutALine, ClosedByAClose};
+ghost use Rattle.ob_seq.specs.WorkedState.{UserBitsTold, WritesLeft, WantsOfMemory};
+
+#[tactic(auto, unfolding(crate::specs::Word::user_bits))]
+fn worked_rows()
+    ensures first_run { TheFirstRun }
+    ensures equality_with_low { EqualityWithLow }
+    ensures low_zero { LowZero }
+    ensures long_region { LongRegion }
+    ensures cancelled_entry { CancelledEntry }
+    ensures fixed_promise { FixedPromise }
+    ensures progress_told { ProgressTold }
+    ensures removed_bytes { RemovedBytes }
+    ensures empty_front { EmptyFront }
+    ensures end_of_the_byte_run { EndOfTheByteRun }
+    ensures marks_of_zero { MarksOfZero }
+    ensures gathered_blocks { GatheredBlocks }
+    ensures looks { Looks }
+    ensures shared_word { SharedWord }
+    ensures several_user_bits { SeveralUserBits }
+    ensures failed_without_notice { FailedWithoutNotice }
+    ensures failed_with_notice { FailedWithNotice }
+    ensures failed_voided { FailedVoided }
+    ensures closed_once { ClosedOnce }
+{}
+
+#[tactic(auto, unfolding(crate::specs::Word::user_bits))]
+fn worked_bytes()
+    ensures two_skips { TwoSkips }
+    ensures left_after_two_skips { LeftAfterTwoSkips }
+    ensures writable_by_bytes { WritableByBytes }
+    ensures writable_by_many_bytes { WritableByManyBytes }
+    ensures writable_by_failure { WritableByFailure }
+    ensures voided_region { VoidedRegion }
+    ensures left_of_a_voided_region { LeftOfAVoidedRegion }
+    ensures region_in_front { RegionInFront }
+{}
+
+#[tactic(auto, unfolding(crate::specs::Word::user_bits))]
+fn worked_limits()
+    ensures total_at_its_limit { TotalAtItsLimit }
+    ensures look_at_the_limit { LookAtTheLimit }
+    ensures sizes_at_their_limits { SizesAtTheirLimits }
+    ensures progress_at_its_top { ProgressAtItsTop }
+{}
+
+#[tactic(auto, unfolding(crate::specs::Word::user_bits))]
+fn worked_endings()
+    ensures closed_past_a_voided { ClosedPastAVoided }
+    ensures each_end { EachEnd }
+    ensures promises_after_a_close { PromisesAfterAClose }
+    ensures nothing_left_after_a_close { NothingLeftAfterAClose }
+    ensures promises_before_an_end { PromisesBeforeAnEnd }
+{}
+
+#[tactic(auto, unfolding(crate::specs::Word::user_bits))]
+fn worked_looks()
+    ensures writable_at_the_marks { WritableAtTheMarks }
+    ensures unwritable_at_the_marks { UnwritableAtTheMarks }
+    ensures unwritable_below_low { UnwritableBelowLow }
+    ensures under_a_user_bit { UnderAUserBit }
+    ensures under_a_low_mark_of_zero { UnderALowMarkOfZero }
+{}
+
+#[tactic(auto, unfolding(crate::specs::Word::user_bits))]
+fn worked_state()
+    ensures unwritable_by_either { UnwritableByEither }
+    ensures empty_without_a_line { EmptyWithoutALine }
+    ensures closed_by_a_close { ClosedByAClose }
+    ensures user_bits_told { UserBitsTold }
+    ensures writes_left { WritesLeft }
+    ensures wants_of_memory { WantsOfMemory }
+{}
+
+#[tactic(auto, unfolding(crate::specs::Word::user_bits))]
+fn worked_histories()
+    ensures accepted_of_them { AcceptedOfThem }
+    ensures four_writes { FourWrites }
+    ensures settled_in_turn { SettledInTurn }
+    ensures one_of_each_place { OneOfEachPlace }
+    ensures out_of_order { OutOfOrder }
+    ensures the_first_two { TheFirstTwo }
+    ensures waits_unflushed_alone { WaitsUnflushedAlone }
+    ensures sent_only_when_gone { SentOnlyWhenGone }
+{}

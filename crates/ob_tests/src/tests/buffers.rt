@@ -1,0 +1,162 @@
+//! The buffers that play the lines of `run`.
+
+ghost use Rattle.std.specs.Prelude.{IfOk, ◌≤◌};
+ghost use Rattle.ob_types.specs.Limits.{greatest_overhead, greatest_unknown};
+ghost use Rattle.ob_pool.specs.Config.{AreWithin};
+
+use crate::tests::words::{MOST, NoAnswer, Words};
+use ob_history::{Booked, Recorded};
+use ob_pool::{Config, TASK_OVERHEAD};
+use ob_seq::Buffer;
+use ob_shared::Opening;
+use ob_transport::Limits;
+use ob_types::{Command, Estimate, Refusal, Reply, WaterMark};
+use std::alloc::Global;
+
+/// A buffer, however it is kept.
+pub trait Kept {
+    /// Gives a command. `HistoryFull` and `NoMemory` mean that it was not given.
+    fn give(&mut self, command: Command) -> Result<Result<Reply, Refusal>, Refusal>;
+    /// The buffer, to be looked at.
+    fn buffer(&self) -> &Buffer;
+}
+
+/// A buffer whose calls are those of the commands' names.
+#[derive(Drop)]
+pub struct ByName(pub Buffer);
+
+impl Kept for ByName {
+    fn give(&mut self, command: Command) -> Result<Result<Reply, Refusal>, Refusal> {
+        let buffer = &mut self.0;
+        Ok(match command {
+            Command::Write(message) => buffer.write(message),
+            Command::Flush => buffer.flush(),
+            Command::Remove => buffer.remove(),
+            Command::RemoveWith(cause) => buffer.remove_with(cause),
+            Command::RemoveBytes(n) => buffer.remove_bytes(n),
+            Command::Progress(n) => buffer.progress(n),
+            Command::Cancel(id) => buffer.cancel(id),
+            Command::FailFlushed(cause, notify) => buffer.fail_flushed(cause, notify),
+            Command::Close(cause) => buffer.close(cause),
+            Command::UserBit(index, writable) => buffer.user_bit(index, writable),
+        })
+    }
+
+    fn buffer(&self) -> &Buffer {
+        &self.0
+    }
+}
+
+/// A buffer that is given its commands by `apply`.
+#[derive(Drop)]
+pub struct ByApply(pub Buffer);
+
+impl Kept for ByApply {
+    fn give(&mut self, command: Command) -> Result<Result<Reply, Refusal>, Refusal> {
+        Ok(self.0.apply(command))
+    }
+
+    fn buffer(&self) -> &Buffer {
+        &self.0
+    }
+}
+
+/// A buffer whose calls are booked.
+#[derive(Drop)]
+pub struct Booking<B>(pub B);
+
+impl<B: Booked> Kept for Booking<B> {
+    fn give(&mut self, command: Command) -> Result<Result<Reply, Refusal>, Refusal> {
+        let receipt = self.0.call(command)?;
+        Ok(receipt.reply)
+    }
+
+    fn buffer(&self) -> &Buffer {
+        self.0.buffer()
+    }
+}
+
+/// The options of a command line.
+#[derive(Clone, Copy)]
+pub struct Options {
+    pub low: u32,
+    pub high: u32,
+    pub overhead: u32,
+    pub unknown: u32,
+    pub limit: u32,
+    pub task: u32,
+}
+
+impl Options {
+    pub fn of(command: &str) -> Result<Options, NoAnswer> {
+        let mut options = Options {
+            low: 32768,
+            high: 65536,
+            overhead: 96,
+            unknown: 8,
+            limit: 1048576,
+            task: TASK_OVERHEAD,
+        };
+        let mut words = Words::of(command);
+        for _ in 0..MOST {
+            match words.word() {
+                "--low" => options.low = words.small()?,
+                "--high" => options.high = words.small()?,
+                "--overhead" => options.overhead = words.small()?,
+                "--unknown" => options.unknown = words.small()?,
+                "--limit" => options.limit = words.small()?,
+                "--task" => options.task = words.small()?,
+                _ => {}
+            }
+        }
+        Ok(options)
+    }
+
+    pub fn marks(self) -> Result<WaterMark, Refusal> {
+        WaterMark::new(self.low, self.high)
+    }
+
+    pub fn estimate(self) -> Estimate
+        ensures overhead { result.overhead ≤ greatest_overhead }
+        ensures unknown { result.unknown ≤ greatest_unknown }
+    {
+        Estimate {
+            overhead: self.overhead.min(65535),
+            unknown: self.unknown.min(65535),
+        }
+    }
+
+    /// A recorded buffer with these options.
+    pub fn recorded(self, alloc: Global) -> Result<Recorded, Refusal> {
+        let limit = self.limit.clamp(1, 1048576);
+        Ok(Recorded::new(alloc, self.marks()?, self.estimate(), limit))
+    }
+
+    /// A shared buffer of so many callers is to be opened with these options.
+    pub fn opening(self, alloc: Global, callers: u32) -> Result<Opening, Refusal> {
+        let limit = self.limit.clamp(1, 1048576);
+        let callers = callers.clamp(1, 65);
+        Opening::new(alloc, self.marks()?, self.estimate(), limit, callers)
+    }
+
+    /// What a drive is given with these options: at most so many passes of at most 16 blocks and 65536 bytes.
+    pub fn config(self, turns: u64) -> Result<Config, Refusal>
+        ensures { IfOk result (λ config. AreWithin config) }
+    {
+        Ok(Config {
+            marks: self.marks()?,
+            estimate: self.estimate(),
+            task: self.task.min(65535),
+            limit: self.limit.clamp(1, 1048576),
+            limits: Limits {
+                max_count: 16,
+                max_bytes: 65536,
+            },
+            turns,
+        })
+    }
+
+    pub fn buffer(self, alloc: Global) -> Result<Buffer, Refusal> {
+        Ok(Buffer::new(alloc, self.marks()?, self.estimate()))
+    }
+}

@@ -1,0 +1,189 @@
+//! The callers, over a connection whose socket is slow.
+
+use super::{Peer, give_up, may_write, open, renew, respond, send, tell};
+use crate::tests::buffers::Options;
+use crate::tests::limits::cycles;
+use crate::tests::story::{Player, Story};
+use crate::tests::trace::push_settlements;
+use crate::tests::words::{NoAnswer, Words};
+use bytes::Bytes;
+use ob_rows::CONNECTIONS;
+use ob_seq::Buffer;
+use ob_types::{Cause, Message, Outcome, PromiseId, Refusal};
+use std::alloc::{AllocError, Global};
+use std::process::Abort;
+use std::test::Fail;
+
+/// The other end of a connection whose socket takes at most so many bytes at a time.
+#[derive(Drop)]
+struct SlowPeer {
+    takes: usize,
+    sent: Vec<u8>,
+    settled: Vec<(PromiseId, Outcome)>,
+    /// What it was told last.
+    reading: Option<bool>,
+}
+
+impl Peer for SlowPeer {
+    fn send(&mut self, blocks: &[Bytes]) -> u64 {
+        let mut room = self.takes;
+        for block in blocks {
+            let taken = block.len().min(room);
+            if self
+                .sent
+                .extend_from_slice(&block.as_slice()[..taken])
+                .is_err()
+            {
+                break;
+            }
+            room -= taken;
+        }
+        self.takes.saturating_sub(room) as u64
+    }
+
+    fn settled(&mut self, id: PromiseId, outcome: Outcome) {
+        let _ = self.settled.push((id, outcome));
+    }
+
+    fn set_reading(&mut self, reading: bool) {
+        self.reading = Some(reading);
+    }
+}
+
+/// A buffer and the peer that it serves.
+#[derive(Drop)]
+struct Connection {
+    alloc: Global,
+    buffer: Buffer,
+    peer: SlowPeer,
+}
+
+impl Player for Connection {
+    fn answer(&mut self, asked: &str, text: &mut String) -> Result<(), NoAnswer> {
+        match asked {
+            "settled" => return Ok(push_settlements(text, self.peer.settled.as_slice())?),
+            "sent" => return Ok(push_runs(text, self.peer.sent.as_slice())?),
+            _ => {}
+        }
+        match self.does(&mut Words::of(asked))? {
+            Ok(()) => text.push_str("ok")?,
+            Err(refusal) => write!(text, "!{}", refusal.number())?,
+        }
+        Ok(self.push_seen(text)?)
+    }
+}
+
+impl Connection {
+    /// Does what a line says: what that answers.
+    fn does(&mut self, words: &mut Words) -> Result<Result<(), Refusal>, NoAnswer> {
+        let alloc = self.alloc;
+        let Connection {
+            alloc: _,
+            buffer,
+            peer,
+        } = self;
+        Ok(match words.word() {
+            "respond" => {
+                let bytes = response(alloc, words.small()?, words.small()?)?;
+                respond(buffer, peer, bytes)
+            }
+            "write" => write(buffer, peer, words.small()?),
+            "send" => send(buffer, peer),
+            "give-up" => give_up(buffer, peer, Cause(words.small()?)),
+            "renew" => renew(buffer, peer, alloc),
+            "spend" => spend(buffer, words.small()?),
+            "takes" => {
+                peer.takes = words.small()? as usize;
+                Ok(())
+            }
+            _ => return Err(NoAnswer::Unread),
+        })
+    }
+
+    fn push_seen(&self, text: &mut String) -> Result<(), AllocError> {
+        let (buffer, peer) = (&self.buffer, &self.peer);
+        text.push_str(match peer.reading {
+            None => ", reading: untold",
+            Some(true) => ", reading: yes",
+            Some(false) => ", reading: no",
+        })?;
+        text.push_str(match may_write(buffer) {
+            true => ", may write",
+            false => ", may not write",
+        })?;
+        let (look, left) = (buffer.look(), buffer.writes_left());
+        let (sent, settled) = (peer.sent.len(), peer.settled.len());
+        write!(text, ", sent={sent} settled={settled}")?;
+        write!(
+            text,
+            " t={} bu={} left={left}",
+            look.total, look.before_unwritable
+        )
+    }
+}
+
+/// So many bytes of one value.
+fn response(alloc: Global, value: u32, length: u32) -> Result<Bytes, AllocError> {
+    let value = value.min(255) as u8;
+    Ok(Bytes::from_vec(vec![in alloc; value; length as usize]?)?)
+}
+
+/// Writes a message that the socket does not send before a flush.
+fn write(buffer: &mut Buffer, peer: &mut SlowPeer, value: u32) -> Result<(), Refusal> {
+    let written = buffer.write(Message::Other(value))?;
+    tell(peer, &written);
+    Ok(())
+}
+
+/// Writes, flushes and removes so many messages.
+fn spend(buffer: &mut Buffer, writes: u32) -> Result<(), Refusal> {
+    let _ = cycles(buffer, writes)?;
+    let _ = buffer.remove()?;
+    Ok(())
+}
+
+/// Adds how often each value stands in bytes, run by run.
+fn push_runs(text: &mut String, bytes: &[u8]) -> Result<(), AllocError> {
+    let mut length = 0u64;
+    for (index, byte) in bytes.iter().enumerate() {
+        length = length.saturating_add(1);
+        let next = bytes.get(index + 1);
+        if next != Some(byte) {
+            write!(text, "{length} of {byte}")?;
+            text.push_str(if next.is_some() { ", " } else { "" })?;
+            length = 0;
+        }
+    }
+    Ok(())
+}
+
+/// The buffer that a command line asks for, or that of `open` where it names no marks.
+fn new_buffer(alloc: Global, command: &str) -> Result<Buffer, NoAnswer> {
+    if command.contains("--low") {
+        return Ok(Options::of(command)?.buffer(alloc)?);
+    }
+    Ok(open(alloc)?)
+}
+
+fn plays(rt: &impl Abort, alloc: Global, story: Story) -> Result<(), NoAnswer> {
+    let mut connection = Connection {
+        alloc,
+        buffer: new_buffer(alloc, story.command)?,
+        peer: SlowPeer {
+            takes: 0,
+            sent: Vec::new(alloc),
+            settled: Vec::new(alloc),
+            reading: None,
+        },
+    };
+    story.play(rt, alloc, &mut connection);
+    Ok(())
+}
+
+#[test]
+fn a_connection_goes_by_what_its_buffer_tells(rt: HostRuntime) -> Result<(), Fail> {
+    for text in CONNECTIONS.split('#') {
+        plays(&rt, rt.alloc(), Story::of(text))?;
+    }
+    Ok(())
+}

@@ -1,0 +1,186 @@
+//! Drives: writers in threads of their own, and one transport beside them. The order of their records is open.
+
+use crate::tests::buffers::Options;
+use crate::tests::commands::command;
+use crate::tests::story::{Player, Story};
+use crate::tests::words::{NoAnswer, Words};
+use ob_pool::{DriveFault, Gate, OpenGate, Plan, Report, drive};
+use ob_rows::{DRIVES, PLANS};
+use ob_transport::{Limits, ScriptSink, SinkStep};
+use std::alloc::{AllocError, Global};
+use std::process::Abort;
+use std::sync::Wait;
+use std::test::Fail;
+use std::thread::Threads;
+use std::time::Clock;
+
+/// What is to be driven, and what came of it.
+#[derive(Drop)]
+struct Driven {
+    alloc: Global,
+    options: Options,
+    /// The most passes of the transport.
+    turns: u64,
+    plans: Vec<Plan>,
+    steps: Vec<SinkStep>,
+    /// The most bytes that a call of the sink takes behind its steps.
+    most: u64,
+    /// How many bytes the sink took, and how often it failed.
+    sink: (usize, u64),
+    end: Option<Result<Report, DriveFault>>,
+}
+
+impl Player for Driven {
+    /// The lines that give something were given before.
+    fn answer(&mut self, asked: &str, text: &mut String) -> Result<(), NoAnswer> {
+        let (bytes, failures) = self.sink;
+        match (asked, &self.end) {
+            ("", Some(Ok(report))) => push_report(text, report)?,
+            ("", Some(Err(fault))) => write!(text, "drive: fault {}", fault.number())?,
+            ("why", Some(Err(fault))) => write!(text, "{fault}")?,
+            ("sink", _) => write!(text, "{bytes} bytes, {failures} failures")?,
+            _ => {}
+        }
+        Ok(())
+    }
+}
+
+impl Driven {
+    /// What a story gives, before it is driven.
+    fn of(alloc: Global, story: Story) -> Result<Driven, NoAnswer> {
+        let mut driven = Driven {
+            alloc,
+            options: Options::of(story.command)?,
+            turns: 16777216,
+            plans: Vec::new(alloc),
+            steps: Vec::new(alloc),
+            most: u64::MAX,
+            sink: (0, 0),
+            end: None,
+        };
+        for line in story.lines.lines() {
+            let (asked, _) = line.split_once('/').unwrap_or((line, ""));
+            driven.take(asked)?;
+        }
+        Ok(driven)
+    }
+
+    /// Takes in what a line gives.
+    fn take(&mut self, asked: &str) -> Result<(), NoAnswer> {
+        let mut words = Words::of(asked);
+        match words.word() {
+            "" | "sink" | "why" => {}
+            "take" => self.steps.push(SinkStep::Take(words.number()?))?,
+            "fail" => self.steps.push(SinkStep::Fail(words.small()?))?,
+            "then" => self.most = words.number()?,
+            "turns" => self.turns = words.number()?,
+            "each" => self.give_each(words.small()?, asked)?,
+            word => self.give(word, asked)?,
+        }
+        Ok(())
+    }
+
+    /// Gives a line to its writer.
+    fn give(&mut self, word: &str, asked: &str) -> Result<(), NoAnswer> {
+        let mut words = Words::of(asked);
+        let (_, writer) = (words.word(), words.small()?);
+        self.plan_until(writer)?;
+        self.push(writer as usize, word, &mut words)
+    }
+
+    /// Gives the line that stands behind `each` and a number to so many writers.
+    fn give_each(&mut self, count: u32, asked: &str) -> Result<(), NoAnswer> {
+        for writer in 0..count {
+            let mut words = Words::of(asked);
+            let (_, _) = (words.word(), words.word());
+            let word = words.word();
+            self.plan_until(writer)?;
+            self.push(writer as usize, word, &mut words)?;
+        }
+        Ok(())
+    }
+
+    /// Makes an empty plan for each writer up to this one.
+    fn plan_until(&mut self, writer: u32) -> Result<(), NoAnswer> {
+        for _ in self.plans.len()..writer as usize + 1 {
+            self.plans.push(Plan {
+                commands: Vec::new(self.alloc),
+            })?;
+        }
+        Ok(())
+    }
+
+    /// Adds what a line gives to the plan of a writer, a block as often as the last number says.
+    fn push(&mut self, writer: usize, word: &str, words: &mut Words) -> Result<(), NoAnswer> {
+        let given = command(self.alloc, word, words, 0)?;
+        let (Some(command), Some(plan)) = (given, self.plans.get_mut(writer)) else {
+            return Err(NoAnswer::Unread);
+        };
+        let count = if word == "b" { words.small()? } else { 1 };
+        for _ in 0..count {
+            plan.commands.push(command.copy()?)?;
+        }
+        Ok(())
+    }
+}
+
+/// Drives what a story gives, with its writers behind a gate, and plays it.
+pub fn drives<R: Abort + AllocGlobal + Threads + Wait + Clock + Sync, G: Gate + Sync>(
+    rt: &R,
+    gate: &G,
+    story: Story,
+) -> Result<(), Fail> {
+    let mut driven = Driven::of(rt.alloc(), story)?;
+    let config = driven.options.config(driven.turns)?;
+    let plans = std::mem::replace(&mut driven.plans, Vec::new(rt.alloc()));
+    let steps = std::mem::replace(&mut driven.steps, Vec::new(rt.alloc()));
+    let mut sink = ScriptSink::new(steps, driven.most);
+    let end = drive(rt, rt.alloc(), gate, plans, &mut sink, config);
+    driven.sink = (sink.taken().len(), sink.failures());
+    driven.end = Some(end);
+    story.play(rt, rt.alloc(), &mut driven);
+    Ok(())
+}
+
+/// Adds the numbers of a report.
+fn push_report(text: &mut String, report: &Report) -> Result<(), AllocError> {
+    write!(
+        text,
+        "writes {}, flushes {}, ",
+        report.writes, report.flushes
+    )?;
+    write!(text, "cancels {}, bits {}, ", report.cancels, report.bits)?;
+    write!(text, "refused {}, taken {}, ", report.refused, report.taken)?;
+    write!(
+        text,
+        "success {}, failed {}, ",
+        report.success, report.failed
+    )?;
+    write!(
+        text,
+        "cancelled {}, left {}, ",
+        report.cancelled, report.left
+    )?;
+    let (total, word) = report.hand;
+    write!(text, "hand {total} {word:08x}")
+}
+
+fn plays<R: Abort + AllocGlobal + Threads + Wait + Clock + Sync>(
+    rt: &R,
+    stories: &str,
+) -> Result<(), Fail> {
+    for text in stories.split('#').skip(1) {
+        drives(rt, &OpenGate, Story::of(text))?;
+    }
+    Ok(())
+}
+
+#[test]
+fn writers_drive(rt: HostRuntime) -> Result<(), Fail> {
+    plays(&rt, DRIVES)
+}
+
+#[test]
+fn plans_are_driven_or_refused(rt: HostRuntime) -> Result<(), Fail> {
+    plays(&rt, PLANS)
+}

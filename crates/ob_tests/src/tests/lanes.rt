@@ -1,0 +1,43 @@
+//! Running lanes, over words with marks of 50 and 100.
+
+mod bits;
+mod crossing;
+mod meeting;
+mod splitting;
+
+ghost use Rattle.std.specs.Prelude.{◌≡◌, false, IfOk};
+ghost use Rattle.ob_core.specs.Bits.{is_set};
+
+use ob_lanes::{Lane, Words, lanes};
+use ob_types::WaterMark;
+use std::alloc::Global;
+use std::process::Abort;
+use std::test::Fail;
+
+/// Words with marks of 50 and 100, and the lane that has all of it.
+fn open(alloc: Global, room: u32, bits: u32) -> Result<(Words, Lane), Fail>
+    requires { is_set bits 0 ≡ false }
+    ensures { IfOk result (λ ok. ok.1.words ≡ ok.0) }
+{
+    let marks = WaterMark::new(50, 100)?;
+    Ok(lanes(alloc, marks, room, bits)?)
+}
+
+/// The two lanes of a split that is not refused.
+fn split(words: &Words, lane: Lane, room: u32, bits: u32) -> Result<(Lane, Lane), Fail>
+    requires { lane.words ≡ words.now }
+    ensures { IfOk result (λ ok. (ok.0.words ≡ words.now) × (ok.1.words ≡ words.now)) }
+{
+    match lane.split(words, room, bits) {
+        Ok(lanes) => Ok(lanes),
+        Err((_lane, fault)) => Err(Fail::new(fault)),
+    }
+}
+
+/// Two lanes that have the whole room end with nothing owed and no bit set.
+fn join_and_finish(rt: &impl Abort, words: Words, first: Lane, second: Lane)
+    requires { (first.words ≡ words) × (second.words ≡ words) }
+{
+    let whole = first.join(&words, second);
+    assert_eq!(rt; whole.finish(words).ok(), Some((0, 0)));
+}

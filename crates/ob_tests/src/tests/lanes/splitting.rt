@@ -1,0 +1,88 @@
+//! A lane that is split, charged, joined and finished.
+
+ghost use Rattle.std.specs.Prelude.{◌≡◌, IfOk};
+
+use super::{join_and_finish, open, split};
+use ob_lanes::{Charged, Lane, NoRoom, RoomOut, Words};
+use ob_types::Change;
+use ob_types::Change::{Unwritable, Writable};
+use std::process::Abort;
+use std::test::Fail;
+
+/// A charge that is not refused.
+fn charge(words: &Words, lane: Lane, amount: u32) -> Result<(Charged, Option<Change>), Fail>
+    requires { lane.words ≡ words.now }
+    ensures { IfOk result (λ ok. ok.0.words ≡ words.now) }
+{
+    match lane.charge(words, amount) {
+        Ok(charged) => Ok(charged),
+        Err((_lane, fault)) => Err(Fail::new(fault)),
+    }
+}
+
+/// A charge that is refused gives the lane back.
+fn refused(rt: &impl Abort, words: &Words, lane: Lane, amount: u32) -> Result<Lane, Fail>
+    requires { lane.words ≡ words.now }
+    ensures { IfOk result (λ lane. lane.words ≡ words.now) }
+{
+    let room = lane.room();
+    match lane.charge(words, amount) {
+        Ok(_charged) => Err(Fail::new("the charge is above the room")),
+        Err((lane, fault)) => {
+            assert_eq!(rt; (fault, lane.room()), (NoRoom, room));
+            Ok(lane)
+        }
+    }
+}
+
+/// B charges 100, and A 1 more, which passes the high mark.
+fn both_charge(rt: &impl Abort, words: &Words, a: Lane, b: Lane) -> Result<(Charged, Charged), Fail>
+    requires { (a.words ≡ words.now) × (b.words ≡ words.now) }
+    ensures { IfOk result (λ ok. (ok.0.words ≡ words.now) × (ok.1.words ≡ words.now)) }
+{
+    let (b, of_b) = charge(words, b, 100)?;
+    let (a, of_a) = charge(words, a, 1)?;
+    let owed = (a.owed(), b.owed());
+    assert_eq!(rt; (of_b, of_a, owed), (None, Some(Unwritable), (1, 100)));
+    Ok((a, b))
+}
+
+/// B discharges first, which leaves what A owes.
+fn both_discharge(rt: &impl Abort, words: &Words, a: Charged, b: Charged) -> (Lane, Lane)
+    requires { (a.words ≡ words.now) × (b.words ≡ words.now) }
+    ensures first { result.0.words ≡ words.now }
+    ensures second { result.1.words ≡ words.now }
+{
+    let mut a = a;
+    let (b, of_b) = b.discharge(words);
+    let total = a.total(words);
+    let (a, of_a) = a.discharge(words);
+    assert_eq!(rt; (of_b, total, of_a), (Some(Writable), 1, None));
+    (a, b)
+}
+
+/// Half of the room does not end the words.
+fn not_ended(rt: &impl Abort, words: Words, half: Lane) -> Result<(Words, Lane), Fail>
+    requires { half.words ≡ words }
+    ensures { IfOk result (λ ok. (ok.0 ≡ words) × (ok.1.words ≡ words)) }
+{
+    match half.finish(words) {
+        Ok(_ended) => Err(Fail::new("half of the room is out")),
+        Err((words, half, fault)) => {
+            assert_eq!(rt; fault, RoomOut);
+            Ok((words, half))
+        }
+    }
+}
+
+#[test]
+fn lanes_split_charge_and_join(rt: HostRuntime) -> Result<(), Fail> {
+    let (words, lane) = open(rt.alloc(), 200, 0)?;
+    let (a, b) = split(&words, lane, 100, 0)?;
+    let a = refused(&rt, &words, a, 101)?;
+    let (a, b) = both_charge(&rt, &words, a, b)?;
+    let (a, b) = both_discharge(&rt, &words, a, b);
+    let (words, b) = not_ended(&rt, words, b)?;
+    join_and_finish(&rt, words, a, b);
+    Ok(())
+}

@@ -1,0 +1,85 @@
+//! Stories of lines, and how one is played.
+
+use crate::tests::words::NoAnswer;
+use std::alloc::Global;
+use std::process::Abort;
+use std::test::Fail;
+
+/// What answers the lines of a story.
+pub trait Player {
+    /// Adds the answer to a line to a text.
+    fn answer(&mut self, asked: &str, text: &mut String) -> Result<(), NoAnswer>;
+}
+
+/// The most bytes of an answer.
+const LONGEST: usize = 4096;
+
+/// How often a line is asked again at most.
+const TRIES: u32 = 9;
+
+/// A player that is asked again where memory was refused, so that each growth may be refused in turn.
+#[derive(Drop)]
+pub struct Again<P>(pub P);
+
+impl<P> Again<P> {
+    pub fn into_inner(self) -> P {
+        self.0
+    }
+}
+
+impl<P: Player> Player for Again<P> {
+    fn answer(&mut self, asked: &str, text: &mut String) -> Result<(), NoAnswer> {
+        for _ in 0..TRIES {
+            text.clear();
+            let told = self.0.answer(asked, text);
+            if told != Err(NoAnswer::NoMemory) {
+                return told;
+            }
+        }
+        Err(NoAnswer::NoMemory)
+    }
+}
+
+/// A story: what is so, the words of the command line that begins it, and its lines.
+#[derive(Clone, Copy)]
+pub struct Story<'a> {
+    pub about: &'a str,
+    pub command: &'a str,
+    pub lines: &'a str,
+}
+
+impl<'a> Story<'a> {
+    /// The story that a text begins with a line of what is so, a line of a dollar and a command line, and then its
+    /// lines.
+    pub fn of(text: &'a str) -> Story<'a> {
+        let (about, rest) = text.split_once('\n').unwrap_or((text, ""));
+        let (command, lines) = rest.split_once('\n').unwrap_or((rest, ""));
+        Story {
+            about: about.trim(),
+            command: command.trim(),
+            lines,
+        }
+    }
+
+    /// Asks a player all lines, and wants each answer to be that of the line.
+    pub fn play<P: Player>(&self, rt: &impl Abort, alloc: Global, player: &mut P) {
+        // an answer takes no memory, so that it is not asked again for its text
+        let Ok(mut text) = String::with_capacity(alloc, LONGEST) else {
+            return;
+        };
+        for line in self.lines.lines() {
+            if line.trim().is_empty() {
+                continue;
+            }
+            let (asked, answer) = line.split_once('/').unwrap_or((line, ""));
+            text.clear();
+            let found = player.answer(asked.trim(), &mut text);
+            assert_eq!(rt;
+                (asked, found, text.trim()),
+                (asked, Ok(()), answer.trim()),
+                "{}",
+                self.about
+            );
+        }
+    }
+}

@@ -1,0 +1,118 @@
+//! Callers of a shared buffer in threads of their own, and the one history that they make.
+
+ghost use Rattle.ob_shared.specs.Opened.{IsNameOf};
+
+use crate::tests::buffers::Options;
+use crate::tests::callers::{done, finished, one_call};
+use crate::tests::commands::block;
+use crate::tests::dice::Dice;
+use crate::tests::words::NoAnswer;
+use ob_history::Recorded;
+use ob_shared::{Done, Named, Opening, Share, SharedBuffer};
+use ob_types::{Command, Refusal};
+use std::alloc::{AllocError, Global};
+use std::marker::Brand;
+use std::process::Abort;
+use std::sync::Wait;
+use std::test::Fail;
+use std::thread::{Threads, map_vec};
+
+/// What each of many callers asks for.
+#[derive(Clone, Copy)]
+enum Mix {
+    /// Writes, flushes and removals in turn.
+    InTurn,
+    /// Commands of all ten kinds, by chance.
+    ByChance,
+}
+
+#[test]
+fn four_threads_of_250_calls(rt: HostRuntime) -> Result<(), Fail> {
+    let opening = Options::of("--limit 1000")?.opening(rt.alloc(), 4)?;
+    let recorded = all_made::<Brand, _>(&rt, rt.alloc(), opening, Mix::InTurn)?;
+    is_of_one_thread(&rt, rt.alloc(), &recorded, 1000)
+}
+
+#[test]
+fn eight_threads_of_250_calls_by_chance(rt: HostRuntime) -> Result<(), Fail> {
+    let opening = Options::of("--limit 2000")?.opening(rt.alloc(), 8)?;
+    let recorded = all_made::<Brand, _>(&rt, rt.alloc(), opening, Mix::ByChance)?;
+    is_of_one_thread(&rt, rt.alloc(), &recorded, 2000)
+}
+
+/// The history after each caller has made 250 calls in a thread of its own.
+fn all_made<L: Named + Send + Sync, R: Threads + Wait + Sync>(
+    rt: &R,
+    alloc: Global,
+    opening: Opening,
+    asks: Mix,
+) -> Result<Recorded, Fail>
+    requires { IsNameOf opening L.opened L.name L.parts }
+{
+    let (buffer, shares) = opening.begin::<L>()?;
+    let shared = &buffer;
+    let dones = map_vec(rt, shares, &|share| calls(rt, alloc, shared, share, asks))?;
+    finished(buffer, dones)
+}
+
+/// Makes 250 calls, each from a desk of its own, and stops where one is refused.
+fn calls<L: Named, R: Wait>(
+    rt: &R,
+    alloc: Global,
+    buffer: &SharedBuffer<L>,
+    share: Share<L>,
+    asks: Mix,
+) -> Done<L> {
+    let mut dice = Dice::new(share.caller());
+    let mut caller = done(alloc, share, Vec::new(alloc));
+    for number in 0..250u32 {
+        let Ok(command) = command(alloc, &mut dice, asks, number) else {
+            break;
+        };
+        let (same, answer) = one_call(rt, buffer, caller, command);
+        caller = same;
+        if answer.is_err() {
+            break;
+        }
+    }
+    caller
+}
+
+fn command(alloc: Global, dice: &mut Dice, asks: Mix, number: u32) -> Result<Command, AllocError> {
+    match asks {
+        Mix::ByChance => dice.command(alloc),
+        Mix::InTurn => match number % 3 {
+            0 => Ok(Command::Write(block(alloc, 0, 4)?)),
+            1 => Ok(Command::Flush),
+            _ => Ok(Command::Remove),
+        },
+    }
+}
+
+/// There are so many records, and a buffer of one thread makes the same.
+fn is_of_one_thread(
+    rt: &impl Abort,
+    alloc: Global,
+    recorded: &Recorded,
+    records: usize,
+) -> Result<(), Fail> {
+    let same = is_made_again(alloc, recorded)?;
+    assert_eq!(rt; (recorded.records().len(), same), (records, true));
+    Ok(())
+}
+
+/// Whether a new buffer that is given the commands of the records, in their order, makes the same records.
+fn is_made_again(alloc: Global, recorded: &Recorded) -> Result<bool, NoAnswer> {
+    let mut alone = Options::of("--limit 2000")?.recorded(alloc)?;
+    Ok(answers_the_same(recorded, &mut alone)? && alone.look() == recorded.look())
+}
+
+fn answers_the_same(recorded: &Recorded, alone: &mut Recorded) -> Result<bool, Refusal> {
+    for kept in recorded.records() {
+        let receipt = alone.call(kept.caller, kept.command.copy()?)?;
+        if !recorded.check(&receipt) {
+            return Ok(false);
+        }
+    }
+    Ok(true)
+}

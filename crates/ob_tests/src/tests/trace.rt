@@ -1,0 +1,84 @@
+//! What is answered, in the words of the traces of `ob_tool`.
+
+use ob_seq::Look;
+use ob_types::{Answer, Change, Outcome, PromiseId, Refusal, Reply};
+use std::alloc::AllocError;
+
+/// Adds the answer to a command, by the look after it.
+pub fn push_answer(
+    text: &mut String,
+    answer: &Result<Reply, Refusal>,
+    look: Look,
+) -> Result<(), AllocError> {
+    match answer {
+        Ok(reply) => push_reply(text, reply, look),
+        Err(refusal) => {
+            write!(text, "!{}", refusal.number())?;
+            push_levels(text, look)
+        }
+    }
+}
+
+fn push_reply(text: &mut String, reply: &Reply, look: Look) -> Result<(), AllocError> {
+    match reply.answer {
+        Answer::Id(PromiseId(id)) => write!(text, "id {id}")?,
+        Answer::Count(count) => write!(text, "n {count}")?,
+        Answer::Yes(true) => text.push_str("yes")?,
+        Answer::Yes(false) => text.push_str("no")?,
+        Answer::Done => text.push_str("ok")?,
+    }
+    push_levels(text, look)?;
+    push_change(text, reply.change)?;
+    push_settlements(text, reply.settled.as_slice())
+}
+
+/// Adds the pending bytes and the word.
+pub fn push_levels(text: &mut String, look: Look) -> Result<(), AllocError> {
+    push_words(text, look.total, look.word)
+}
+
+/// Adds a total and a word.
+pub fn push_words(text: &mut String, total: u32, word: u32) -> Result<(), AllocError> {
+    write!(text, " t={total} w={word:08x}")
+}
+
+/// Adds a change of writability, if there is one.
+pub fn push_change(text: &mut String, change: Option<Change>) -> Result<(), AllocError> {
+    match change {
+        None => Ok(()),
+        Some(Change::Unwritable) => text.push_str(" -"),
+        Some(Change::Writable) => text.push_str(" +"),
+    }
+}
+
+/// Adds settlements.
+pub fn push_settlements(
+    text: &mut String,
+    settled: &[(PromiseId, Outcome)],
+) -> Result<(), AllocError> {
+    for (id, outcome) in settled {
+        write!(text, " {}:", id.0)?;
+        push_outcome(text, *outcome)?;
+    }
+    Ok(())
+}
+
+/// Adds an outcome.
+pub fn push_outcome(text: &mut String, outcome: Outcome) -> Result<(), AllocError> {
+    match outcome {
+        Outcome::Success => text.push_str("ok"),
+        Outcome::Failed(cause) => write!(text, "f{}", cause.0),
+        Outcome::Cancelled => text.push_str("x"),
+    }
+}
+
+/// Adds a look.
+pub fn push_look(text: &mut String, look: Look) -> Result<(), AllocError> {
+    write!(text, "size={} cur={}", look.size, look.current_progress)?;
+    write!(
+        text,
+        " bu={} bw={}",
+        look.before_unwritable, look.before_writable
+    )?;
+    push_levels(text, look)
+}

@@ -1,6 +1,0 @@
-mod buffers;
-mod memory;
-mod passes;
-mod rows;
-mod stories;
-mod worked;
