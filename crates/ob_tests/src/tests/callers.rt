@@ -79,21 +79,10 @@ pub fn one_look<L: Named, R: Wait>(
     buffer: &SharedBuffer<L>,
     caller: Done<L>,
 ) -> (Done<L>, Seen) {
-    let Done {
-        share,
-        receipts,
-        told,
-        seen,
-    } = caller;
-    let desk = buffer.desk(rt, share);
+    let desk = buffer.desk(rt, caller.share);
     let look = desk.look();
-    let caller = Done {
-        share: desk.leave(),
-        receipts,
-        told,
-        seen,
-    };
-    (caller, look)
+    let share = desk.leave();
+    (Done { share, ..caller }, look)
 }
 
 /// Waits for a promise, and leaves the desk.
@@ -103,20 +92,9 @@ pub fn one_wait<L: Named, R: Wait>(
     caller: Done<L>,
     id: PromiseId,
 ) -> (Done<L>, Result<Receipt, Refusal>) {
-    let Done {
-        share,
-        receipts,
-        told,
-        seen,
-    } = caller;
-    let (desk, answer) = buffer.wait_settled(rt, share, id);
-    let caller = Done {
-        share: desk.leave(),
-        receipts,
-        told,
-        seen,
-    };
-    (caller, answer)
+    let (desk, answer) = buffer.wait_settled(rt, caller.share, id);
+    let share = desk.leave();
+    (Done { share, ..caller }, answer)
 }
 
 /// The history of a buffer that can be finished.

@@ -3,7 +3,7 @@
 ghost use Rattle.ob_shared.specs.Opened.{IsNameOf};
 
 use crate::tests::buffers::Options;
-use crate::tests::callers::{Came, begun, finished, one_call, one_wait};
+use crate::tests::callers::{begun, finished, one_call, one_wait};
 use crate::tests::commands::block;
 use crate::tests::history::settled_by;
 use crate::tests::words::NoAnswer;
@@ -37,12 +37,13 @@ fn waits_for_another<L: Named + Send + Sync, R: Threads + Wait + Abort + Sync>(
 ) -> Result<(), Fail>
     requires { IsNameOf opening L.opened L.name L.parts }
 {
-    let Ok((buffer, mut dones)) = opened::<L>(alloc, opening) else {
+    let (Ok((buffer, mut dones)), Ok(message)) = (opened::<L>(alloc, opening), block(alloc, 0, 4))
+    else {
         return Ok(());
     };
     let second = dones.pop().ok_or("a second caller")?;
     let first = dones.pop().ok_or("a first caller")?;
-    let (first, second, told) = both(rt, alloc, &buffer, first, second);
+    let (first, second, told) = both(rt, &buffer, first, second, &Command::Write(message));
     assert_eq!(rt; told, Ok((2, 1)));
     dones.push(first)?;
     dones.push(second)?;
@@ -66,73 +67,45 @@ type Told = Result<(u32, u32), Refusal>;
 
 fn both<L: Named + Send + Sync, R: Threads + Wait + Sync>(
     rt: &R,
-    alloc: Global,
     buffer: &SharedBuffer<L>,
     first: Done<L>,
     second: Done<L>,
+    write: &Command,
 ) -> (Done<L>, Done<L>, Told) {
-    let first = made(rt, alloc, buffer, first, Asks::Write);
+    let first = made(rt, buffer, first, write);
     let (second, (first, told)) = join(
         rt,
-        move || sent(rt, alloc, buffer, second),
+        move || sent(rt, buffer, second),
         move || told_in_the_end(rt, buffer, first),
     );
     (first, second, told)
 }
 
-/// What a caller asks for.
-#[derive(Clone, Copy)]
-enum Asks {
-    Write,
-    Flush,
-    Remove,
-}
-
-fn sent<L: Named, R: Wait>(
-    rt: &R,
-    alloc: Global,
-    buffer: &SharedBuffer<L>,
-    caller: Done<L>,
-) -> Done<L> {
-    let caller = made(rt, alloc, buffer, caller, Asks::Flush);
-    made(rt, alloc, buffer, caller, Asks::Remove)
+/// Sends what is pending.
+fn sent<L: Named, R: Wait>(rt: &R, buffer: &SharedBuffer<L>, caller: Done<L>) -> Done<L> {
+    let caller = made(rt, buffer, caller, &Command::Flush);
+    made(rt, buffer, caller, &Command::Remove)
 }
 
 /// Asks until the call is made.
 fn made<L: Named, R: Wait>(
     rt: &R,
-    alloc: Global,
     buffer: &SharedBuffer<L>,
     caller: Done<L>,
-    asks: Asks,
+    command: &Command,
 ) -> Done<L> {
     let mut caller = caller;
     for _ in 0..TRIES {
-        let (same, came) = asked(rt, alloc, buffer, caller, asks);
+        let Ok(command) = command.copy() else {
+            continue;
+        };
+        let (same, came) = one_call(rt, buffer, caller, command);
         caller = same;
         if came.is_ok() {
-            return caller;
+            break;
         }
     }
     caller
-}
-
-fn asked<L: Named, R: Wait>(
-    rt: &R,
-    alloc: Global,
-    buffer: &SharedBuffer<L>,
-    caller: Done<L>,
-    asks: Asks,
-) -> (Done<L>, Came) {
-    let command = match asks {
-        Asks::Write => match block(alloc, 0, 4) {
-            Ok(message) => Command::Write(message),
-            Err(_) => return (caller, Err(Refusal::NoMemory)),
-        },
-        Asks::Flush => Command::Flush,
-        Asks::Remove => Command::Remove,
-    };
-    one_call(rt, buffer, caller, command)
 }
 
 /// Waits for the first promise until memory for the receipt is there.
