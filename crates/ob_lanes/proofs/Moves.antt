@@ -1,10 +1,9 @@
 -- A step of one lane keeps what holds between any two steps.
-use Rattle.std.proofs.Common.{◌≡◌, ℕ, ◌+◌, ◌-◌, ◌%◌, ◌^◌, ◌<◌, List, [], ◌∷◌, ◌++◌, length, map, set, get_or, cond, eqb}
-use Rattle.std.proofs.Common.{sym, refl, ap, ◌∙◌, subst, arith, length-set, unwrap_or, bit_and, bit_or}
-use Rattle.std.specs.Int.{w64, bit_not}
-use mathlib.Core.Option.{some, none}
+use Rattle.std.proofs.Common.{◌≡◌, ℕ, List, [], ◌∷◌, ◌++◌, length, map, set, get_or, cond, eqb}
+use Rattle.std.proofs.Common.{sym, refl, ap, ◌∙◌, subst, length-set}
+use mathlib.Core.Option.{some}
 use lib.ListN.{get_elem?}
-use Rattle.std.proofs.lemmas.List.{map-set, get_or-set_same, get_or-set_other}
+use Rattle.std.proofs.lemmas.List.{map-set}
 use Rattle.std.proofs.lemmas.List.Elements.{All-set}
 use Rattle.std.proofs.lemmas.Option.{slice_get_within, get_or_from_slice_get}
 use Rattle.atomic_table.specs.Table.{State, Me, Act, keeps, Valid, stepped, carried_after}
@@ -13,7 +12,6 @@ use Rattle.ob_types.specs.WaterMark.{Marks}
 use Rattle.ob_core.specs.CoreState.{CoreState}
 use Rattle.ob_core.specs.CoreStep.{IsCoreStep}
 use Rattle.ob_core.specs.LaneStep.{CanMake, total_after, word_after, lane_after}
-use Rattle.ob_core.specs.Owed.{owed_by}
 use Rattle.ob_core.specs.declared.lane.Lane.{Lane}
 use Rattle.ob_core.specs.declared.lane_step.LaneStep.{LaneStep}
 use Rattle.ob_core.specs.declared.lane_step.LaneStep.TheVariants.{Add, Subtract, Raise, Lower, SetBit, ClearBit}
