@@ -7,22 +7,22 @@ use thiserror::Error;
 pub enum AskFault {
     /// There is no lane with this number.
     #[error("there is no such lane")]
-    UnknownLane,
+    UnknownLane = 1,
     /// A charge is above the room of its lane. It is asked after `Owing`.
     #[error("the charge is above the room of the lane")]
-    NoRoom,
+    NoRoom = 2,
     /// A lane that owes a charge was asked for another.
     #[error("the lane owes a charge already")]
-    Owing,
+    Owing = 3,
     /// A lane that owes nothing was asked to discharge.
     #[error("the lane owes nothing")]
-    NotOwing,
+    NotOwing = 4,
     /// The lane does not hold the bit, or the index is none of 1 to 31.
     #[error("the lane does not hold the bit")]
-    NotHeld,
+    NotHeld = 5,
     /// A lane that is between two calls was asked to go on.
     #[error("the lane is in the middle of no call")]
-    NotInside,
+    NotInside = 6,
 }
 
 impl AskFault {
@@ -32,13 +32,6 @@ impl AskFault {
     pub fn number(self) -> u8
         ensures { result ≡ number_of self }
     {
-        match self {
-            AskFault::UnknownLane => 1,
-            AskFault::NoRoom => 2,
-            AskFault::Owing => 3,
-            AskFault::NotOwing => 4,
-            AskFault::NotHeld => 5,
-            AskFault::NotInside => 6,
-        }
+        self as u8
     }
 }

@@ -8,16 +8,16 @@ use thiserror::Error;
 pub enum WorldFault {
     /// There is no lane, or there are more than 64.
     #[error("a world has 1 to 64 lanes")]
-    BadCount,
+    BadCount = 1,
     /// The rooms of the lanes add up to more than 4294967295.
     #[error("the rooms of the lanes add up to more than 4294967295")]
-    TooMuchRoom,
+    TooMuchRoom = 2,
     /// Two lanes hold one bit, or a lane holds bit 0.
     #[error("a bit is held twice, or bit 0 is held")]
-    BitsTwice,
+    BitsTwice = 3,
     /// The allocator refused memory.
     #[error("out of memory")]
-    NoMemory,
+    NoMemory = 4,
 }
 
 impl WorldFault {
@@ -27,12 +27,7 @@ impl WorldFault {
     pub fn number(self) -> u8
         ensures { result ≡ number_of self }
     {
-        match self {
-            WorldFault::BadCount => 1,
-            WorldFault::TooMuchRoom => 2,
-            WorldFault::BitsTwice => 3,
-            WorldFault::NoMemory => 4,
-        }
+        self as u8
     }
 }
 

@@ -20,10 +20,10 @@ pub struct RoomOut;
 pub enum SplitFault {
     /// More room was asked for than the lane has.
     #[error("the lane has less room than was asked for")]
-    NoRoom,
+    NoRoom = 1,
     /// A bit was asked for that the lane does not hold.
     #[error("the lane does not hold a bit that was asked for")]
-    NotHeld,
+    NotHeld = 2,
 }
 
 impl SplitFault {
@@ -34,9 +34,6 @@ impl SplitFault {
     pub fn number(self) -> u8
         ensures { result ≡ number_of self }
     {
-        match self {
-            SplitFault::NoRoom => 1,
-            SplitFault::NotHeld => 2,
-        }
+        self as u8
     }
 }

@@ -4,19 +4,19 @@ ghost use Rattle.std.specs.Prelude.{◌≡◌};
 #[derive(Clone, Copy, Debug, PartialEq, Eq)]
 pub enum LineFault {
     /// It has more than 200 bytes, not counting the byte that ends it.
-    LongLine,
+    LongLine = 6,
     /// Its first word is none that scripts have.
-    UnknownWord,
+    UnknownWord = 1,
     /// Fewer words follow the first than it wants.
-    TooFewWords,
+    TooFewWords = 4,
     /// More words follow the first than it wants.
-    TooManyWords,
+    TooManyWords = 5,
     /// A word in a number's place is not made of decimal digits.
-    NotANumber,
+    NotANumber = 2,
     /// A number is outside its range.
-    OutOfRange,
+    OutOfRange = 3,
     /// It stands where it may not, or does not go with the lines before it.
-    Misplaced,
+    Misplaced = 7,
 }
 
 impl LineFault {
@@ -26,14 +26,6 @@ impl LineFault {
     pub fn number(self) -> u8
         ensures { result ≡ fault_number_of self }
     {
-        match self {
-            LineFault::LongLine => 6,
-            LineFault::UnknownWord => 1,
-            LineFault::TooFewWords => 4,
-            LineFault::TooManyWords => 5,
-            LineFault::NotANumber => 2,
-            LineFault::OutOfRange => 3,
-            LineFault::Misplaced => 7,
-        }
+        self as u8
     }
 }

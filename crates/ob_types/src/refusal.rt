@@ -8,40 +8,40 @@ use thiserror::Error;
 pub enum Refusal {
     /// The pending size of a message passes 2147483647, or a region is longer than 9223372036854775807.
     #[error("the message is too large to be counted")]
-    Oversize,
+    Oversize = 1,
     /// The low mark is above the high mark, or the high mark above 2147483647.
     #[error("the low mark is above the high mark, or the high mark above 2147483647")]
-    BadMarks,
+    BadMarks = 2,
     /// The pending bytes would pass 4294967295, or 1048576 writes were accepted.
     #[error("too much is pending, or too many writes were accepted")]
-    TooMuch,
+    TooMuch = 3,
     /// The buffer was closed.
     #[error("the buffer is closed")]
-    Closed,
+    Closed = 4,
     /// Progress was told of, and no message is flushed.
     #[error("no message is flushed")]
-    NothingFlushed,
+    NothingFlushed = 5,
     /// The progress of a message would pass 9223372036854775807.
     #[error("the progress of the message would pass 9223372036854775807")]
-    TooFar,
+    TooFar = 6,
     /// More bytes were to be removed than the flushed blocks in front hold.
     #[error("the flushed blocks in front hold fewer bytes")]
-    TooManyBytes,
+    TooManyBytes = 7,
     /// A user bit has an index outside 1 to 31.
     #[error("the index of a user bit is 1 to 31")]
-    BadIndex,
+    BadIndex = 8,
     /// A buffer was to be closed while flushed messages are left.
     #[error("flushed messages are left")]
-    FlushedLeft,
+    FlushedLeft = 9,
     /// No write was accepted under this promise.
     #[error("no write has this promise")]
-    UnknownPromise,
+    UnknownPromise = 10,
     /// The history holds as many records as it may, or has fewer places left than are to be reserved.
     #[error("the history is full")]
-    HistoryFull,
+    HistoryFull = 11,
     /// The allocator refused memory, or a block has more owners than can be counted.
     #[error("out of memory")]
-    NoMemory,
+    NoMemory = 12,
 }
 
 impl Refusal {
@@ -51,20 +51,7 @@ impl Refusal {
     pub fn number(self) -> u8
         ensures { result ≡ number_of self }
     {
-        match self {
-            Refusal::Oversize => 1,
-            Refusal::BadMarks => 2,
-            Refusal::TooMuch => 3,
-            Refusal::Closed => 4,
-            Refusal::NothingFlushed => 5,
-            Refusal::TooFar => 6,
-            Refusal::TooManyBytes => 7,
-            Refusal::BadIndex => 8,
-            Refusal::FlushedLeft => 9,
-            Refusal::UnknownPromise => 10,
-            Refusal::HistoryFull => 11,
-            Refusal::NoMemory => 12,
-        }
+        self as u8
     }
 }
 
