@@ -10,10 +10,12 @@ pub struct Stuck;
 /// Where writers can be held, so that a test can bring two threads to one point. Our own.
 ///
 /// Writers and steps are counted from 0. A call may wait, and may not wait for ever: a writer that is held holds up the
-/// end of its drive.
+/// end of its drive. An implementation may leave out a call, which then is that of [`OpenGate`].
 pub trait Gate {
     /// Before each command of a writer. `Stuck` ends the writer.
-    fn before<R: Wait + Clock>(&self, rt: &R, writer: u32, step: usize) -> Result<(), Stuck>;
+    fn before<R: Wait + Clock>(&self, rt: &R, writer: u32, step: usize) -> Result<(), Stuck> {
+        OpenGate.before(rt, writer, step)
+    }
 
     /// Between the charge of a write and its call, with the bytes that are handed off then by all writers together.
     /// `Stuck` ends the writer, and its charge is discharged.
@@ -23,10 +25,12 @@ pub trait Gate {
         writer: u32,
         step: usize,
         total: u64,
-    ) -> Result<(), Stuck>;
+    ) -> Result<(), Stuck> {
+        OpenGate.during(rt, writer, step, total)
+    }
 
     /// After the answer to each command of a writer.
-    fn after<R: Wait + Clock>(&self, rt: &R, writer: u32, step: usize);
+    fn after<R: Wait + Clock>(&self, _rt: &R, _writer: u32, _step: usize) {}
 }
 
 /// A gate that never holds.
@@ -51,6 +55,4 @@ impl Gate for OpenGate {
     {
         self.before(rt, writer, step)
     }
-
-    fn after<R: Wait + Clock>(&self, _rt: &R, _writer: u32, _step: usize) {}
 }
