@@ -48,7 +48,7 @@ pub record IsCovered (history : History) (command : Command) : Type 0 where
   pub few : settled_after history.settings (accepted_commands history.records) command ≤ inline_settlements
 
 -- one more call of a history gives its answer and leaves the history after it, unless memory is wanted; memory is
--- wanted only where the history is not full, and not by a covered call; what is refused leaves the history as it was
+-- wanted only if the history is not full, and not by a covered call; what is refused leaves the history as it was
 pub record IsCall (old : History) (caller : ℕ) (command : Command) (result : Result Receipt Refusal) (new : History)
     : Type 0 where
   pub answer : ¬ IsErrOf result NoMemory → result ≡ call_answer old caller command

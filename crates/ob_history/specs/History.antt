@@ -35,8 +35,8 @@ LacksPlaces history count = history.limit < length history.records + count
 abbrev pub with_reserved : History → ℕ → History
 with_reserved history count = record history { reserved = max history.reserved count }
 
--- a reservation leaves at least so many calls reserved; it is refused as full just where the history lacks so many
--- places, and else for want of memory alone, but not where so many are reserved already; what is refused leaves the
+-- a reservation leaves at least so many calls reserved; it is refused as full just if the history lacks so many
+-- places, and else for want of memory alone, but not if so many are reserved already; what is refused leaves the
 -- history as it was
 pub record IsReservation (old : History) (count : ℕ) {A : Type 0} (result : Result A Refusal) (new : History)
     : Type 0 where

@@ -18,7 +18,7 @@ abbrev pub IsLegal : Settings → List Record → Type 0
 IsLegal settings records =
     (index : ℕ) (one : Record) → slice_get records index ≡ Some one → IsRecordAt settings records index one
 
--- a buffer is that of a history where it stands for the accepted commands of its records, by its settings; and the
+-- a buffer is that of a history if it stands for the accepted commands of its records, by its settings; and the
 -- history is legal and bounded
 pub record IsBufferOf (history : History) (buffer : Pending) : Type 0 where
   pub stands : StandsFor buffer (accepted_commands history.records)

@@ -14,7 +14,7 @@ seen_now history = record {
   look = look_after history.settings (accepted_commands history.records);
 }
 
--- a look is at a history where it is what is seen of it now, and the history is bounded
+-- a look is at a history if it is what is seen of it now, and the history is bounded
 pub record IsLookAt (history : History) (look : Seen) : Type 0 where
   pub seen : look ≡ seen_now history
   pub bounded : IsBounded history

@@ -45,8 +45,8 @@ pub record IsDischarge (low amount : ℕ) (before after : List Made) (change : O
   pub subtracted : after ≡ before ++ one_step (Subtract amount) total ++ lowered low amount total word
   pub turn : change ≡ (if is_below low amount total then change_found Lower word else None)
 
--- a call has changed the debt of a lane to this one, and nothing else of it, on the same words; where the amount is above
--- 0, it made the steps and has the change of such a call, and the lane stands in a run; where it is 0, it made no step
+-- a call has changed the debt of a lane to this one, and nothing else of it, on the same words; if the amount is above
+-- 0, it made the steps and has the change of such a call, and the lane stands in a run; if it is 0, it made no step
 -- and has no change
 pub record ChangesDebt (debt : Option ℕ) (amount : ℕ) (IsCall : List Made → List Made → Option Change → Type 0)
     (old new : RunningLane) (change : Option Change) : Type 0 where

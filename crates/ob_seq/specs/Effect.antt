@@ -70,7 +70,7 @@ with_first count change rows = with_first_behind count change [] rows
 abbrev pub skipped_row : ℕ → Row → Row
 skipped_row n row = record row { skipped = row.skipped + n; progress = min (row.progress + n) greatest_progress }
 
--- the rows with so many bytes skipped in the front, and unchanged where that is none
+-- the rows with so many bytes skipped in the front, and unchanged if that is none
 abbrev pub with_skipped : ℕ → List Row → List Row
 with_skipped n rows = if nat_lt 0 n then with_front (skipped_row n) rows else rows
 

@@ -62,8 +62,8 @@ abbrev pub Follows : Pending → Command → Result Reply Refusal → Pending �
 Follows old command result new =
     (commands : List Command) → StandsFor old commands → StandsFor new (commands_with commands command result)
 
--- a buffer obeys a command where it gives the answer to it, unless memory is wanted, and then holds what follows; its
--- settings stay, a refusal changes nothing, and memory is wanted only where the command is accepted
+-- a buffer obeys a command if it gives the answer to it, unless memory is wanted, and then holds what follows; its
+-- settings stay, a refusal changes nothing, and memory is wanted only if the command is accepted
 pub record Obeys (old : Pending) (command : Command) (result : Result Reply Refusal) (new : Pending) : Type 0 where
   pub answer : ¬ IsErrOf result NoMemory → Answers old command result
   pub stands : Follows old command result new

@@ -4,7 +4,7 @@ use Rattle.std.specs.Prelude.{slice_get, unwrap_or, Option, None}
 use Rattle.ob_types.specs.Traits.{BitRequest, traits_of}
 use Rattle.ob_types.specs.declared.command.Command.{Command}
 
--- what a request asks of the user bit with this index: nothing where there is none, or it is of another bit
+-- what a request asks of the user bit with this index: nothing if there is none, or it is of another bit
 abbrev pub asked_of : ℕ → Option BitRequest → Option Bool
 asked_of index None = None
 asked_of index (Some request) = if request.index == index then Some request.set else None

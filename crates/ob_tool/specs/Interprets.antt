@@ -9,7 +9,7 @@ use Rattle.ob_tool.specs.declared.run_fault.RunFault.{RunFault}
 use Rattle.ob_tool.specs.declared.run_fault.RunFault.TheVariants.{Read, TooLong, NoMemory}
 
 -- a script is gone through to its end or to its first faulty line: that one's fault is told, the reader is at its end,
--- and the script has at most as many bytes as one may have; it is too long where it has more
+-- and the script has at most as many bytes as one may have; it is too long if it has more
 pub record GoesThrough {T L : Type 0} (language : Language L) (had left : Option (List ℕ)) (result : Result T RunFault)
     : Type 0 where
   pub fault : WentThrough result → IfSome had (λ script. fault_told result ≡ script_fault language script)
@@ -23,7 +23,7 @@ pub record Interprets {T L : Type 0} (language : Language L) (had left old new :
   -- at the end of the script or at its first faulty line, the trace of what was read is written and nothing else
   pub through : GoesThrough language had left result
   pub trace : WentThrough result → IfSome had (λ script. Appends old new (trace_of language script))
-  -- where memory runs out, the trace of some first lines is written and nothing else
+  -- when memory runs out, the trace of some first lines is written and nothing else
   pub no_memory : IsErrOf result NoMemory → IfSome had (λ script.
       (count : ℕ) × Appends old new (trace_of_first count language script))
   -- a script that was not read leaves the writer alone

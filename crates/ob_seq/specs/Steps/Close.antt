@@ -20,7 +20,7 @@ use Rattle.ob_seq.specs.Steps.Held.{unflushed_id}
 abbrev pub failed_from : ℕ → Cause → List PromiseState → List PromiseState
 failed_from id cause promises = take id promises ++ map (failed cause) (drop id promises)
 
--- what promises settle that fail if they still wait, where their ids go on from this one
+-- what promises settle whose ids go on from this one, when those that still wait fail
 abbrev pub failures : Cause → ℕ → List PromiseState → List (PromiseId × Outcome)
 failures cause id [] = []
 failures cause id (state ∷ states) =

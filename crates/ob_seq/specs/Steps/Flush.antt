@@ -16,7 +16,7 @@ use Rattle.ob_seq.specs.Steps.Held.{pending_total, unflushed_id, first_size, tim
 abbrev pub is_next_cancelled : Pending → Bool
 is_next_cancelled old = is_cancelled (slice_index_or old.promises (unflushed_id old) Waiting)
 
--- an entry that a flush reaches: empty where it is voided
+-- an entry that a flush reaches: empty if it is voided
 abbrev pub reached_entry : Bool → PendingEntry → PendingEntry
 reached_entry true entry = record { message = Block []; size = 0; progress = entry.progress; voided = true }
 reached_entry false entry = entry
@@ -26,7 +26,7 @@ abbrev pub first_reached : Bool → List PendingEntry → List PendingEntry
 first_reached cancelled [] = []
 first_reached cancelled (entry ∷ entries) = reached_entry cancelled entry ∷ []
 
--- a buffer with one more entry in line: voided where its promise was taken back, else with its promise fixed
+-- a buffer with one more entry in line: voided if its promise was taken back, else with its promise fixed
 abbrev pub next_flushed : Pending → Pending
 next_flushed old = record old {
   line = old.line ++ first_reached (is_next_cancelled old) old.unflushed;

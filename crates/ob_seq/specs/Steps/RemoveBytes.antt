@@ -26,7 +26,7 @@ whole_cut n pieces = record {
   rest = n - bytes_in (take (pieces_within n pieces) pieces);
 }
 
--- where a removal of n bytes from these pieces ends, or nothing where they hold fewer
+-- where a removal of n bytes from these pieces ends, or nothing if they hold fewer
 abbrev pub cut_of : ℕ → List (List ℕ) → Option Cut
 cut_of n pieces = if nat_lt (bytes_in pieces) n then None else Some (whole_cut n pieces)
 
@@ -42,7 +42,7 @@ skipped_entry n entry = record entry {
   progress = min (entry.progress + n) greatest_progress;
 }
 
--- a buffer with so many bytes skipped in its front, and unchanged where that is none
+-- a buffer with so many bytes skipped in its front, and unchanged if that is none
 abbrev pub front_skipped : ℕ → Pending → Pending
 front_skipped n old = if nat_lt 0 n then front_changed (skipped_entry n) old else old
 
@@ -54,7 +54,7 @@ bytes_removed cut old = front_skipped cut.rest (times cut.whole (front_taken tru
 abbrev pub entry_settlement : Outcome → ℕ → PendingEntry → List (PromiseId × Outcome)
 entry_settlement outcome id entry = if entry.voided then [] else (record { 0 = id }, outcome) ∷ []
 
--- what entries settle when they are taken away with this outcome, where their ids go on from this one
+-- what entries settle whose ids go on from this one, when they are taken away with this outcome
 abbrev pub entry_settlements : Outcome → ℕ → List PendingEntry → List (PromiseId × Outcome)
 entry_settlements outcome id [] = []
 entry_settlements outcome id (entry ∷ entries) =

@@ -26,14 +26,14 @@ answer_by old step = unless_refused (first_of_step old step) step.reply
 abbrev pub held_by : Pending → Step → Result Reply Refusal → Pending
 held_by old step answer = if is_ok answer then step.after else old
 
--- a step is made where its answer is given, unless memory is wanted, and what it says is held after it; memory is
--- wanted only where nothing else refuses the step
+-- a step is made if its answer is given, unless memory is wanted, and what it says is held after it; memory is
+-- wanted only if nothing else refuses the step
 pub record Makes (old : Pending) (step : Step) (result : Result Reply Refusal) (new : Pending) : Type 0 where
   pub answer : ¬ IsErrOf result NoMemory → result ≡ answer_by old step
   pub after : new ≡ held_by old step result
   pub no_memory_last : IsErrOf result NoMemory → first_of_step old step ≡ None
 
--- how many promises a step of a buffer that is not closed settles: those of its reply, and none where it is refused
+-- how many promises a step of a buffer that is not closed settles: those of its reply, and none if it is refused
 abbrev pub settled_open : Step → ℕ
 settled_open step = length (settled_by (unless_refused step.refusal step.reply))
 

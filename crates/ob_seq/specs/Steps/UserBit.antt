@@ -8,7 +8,7 @@ use Rattle.ob_seq.specs.Pending.{Pending}
 use Rattle.ob_seq.specs.UserBit.{is_user_index}
 use Rattle.ob_seq.specs.Steps.Step.{Step}
 
--- the word with the user bit of this index set, or clear where it is to be writable
+-- the word with the user bit of this index set, or clear if it is to be writable
 abbrev pub with_user_bit : ℕ → Bool → ℕ → ℕ
 with_user_bit index writable word = if writable then bit_and word (bit_not w32 (2 ^ index)) else bit_or word (2 ^ index)
 
