@@ -1,7 +1,8 @@
 /// What a server does with a connection whose socket takes so many bytes at a time (`takes`): it responds with bytes of
-/// one value, writes a message that no flush follows, sends, gives up, renews its buffer, or spends writes. Each line answers whether that went well,
-/// what the server was last told of reading, whether more may be written, how many bytes were sent and promises
-/// settled, the pending bytes, how many more make the buffer unwritable, and how many writes are left.
+/// one value, writes a message that no flush follows, sends, gives up, renews its buffer, or spends writes. Each line
+/// answers whether that went well, what the server was last told of reading, whether more may be written, how many bytes
+/// were sent and promises settled, the pending bytes, how many more make the buffer unwritable, and how many writes are
+/// left.
 pub static CONNECTIONS: &str = "
 # a slow peer is not read until it has caught up: the responses count 400 and 100 bytes, and leave in pieces of 100
 $ connection --low 200 --high 400
@@ -12,7 +13,7 @@ send / ok, reading: no, may not write, sent=300 settled=0 t=500 bu=0 left=104857
 send / ok, reading: yes, may write, sent=308 settled=2 t=0 bu=401 left=1048574
 send / ok, reading: yes, may write, sent=308 settled=2 t=0 bu=401 left=1048574
 settled / 0:ok 1:ok
-sent / 304 of 1, 4 of 2
+sent / 304 of 1 4 of 2
 
 # a new buffer has room up to the high mark of Netty: 65440 bytes count 65536, and one byte more would be above it
 $ connection

@@ -12,6 +12,7 @@ f 2
 f 3
 then 7
 / writes 100, flushes 4, cancels 0, bits 0, refused 0, taken 1000, success 100, failed 0, cancelled 0, left 0, hand 0 00000000
+: sink / 1000 bytes, 0 failures
 
 # a failing sink
 $ drive
@@ -19,6 +20,7 @@ b 0 10 2
 f 0
 fail 9
 / writes 2, flushes 1, cancels 0, bits 0, refused 0, taken 0, success 0, failed 2, cancelled 0, left 0, hand 0 00000000
+: sink / 0 bytes, 1 failures
 
 # refused commands
 $ drive
@@ -80,22 +82,6 @@ b 0 1 3
 /// length, and `rm` gives a removal. `sink` tells how many bytes the sink took and how often it failed, and `why` the
 /// text of the fault.
 pub static PLANS: &str = "
-# what the sink took, and how often it failed
-$ drive
-each 4 b 10 25
-each 4 f
-then 7
-/ writes 100, flushes 4, cancels 0, bits 0, refused 0, taken 1000, success 100, failed 0, cancelled 0, left 0, hand 0 00000000
-sink / 1000 bytes, 0 failures
-
-# a failing sink fails what is flushed
-$ drive
-each 1 b 10 2
-each 1 f
-fail 9
-/ writes 2, flushes 1, cancels 0, bits 0, refused 0, taken 0, success 0, failed 2, cancelled 0, left 0, hand 0 00000000
-sink / 0 bytes, 1 failures
-
 # sixty-four writers
 $ drive
 each 64 b 1 1024

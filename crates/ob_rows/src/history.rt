@@ -24,7 +24,7 @@ seen 0@4 / no
 # a refused command is recorded
 $ history --limit 4
 1 p 3 / place 0: !5 t=0 w=00000000
-kept / none
+told 0 / none
 ? / place 1: size=0 cur=0 bu=65537 bw=0 t=0 w=00000000
 callers / 1
 
@@ -39,15 +39,11 @@ callers / 9 9 9
 
 # a removal settles five promises, more than fit without the allocator
 $ history --limit 7
-3 b 1 / place 0: id 0 t=97 w=00000000
-3 b 1 / place 1: id 1 t=194 w=00000000
-3 b 1 / place 2: id 2 t=291 w=00000000
-3 b 1 / place 3: id 3 t=388 w=00000000
-3 b 1 / place 4: id 4 t=485 w=00000000
+5 times 3 b 1 / place 4: id 4 t=485 w=00000000
 3 f / place 5: n 5 t=485 w=00000000
 settles rb 5 / 5
 4 rb 5 / place 6: n 5 t=0 w=00000000 0:ok 1:ok 2:ok 3:ok 4:ok
-kept / none
+told 0 1 2 3 4 5 6 / none
 ? / place 7: size=0 cur=0 bu=65537 bw=0 t=0 w=00000000
 seen 0 / yes
 settled / 0:ok 1:ok 2:ok 3:ok 4:ok

@@ -1,8 +1,9 @@
 //! The worked rows: what each crate is asked, line by line, and what it answers, worked out by hand beforehand.
 //!
 //! A text holds stories. Each begins with `#` and what is so, and a line of `$` and the words of a command line. Then
-//! come its lines: what is asked, a slash, and what is answered, in the words of the scripts and traces of `ob_tool`
-//! where it has them. Tests alone read these texts, and no library stands on this crate.
+//! come its lines: what is asked, a slash, and what is answered, in the words of the scripts and traces of `ob_tool` if
+//! it has them. `5 times` before a line asks it five times, and the answer is the last one. Tests alone read these texts,
+//! and no library stands on this crate.
 #![tactic(auto)]
 
 mod connections;
@@ -18,7 +19,7 @@ pub use connections::CONNECTIONS;
 pub use drives::{DRIVES, PLANS};
 pub use history::HISTORY;
 pub use looks::{LIMITS, LOOKS};
-pub use passes::{PASSES, SCARCE};
-pub use run::RUN;
-pub use shared::SHARED;
+pub use passes::{PASSES, SCARCE, SIX};
+pub use run::{FULL, RUN};
+pub use shared::{SENDS, SHARED, WAITS, WRITES};
 pub use turns::CORE;

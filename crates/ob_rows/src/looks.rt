@@ -10,21 +10,6 @@ rm / no t=400 w=00000000
 f / n 1 t=400 w=00000000
 rm / yes t=0 w=00000000 0:ok
 
-# a voided message stays in line as an empty block
-$ run --low 200 --high 400
-b 304 / id 0 t=400 w=00000000
-b 4 / id 1 t=500 w=00000001 -
-x 0 / yes t=500 w=00000001 0:x
-f / n 2 t=100 w=00000000 +
-? / size=2 cur=0 bu=301 bw=0 t=100 w=00000000
-current / b 0
-flushed / b 4
-rm / yes t=100 w=00000000
-promise 0 / x
-current / b 4
-rm / yes t=0 w=00000000 1:ok
-current / nothing
-
 # promises go from waiting to settled
 $ run --low 200 --high 400
 promise 0 / unknown
@@ -40,48 +25,11 @@ rc 9 / yes t=0 w=00000000 0:f9
 promise 0 / f9
 p 1 / !5 t=0 w=00000000
 
-# skipped bytes are gone from the message in front, and a refused removal skips none
-$ run --low 200 --high 400
-b 3 / id 0 t=99 w=00000000
-b 0 / id 1 t=195 w=00000000
-b 5 / id 2 t=296 w=00000000
-f / n 3 t=296 w=00000000
-rb 3 / n 2 t=101 w=00000000 0:ok 1:ok
-rb 2 / n 0 t=101 w=00000000
-flushed / b 3
-rb 4 / !7 t=101 w=00000000
-? / size=1 cur=2 bu=300 bw=0 t=101 w=00000000
-
-# a message that is no block ends the byte run
-$ run --low 200 --high 400
-o 5 / id 0 t=104 w=00000000
-f / n 1 t=104 w=00000000
-rb 0 / n 0 t=104 w=00000000
-g 8 8 / g t=104 w=00000000
-flushed / o 5
-rm / yes t=0 w=00000000 0:ok
-
-# at most so many blocks are gathered, and none where that is 0; the first however long it is
-$ run --low 200 --high 400
-b 3 / id 0 t=99 w=00000000
-b 4 / id 1 t=199 w=00000000
-b 5 / id 2 t=300 w=00000000
-x 1 / yes t=300 w=00000000 1:x
-g 8 8 / g t=300 w=00000000
-f / n 3 t=200 w=00000000
-g 0 100 / g t=200 w=00000000
-g 8 0 / g 3 t=200 w=00000000
-flushed / b 3 b 5
-
 # six promises in one removal: more than fit without the allocator
 $ run --low 200 --high 400
-b 1 / id 0 t=97 w=00000000
-b 1 / id 1 t=194 w=00000000
-b 1 / id 2 t=291 w=00000000
-b 1 / id 3 t=388 w=00000000
+4 times b 1 / id 3 t=388 w=00000000
 b 1 / id 4 t=485 w=00000001 -
-b 1 / id 5 t=582 w=00000001
-b 1 / id 6 t=679 w=00000001
+2 times b 1 / id 6 t=679 w=00000001
 f / n 7 t=679 w=00000001
 rb 6 / n 6 t=97 w=00000000 + 0:ok 1:ok 2:ok 3:ok 4:ok 5:ok
 promise 5 / ok
@@ -111,13 +59,9 @@ g 8 14 / g 1 2 3 4 t=591 w=00000001
 
 # failing takes the whole line away: without notice the buffer stays unwritable, however little is pending
 $ run --low 200 --high 400
-b 4 / id 0 t=100 w=00000000
-b 4 / id 1 t=200 w=00000000
-b 4 / id 2 t=300 w=00000000
-b 4 / id 3 t=400 w=00000000
+4 times b 4 / id 3 t=400 w=00000000
 b 4 / id 4 t=500 w=00000001 -
-b 4 / id 5 t=600 w=00000001
-b 4 / id 6 t=700 w=00000001
+2 times b 4 / id 6 t=700 w=00000001
 x 2 / yes t=700 w=00000001 2:x
 f / n 7 t=600 w=00000001
 b 4 / id 7 t=700 w=00000001
@@ -127,10 +71,7 @@ fl 7 1 / n 0 t=100 w=00000001
 
 # failing with notice tells of writability
 $ run --low 200 --high 400
-b 4 / id 0 t=100 w=00000000
-b 4 / id 1 t=200 w=00000000
-b 4 / id 2 t=300 w=00000000
-b 4 / id 3 t=400 w=00000000
+4 times b 4 / id 3 t=400 w=00000000
 b 4 / id 4 t=500 w=00000001 -
 f / n 5 t=500 w=00000001
 fl 7 1 / n 5 t=0 w=00000000 + 0:f7 1:f7 2:f7 3:f7 4:f7
@@ -138,13 +79,9 @@ promise 4 / f7
 
 # closing fails what no flush has reached, but for what was cancelled
 $ run --low 200 --high 400
-b 4 / id 0 t=100 w=00000000
-b 4 / id 1 t=200 w=00000000
-b 4 / id 2 t=300 w=00000000
-b 4 / id 3 t=400 w=00000000
+4 times b 4 / id 3 t=400 w=00000000
 b 4 / id 4 t=500 w=00000001 -
-b 4 / id 5 t=600 w=00000001
-b 4 / id 6 t=700 w=00000001
+2 times b 4 / id 6 t=700 w=00000001
 x 5 / yes t=700 w=00000001 5:x
 cl 7 / n 7 t=0 w=00000001 0:f7 1:f7 2:f7 3:f7 4:f7 6:f7
 ? / size=0 cur=0 bu=0 bw=0 t=0 w=00000001

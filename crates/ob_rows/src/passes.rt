@@ -1,7 +1,7 @@
 /// What a transport does. Behind the options of the buffer stand what its sink does in its first calls and how much it
-/// takes at most in each later one; `--count` is how many blocks it is offered at once. A pass, a drain of so many turns and a booking of
-/// taken bytes answer what came of them, how many calls are recorded, what is pending, the progress in front, and all
-/// bytes that the sink has taken.
+/// takes at most in each later one; `--count` is how many blocks it is offered at once. A pass, a drain of so many turns
+/// and a booking of taken bytes answer what came of them, how many calls are recorded, what is pending, the progress in
+/// front, and all bytes that the sink has taken.
 pub static PASSES: &str = "
 # a sink fault takes nothing
 $ transport --low 200 --high 400 take 4 fail 9 then 100
@@ -66,18 +66,12 @@ settled / 0:ok
 
 # where memory is at hand, neither a pass nor a drain wants it
 $ transport --low 200 --high 400 then 100
-b 1 / id 0 t=97 w=00000000
-b 1 / id 1 t=194 w=00000000
-b 1 / id 2 t=291 w=00000000
-b 1 / id 3 t=388 w=00000000
+4 times b 1 / id 3 t=388 w=00000000
 b 1 / id 4 t=485 w=00000001 -
 b 1 / id 5 t=582 w=00000001
 f / n 6 t=582 w=00000001
 pass / took 6: place 8, t=0 cur=0, 000102030405
-b 1 / id 6 t=97 w=00000000
-b 1 / id 7 t=194 w=00000000
-b 1 / id 8 t=291 w=00000000
-b 1 / id 9 t=388 w=00000000
+4 times b 1 / id 9 t=388 w=00000000
 b 1 / id 10 t=485 w=00000001 -
 r 3 / id 11 t=581 w=00000001
 o 3 / id 12 t=685 w=00000001
@@ -88,13 +82,9 @@ settled / 0:ok 1:ok 2:ok 3:ok 4:ok 5:ok 6:ok 7:ok 8:ok 9:ok 10:ok 11:ok 12:f1
 ";
 
 /// The same over a buffer that wants memory for the removal of more than four messages right behind a reserve.
-pub static SCARCE: &str = "
-# bytes whose removal wants memory stay in front, and are booked later
+pub static SCARCE: &str = "bytes whose removal wants memory stay in front, and are booked later
 $ transport --low 200 --high 400 then 5
-b 1 / id 0 t=97 w=00000000
-b 1 / id 1 t=194 w=00000000
-b 1 / id 2 t=291 w=00000000
-b 1 / id 3 t=388 w=00000000
+4 times b 1 / id 3 t=388 w=00000000
 b 1 / id 4 t=485 w=00000001 -
 b 1 / id 5 t=582 w=00000001
 f / n 6 t=582 w=00000001
@@ -102,4 +92,14 @@ pass / 5 unbooked: place 7, t=582 cur=0, 0001020304
 book 5 / n 5 + 0:ok 1:ok 2:ok 3:ok 4:ok: place 8, t=97 cur=0, 0001020304
 pass / took 1: place 9, t=0 cur=0, 000102030405
 settled / 0:ok 1:ok 2:ok 3:ok 4:ok 5:ok
+";
+
+/// A pass that is booked in the end (`send`), over more blocks than promises are settled without memory.
+pub static SIX: &str = "what the sink took is booked, whichever growth is refused
+$ transport --low 200 --high 400 then 100
+4 times b 1 / id 3 t=388 w=00000000
+b 1 / id 4 t=485 w=00000001 -
+b 1 / id 5 t=582 w=00000001
+f / n 6 t=582 w=00000001
+send / : place 8, t=0 cur=0, 000102030405
 ";

@@ -1,4 +1,5 @@
-/// What commands answer one after the other, in the lines and the traces of `ob_tool run`.
+/// What commands answer one after the other, in the lines and the traces of `ob_tool run`. A line behind a colon is asked
+/// by the tests of the libraries alone: those of [`LOOKS`](crate::LOOKS), and what a script may not ask.
 pub static RUN: &str = "
 # no line
 $ run --low 200 --high 400
@@ -78,8 +79,14 @@ b 304 / id 0 t=400 w=00000000
 b 4 / id 1 t=500 w=00000001 -
 x 0 / yes t=500 w=00000001 0:x
 f / n 2 t=100 w=00000000 +
+: ? / size=2 cur=0 bu=301 bw=0 t=100 w=00000000
+: current / b 0
+: flushed / b 4
 rm / yes t=100 w=00000000
+: promise 0 / x
+: current / b 4
 rm / yes t=0 w=00000000 1:ok
+: current / nothing
 
 # a fixed promise cannot be cancelled
 $ run --low 200 --high 400
@@ -135,7 +142,9 @@ f / n 3 t=296 w=00000000
 rb 3 / n 2 t=101 w=00000000 0:ok 1:ok
 rb 2 / n 0 t=101 w=00000000
 ? / size=1 cur=2 bu=300 bw=0 t=101 w=00000000
+: flushed / b 3
 rb 4 / !7 t=101 w=00000000
+: ? / size=1 cur=2 bu=300 bw=0 t=101 w=00000000
 rb 3 / n 1 t=0 w=00000000 2:ok
 rb 0 / n 0 t=0 w=00000000
 
@@ -158,16 +167,22 @@ $ run --low 200 --high 400
 o 5 / id 0 t=104 w=00000000
 f / n 1 t=104 w=00000000
 rb 0 / n 0 t=104 w=00000000
+: g 8 8 / g t=104 w=00000000
+: flushed / o 5
 rb 1 / !7 t=104 w=00000000
 rm / yes t=0 w=00000000 0:ok
 
-# a gathering skips voided entries: a voided entry is passed over, and the first block comes in any case
+# a gathering skips voided entries: a voided entry is passed over, and the first block comes in any case, but for none
 $ run --low 200 --high 400
 b 3 / id 0 t=99 w=00000000
 b 4 / id 1 t=199 w=00000000
 b 5 / id 2 t=300 w=00000000
 x 1 / yes t=300 w=00000000 1:x
+: g 8 8 / g t=300 w=00000000
 f / n 3 t=200 w=00000000
+: g 0 100 / g t=200 w=00000000
+: g 8 0 / g 3 t=200 w=00000000
+: flushed / b 3 b 5
 g 8 6 / g 3 t=200 w=00000000
 g 8 8 / g 3 5 t=200 w=00000000
 g 1 100 / g 3 t=200 w=00000000
@@ -225,7 +240,10 @@ cl 7 / !9 t=596 w=00000001
 fl 7 1 / n 1 t=100 w=00000000 + 0:f7
 cl 7 / n 1 t=0 w=00000000 1:f7
 b 1 / !4 t=0 w=00000000
+";
 
+/// The same with a limit on the commands that are recorded.
+pub static FULL: &str = "
 # the history limit: each write counts 1 byte and 96 more; the fourth command finds three records
 $ run --limit 3
 b 1 / id 0 t=97 w=00000000

@@ -2,7 +2,9 @@
 //!
 //! Most of them play stories of `ob_rows`: each line of a story is asked of a player, whose answer has to be that of
 //! the line.
+//! Outside of them stand the callers that the README and `docs/` show, which the tests play too.
 #![tactic(auto)]
 
+pub mod caller;
 #[cfg(test)]
 mod tests;

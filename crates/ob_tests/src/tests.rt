@@ -1,7 +1,7 @@
 mod buffers;
-mod caller;
 mod callers;
 mod commands;
+mod connection;
 mod dice;
 mod drives;
 mod gates;
@@ -10,7 +10,6 @@ mod keeping;
 mod lanes;
 mod limits;
 mod looks;
-mod refusals;
 mod run;
 mod schedules;
 mod seq;

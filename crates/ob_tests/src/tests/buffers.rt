@@ -4,6 +4,7 @@ ghost use Rattle.std.specs.Prelude.{IfOk, ◌≤◌};
 ghost use Rattle.ob_types.specs.Limits.{greatest_overhead, greatest_unknown};
 ghost use Rattle.ob_pool.specs.Config.{AreWithin};
 
+use crate::tests::keeping::Keeping;
 use crate::tests::words::{MOST, NoAnswer, Words};
 use ob_history::{Booked, Recorded};
 use ob_pool::{Config, TASK_OVERHEAD};
@@ -21,58 +22,24 @@ pub trait Kept {
     fn buffer(&self) -> &Buffer;
 }
 
-/// A buffer whose calls are those of the commands' names.
-#[derive(Drop)]
-pub struct ByName(pub Buffer);
-
-impl Kept for ByName {
+/// By `apply`, which makes the calls of the commands' names.
+impl Kept for Buffer {
     fn give(&mut self, command: Command) -> Result<Result<Reply, Refusal>, Refusal> {
-        let buffer = &mut self.0;
-        Ok(match command {
-            Command::Write(message) => buffer.write(message),
-            Command::Flush => buffer.flush(),
-            Command::Remove => buffer.remove(),
-            Command::RemoveWith(cause) => buffer.remove_with(cause),
-            Command::RemoveBytes(n) => buffer.remove_bytes(n),
-            Command::Progress(n) => buffer.progress(n),
-            Command::Cancel(id) => buffer.cancel(id),
-            Command::FailFlushed(cause, notify) => buffer.fail_flushed(cause, notify),
-            Command::Close(cause) => buffer.close(cause),
-            Command::UserBit(index, writable) => buffer.user_bit(index, writable),
-        })
+        Ok(self.apply(command))
     }
 
     fn buffer(&self) -> &Buffer {
-        &self.0
+        self
     }
 }
 
-/// A buffer that is given its commands by `apply`.
-#[derive(Drop)]
-pub struct ByApply(pub Buffer);
-
-impl Kept for ByApply {
+impl<B: Booked> Kept for Keeping<B> {
     fn give(&mut self, command: Command) -> Result<Result<Reply, Refusal>, Refusal> {
-        Ok(self.0.apply(command))
+        Ok(self.call(command)?.reply)
     }
 
     fn buffer(&self) -> &Buffer {
-        &self.0
-    }
-}
-
-/// A buffer whose calls are booked.
-#[derive(Drop)]
-pub struct Booking<B>(pub B);
-
-impl<B: Booked> Kept for Booking<B> {
-    fn give(&mut self, command: Command) -> Result<Result<Reply, Refusal>, Refusal> {
-        let receipt = self.0.call(command)?;
-        Ok(receipt.reply)
-    }
-
-    fn buffer(&self) -> &Buffer {
-        self.0.buffer()
+        Booked::buffer(self)
     }
 }
 

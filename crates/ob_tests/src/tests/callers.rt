@@ -1,9 +1,12 @@
-//! The callers of a shared buffer, and what they hand in.
+//! The callers of a shared buffer, each call from a desk of its own, and what they hand in.
 
 ghost use Rattle.std.specs.Prelude.{◌<◌, vec_capacity, vec_len};
 
-use crate::tests::words::NoAnswer;
-use ob_history::{Booked, Receipt, Recorded, Seen};
+use crate::tests::commands::wanted;
+use crate::tests::story::Player;
+use crate::tests::trace::{push_answer, push_look, push_refusal, push_settled};
+use crate::tests::words::{NoAnswer, Words};
+use ob_history::{Booked, Receipt, Recorded};
 use ob_seq::Look;
 use ob_shared::{Done, Named, Share, SharedBuffer};
 use ob_types::{Command, PromiseId, Refusal};
@@ -30,23 +33,29 @@ pub fn begun<L: Named>(alloc: Global, shares: Vec<Share<L>>) -> Result<Vec<Done<
     Ok(dones)
 }
 
-/// What a call came to: the place of its record, and what was pending after it.
-pub type Came = Result<(u32, Look), Refusal>;
+/// The history of a buffer that can be finished.
+pub fn finished<L: Named>(buffer: SharedBuffer<L>, dones: Vec<Done<L>>) -> Result<Recorded, Fail> {
+    match buffer.finish(dones) {
+        Ok(finished) => Ok(finished.recorded),
+        Err(_) => Err(Fail::from("the buffer is finished")),
+    }
+}
 
-/// One call, from a desk of its own, whose receipt the caller keeps.
+/// One call, whose receipt the caller keeps: what is pending after it.
 pub fn one_call<L: Named, R: Wait>(
     rt: &R,
     buffer: &SharedBuffer<L>,
     caller: Done<L>,
     command: Command,
-) -> (Done<L>, Came) {
+) -> (Done<L>, Result<Look, Refusal>) {
+    let mut caller = caller;
+    let room = caller.receipts.reserve(1);
     let Done {
         share,
         mut receipts,
         told,
         seen,
     } = caller;
-    let room = receipts.reserve(1);
     let mut desk = buffer.desk(rt, share);
     let answer = match room {
         Ok(()) => kept(desk.call(command), &mut receipts),
@@ -60,47 +69,102 @@ pub fn one_call<L: Named, R: Wait>(
         told,
         seen,
     };
-    (caller, answer.map(|place| (place, look)))
+    (caller, answer.map(|()| look))
 }
 
 /// Keeps a receipt, for which there is room.
-fn kept(answer: Result<Receipt, Refusal>, receipts: &mut Vec<Receipt>) -> Result<u32, Refusal>
+fn kept(answer: Result<Receipt, Refusal>, receipts: &mut Vec<Receipt>) -> Result<(), Refusal>
     requires { vec_len receipts.old < vec_capacity receipts.old }
 {
-    let receipt = answer?;
-    let place = receipt.place;
-    receipts.push_reserved(receipt);
-    Ok(place)
+    receipts.push_reserved(answer?);
+    Ok(())
 }
 
-/// One look, from a desk of its own.
-pub fn one_look<L: Named, R: Wait>(
-    rt: &R,
-    buffer: &SharedBuffer<L>,
-    caller: Done<L>,
-) -> (Done<L>, Seen) {
-    let desk = buffer.desk(rt, caller.share);
-    let look = desk.look();
-    let share = desk.leave();
-    (Done { share, ..caller }, look)
+/// A caller that plays lines: a command, `?` for a look, or `wait` and a promise. It keeps all that it hands in.
+#[derive(Drop)]
+pub struct Caller<'b, L: Named, R> {
+    pub rt: &'b R,
+    pub alloc: Global,
+    pub buffer: &'b SharedBuffer<L>,
+    pub done: Option<Done<L>>,
 }
 
-/// Waits for a promise, and leaves the desk.
-pub fn one_wait<L: Named, R: Wait>(
-    rt: &R,
-    buffer: &SharedBuffer<L>,
-    caller: Done<L>,
-    id: PromiseId,
-) -> (Done<L>, Result<Receipt, Refusal>) {
-    let (desk, answer) = buffer.wait_settled(rt, caller.share, id);
-    let share = desk.leave();
-    (Done { share, ..caller }, answer)
+impl<'b, L: Named, R: Wait> Player for Caller<'b, L, R> {
+    fn answer(&mut self, asked: &str, text: &mut String) -> Result<(), NoAnswer> {
+        let mut words = Words::of(asked);
+        match words.word() {
+            "?" => self.look(text),
+            "wait" => self.wait(PromiseId(words.small()?), text),
+            _ => self.call(wanted(self.alloc, &mut Words::of(asked))?, text),
+        }
+    }
 }
 
-/// The history of a buffer that can be finished.
-pub fn finished<L: Named>(buffer: SharedBuffer<L>, dones: Vec<Done<L>>) -> Result<Recorded, Fail> {
-    match buffer.finish(dones) {
-        Ok(finished) => Ok(finished.recorded),
-        Err(_) => Err(Fail::from("the buffer is finished")),
+impl<'b, L: Named, R: Wait> Caller<'b, L, R> {
+    fn call(&mut self, command: Command, text: &mut String) -> Result<(), NoAnswer> {
+        let caller = self.done.take().ok_or(NoAnswer::Unread)?;
+        let (caller, answer) = one_call(self.rt, self.buffer, caller, command);
+        let told = push_call(text, &caller, answer);
+        self.done = Some(caller);
+        told
+    }
+
+    fn look(&mut self, text: &mut String) -> Result<(), NoAnswer> {
+        let caller = self.done.take().ok_or(NoAnswer::Unread)?;
+        let desk = self.buffer.desk(self.rt, caller.share);
+        let look = desk.look();
+        let share = desk.leave();
+        let mut caller = Done { share, ..caller };
+        let kept = caller.seen.push(look);
+        self.done = Some(caller);
+        kept?;
+        write!(text, "place {}: ", look.place)?;
+        Ok(push_look(text, look.look)?)
+    }
+
+    fn wait(&mut self, id: PromiseId, text: &mut String) -> Result<(), NoAnswer> {
+        let caller = self.done.take().ok_or(NoAnswer::Unread)?;
+        let (desk, answer) = self.buffer.wait_settled(self.rt, caller.share, id);
+        let share = desk.leave();
+        let mut caller = Done { share, ..caller };
+        let told = push_told(text, &mut caller.told, answer);
+        self.done = Some(caller);
+        told
+    }
+}
+
+/// Adds what a call came to, whose receipt is the last that the caller has.
+fn push_call<L: Named>(
+    text: &mut String,
+    caller: &Done<L>,
+    answer: Result<Look, Refusal>,
+) -> Result<(), NoAnswer> {
+    match (answer, caller.receipts.last()) {
+        (Ok(look), Some(receipt)) => {
+            write!(text, "place {}: ", receipt.place)?;
+            Ok(push_answer(text, &receipt.reply, look)?)
+        }
+        (Err(refusal), _) => push_refusal(text, refusal),
+        _ => Err(NoAnswer::Unread),
+    }
+}
+
+/// Adds what a caller was told, and keeps its receipt.
+fn push_told(
+    text: &mut String,
+    told: &mut Vec<Receipt>,
+    answer: Result<Receipt, Refusal>,
+) -> Result<(), NoAnswer> {
+    match answer {
+        Ok(receipt) => {
+            write!(
+                text,
+                "place {} of caller {}:",
+                receipt.place, receipt.caller
+            )?;
+            push_settled(text, &receipt)?;
+            Ok(told.push(receipt)?)
+        }
+        Err(refusal) => push_refusal(text, refusal),
     }
 }

@@ -5,8 +5,14 @@ use bytes::Bytes;
 use ob_types::{Cause, Command, Message, PromiseId};
 use std::alloc::{AllocError, Global};
 
-/// The command of a line by its first word and those behind it, or nothing where it asks something else. The bytes of a block count up from
-/// this one, and from 255 on to 0.
+/// The command of the words that are left, which have to be one.
+pub fn wanted(alloc: Global, words: &mut Words) -> Result<Command, NoAnswer> {
+    let word = words.word();
+    command(alloc, word, words, 0)?.ok_or(NoAnswer::Unread)
+}
+
+/// The command of a line by its first word and those behind it, or nothing if it asks something else. The bytes of a
+/// block count up from this one, and from 255 on to 0.
 pub fn command(
     alloc: Global,
     word: &str,

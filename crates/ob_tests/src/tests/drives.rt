@@ -2,7 +2,7 @@
 
 use crate::tests::buffers::Options;
 use crate::tests::commands::command;
-use crate::tests::story::{Player, Story};
+use crate::tests::story::{Player, Story, parts};
 use crate::tests::words::{NoAnswer, Words};
 use ob_pool::{DriveFault, Gate, OpenGate, Plan, Report, drive};
 use ob_rows::{DRIVES, PLANS};
@@ -59,8 +59,7 @@ impl Driven {
             end: None,
         };
         for line in story.lines.lines() {
-            let (asked, _) = line.split_once('/').unwrap_or((line, ""));
-            driven.take(asked)?;
+            driven.take(parts(line).0)?;
         }
         Ok(driven)
     }
@@ -74,51 +73,37 @@ impl Driven {
             "fail" => self.steps.push(SinkStep::Fail(words.small()?))?,
             "then" => self.most = words.number()?,
             "turns" => self.turns = words.number()?,
-            "each" => self.give_each(words.small()?, asked)?,
-            word => self.give(word, asked)?,
+            "each" => {
+                let (count, word) = (words.small()?, words.word());
+                self.give((0, count), word, &mut words)?;
+            }
+            word => {
+                let writer = words.small()?;
+                self.give((writer, writer.saturating_add(1)), word, &mut words)?;
+            }
         }
         Ok(())
     }
 
-    /// Gives a line to its writer.
-    fn give(&mut self, word: &str, asked: &str) -> Result<(), NoAnswer> {
-        let mut words = Words::of(asked);
-        let (_, writer) = (words.word(), words.small()?);
-        self.plan_until(writer)?;
-        self.push(writer as usize, word, &mut words)
-    }
-
-    /// Gives the line that stands behind `each` and a number to so many writers.
-    fn give_each(&mut self, count: u32, asked: &str) -> Result<(), NoAnswer> {
-        for writer in 0..count {
-            let mut words = Words::of(asked);
-            let (_, _) = (words.word(), words.word());
-            let word = words.word();
-            self.plan_until(writer)?;
-            self.push(writer as usize, word, &mut words)?;
-        }
-        Ok(())
-    }
-
-    /// Makes an empty plan for each writer up to this one.
-    fn plan_until(&mut self, writer: u32) -> Result<(), NoAnswer> {
-        for _ in self.plans.len()..writer as usize + 1 {
+    /// Gives a command to the writers from one number to before another, a block as often as the last word says.
+    fn give(
+        &mut self,
+        (from, to): (u32, u32),
+        word: &str,
+        words: &mut Words,
+    ) -> Result<(), NoAnswer> {
+        let command = command(self.alloc, word, words, 0)?.ok_or(NoAnswer::Unread)?;
+        let count = if word == "b" { words.small()? } else { 1 };
+        for _ in self.plans.len()..to as usize {
             self.plans.push(Plan {
                 commands: Vec::new(self.alloc),
             })?;
         }
-        Ok(())
-    }
-
-    /// Adds what a line gives to the plan of a writer, a block as often as the last number says.
-    fn push(&mut self, writer: usize, word: &str, words: &mut Words) -> Result<(), NoAnswer> {
-        let given = command(self.alloc, word, words, 0)?;
-        let (Some(command), Some(plan)) = (given, self.plans.get_mut(writer)) else {
-            return Err(NoAnswer::Unread);
-        };
-        let count = if word == "b" { words.small()? } else { 1 };
-        for _ in 0..count {
-            plan.commands.push(command.copy()?)?;
+        for writer in from..to {
+            let plan = self.plans.get_mut(writer as usize).ok_or(NoAnswer::Unread)?;
+            for _ in 0..count {
+                plan.commands.push(command.copy()?)?;
+            }
         }
         Ok(())
     }
@@ -144,23 +129,20 @@ pub fn drives<R: Abort + AllocGlobal + Threads + Wait + Clock + Sync, G: Gate + 
 
 /// Adds the numbers of a report.
 fn push_report(text: &mut String, report: &Report) -> Result<(), AllocError> {
-    write!(
-        text,
-        "writes {}, flushes {}, ",
-        report.writes, report.flushes
-    )?;
-    write!(text, "cancels {}, bits {}, ", report.cancels, report.bits)?;
-    write!(text, "refused {}, taken {}, ", report.refused, report.taken)?;
-    write!(
-        text,
-        "success {}, failed {}, ",
-        report.success, report.failed
-    )?;
-    write!(
-        text,
-        "cancelled {}, left {}, ",
-        report.cancelled, report.left
-    )?;
+    for (name, number) in [
+        ("writes", report.writes),
+        ("flushes", report.flushes),
+        ("cancels", report.cancels),
+        ("bits", report.bits),
+        ("refused", report.refused),
+        ("taken", report.taken),
+        ("success", report.success),
+        ("failed", report.failed),
+        ("cancelled", report.cancelled),
+        ("left", report.left),
+    ] {
+        write!(text, "{name} {number}, ")?;
+    }
     let (total, word) = report.hand;
     write!(text, "hand {total} {word:08x}")
 }

@@ -88,10 +88,6 @@ fn gate_crosses(rt: HostRuntime) -> Result<(), Fail> {
 struct Closed;
 
 impl Gate for Closed {
-    fn before<R: Wait + Clock>(&self, _rt: &R, _writer: u32, _step: usize) -> Result<(), Stuck> {
-        Ok(())
-    }
-
     fn during<R: Wait + Clock>(
         &self,
         _rt: &R,
@@ -104,8 +100,6 @@ impl Gate for Closed {
         }
         Ok(())
     }
-
-    fn after<R: Wait + Clock>(&self, _rt: &R, _writer: u32, _step: usize) {}
 }
 
 /// Two of three writers are held.

@@ -1,29 +1,40 @@
 //! The stored history of a buffer.
 
 use crate::tests::buffers::Options;
-use crate::tests::commands::command;
-use crate::tests::shared::push_refusal;
-use crate::tests::story::{Player, Story};
-use crate::tests::trace::{push_answer, push_look, push_settlements};
-use crate::tests::words::{MOST, NoAnswer, Words, number_in};
+use crate::tests::commands::wanted;
+use crate::tests::story::{Begins, Player, Story, play_each};
+use crate::tests::trace::{push_answer, push_either, push_look, push_refusal, push_settled};
+use crate::tests::words::{NoAnswer, Words, number_in};
 use ob_history::{As, Booked, Receipt, Recorded, Seen};
 use ob_rows::HISTORY;
-use ob_types::{Command, Outcome, PromiseId, Refusal};
+use ob_types::{Command, PromiseId};
 use std::alloc::Global;
-use std::process::Abort;
 use std::test::Fail;
 
 /// A recorded buffer, and what its calls answered.
 #[derive(Drop)]
 struct History {
     alloc: Global,
-    /// Whether its calls are those of `Booked`.
-    booked: bool,
     kept: As,
     /// The receipts of its calls, in order.
     receipts: Vec<Receipt>,
     /// What was seen, in order.
     seen: Vec<Seen>,
+}
+
+impl Begins for History {
+    fn begin(alloc: Global, story: Story) -> Result<History, NoAnswer> {
+        let recorded = Options::of(story.command)?.recorded(alloc)?;
+        Ok(History {
+            alloc,
+            kept: As {
+                recorded,
+                caller: 0,
+            },
+            receipts: Vec::new(alloc),
+            seen: Vec::new(alloc),
+        })
+    }
 }
 
 impl Player for History {
@@ -34,66 +45,41 @@ impl Player for History {
             "reserve" => self.reserve(words.small()?, text),
             "?" => self.see(text),
             "settles" | "settled" | "settling" | "callers" => self.tell(word, &mut words, text),
-            "check" | "seen" | "kept" | "own" | "told" | "looks" => {
-                push_found(text, self.find(word, &mut words)?)
+            "check" | "seen" => {
+                let is_of = self.is_of(word, words.word())?;
+                Ok(push_either(text, is_of, "yes", "no")?)
             }
+            "own" | "told" | "looks" => push_first(text, self.first_foreign(word, words)?),
             _ => self.call(number_in(word)?, &mut words, text),
         }
     }
 }
 
-/// What is found of something that is handed in.
-enum Found {
-    /// Whether it is of the history.
-    IsOf(bool),
-    /// The index of the first that is not.
-    First(Option<usize>),
-}
-
-fn push_found(text: &mut String, found: Found) -> Result<(), NoAnswer> {
-    match found {
-        Found::IsOf(true) => text.push_str("yes")?,
-        Found::IsOf(false) => text.push_str("no")?,
-        Found::First(None) => text.push_str("none")?,
-        Found::First(Some(index)) => write!(text, "{index}")?,
+fn push_first(text: &mut String, index: Option<usize>) -> Result<(), NoAnswer> {
+    match index {
+        None => text.push_str("none")?,
+        Some(index) => write!(text, "{index}")?,
     }
     Ok(())
 }
 
 impl History {
+    /// Makes a call, tells what it answered, and keeps its receipt.
     fn call(&mut self, caller: u32, words: &mut Words, text: &mut String) -> Result<(), NoAnswer> {
-        let Some(command) = command(self.alloc, words.word(), words, 0)? else {
-            return Err(NoAnswer::Unread);
-        };
-        match self.give(caller, command) {
-            Ok(receipt) => self.keep(receipt, text),
+        let command = wanted(self.alloc, words)?;
+        self.kept.caller = caller;
+        match self.kept.call(command) {
+            Ok(receipt) => {
+                write!(text, "place {}: ", receipt.place)?;
+                push_answer(text, &receipt.reply, self.kept.buffer().look())?;
+                Ok(self.receipts.push(receipt)?)
+            }
             Err(refusal) => push_refusal(text, refusal),
         }
     }
 
-    fn give(&mut self, caller: u32, command: Command) -> Result<Receipt, Refusal> {
-        if !self.booked {
-            return self.kept.recorded.call(caller, command);
-        }
-        self.kept.caller = caller;
-        self.kept.call(command)
-    }
-
-    /// Tells what a call answered, and keeps its receipt.
-    fn keep(&mut self, receipt: Receipt, text: &mut String) -> Result<(), NoAnswer> {
-        write!(text, "place {}: ", receipt.place)?;
-        push_answer(text, &receipt.reply, self.kept.buffer().look())?;
-        self.receipts.push(receipt)?;
-        Ok(())
-    }
-
     fn reserve(&mut self, count: u32, text: &mut String) -> Result<(), NoAnswer> {
-        let answer = if self.booked {
-            self.kept.reserve(count)
-        } else {
-            self.kept.recorded.reserve(count)
-        };
-        match answer {
+        match self.kept.reserve(count) {
             Ok(()) => Ok(text.push_str("ok")?),
             Err(refusal) => push_refusal(text, refusal),
         }
@@ -104,34 +90,27 @@ impl History {
         let seen = self.kept.recorded.look();
         write!(text, "place {}: ", seen.place)?;
         push_look(text, seen.look)?;
-        if self.kept.recorded.buffer().look() != self.kept.buffer().look() {
-            text.push_str(" but not by another call")?;
-        }
-        self.seen.push(seen)?;
-        Ok(())
+        Ok(self.seen.push(seen)?)
     }
 
     /// Tells of settlements and of callers.
     fn tell(&self, word: &str, words: &mut Words, text: &mut String) -> Result<(), NoAnswer> {
         match word {
-            "settles" => self.settles(words, text),
-            "settled" => self.settled(text),
-            "settling" => self.settling(PromiseId(words.small()?), text),
-            _ => self.callers(text),
-        }
-    }
-
-    fn settles(&self, words: &mut Words, text: &mut String) -> Result<(), NoAnswer> {
-        let Some(command) = command(self.alloc, words.word(), words, 0)? else {
-            return Err(NoAnswer::Unread);
-        };
-        write!(text, "{}", self.kept.buffer().settles(&command))?;
-        Ok(())
-    }
-
-    fn settled(&self, text: &mut String) -> Result<(), NoAnswer> {
-        for receipt in &self.receipts {
-            push_settlements(text, settled_by(receipt))?;
+            "settles" => {
+                let command = wanted(self.alloc, words)?;
+                write!(text, "{}", self.kept.buffer().settles(&command))?;
+            }
+            "settled" => {
+                for receipt in &self.receipts {
+                    push_settled(text, receipt)?;
+                }
+            }
+            "settling" => return self.settling(PromiseId(words.small()?), text),
+            _ => {
+                for one in self.kept.recorded.records() {
+                    write!(text, " {}", one.caller)?;
+                }
+            }
         }
         Ok(())
     }
@@ -149,59 +128,40 @@ impl History {
         Ok(())
     }
 
-    fn callers(&self, text: &mut String) -> Result<(), NoAnswer> {
-        for one in self.kept.recorded.records() {
-            write!(text, " {}", one.caller)?;
+    /// Whether a receipt or a look is of the history.
+    fn is_of(&self, word: &str, what: &str) -> Result<bool, NoAnswer> {
+        let recorded = &self.kept.recorded;
+        if word == "check" {
+            return Ok(is_kept(recorded, self.receipt(what)?));
         }
-        Ok(())
+        Ok(recorded.check_seen(&self.look(what)?)?)
     }
 
-    /// What is found of what a line hands in.
-    fn find(&self, word: &str, words: &mut Words) -> Result<Found, NoAnswer> {
+    /// The index of the first of what a line hands in that is not of the history.
+    fn first_foreign(&self, word: &str, words: Words) -> Result<Option<usize>, NoAnswer> {
         let recorded = &self.kept.recorded;
+        let mut words = words;
         Ok(match word {
-            "check" => Found::IsOf(is_kept(recorded, self.receipt(words.word())?)),
-            "seen" => Found::IsOf(recorded.check_seen(&self.look(words.word())?)?),
-            "kept" => Found::First(self.first_lost()?),
             "own" => {
                 let caller = words.small()?;
-                Found::First(recorded.first_foreign_receipt(caller, &self.handed_in(words)?))
+                recorded.first_foreign_receipt(caller, &self.handed_in(words)?)
             }
-            "told" => Found::First(recorded.first_foreign_told(&self.handed_in(words)?)),
-            _ => Found::First(recorded.first_foreign_seen(&self.looks(words)?)?),
+            "told" => recorded.first_foreign_told(&self.handed_in(words)?),
+            _ => recorded.first_foreign_seen(&self.looks(words)?)?,
         })
     }
 
-    /// The index of the first receipt that is not of the history, or whose copy is not.
-    fn first_lost(&self) -> Result<Option<usize>, NoAnswer> {
-        let recorded = &self.kept.recorded;
-        for (index, receipt) in self.receipts.iter().enumerate() {
-            if !recorded.check(receipt) || !is_kept(recorded, receipt.copy()?) {
-                return Ok(Some(index));
-            }
-        }
-        Ok(None)
-    }
-
-    /// The receipts of the words that are left.
-    fn handed_in(&self, words: &mut Words) -> Result<Vec<Receipt>, NoAnswer> {
+    fn handed_in(&self, words: Words) -> Result<Vec<Receipt>, NoAnswer> {
         let mut receipts = Vec::new(self.alloc);
-        for _ in 0..MOST {
-            let Some(word) = words.next() else {
-                break;
-            };
+        for word in words.rest() {
             receipts.push(self.receipt(word)?)?;
         }
         Ok(receipts)
     }
 
-    /// The looks of the words that are left.
-    fn looks(&self, words: &mut Words) -> Result<Vec<Seen>, NoAnswer> {
+    fn looks(&self, words: Words) -> Result<Vec<Seen>, NoAnswer> {
         let mut looks = Vec::new(self.alloc);
-        for _ in 0..MOST {
-            let Some(word) = words.next() else {
-                break;
-            };
+        for word in words.rest() {
             looks.push(self.look(word)?)?;
         }
         Ok(looks)
@@ -210,16 +170,11 @@ impl History {
     /// The receipt of a call, or what a word makes of it.
     fn receipt(&self, word: &str) -> Result<Receipt, NoAnswer> {
         let (call, place) = at_place(word)?;
-        let (call, forged) = match call.strip_suffix('f') {
-            Some(call) => (call, true),
-            None => (call, false),
-        };
-        let Some(receipt) = self.receipts.get(number_in(call)? as usize) else {
-            return Err(NoAnswer::Unread);
-        };
+        let number = number_in(call.trim_end_matches('f'))?;
+        let receipt = self.receipts.get(number as usize).ok_or(NoAnswer::Unread)?;
         let mut receipt = receipt.copy()?;
         receipt.place = place.unwrap_or(receipt.place);
-        if forged {
+        if call.ends_with('f') {
             receipt.command = Command::Flush;
         }
         Ok(receipt)
@@ -228,13 +183,10 @@ impl History {
     /// What was seen, or what a word makes of it.
     fn look(&self, word: &str) -> Result<Seen, NoAnswer> {
         let (number, place) = at_place(word)?;
-        let Some(seen) = self.seen.get(number_in(number)? as usize) else {
-            return Err(NoAnswer::Unread);
-        };
-        Ok(Seen {
-            place: place.unwrap_or(seen.place),
-            look: seen.look,
-        })
+        let number = number_in(number)? as usize;
+        let mut seen = *self.seen.get(number).ok_or(NoAnswer::Unread)?;
+        seen.place = place.unwrap_or(seen.place);
+        Ok(seen)
     }
 }
 
@@ -246,41 +198,12 @@ fn at_place(word: &str) -> Result<(&str, Option<u32>), NoAnswer> {
     }
 }
 
-/// What a call settled; nothing where it was refused.
-pub fn settled_by(receipt: &Receipt) -> &[(PromiseId, Outcome)] {
-    match &receipt.reply {
-        Ok(reply) => reply.settled.as_slice(),
-        Err(_) => &[],
-    }
-}
-
 /// Whether a receipt is of the history. It is dropped here, so that the prover follows that drop in one function.
-pub fn is_kept(recorded: &Recorded, receipt: Receipt) -> bool {
+fn is_kept(recorded: &Recorded, receipt: Receipt) -> bool {
     recorded.check(&receipt)
-}
-
-fn plays(rt: &impl Abort, alloc: Global, story: Story, booked: bool) -> Result<(), NoAnswer> {
-    let recorded = Options::of(story.command)?.recorded(alloc)?;
-    let mut history = History {
-        alloc,
-        booked,
-        kept: As {
-            recorded,
-            caller: 0,
-        },
-        receipts: Vec::new(alloc),
-        seen: Vec::new(alloc),
-    };
-    story.play(rt, alloc, &mut history);
-    Ok(())
 }
 
 #[test]
 fn a_history_is_kept(rt: HostRuntime) -> Result<(), Fail> {
-    for text in HISTORY.split('#') {
-        let story = Story::of(text);
-        plays(&rt, rt.alloc(), story, false)?;
-        plays(&rt, rt.alloc(), story, true)?;
-    }
-    Ok(())
+    play_each::<History>(&rt, rt.alloc(), HISTORY)
 }

@@ -1,30 +1,10 @@
-//! Booked buffers that keep the receipts of their calls.
+//! Booked buffers that keep the receipts of their calls, or want memory at times.
 
-use crate::tests::history::settled_by;
-use crate::tests::trace::push_settlements;
-use ob_history::{As, Booked, Receipt, Seen};
+ghost use Rattle.std.specs.Prelude.{◌<◌, IsTrue};
+
+use ob_history::{As, Booked, Receipt};
 use ob_seq::Buffer;
-use ob_shared::{Desk, Named};
 use ob_types::{Command, Refusal};
-use std::alloc::AllocError;
-
-/// A booked buffer that shows how many calls are recorded.
-pub trait Shown: Booked {
-    /// What is pending, and how many calls are recorded.
-    fn seen(&self) -> Seen;
-}
-
-impl Shown for As {
-    fn seen(&self) -> Seen {
-        self.recorded.look()
-    }
-}
-
-impl<'b, L: Named> Shown for Desk<'b, L> {
-    fn seen(&self) -> Seen {
-        self.look()
-    }
-}
 
 /// A booked buffer, and the receipts of all calls that were made with it.
 #[derive(Drop)]
@@ -36,14 +16,6 @@ pub struct Keeping<B> {
 impl<B> Keeping<B> {
     pub fn into_parts(self) -> (B, Vec<Receipt>) {
         (self.booked, self.receipts)
-    }
-
-    /// Adds what the calls settled, in order.
-    pub fn push_settled(&self, text: &mut String) -> Result<(), AllocError> {
-        for receipt in &self.receipts {
-            push_settlements(text, settled_by(receipt))?;
-        }
-        Ok(())
     }
 }
 
@@ -71,5 +43,39 @@ impl<B: Booked> Booked for Keeping<B> {
 fn keep(receipts: &mut Vec<Receipt>, receipt: &Receipt) {
     if let Ok(copy) = receipt.copy() {
         let _ = receipts.push(copy);
+    }
+}
+
+/// A booked buffer that wants memory for the first call behind a reserve, if that settles more than four promises.
+#[derive(Drop)]
+pub struct Scarce {
+    pub booked: As,
+    /// Whether calls were reserved, and none was made since.
+    pub is_ready: bool,
+    ghost reserved: { IsTrue is_ready → 0 < booked.recorded.reserved },
+}
+
+impl Booked for Scarce {
+    ghost history = { λ scarce. scarce.booked.recorded };
+
+    ghost caller = { λ scarce. scarce.booked.caller };
+
+    fn call(&mut self, command: Command) -> Result<Receipt, Refusal> {
+        let is_ready = self.is_ready;
+        self.is_ready = false;
+        if is_ready && self.booked.buffer().settles(&command) > 4 {
+            return Err(Refusal::NoMemory);
+        }
+        self.booked.call(command)
+    }
+
+    fn reserve(&mut self, count: u32) -> Result<(), Refusal> {
+        self.booked.reserve(count)?;
+        self.is_ready = count > 0;
+        Ok(())
+    }
+
+    fn buffer(&self) -> &Buffer {
+        self.booked.buffer()
     }
 }

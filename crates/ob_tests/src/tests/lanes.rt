@@ -8,7 +8,7 @@ mod splitting;
 ghost use Rattle.std.specs.Prelude.{◌≡◌, false, IfOk};
 ghost use Rattle.ob_core.specs.Bits.{is_set};
 
-use ob_lanes::{Lane, Words, lanes};
+use ob_lanes::{Lane, NoRoom, Words, lanes};
 use ob_types::WaterMark;
 use std::alloc::Global;
 use std::process::Abort;
@@ -31,6 +31,21 @@ fn split(words: &Words, lane: Lane, room: u32, bits: u32) -> Result<(Lane, Lane)
     match lane.split(words, room, bits) {
         Ok(lanes) => Ok(lanes),
         Err((_lane, fault)) => Err(Fail::new(fault)),
+    }
+}
+
+/// A charge that is refused gives the lane back.
+fn not_charged(rt: &impl Abort, words: &Words, lane: Lane, amount: u32) -> Result<Lane, Fail>
+    requires { lane.words ≡ words.now }
+    ensures { IfOk result (λ lane. lane.words ≡ words.now) }
+{
+    let room = lane.room();
+    match lane.charge(words, amount) {
+        Ok(_charged) => Err(Fail::new("the charge is above the room")),
+        Err((lane, fault)) => {
+            assert_eq!(rt; (fault, lane.room()), (NoRoom, room));
+            Ok(lane)
+        }
     }
 }
 

@@ -1,29 +1,27 @@
 //! The limits of a buffer, met: lines that stand for many commands.
 
-use crate::tests::buffers::{ByApply, Options};
 use crate::tests::run::Single;
-use crate::tests::story::{Player, Story};
+use crate::tests::story::{Begins, Player, Story, play_each};
 use crate::tests::words::{NoAnswer, Words};
 use ob_rows::LIMITS;
 use ob_seq::Buffer;
 use ob_types::{Answer, Cause, Message, Outcome, PromiseId, Refusal};
+use std::alloc::Global;
 use std::test::Fail;
 
 #[derive(Drop)]
-struct Many(Single<ByApply>);
+struct Many(Single<Buffer>);
 
 impl Player for Many {
     fn answer(&mut self, asked: &str, text: &mut String) -> Result<(), NoAnswer> {
         let mut words = Words::of(asked);
-        let buffer = &mut self.0.kept.0;
-        let count = match words.word() {
-            "regions" => regions(buffer, words.small()?)?,
-            "cycles" => cycles(buffer, words.small()?)?,
-            "fail" => return fail_all(buffer, Cause(words.small()?), text),
-            _ => return self.0.answer(asked, text),
-        };
-        write!(text, "{count} in turn")?;
-        Ok(())
+        let buffer = &mut self.0.kept;
+        match words.word() {
+            "regions" => Ok(write!(text, "{} in turn", regions(buffer, words.small()?)?)?),
+            "cycles" => Ok(write!(text, "{} in turn", cycles(buffer, words.small()?)?)?),
+            "fail" => fail_all(buffer, Cause(words.small()?), text),
+            _ => self.0.answer(asked, text),
+        }
     }
 }
 
@@ -59,37 +57,30 @@ fn cycle(buffer: &mut Buffer) -> Result<(Answer, Answer, Answer), Refusal> {
 /// Fails all that is flushed, with notice, and tells the settlements in short.
 fn fail_all(buffer: &mut Buffer, cause: Cause, text: &mut String) -> Result<(), NoAnswer> {
     let reply = buffer.fail_flushed(cause, true)?;
+    let settled = reply.settled.as_slice();
+    let in_turn = settled
+        .iter()
+        .zip(0u32..)
+        .take_while(|(settled, id)| **settled == (PromiseId(*id), Outcome::Failed(cause)))
+        .count();
     if let Answer::Count(count) = reply.answer {
-        let in_turn = in_turn(reply.settled.as_slice(), Outcome::Failed(cause));
         write!(
             text,
             "n {count}, {in_turn} of {} in turn as f{}",
-            reply.settled.as_slice().len(),
+            settled.len(),
             cause.0
         )?;
     }
     Ok(())
 }
 
-/// How many promises from the first on were settled with an outcome, before one that was not.
-fn in_turn(settled: &[(PromiseId, Outcome)], outcome: Outcome) -> u32 {
-    let mut count = 0u32;
-    for settlement in settled {
-        if *settlement != (PromiseId(count), outcome) {
-            break;
-        }
-        count = count.saturating_add(1);
+impl Begins for Many {
+    fn begin(alloc: Global, story: Story) -> Result<Many, NoAnswer> {
+        Ok(Many(Single::begin(alloc, story)?))
     }
-    count
 }
 
 #[test]
 fn limits_of_a_buffer(rt: HostRuntime) -> Result<(), Fail> {
-    for text in LIMITS.split('#') {
-        let story = Story::of(text);
-        let options = Options::of(story.command)?;
-        let mut player = Many(Single::new(rt.alloc(), ByApply(options.buffer(rt.alloc())?)));
-        story.play(&rt, rt.alloc(), &mut player);
-    }
-    Ok(())
+    play_each::<Many>(&rt, rt.alloc(), LIMITS)
 }

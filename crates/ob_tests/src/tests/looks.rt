@@ -1,6 +1,6 @@
 //! The lines that look at a buffer: those of `run`, and some that tests alone ask.
 
-use crate::tests::trace::{push_levels, push_look, push_outcome};
+use crate::tests::trace::{push_either, push_levels, push_look, push_outcome};
 use crate::tests::words::{NoAnswer, Words};
 use ob_seq::Buffer;
 use ob_types::{Message, PromiseId, PromiseState};
@@ -16,7 +16,10 @@ pub fn look(buffer: &Buffer, asked: &str, text: &mut String) -> Result<(), NoAns
         "current" => push_current(text, buffer.current())?,
         "flushed" => push_flushed(text, buffer)?,
         "state" => push_state(text, buffer)?,
-        "bit" => push_bit(text, buffer.user_defined_writability(words.small()?))?,
+        "bit" => {
+            let clear = buffer.user_defined_writability(words.small()?);
+            push_either(text, clear, "clear", "set")?;
+        }
         _ => return Err(NoAnswer::Unread),
     }
     Ok(())
@@ -74,24 +77,8 @@ fn push_message(text: &mut String, message: &Message) -> Result<(), AllocError> 
 
 /// Adds whether a buffer is writable, whether its line is empty, whether it is closed, and how many writes are left.
 fn push_state(text: &mut String, buffer: &Buffer) -> Result<(), AllocError> {
-    text.push_str(if buffer.is_writable() {
-        "writable"
-    } else {
-        "unwritable"
-    })?;
-    text.push_str(if buffer.is_empty() {
-        " empty"
-    } else {
-        " flushed"
-    })?;
-    text.push_str(if buffer.is_closed() {
-        " closed"
-    } else {
-        " open"
-    })?;
+    push_either(text, buffer.is_writable(), "writable", "unwritable")?;
+    push_either(text, buffer.is_empty(), " empty", " flushed")?;
+    push_either(text, buffer.is_closed(), " closed", " open")?;
     write!(text, " {}", buffer.writes_left())
-}
-
-fn push_bit(text: &mut String, clear: bool) -> Result<(), AllocError> {
-    text.push_str(if clear { "clear" } else { "set" })
 }

@@ -1,11 +1,12 @@
 //! What plays the lines of `run`, and the looks that tests alone ask.
 
-use crate::tests::buffers::Kept;
+use crate::tests::buffers::{Kept, Options};
 use crate::tests::commands::command;
 use crate::tests::looks::look;
-use crate::tests::story::Player;
+use crate::tests::story::{Begins, Player, Story};
 use crate::tests::trace::push_answer;
 use crate::tests::words::{NoAnswer, Words};
+use ob_seq::Buffer;
 use ob_types::{Answer, Command, Refusal, Reply};
 use std::alloc::Global;
 
@@ -28,6 +29,13 @@ impl<K: Kept> Single<K> {
     }
 }
 
+impl Begins for Single<Buffer> {
+    fn begin(alloc: Global, story: Story) -> Result<Single<Buffer>, NoAnswer> {
+        let buffer = Options::of(story.command)?.buffer(alloc)?;
+        Ok(Single::new(alloc, buffer))
+    }
+}
+
 impl<K: Kept> Player for Single<K> {
     fn answer(&mut self, asked: &str, text: &mut String) -> Result<(), NoAnswer> {
         let mut words = Words::of(asked);
@@ -40,7 +48,7 @@ impl<K: Kept> Player for Single<K> {
 }
 
 impl<K: Kept> Single<K> {
-    /// Gives a command, which settles as many promises as `settles` says, and changes nothing where it is refused.
+    /// Gives a command, which settles as many promises as `settles` says, and changes nothing if it is refused.
     fn give(&mut self, command: Command, text: &mut String) -> Result<(), NoAnswer> {
         let before = self.kept.buffer().look();
         let settles = self.kept.buffer().settles(&command);

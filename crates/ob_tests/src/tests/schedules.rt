@@ -1,14 +1,13 @@
 //! The core: two words over given schedules.
 
 use crate::tests::buffers::Options;
-use crate::tests::story::{Player, Story};
+use crate::tests::story::{Begins, Player, Story, play_each};
 use crate::tests::trace::{push_change, push_words};
 use crate::tests::words::{NoAnswer, Words};
 use ob_core::{Ask, Event, LaneStart, Turn, World, WorldFault, play};
 use ob_rows::CORE;
 use ob_types::{Change, WaterMark};
 use std::alloc::{AllocError, Global};
-use std::process::Abort;
 use std::test::Fail;
 
 /// A world that plays the lines of `core`. It is made at the first line that is no lane.
@@ -109,28 +108,25 @@ fn push_event(text: &mut String, event: Event) -> Result<(), AllocError> {
     })
 }
 
-fn plays(rt: &impl Abort, alloc: Global, story: Story) -> Result<(), NoAnswer> {
-    let mut schedule = Schedule {
-        alloc,
-        marks: Options::of(story.command)?.marks()?,
-        lanes: Vec::new(alloc),
-        world: None,
-        turns: Vec::new(alloc),
-        events: Vec::new(alloc),
-    };
-    story.play(rt, alloc, &mut schedule);
-    Ok(())
+impl Begins for Schedule {
+    fn begin(alloc: Global, story: Story) -> Result<Schedule, NoAnswer> {
+        Ok(Schedule {
+            alloc,
+            marks: Options::of(story.command)?.marks()?,
+            lanes: Vec::new(alloc),
+            world: None,
+            turns: Vec::new(alloc),
+            events: Vec::new(alloc),
+        })
+    }
 }
 
 #[test]
 fn schedules_of_a_core(rt: HostRuntime) -> Result<(), Fail> {
-    for text in CORE.split('#') {
-        plays(&rt, rt.alloc(), Story::of(text))?;
-    }
-    Ok(())
+    play_each::<Schedule>(&rt, rt.alloc(), CORE)
 }
 
-/// How many lanes of no room and no bit, and of rooms and masks of two lanes which make no world.
+/// Lanes by their rooms and masks, and why they make no world.
 static NO_WORLDS: [(&[(u32, u32)], Option<WorldFault>); 8] = [
     (&[], Some(WorldFault::BadCount)),
     (&[(1, 0); 64], None),
@@ -146,8 +142,7 @@ static NO_WORLDS: [(&[(u32, u32)], Option<WorldFault>); 8] = [
 fn lanes_that_make_no_world(rt: HostRuntime) -> Result<(), Fail> {
     for (lanes, fault) in &NO_WORLDS {
         let mut starts = Vec::new(rt.alloc());
-        for (room, bits) in lanes.iter() {
-            let (room, bits) = (*room, *bits);
+        for &(room, bits) in lanes.iter() {
             starts.push(LaneStart { room, bits })?;
         }
         let made = World::new(rt.alloc(), WaterMark::new(50, 100)?, &starts);

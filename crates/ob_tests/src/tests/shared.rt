@@ -3,16 +3,14 @@
 ghost use Rattle.ob_shared.specs.Opened.{IsNameOf};
 
 use crate::tests::buffers::Options;
-use crate::tests::callers::{Came, begun, one_call, one_look, one_wait};
-use crate::tests::commands::command;
-use crate::tests::history::settled_by;
-use crate::tests::story::{Player, Story};
-use crate::tests::trace::{push_answer, push_look, push_settlements};
+use crate::tests::callers::{Caller, begun};
+use crate::tests::story::{Again, Player, Story};
+use crate::tests::trace::push_look;
 use crate::tests::words::{NoAnswer, Words, number_in};
-use ob_history::{Receipt, Seen};
+use ob_history::Receipt;
 use ob_rows::SHARED;
 use ob_shared::{Done, FinishFault, Named, Opening, SharedBuffer, Unfinished};
-use ob_types::{Command, PromiseId, Refusal};
+use ob_types::Command;
 use std::alloc::Global;
 use std::marker::Brand;
 use std::process::Abort;
@@ -27,28 +25,54 @@ struct Crew<'r, L: Named, R> {
     buffer: Option<SharedBuffer<L>>,
     /// What each caller hands in, in the order of their numbers.
     dones: Vec<Done<L>>,
+    /// What is not handed in.
+    aside: Aside<L>,
+}
+
+/// What lines have laid aside, until they put it back.
+#[derive(Drop)]
+struct Aside<L: Named> {
+    done: Option<Done<L>>,
+    receipt: Option<Receipt>,
+    /// The command that stands in no receipt.
+    command: Command,
 }
 
 impl<'r, L: Named, R: Wait> Player for Crew<'r, L, R> {
     fn answer(&mut self, asked: &str, text: &mut String) -> Result<(), NoAnswer> {
         let mut words = Words::of(asked);
         let word = words.word();
-        let Some(buffer) = self.buffer.take() else {
-            return Err(NoAnswer::Unread);
-        };
-        if word == "finish" {
-            return self.finish(buffer, &mut words, text);
-        }
-        let told = match word {
+        match word {
             "made" => self.made(text),
-            _ => self.ask(&buffer, number_in(word)?, asked, text),
-        };
-        self.buffer = Some(buffer);
-        told
+            "finish" => self.finish(text),
+            "without" => self.without(words.small()? as usize),
+            "short" => self.short(words.small()? as usize),
+            "forge" => self.forge(words.small()? as usize),
+            _ => self.ask(number_in(word)? as usize, asked, text),
+        }
     }
 }
 
 impl<'r, L: Named, R: Wait> Crew<'r, L, R> {
+    /// A caller asks for what stands behind its number.
+    fn ask(&mut self, caller: usize, asked: &str, text: &mut String) -> Result<(), NoAnswer> {
+        let (Some(buffer), true) = (&self.buffer, caller < self.dones.len()) else {
+            return Err(NoAnswer::Unread);
+        };
+        let (_, line) = asked.split_once(' ').ok_or(NoAnswer::Unread)?;
+        let mut player = Caller {
+            rt: self.rt,
+            alloc: self.alloc,
+            buffer,
+            done: Some(self.dones.remove(caller)),
+        };
+        let told = player.answer(line, text);
+        if let Some(done) = player.done.take() {
+            self.dones.insert(caller, done)?;
+        }
+        told
+    }
+
     fn made(&self, text: &mut String) -> Result<(), NoAnswer> {
         for done in &self.dones {
             write!(text, " {}:{}", done.share.caller(), done.share.made())?;
@@ -56,99 +80,38 @@ impl<'r, L: Named, R: Wait> Crew<'r, L, R> {
         Ok(())
     }
 
-    /// A caller asks for what stands behind its number.
-    fn ask(
-        &mut self,
-        buffer: &SharedBuffer<L>,
-        caller: u32,
-        asked: &str,
-        text: &mut String,
-    ) -> Result<(), NoAnswer> {
-        let at = caller as usize;
-        if at >= self.dones.len() {
-            return Err(NoAnswer::Unread);
+    /// Lays aside all that a caller hands in, or puts it back.
+    fn without(&mut self, caller: usize) -> Result<(), NoAnswer> {
+        match self.aside.done.take() {
+            Some(done) if caller <= self.dones.len() => self.dones.insert(caller, done)?,
+            None if caller < self.dones.len() => self.aside.done = Some(self.dones.remove(caller)),
+            _ => return Err(NoAnswer::Unread),
         }
-        let done = self.dones.remove(at);
-        let mut words = Words::of(asked);
-        let _caller = words.word();
-        let (done, told) = self.one(buffer, done, &mut words, asked, text);
-        self.dones.insert(at, done)?;
-        told
+        Ok(())
     }
-}
 
-impl<'r, L: Named, R: Wait> Crew<'r, L, R> {
-    /// One thing that a caller asks for.
-    fn one(
-        &self,
-        buffer: &SharedBuffer<L>,
-        done: Done<L>,
-        words: &mut Words,
-        asked: &str,
-        text: &mut String,
-    ) -> (Done<L>, Result<(), NoAnswer>) {
-        let mut done = done;
-        match words.word() {
-            "?" => {
-                let (same, seen) = one_look(self.rt, buffer, done);
-                done = same;
-                let told = push_seen(text, seen);
-                let kept = done.seen.push(seen).is_ok();
-                (done, if kept { told } else { Err(NoAnswer::NoMemory) })
-            }
-            "wait" => match words.small() {
-                Ok(id) => self.wait(buffer, done, PromiseId(id), text),
-                Err(fault) => (done, Err(fault)),
-            },
-            _ => match self.command(asked) {
-                Ok(command) => {
-                    let (done, came) = one_call(self.rt, buffer, done, command);
-                    let told = push_came(text, &done, came);
-                    (done, told)
-                }
-                Err(fault) => (done, Err(fault)),
-            },
+    /// Lays aside the last receipt of a caller, or puts it back.
+    fn short(&mut self, caller: usize) -> Result<(), NoAnswer> {
+        let done = self.dones.get_mut(caller).ok_or(NoAnswer::Unread)?;
+        match self.aside.receipt.take() {
+            Some(receipt) => done.receipts.push(receipt)?,
+            None => self.aside.receipt = done.receipts.pop(),
         }
+        Ok(())
     }
 
-    /// The command that stands behind the number of a caller.
-    fn command(&self, asked: &str) -> Result<Command, NoAnswer> {
-        let mut words = Words::of(asked);
-        let (_caller, word) = (words.word(), words.word());
-        command(self.alloc, word, &mut words, 0)?.ok_or(NoAnswer::Unread)
+    /// Exchanges the command of the first receipt of a caller for the one that is aside, at first a flush.
+    fn forge(&mut self, caller: usize) -> Result<(), NoAnswer> {
+        let done = self.dones.get_mut(caller).ok_or(NoAnswer::Unread)?;
+        let receipt = done.receipts.get_mut(0).ok_or(NoAnswer::Unread)?;
+        std::mem::swap(&mut receipt.command, &mut self.aside.command);
+        Ok(())
     }
 
-    /// Waits for a promise, and keeps the receipt of what settled it.
-    fn wait(
-        &self,
-        buffer: &SharedBuffer<L>,
-        done: Done<L>,
-        id: PromiseId,
-        text: &mut String,
-    ) -> (Done<L>, Result<(), NoAnswer>) {
-        let (mut done, answer) = one_wait(self.rt, buffer, done, id);
-        match answer {
-            Ok(receipt) => {
-                let told = push_told(text, &receipt);
-                let kept = done.told.push(receipt).is_ok();
-                (done, if kept { told } else { Err(NoAnswer::NoMemory) })
-            }
-            Err(refusal) => (done, push_refusal(text, refusal)),
-        }
-    }
-
-    /// Hands in what all callers have, or what a line makes of it; on a fault it is put right again.
-    fn finish(
-        &mut self,
-        buffer: SharedBuffer<L>,
-        words: &mut Words,
-        text: &mut String,
-    ) -> Result<(), NoAnswer> {
-        let (change, caller) = (words.word(), words.word());
-        let at = number_in(caller).unwrap_or(0) as usize;
-        let call = words.small().unwrap_or(0) as usize;
+    /// Hands in what all callers have, and has it back on a fault.
+    fn finish(&mut self, text: &mut String) -> Result<(), NoAnswer> {
+        let buffer = self.buffer.take().ok_or(NoAnswer::Unread)?;
         let dones = std::mem::replace(&mut self.dones, Vec::new(self.alloc));
-        let (dones, kept) = changed(dones, change, at, call);
         match buffer.finish(dones) {
             Ok(finished) => {
                 let recorded = finished.recorded;
@@ -162,115 +125,11 @@ impl<'r, L: Named, R: Wait> Crew<'r, L, R> {
                     fault,
                 } = unfinished;
                 self.buffer = Some(buffer);
-                self.dones = put_right(dones, kept, at, call)?;
+                self.dones = dones;
                 push_fault(text, fault)
             }
         }
     }
-}
-
-/// What a line took from what callers hand in.
-#[derive(Drop)]
-enum Taken<L: Named> {
-    Nothing,
-    /// All that a caller hands in.
-    Done(Done<L>),
-    /// Its last receipt.
-    Receipt(Receipt),
-    /// The command of one of its receipts.
-    Command(Command),
-}
-
-/// What callers hand in as a line changes it, and what it took.
-fn changed<L: Named>(
-    dones: Vec<Done<L>>,
-    change: &str,
-    at: usize,
-    call: usize,
-) -> (Vec<Done<L>>, Taken<L>) {
-    let mut dones = dones;
-    if at >= dones.len() {
-        return (dones, Taken::Nothing);
-    }
-    let taken = match change {
-        "without" => Taken::Done(dones.remove(at)),
-        "short" => match dones[at].receipts.pop() {
-            Some(receipt) => Taken::Receipt(receipt),
-            None => Taken::Nothing,
-        },
-        "forged" => match dones[at].receipts.get_mut(call) {
-            Some(receipt) => {
-                Taken::Command(std::mem::replace(&mut receipt.command, Command::Flush))
-            }
-            None => Taken::Nothing,
-        },
-        _ => Taken::Nothing,
-    };
-    (dones, taken)
-}
-
-/// What callers hand in, with what a line took.
-fn put_right<L: Named>(
-    dones: Vec<Done<L>>,
-    taken: Taken<L>,
-    at: usize,
-    call: usize,
-) -> Result<Vec<Done<L>>, NoAnswer> {
-    let mut dones = dones;
-    if let Taken::Done(done) = taken {
-        if at > dones.len() {
-            return Err(NoAnswer::Unread);
-        }
-        dones.insert(at, done)?;
-        return Ok(dones);
-    }
-    let Some(done) = dones.get_mut(at) else {
-        return Ok(dones);
-    };
-    match taken {
-        Taken::Receipt(receipt) => done.receipts.push(receipt)?,
-        Taken::Command(command) => {
-            if let Some(receipt) = done.receipts.get_mut(call) {
-                receipt.command = command;
-            }
-        }
-        Taken::Nothing | Taken::Done(_) => {}
-    }
-    Ok(dones)
-}
-
-fn push_seen(text: &mut String, seen: Seen) -> Result<(), NoAnswer> {
-    write!(text, "place {}: ", seen.place)?;
-    Ok(push_look(text, seen.look)?)
-}
-
-/// Adds what a call came to, whose receipt is the last that the caller has.
-fn push_came<L: Named>(text: &mut String, done: &Done<L>, came: Came) -> Result<(), NoAnswer> {
-    let (place, look) = match came {
-        Ok(came) => came,
-        Err(refusal) => return push_refusal(text, refusal),
-    };
-    let Some(receipt) = done.receipts.last() else {
-        return Err(NoAnswer::Unread);
-    };
-    write!(text, "place {place}: ")?;
-    Ok(push_answer(text, &receipt.reply, look)?)
-}
-
-fn push_told(text: &mut String, receipt: &Receipt) -> Result<(), NoAnswer> {
-    write!(
-        text,
-        "place {} of caller {}:",
-        receipt.place, receipt.caller
-    )?;
-    Ok(push_settlements(text, settled_by(receipt))?)
-}
-
-pub fn push_refusal(text: &mut String, refusal: Refusal) -> Result<(), NoAnswer> {
-    if refusal == Refusal::NoMemory {
-        return Err(NoAnswer::NoMemory);
-    }
-    Ok(write!(text, "!{}", refusal.number())?)
 }
 
 fn push_fault(text: &mut String, fault: FinishFault) -> Result<(), NoAnswer> {
@@ -296,13 +155,18 @@ fn plays<L: Named, R: Wait + Abort>(
     requires { IsNameOf opening L.opened L.name L.parts }
 {
     let (buffer, shares) = opening.begin::<L>()?;
-    let mut crew = Crew {
+    let crew = Crew {
         rt,
         alloc,
         buffer: Some(buffer),
         dones: begun(alloc, shares)?,
+        aside: Aside {
+            done: None,
+            receipt: None,
+            command: Command::Flush,
+        },
     };
-    story.play(rt, alloc, &mut crew);
+    story.play(rt, alloc, &mut Again(crew));
     Ok(())
 }
 

@@ -1,6 +1,6 @@
 //! Stories of lines, and how one is played.
 
-use crate::tests::words::NoAnswer;
+use crate::tests::words::{NoAnswer, number_in};
 use std::alloc::Global;
 use std::process::Abort;
 use std::test::Fail;
@@ -11,13 +11,29 @@ pub trait Player {
     fn answer(&mut self, asked: &str, text: &mut String) -> Result<(), NoAnswer>;
 }
 
+/// A player that a story begins.
+pub trait Begins: Player + Drop {
+    /// What plays a story from its first line on.
+    fn begin(alloc: Global, story: Story) -> Result<Self, NoAnswer>;
+}
+
+/// Plays each story of a text from its begin.
+pub fn play_each<P: Begins>(rt: &impl Abort, alloc: Global, stories: &str) -> Result<(), Fail> {
+    for text in stories.split('#') {
+        let story = Story::of(text);
+        let mut player = P::begin(alloc, story)?;
+        story.play(rt, alloc, &mut player);
+    }
+    Ok(())
+}
+
 /// The most bytes of an answer.
 const LONGEST: usize = 4096;
 
 /// How often a line is asked again at most.
 const TRIES: u32 = 9;
 
-/// A player that is asked again where memory was refused, so that each growth may be refused in turn.
+/// A player that is asked again when memory was refused, so that each growth may be refused in turn.
 #[derive(Drop)]
 pub struct Again<P>(pub P);
 
@@ -71,15 +87,33 @@ impl<'a> Story<'a> {
             if line.trim().is_empty() {
                 continue;
             }
-            let (asked, answer) = line.split_once('/').unwrap_or((line, ""));
-            text.clear();
-            let found = player.answer(asked.trim(), &mut text);
+            let (asked, answer) = parts(line);
+            let (times, asked) = times(asked);
+            let mut found = Ok(());
+            for _ in 0..times {
+                text.clear();
+                found = player.answer(asked, &mut text);
+            }
             assert_eq!(rt;
                 (asked, found, text.trim()),
-                (asked, Ok(()), answer.trim()),
+                (asked, Ok(()), answer),
                 "{}",
                 self.about
             );
         }
+    }
+}
+
+/// What a line asks, and what has to be answered.
+pub fn parts(line: &str) -> (&str, &str) {
+    let (asked, answer) = line.split_once('/').unwrap_or((line, ""));
+    (asked.trim_start_matches(':').trim(), answer.trim())
+}
+
+/// How often a line is asked, and what: the answer is that of the last time.
+fn times(asked: &str) -> (u32, &str) {
+    match asked.split_once(" times ") {
+        Some((count, line)) => (number_in(count).unwrap_or(1), line),
+        None => (1, asked),
     }
 }

@@ -1,5 +1,7 @@
 //! What is answered, in the words of the traces of `ob_tool`.
 
+use crate::tests::words::NoAnswer;
+use ob_history::Receipt;
 use ob_seq::Look;
 use ob_types::{Answer, Change, Outcome, PromiseId, Refusal, Reply};
 use std::alloc::AllocError;
@@ -19,17 +21,29 @@ pub fn push_answer(
     }
 }
 
+/// Adds why a call was refused, unless it is to be asked again.
+pub fn push_refusal(text: &mut String, refusal: Refusal) -> Result<(), NoAnswer> {
+    if refusal == Refusal::NoMemory {
+        return Err(NoAnswer::NoMemory);
+    }
+    Ok(write!(text, "!{}", refusal.number())?)
+}
+
 fn push_reply(text: &mut String, reply: &Reply, look: Look) -> Result<(), AllocError> {
     match reply.answer {
         Answer::Id(PromiseId(id)) => write!(text, "id {id}")?,
         Answer::Count(count) => write!(text, "n {count}")?,
-        Answer::Yes(true) => text.push_str("yes")?,
-        Answer::Yes(false) => text.push_str("no")?,
+        Answer::Yes(is_so) => push_either(text, is_so, "yes", "no")?,
         Answer::Done => text.push_str("ok")?,
     }
     push_levels(text, look)?;
     push_change(text, reply.change)?;
     push_settlements(text, reply.settled.as_slice())
+}
+
+/// Adds one of two texts.
+pub fn push_either(text: &mut String, flag: bool, yes: &str, no: &str) -> Result<(), AllocError> {
+    text.push_str(if flag { yes } else { no })
 }
 
 /// Adds the pending bytes and the word.
@@ -61,6 +75,14 @@ pub fn push_settlements(
         push_outcome(text, *outcome)?;
     }
     Ok(())
+}
+
+/// Adds what a call settled.
+pub fn push_settled(text: &mut String, receipt: &Receipt) -> Result<(), AllocError> {
+    match &receipt.reply {
+        Ok(reply) => push_settlements(text, reply.settled.as_slice()),
+        Err(_) => Ok(()),
+    }
 }
 
 /// Adds an outcome.

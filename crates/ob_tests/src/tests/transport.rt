@@ -1,44 +1,66 @@
 //! The transport: passes over a recorded buffer of one thread, and over a desk that is lent.
 
-ghost use Rattle.std.specs.Prelude.{◌<◌, ◌≤◌, IsTrue};
+ghost use Rattle.std.specs.Prelude.{◌≤◌};
 ghost use Rattle.ob_shared.specs.Opened.{IsNameOf};
 
-use crate::tests::buffers::{Booking, Options};
+use crate::tests::buffers::Options;
 use crate::tests::callers::{done, finished};
-use crate::tests::keeping::{Keeping, Shown};
+use crate::tests::keeping::{Keeping, Scarce};
 use crate::tests::run::Single;
-use crate::tests::story::{Player, Story};
-use crate::tests::trace::{push_change, push_settlements};
+use crate::tests::story::{Again, Player, Story};
+use crate::tests::trace::{push_change, push_refusal, push_settled, push_settlements};
 use crate::tests::words::{MOST, NoAnswer, Words};
-use ob_history::{As, Booked, Receipt, Seen};
-use ob_rows::{PASSES, SCARCE};
-use ob_seq::Buffer;
+use ob_history::{As, Booked, Receipt};
+use ob_rows::{PASSES, SCARCE, SIX};
+use ob_seq::Look;
 use ob_shared::{Named, Opening};
 use ob_transport::{
-    Drained, Limits, Pass, PassFault, ScriptSink, SinkFault, SinkStep, Stop, book, drain, pass,
+    Limits, Pass, PassFault, ScriptSink, SinkFault, SinkStep, Stop, book, drain, pass,
 };
-use ob_types::{Answer, Command, Refusal};
+use ob_types::{Answer, Command};
 use std::alloc::{AllocError, Global};
 use std::marker::Brand;
 use std::process::Abort;
 use std::sync::Wait;
 use std::test::Fail;
 
-/// What a transport has: a buffer, a sink, and how much it offers at once.
+/// What a transport has: a buffer, a sink, and how many blocks it offers at once.
 #[derive(Drop)]
-pub struct Transport<B> {
-    single: Single<Booking<Keeping<B>>>,
+struct Transport<B> {
+    single: Single<Keeping<B>>,
     sink: ScriptSink,
     max_count: u32,
+    /// What the sink took and no record tells, if that is to be booked before anything else.
+    unbooked: u64,
 }
 
-impl<B: Shown> Transport<B> {
-    pub fn new(alloc: Global, (sink, max_count): (ScriptSink, u32), booked: B) -> Transport<B> {
-        let receipts = Vec::new(alloc);
+/// The sink of a story and how many blocks it is offered at once, both by the command line, and room for receipts, so
+/// that none is lost for want of memory.
+fn given(alloc: Global, story: Story) -> Result<(ScriptSink, u32, Vec<Receipt>), NoAnswer> {
+    let mut steps = Vec::new(alloc);
+    let (mut after, mut max_count) = (0, 16);
+    let mut words = Words::of(story.command);
+    for _ in 0..MOST {
+        match words.word() {
+            "take" => steps.push(SinkStep::Take(words.number()?))?,
+            "fail" => steps.push(SinkStep::Fail(words.small()?))?,
+            "then" => after = words.number()?,
+            "--count" => max_count = words.small()?,
+            _ => {}
+        }
+    }
+    let receipts = Vec::with_capacity(alloc, MOST as usize)?;
+    Ok((ScriptSink::new(steps, after), max_count, receipts))
+}
+
+impl<B: Booked> Transport<B> {
+    fn new(alloc: Global, given: (ScriptSink, u32, Vec<Receipt>), booked: B) -> Transport<B> {
+        let (sink, max_count, receipts) = given;
         Transport {
-            single: Single::new(alloc, Booking(Keeping { booked, receipts })),
+            single: Single::new(alloc, Keeping { booked, receipts }),
             sink,
             max_count,
+            unbooked: 0,
         }
     }
 
@@ -53,87 +75,103 @@ impl<B: Shown> Transport<B> {
     }
 }
 
-/// The sink of a command line, and how many blocks it is offered at once.
-pub fn sink_of(alloc: Global, command: &str) -> Result<(ScriptSink, u32), NoAnswer> {
-    let mut steps = Vec::new(alloc);
-    let (mut after, mut max_count) = (0, 16);
-    let mut words = Words::of(command);
-    for _ in 0..MOST {
-        match words.word() {
-            "take" => steps.push(SinkStep::Take(words.number()?))?,
-            "fail" => steps.push(SinkStep::Fail(words.small()?))?,
-            "then" => after = words.number()?,
-            "--count" => max_count = words.small()?,
-            _ => {}
-        }
-    }
-    Ok((ScriptSink::new(steps, after), max_count))
-}
-
-impl<B: Shown> Player for Transport<B> {
+impl<B: Booked> Player for Transport<B> {
     fn answer(&mut self, asked: &str, text: &mut String) -> Result<(), NoAnswer> {
         let mut words = Words::of(asked);
         match words.word() {
             "pass" => self.pass(text)?,
+            "send" => self.send(text)?,
             "drain" => self.drain(words.number()?, text)?,
             "book" => self.book(words.number()?, text)?,
             "sink" => {
                 let (units, failures) = (self.sink.units(), self.sink.failures());
                 return Ok(write!(text, "{units} units, {failures} failures")?);
             }
-            "settled" => return Ok(self.single.kept.0.push_settled(text)?),
+            "settled" => {
+                for receipt in &self.single.kept.receipts {
+                    push_settled(text, receipt)?;
+                }
+                return Ok(());
+            }
             _ => return self.single.answer(asked, text),
         }
         Ok(self.push_seen(text)?)
     }
 }
 
-impl<B: Shown> Transport<B> {
-    /// Makes a pass. Where it fails, all that can be seen of the buffer is as before.
+impl<B: Booked> Transport<B> {
+    /// Makes a pass. If it fails, all that can be seen of the buffer is as before.
     fn pass(&mut self, text: &mut String) -> Result<(), NoAnswer> {
         let before = self.seen();
         let limits = self.limits();
-        let passed = pass(&mut self.single.kept.0, &mut self.sink, limits);
+        let passed = pass(&mut self.single.kept, &mut self.sink, limits);
+        if passed.is_err() && self.seen() != before {
+            text.push_str("the buffer changed: ")?;
+        }
         match passed {
             Ok(Pass::Idle) => text.push_str("idle")?,
             Ok(Pass::Stalled) => text.push_str("stalled")?,
             Ok(Pass::Cleared) => text.push_str("cleared")?,
             Ok(Pass::Took(n)) => write!(text, "took {n}")?,
+            Err(PassFault::Unbooked { taken }) => {
+                self.unbooked = taken;
+                write!(text, "{taken} unbooked")?;
+            }
             Err(fault) => push_fault(text, fault)?,
         }
-        if passed.is_err() && self.seen() != before {
-            text.push_str(", and the buffer changed")?;
+        Ok(())
+    }
+
+    /// Makes a pass that is booked in the end, however often that is asked.
+    fn send(&mut self, text: &mut String) -> Result<(), NoAnswer> {
+        if self.unbooked == 0 {
+            self.pass(text)?;
         }
+        text.clear();
+        if self.unbooked > 0 {
+            self.book(self.unbooked, text)?;
+        }
+        text.clear();
         Ok(())
     }
 
     fn drain(&mut self, turns: u64, text: &mut String) -> Result<(), NoAnswer> {
         let limits = self.limits();
-        match drain(&mut self.single.kept.0, &mut self.sink, limits, turns) {
-            Ok(drained) => Ok(push_drained(text, drained)?),
+        match drain(&mut self.single.kept, &mut self.sink, limits, turns) {
+            Ok(drained) => {
+                let stop = match drained.stop {
+                    Stop::Idle => "idle",
+                    Stop::Stalled => "stalled",
+                    Stop::TurnsUsed => "turns used",
+                };
+                Ok(write!(text, "{} turns, {stop}", drained.turns_used)?)
+            }
             Err(fault) => push_fault(text, fault),
         }
     }
 
     /// Books taken bytes. The receipt is of their removal.
     fn book(&mut self, taken: u64, text: &mut String) -> Result<(), NoAnswer> {
-        let receipt = match book(&mut self.single.kept.0, taken) {
-            Ok(receipt) => receipt,
-            Err(Refusal::NoMemory) => return Err(NoAnswer::NoMemory),
-            Err(refusal) => return Ok(write!(text, "!{}", refusal.number())?),
-        };
-        Ok(push_booked(text, &receipt, taken)?)
+        match book(&mut self.single.kept, taken) {
+            Ok(receipt) => {
+                self.unbooked = 0;
+                Ok(push_booked(text, &receipt, taken)?)
+            }
+            Err(refusal) => push_refusal(text, refusal),
+        }
     }
 
-    fn seen(&self) -> Seen {
-        self.single.kept.0.booked.seen()
+    /// How many calls were recorded, and what is pending.
+    fn seen(&self) -> (usize, Look) {
+        let kept = &self.single.kept;
+        (kept.receipts.len(), kept.buffer().look())
     }
 
     /// Adds how many calls are recorded, what is pending, and what the sink has taken.
     fn push_seen(&self, text: &mut String) -> Result<(), AllocError> {
-        let seen = self.seen();
-        let (total, progress) = (seen.look.total, seen.look.current_progress);
-        write!(text, ": place {}, t={total} cur={progress}, ", seen.place)?;
+        let (place, look) = self.seen();
+        let (total, progress) = (look.total, look.current_progress);
+        write!(text, ": place {place}, t={total} cur={progress}, ")?;
         for byte in self.sink.taken() {
             write!(text, "{byte:02x}")?;
         }
@@ -143,21 +181,10 @@ impl<B: Shown> Transport<B> {
 
 fn push_fault(text: &mut String, fault: PassFault) -> Result<(), NoAnswer> {
     match fault {
-        PassFault::NoMemory | PassFault::Sink(SinkFault(12)) => return Err(NoAnswer::NoMemory),
-        PassFault::Sink(SinkFault(number)) => write!(text, "sink fault {number}")?,
-        PassFault::Unbooked { taken } => write!(text, "{taken} unbooked")?,
-        PassFault::HistoryFull => write!(text, "pass fault {}", fault.number())?,
+        PassFault::NoMemory | PassFault::Sink(SinkFault(12)) => Err(NoAnswer::NoMemory),
+        PassFault::Sink(SinkFault(number)) => Ok(write!(text, "sink fault {number}")?),
+        fault => Ok(write!(text, "pass fault {}", fault.number())?),
     }
-    Ok(())
-}
-
-fn push_drained(text: &mut String, drained: Drained) -> Result<(), AllocError> {
-    let stop = match drained.stop {
-        Stop::Idle => "idle",
-        Stop::Stalled => "stalled",
-        Stop::TurnsUsed => "turns used",
-    };
-    write!(text, "{} turns, {stop}", drained.turns_used)
 }
 
 fn push_booked(text: &mut String, receipt: &Receipt, taken: u64) -> Result<(), AllocError> {
@@ -174,17 +201,22 @@ fn push_booked(text: &mut String, receipt: &Receipt, taken: u64) -> Result<(), A
     Ok(())
 }
 
-/// Plays a story over a recorded buffer of one thread, and over a desk.
-fn over_both<R: Wait + Abort>(rt: &R, alloc: Global, story: Story) -> Result<(), Fail> {
-    let options = Options::of(story.command)?;
-    let recorded = options.recorded(alloc)?;
-    let booked = As {
+/// A recorded buffer of one thread, as a story asks for it.
+fn booked(alloc: Global, story: Story) -> Result<As, NoAnswer> {
+    let recorded = Options::of(story.command)?.recorded(alloc)?;
+    Ok(As {
         recorded,
         caller: 7,
-    };
-    let mut single = Transport::new(alloc, sink_of(alloc, story.command)?, booked);
-    story.play(rt, alloc, &mut single);
-    over_a_desk::<Brand, _>(rt, alloc, options.opening(alloc, 1)?, story)
+    })
+}
+
+fn alone(alloc: Global, story: Story) -> Result<Transport<As>, NoAnswer> {
+    Ok(Transport::new(alloc, given(alloc, story)?, booked(alloc, story)?))
+}
+
+fn over_a_new_desk<R: Wait + Abort>(rt: &R, alloc: Global, story: Story) -> Result<(), Fail> {
+    let opening = Options::of(story.command)?.opening(alloc, 1)?;
+    over_a_desk::<Brand, _>(rt, alloc, opening, story)
 }
 
 /// Lends a desk to a story, and ends the buffer with the receipts of all calls.
@@ -196,12 +228,12 @@ fn over_a_desk<L: Named, R: Wait + Abort>(
 ) -> Result<(), Fail>
     requires { IsNameOf opening L.opened L.name L.parts }
 {
-    let sink = sink_of(alloc, story.command)?;
+    let given = given(alloc, story)?;
     let (buffer, mut shares) = opening.begin::<L>()?;
     let share = shares.pop().ok_or("a share")?;
-    let mut lent = Transport::new(alloc, sink, buffer.desk(rt, share));
+    let mut lent = Again(Transport::new(alloc, given, buffer.desk(rt, share)));
     story.play(rt, alloc, &mut lent);
-    let (desk, receipts) = lent.into_parts();
+    let (desk, receipts) = lent.into_inner().into_parts();
     let mut dones = Vec::new(alloc);
     dones.push(done(alloc, desk.leave(), receipts))?;
     let _recorded = finished(buffer, dones)?;
@@ -209,87 +241,52 @@ fn over_a_desk<L: Named, R: Wait + Abort>(
 }
 
 impl<B> Transport<B> {
-    /// Makes room for the receipts of so many calls, none of which is then lost for want of memory.
-    pub fn keep_room(&mut self, calls: usize) -> Result<(), AllocError> {
-        self.single.kept.0.receipts.reserve(calls)
-    }
-
-    pub fn into_parts(self) -> (B, Vec<Receipt>) {
-        let Transport {
-            single,
-            sink: _,
-            max_count: _,
-        } = self;
-        let Single {
-            alloc: _,
-            kept,
-            next_byte: _,
-        } = single;
-        kept.0.into_parts()
+    fn into_parts(self) -> (B, Vec<Receipt>) {
+        self.single.kept.into_parts()
     }
 }
 
 #[test]
 fn passes_of_a_transport(rt: HostRuntime) -> Result<(), Fail> {
     for text in PASSES.split('#') {
-        over_both(&rt, rt.alloc(), Story::of(text))?;
+        let story = Story::of(text);
+        story.play(&rt, rt.alloc(), &mut alone(rt.alloc(), story)?);
+        over_a_new_desk(&rt, rt.alloc(), story)?;
     }
     Ok(())
 }
 
-/// A recorded buffer that wants memory for the first call behind a reserve, where that settles more than four promises.
-#[derive(Drop)]
-struct Scarce {
-    booked: As,
-    /// Whether calls were reserved, and none was made since.
-    is_ready: bool,
-    ghost reserved: { IsTrue is_ready → 0 < booked.recorded.reserved },
-}
-
-impl Booked for Scarce {
-    ghost history = { λ scarce. scarce.booked.recorded };
-
-    ghost caller = { λ scarce. scarce.booked.caller };
-
-    fn call(&mut self, command: Command) -> Result<Receipt, Refusal> {
-        let is_ready = self.is_ready;
-        self.is_ready = false;
-        if is_ready && self.booked.buffer().settles(&command) > 4 {
-            return Err(Refusal::NoMemory);
-        }
-        self.booked.call(command)
-    }
-
-    fn reserve(&mut self, count: u32) -> Result<(), Refusal> {
-        self.booked.reserve(count)?;
-        self.is_ready = count > 0;
-        Ok(())
-    }
-
-    fn buffer(&self) -> &Buffer {
-        self.booked.buffer()
-    }
-}
-
-impl Shown for Scarce {
-    fn seen(&self) -> Seen {
-        self.booked.seen()
-    }
-}
-
 #[test]
 fn unbooked_bytes_are_booked_later(rt: HostRuntime) -> Result<(), Fail> {
-    let story = Story::of(SCARCE.trim().trim_start_matches('#'));
+    let story = Story::of(SCARCE);
     let scarce = Scarce {
-        booked: As {
-            recorded: Options::of(story.command)?.recorded(rt.alloc())?,
-            caller: 7,
-        },
+        booked: booked(rt.alloc(), story)?,
         is_ready: false,
     };
-    let sink = sink_of(rt.alloc(), story.command)?;
-    let mut transport = Transport::new(rt.alloc(), sink, scarce);
-    story.play(&rt, rt.alloc(), &mut transport);
+    let given = given(rt.alloc(), story)?;
+    story.play(
+        &rt,
+        rt.alloc(),
+        &mut Transport::new(rt.alloc(), given, scarce),
+    );
     assert_eq!(rt; PassFault::Unbooked { taken: 5 }.number(), 4);
+    Ok(())
+}
+
+/// Regions and others, whose receipts are copied without memory: each growth may be refused in turn, and the buffer can
+/// be ended with the receipts of all calls.
+#[test]
+fn a_refused_growth_changes_no_answer(rt: HostRuntime) -> Result<(), Fail> {
+    let text = PASSES
+        .split('#')
+        .find(|text| text.contains("regions and others pass"));
+    over_a_new_desk(&rt, rt.alloc(), Story::of(text.ok_or("a story")?))
+}
+
+/// What the sink took is booked, or told of and still in front: more blocks than promises are settled without memory.
+#[test]
+fn a_refused_growth_hides_no_bytes(rt: HostRuntime) -> Result<(), Fail> {
+    let story = Story::of(SIX);
+    story.play(&rt, rt.alloc(), &mut Again(alone(rt.alloc(), story)?));
     Ok(())
 }

@@ -1,86 +1,70 @@
 //! The words of a buffer: texts of refusals, lists that grow, copies, sizes and marks.
 
-use bytes::Bytes;
+use crate::tests::commands::block;
+use crate::tests::trace::push_settlements;
 use ob_types::{
     Answer, Cause, Change, Command, Estimate, Message, Outcome, PromiseId, Refusal, Reply,
     Settlements, WaterMark, pending_size,
 };
-use std::alloc::Global;
-use std::process::Abort;
 use std::test::Fail;
 
-/// The texts of the refusals, in the order of their numbers.
-static TEXTS: [(Refusal, &str); 12] = [
-    (Refusal::Oversize, "the message is too large to be counted"),
-    (
-        Refusal::BadMarks,
-        "the low mark is above the high mark, or the high mark above 2147483647",
-    ),
-    (
-        Refusal::TooMuch,
-        "too much is pending, or too many writes were accepted",
-    ),
-    (Refusal::Closed, "the buffer is closed"),
-    (Refusal::NothingFlushed, "no message is flushed"),
-    (
-        Refusal::TooFar,
-        "the progress of the message would pass 9223372036854775807",
-    ),
-    (
-        Refusal::TooManyBytes,
-        "the flushed blocks in front hold fewer bytes",
-    ),
-    (Refusal::BadIndex, "the index of a user bit is 1 to 31"),
-    (Refusal::FlushedLeft, "flushed messages are left"),
-    (Refusal::UnknownPromise, "no write has this promise"),
-    (Refusal::HistoryFull, "the history is full"),
-    (Refusal::NoMemory, "out of memory"),
-];
+/// The texts of the refusals by their numbers.
+static REFUSALS: &str = "\
+1 the message is too large to be counted
+2 the low mark is above the high mark, or the high mark above 2147483647
+3 too much is pending, or too many writes were accepted
+4 the buffer is closed
+5 no message is flushed
+6 the progress of the message would pass 9223372036854775807
+7 the flushed blocks in front hold fewer bytes
+8 the index of a user bit is 1 to 31
+9 flushed messages are left
+10 no write has this promise
+11 the history is full
+12 out of memory
+";
 
 #[test]
 fn refusals_tell_what_was_wrong(rt: HostRuntime) -> Result<(), Fail> {
-    for (refusal, text) in &TEXTS {
-        assert_eq!(rt; refusal.to_string(rt.alloc())?.as_str(), *text);
+    let mut told = String::new(rt.alloc());
+    for refusal in [
+        Refusal::Oversize,
+        Refusal::BadMarks,
+        Refusal::TooMuch,
+        Refusal::Closed,
+        Refusal::NothingFlushed,
+        Refusal::TooFar,
+        Refusal::TooManyBytes,
+        Refusal::BadIndex,
+        Refusal::FlushedLeft,
+        Refusal::UnknownPromise,
+        Refusal::HistoryFull,
+        Refusal::NoMemory,
+    ] {
+        writeln!(told, "{} {refusal}", refusal.number())?;
     }
+    assert_eq!(rt; told.as_str(), REFUSALS);
     Ok(())
 }
 
 #[test]
 fn settlements_grow_past_the_first_four(rt: HostRuntime) -> Result<(), Fail> {
-    let failed = Outcome::Failed(Cause(9));
     let mut settled = Settlements::one(rt.alloc(), PromiseId(0), Outcome::Success);
     for id in 1..6 {
-        settled.push(PromiseId(id), failed)?;
+        settled.push(PromiseId(id), Outcome::Failed(Cause(id)))?;
     }
-    let six = [
-        (PromiseId(0), Outcome::Success),
-        (PromiseId(1), failed),
-        (PromiseId(2), failed),
-        (PromiseId(3), failed),
-        (PromiseId(4), failed),
-        (PromiseId(5), failed),
-    ];
-    let none = Settlements::new(rt.alloc());
-    assert_eq!(rt;
-        (settled.as_slice(), none.as_slice().len()),
-        (six.as_slice(), 0)
-    );
+    let mut told = String::new(rt.alloc());
+    push_settlements(&mut told, settled.as_slice())?;
+    assert_eq!(rt; told.as_str(), " 0:ok 1:f1 2:f2 3:f3 4:f4 5:f5");
+    assert!(rt; Settlements::new(rt.alloc()).as_slice().is_empty());
     Ok(())
 }
 
-/// Copies of a block and of a long list want memory, and have it here.
+/// The ten commands: the copy of a block wants memory, and has it here.
 #[test]
-fn copies_equal_their_sources(rt: HostRuntime) -> Result<(), Fail> {
-    let block = Message::Block(Bytes::copy_from_slice(rt.alloc(), b"four")?);
-    assert!(rt; block.copy()? == block);
-    each_command_is_copied(&rt, block)?;
-    a_long_reply_is_copied(&rt, rt.alloc())
-}
-
-/// The write of a block, and the nine other commands.
-fn each_command_is_copied(rt: &impl Abort, block: Message) -> Result<(), Fail> {
+fn each_command_is_copied(rt: HostRuntime) -> Result<(), Fail> {
     let commands = [
-        Command::Write(block),
+        Command::Write(block(rt.alloc(), 0, 4)?),
         Command::Flush,
         Command::Remove,
         Command::RemoveWith(Cause(3)),
@@ -97,8 +81,9 @@ fn each_command_is_copied(rt: &impl Abort, block: Message) -> Result<(), Fail> {
     Ok(())
 }
 
-fn a_long_reply_is_copied(rt: &impl Abort, alloc: Global) -> Result<(), Fail> {
-    let mut settled = Settlements::new(alloc);
+#[test]
+fn a_long_reply_is_copied(rt: HostRuntime) -> Result<(), Fail> {
+    let mut settled = Settlements::new(rt.alloc());
     for id in 0..5 {
         settled.push(PromiseId(id), Outcome::Success)?;
     }
@@ -117,9 +102,8 @@ fn counts_messages_by_their_kind(rt: HostRuntime) -> Result<(), Fail> {
         overhead: 96,
         unknown: 8,
     };
-    let four = Bytes::copy_from_slice(rt.alloc(), b"four")?;
     let rows = [
-        (Message::Block(four), Ok(100)),
+        (block(rt.alloc(), 0, 4)?, Ok(100)),
         (Message::Region(9223372036854775807), Ok(96)),
         (Message::Region(9223372036854775808), Err(Refusal::Oversize)),
         (Message::Other(5), Ok(104)),

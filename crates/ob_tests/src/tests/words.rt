@@ -58,6 +58,11 @@ impl<'a> Words<'a> {
         self.next().unwrap_or("")
     }
 
+    /// The words from the next on.
+    pub fn rest(self) -> SplitWhitespace<'a> {
+        self.0
+    }
+
     /// The number that is the next word.
     pub fn number(&mut self) -> Result<u64, NoAnswer> {
         match self.word().parse::<u64>() {

@@ -2,8 +2,8 @@
 
 ghost use Rattle.std.specs.Prelude.{◌≡◌, IfOk};
 
-use super::{open, split};
-use ob_lanes::{Lane, NoRoom, NotHeld, SplitFault, Words};
+use super::{not_charged, open, split};
+use ob_lanes::{Lane, NotHeld, SplitFault, Words};
 use ob_types::Change::{Unwritable, Writable};
 use std::process::Abort;
 use std::test::Fail;
@@ -51,20 +51,6 @@ fn set_and_clear(rt: &impl Abort, words: &Words, a: &mut Lane, b: &mut Lane)
     assert_eq!(rt; (told, a.word(words)), (expected, 4));
 }
 
-/// A lane that was split off with no room cannot charge, and is given back.
-fn not_charged(rt: &impl Abort, words: &Words, lane: Lane) -> Result<Lane, Fail>
-    requires { lane.words ≡ words.now }
-    ensures { IfOk result (λ lane. lane.words ≡ words.now) }
-{
-    match lane.charge(words, 1) {
-        Ok(_charged) => Err(Fail::new("the lane has no room")),
-        Err((lane, fault)) => {
-            assert_eq!(rt; fault, NoRoom);
-            Ok(lane)
-        }
-    }
-}
-
 /// One lane again, which clears the bit that B had set, and ends.
 fn clear_and_finish(rt: &impl Abort, words: Words, a: Lane, b: Lane)
     requires { (a.words ≡ words) × (b.words ≡ words) }
@@ -85,7 +71,7 @@ fn lanes_with_bits(rt: HostRuntime) -> Result<(), Fail> {
     let (mut a, mut b) = split(&words, a, 0, 4)?;
     assert_eq!(rt; (a.held(), b.held()), (2, 4));
     set_and_clear(&rt, &words, &mut a, &mut b);
-    let b = not_charged(&rt, &words, b)?;
+    let b = not_charged(&rt, &words, b, 1)?;
     clear_and_finish(&rt, words, a, b);
     Ok(())
 }

@@ -13,7 +13,7 @@ use std::time::{Clock, Duration};
 
 type Met = Option<(Charged, Option<Change>)>;
 
-/// Charges 60, and then reads the total until it is 120. None where that is not seen in ten seconds.
+/// Charges 60, and then reads the total until it is 120. None if that is not seen in ten seconds.
 fn meet<R: Clock>(rt: &R, words: &Words, lane: Lane) -> Met
     requires { lane.words ≡ words.now }
     ensures { IfSome result (λ met. met.0.words ≡ words.now) }

@@ -2,8 +2,8 @@
 
 ghost use Rattle.std.specs.Prelude.{◌≡◌, IfOk};
 
-use super::{join_and_finish, open, split};
-use ob_lanes::{Charged, Lane, NoRoom, RoomOut, Words};
+use super::{join_and_finish, not_charged, open, split};
+use ob_lanes::{Charged, Lane, RoomOut, Words};
 use ob_types::Change;
 use ob_types::Change::{Unwritable, Writable};
 use std::process::Abort;
@@ -17,21 +17,6 @@ fn charge(words: &Words, lane: Lane, amount: u32) -> Result<(Charged, Option<Cha
     match lane.charge(words, amount) {
         Ok(charged) => Ok(charged),
         Err((_lane, fault)) => Err(Fail::new(fault)),
-    }
-}
-
-/// A charge that is refused gives the lane back.
-fn refused(rt: &impl Abort, words: &Words, lane: Lane, amount: u32) -> Result<Lane, Fail>
-    requires { lane.words ≡ words.now }
-    ensures { IfOk result (λ lane. lane.words ≡ words.now) }
-{
-    let room = lane.room();
-    match lane.charge(words, amount) {
-        Ok(_charged) => Err(Fail::new("the charge is above the room")),
-        Err((lane, fault)) => {
-            assert_eq!(rt; (fault, lane.room()), (NoRoom, room));
-            Ok(lane)
-        }
     }
 }
 
@@ -79,7 +64,7 @@ fn not_ended(rt: &impl Abort, words: Words, half: Lane) -> Result<(Words, Lane),
 fn lanes_split_charge_and_join(rt: HostRuntime) -> Result<(), Fail> {
     let (words, lane) = open(rt.alloc(), 200, 0)?;
     let (a, b) = split(&words, lane, 100, 0)?;
-    let a = refused(&rt, &words, a, 101)?;
+    let a = not_charged(&rt, &words, a, 101)?;
     let (a, b) = both_charge(&rt, &words, a, b)?;
     let (a, b) = both_discharge(&rt, &words, a, b);
     let (words, b) = not_ended(&rt, words, b)?;

@@ -1,4 +1,4 @@
-use Rattle.ob_tests.proofs.tests.transport.over_both.Given as goal
+use Rattle.ob_tests.proofs.tests.transport.over_a_new_desk.Given as goal
 
 -- the opening that was just made
 abbrev pub ghosts-over_a_desk-L-Named : goal.ghosts-over_a_desk-L-Named

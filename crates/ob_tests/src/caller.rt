@@ -5,8 +5,6 @@ ghost use Rattle.ob_types.specs.declared.command.Command.{Command};
 ghost use Rattle.ob_seq.specs.Pending.{StandsFor};
 ghost use Rattle.ob_seq.specs.Word.{word_after};
 
-mod connection;
-
 use bytes::Bytes;
 use ob_seq::Buffer;
 use ob_types::{Cause, Change, Estimate, Message, Outcome, PromiseId, Refusal, Reply, WaterMark};
@@ -49,7 +47,7 @@ pub fn send<P: Peer>(buffer: &mut Buffer, peer: &mut P) -> Result<(), Refusal> {
 }
 
 /// Hands on what a reply tells, which no later call tells again.
-fn tell<P: Peer>(peer: &mut P, reply: &Reply) {
+pub fn tell<P: Peer>(peer: &mut P, reply: &Reply) {
     for (id, outcome) in reply.settled.as_slice() {
         peer.settled(*id, *outcome);
     }

@@ -1,9 +1,9 @@
 //! The callers, over a connection whose socket is slow.
 
-use super::{Peer, give_up, may_write, open, renew, respond, send, tell};
+use crate::caller::{Peer, give_up, may_write, open, renew, respond, send, tell};
 use crate::tests::buffers::Options;
 use crate::tests::limits::cycles;
-use crate::tests::story::{Player, Story};
+use crate::tests::story::{Begins, Player, Story, play_each};
 use crate::tests::trace::push_settlements;
 use crate::tests::words::{NoAnswer, Words};
 use bytes::Bytes;
@@ -11,7 +11,6 @@ use ob_rows::CONNECTIONS;
 use ob_seq::Buffer;
 use ob_types::{Cause, Message, Outcome, PromiseId, Refusal};
 use std::alloc::{AllocError, Global};
-use std::process::Abort;
 use std::test::Fail;
 
 /// The other end of a connection whose socket takes at most so many bytes at a time.
@@ -21,7 +20,7 @@ struct SlowPeer {
     sent: Vec<u8>,
     settled: Vec<(PromiseId, Outcome)>,
     /// What it was told last.
-    reading: Option<bool>,
+    reading: &'static str,
 }
 
 impl Peer for SlowPeer {
@@ -46,7 +45,7 @@ impl Peer for SlowPeer {
     }
 
     fn set_reading(&mut self, reading: bool) {
-        self.reading = Some(reading);
+        self.reading = if reading { "yes" } else { "no" };
     }
 }
 
@@ -102,23 +101,13 @@ impl Connection {
 
     fn push_seen(&self, text: &mut String) -> Result<(), AllocError> {
         let (buffer, peer) = (&self.buffer, &self.peer);
-        text.push_str(match peer.reading {
-            None => ", reading: untold",
-            Some(true) => ", reading: yes",
-            Some(false) => ", reading: no",
-        })?;
-        text.push_str(match may_write(buffer) {
-            true => ", may write",
-            false => ", may not write",
-        })?;
-        let (look, left) = (buffer.look(), buffer.writes_left());
+        let may = if may_write(buffer) { "may" } else { "may not" };
+        write!(text, ", reading: {}, {may} write, ", peer.reading)?;
         let (sent, settled) = (peer.sent.len(), peer.settled.len());
-        write!(text, ", sent={sent} settled={settled}")?;
-        write!(
-            text,
-            " t={} bu={} left={left}",
-            look.total, look.before_unwritable
-        )
+        write!(text, "sent={sent} settled={settled} ")?;
+        let (look, left) = (buffer.look(), buffer.writes_left());
+        let (total, before) = (look.total, look.before_unwritable);
+        write!(text, "t={total} bu={before} left={left}")
     }
 }
 
@@ -147,43 +136,37 @@ fn push_runs(text: &mut String, bytes: &[u8]) -> Result<(), AllocError> {
     let mut length = 0u64;
     for (index, byte) in bytes.iter().enumerate() {
         length = length.saturating_add(1);
-        let next = bytes.get(index + 1);
-        if next != Some(byte) {
-            write!(text, "{length} of {byte}")?;
-            text.push_str(if next.is_some() { ", " } else { "" })?;
+        if bytes.get(index + 1) != Some(byte) {
+            write!(text, " {length} of {byte}")?;
             length = 0;
         }
     }
     Ok(())
 }
 
-/// The buffer that a command line asks for, or that of `open` where it names no marks.
-fn new_buffer(alloc: Global, command: &str) -> Result<Buffer, NoAnswer> {
-    if command.contains("--low") {
-        return Ok(Options::of(command)?.buffer(alloc)?);
-    }
-    Ok(open(alloc)?)
-}
-
-fn plays(rt: &impl Abort, alloc: Global, story: Story) -> Result<(), NoAnswer> {
-    let mut connection = Connection {
-        alloc,
-        buffer: new_buffer(alloc, story.command)?,
-        peer: SlowPeer {
+impl Begins for Connection {
+    /// Over the buffer of `open`, unless the story names marks.
+    fn begin(alloc: Global, story: Story) -> Result<Connection, NoAnswer> {
+        let buffer = if story.command.contains("--low") {
+            Options::of(story.command)?.buffer(alloc)?
+        } else {
+            open(alloc)?
+        };
+        let peer = SlowPeer {
             takes: 0,
             sent: Vec::new(alloc),
             settled: Vec::new(alloc),
-            reading: None,
-        },
-    };
-    story.play(rt, alloc, &mut connection);
-    Ok(())
+            reading: "untold",
+        };
+        Ok(Connection {
+            alloc,
+            buffer,
+            peer,
+        })
+    }
 }
 
 #[test]
 fn a_connection_goes_by_what_its_buffer_tells(rt: HostRuntime) -> Result<(), Fail> {
-    for text in CONNECTIONS.split('#') {
-        plays(&rt, rt.alloc(), Story::of(text))?;
-    }
-    Ok(())
+    play_each::<Connection>(&rt, rt.alloc(), CONNECTIONS)
 }
