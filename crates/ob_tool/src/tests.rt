@@ -1,8 +1,7 @@
-mod core_faults;
 mod doubles;
 mod drive_reading;
 mod faults;
+mod faulty_lines;
 mod play;
-mod statuses;
 mod stories;
 mod texts;

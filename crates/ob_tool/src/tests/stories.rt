@@ -1,13 +1,9 @@
 //! Stories of `ob_rows`, and some that the program alone can play: each is a script with its trace, or with a fault.
 
-use crate::tests::play::play;
+use crate::tests::play::{Host, leaves};
 use ob_rows::{CORE, DRIVES, RUN};
 use std::alloc::{AllocError, Global};
-use std::process::Abort;
-use std::sync::Wait;
 use std::test::Fail;
-use std::thread::Threads;
-use std::time::Clock;
 
 /// Scripts with a faulty line: the lines before it are carried out and traced, and those behind it are not read.
 static FAULTY: &str = "
@@ -34,11 +30,6 @@ lane 9 6 / line 3: fault 7
 $ core
 lane 9 3 / line 1: fault 7
 
-# bit 0 in the mask of a second lane
-$ core
-lane 9 0 / lane 0
-lane 9 1 / line 2: fault 7
-
 # rooms that add up to more than 4294967295
 $ core
 lane 4294967295 0 / lane 0
@@ -58,48 +49,6 @@ turns 1
 turns 1 / line 4: fault 7
 ";
 
-/// What the program is given, and what it must leave.
-#[derive(Drop)]
-struct Played {
-    script: String,
-    trace: String,
-    told: String,
-    status: u8,
-}
-
-impl Played {
-    /// The lines of a story: what is asked stands in the script, and what is answered in the trace, unless it is a
-    /// fault. A report has several lines, parted by commas.
-    fn of(alloc: Global, lines: &str) -> Result<Played, AllocError> {
-        let mut played = Played {
-            script: String::new(alloc),
-            trace: String::new(alloc),
-            told: String::new(alloc),
-            status: 0,
-        };
-        for line in lines.lines() {
-            let (asked, answer) = line.split_once('/').unwrap_or((line, ""));
-            push_line(&mut played.script, asked)?;
-            played.push(answer.trim())?;
-        }
-        Ok(played)
-    }
-
-    fn push(&mut self, answer: &str) -> Result<(), AllocError> {
-        self.status = match (answer.starts_with("line "), answer.starts_with("drive: ")) {
-            (true, _) => 2,
-            (_, true) => 5,
-            _ => {
-                for part in answer.split(',') {
-                    push_line(&mut self.trace, part)?;
-                }
-                return Ok(());
-            }
-        };
-        push_line(&mut self.told, answer)
-    }
-}
-
 /// Adds a line, unless it is empty.
 fn push_line(text: &mut String, line: &str) -> Result<(), AllocError> {
     if line.trim().is_empty() {
@@ -109,49 +58,53 @@ fn push_line(text: &mut String, line: &str) -> Result<(), AllocError> {
     text.push('\n')
 }
 
-/// Runs the program on each story, and compares all that it leaves.
-fn holds<H: Abort + AllocGlobal + Threads + Wait + Clock + Sync>(
-    rt: &H,
-    stories: &str,
-) -> Result<(), Fail> {
-    for text in stories.split('#') {
-        let (about, rest) = text.split_once('\n').unwrap_or((text, ""));
-        let (command, lines) = rest.split_once('\n').unwrap_or((rest, ""));
-        if let Some(command) = command.strip_prefix('$') {
-            let words = format!(in rt.alloc(); "ob_tool{command}")?;
-            let played = Played::of(rt.alloc(), lines)?;
-            let left = play(rt, &words, &played.script)?;
-            left.compare(rt, about, played.status, &played.told, &played.trace);
+/// What the lines of a story ask.
+fn script_of(alloc: Global, lines: &str) -> Result<String, AllocError> {
+    let mut script = String::new(alloc);
+    for line in lines.lines() {
+        let (asked, _) = line.split_once('/').unwrap_or((line, ""));
+        push_line(&mut script, asked)?;
+    }
+    Ok(script)
+}
+
+/// What is left of a story. A report has several lines, parted by commas, and a fault is the last answer.
+fn left_of(alloc: Global, lines: &str) -> Result<String, AllocError> {
+    let mut left = String::new(alloc);
+    let mut status = 0;
+    for line in lines.lines() {
+        let (_, answer) = line.split_once('/').unwrap_or((line, ""));
+        if let Some((place, _)) = answer.split_once(": fault ") {
+            status = if place == " drive" { 5 } else { 2 };
+            write!(left, "status {status}: ")?;
+        }
+        for part in answer.split(',') {
+            push_line(&mut left, part)?;
         }
     }
-    Ok(())
+    if status == 0 {
+        left.push_str("status 0: ")?;
+    }
+    Ok(left)
+}
+
+/// Runs the program on a story, whose last line may lack the byte that ends it, and compares all that it leaves.
+fn holds<H: Host>(rt: &H, story: &str) -> Result<(), Fail> {
+    let (_, story) = story.split_once("\n$ ").ok_or("no command line")?;
+    let (command, lines) = story.split_once('\n').unwrap_or((story, ""));
+    let words = format!(in rt.alloc(); "ob_tool {command}")?;
+    let script = script_of(rt.alloc(), lines)?;
+    let left = left_of(rt.alloc(), lines)?;
+    leaves(rt, &words, &script, &left)?;
+    leaves(rt, &words, script.trim_end(), &left)
 }
 
 #[test]
-fn scripts_of_run(rt: HostRuntime) -> Result<(), Fail> {
-    holds(&rt, RUN)
-}
-
-#[test]
-fn scripts_of_core(rt: HostRuntime) -> Result<(), Fail> {
-    holds(&rt, CORE)
-}
-
-#[test]
-fn scripts_of_drive(rt: HostRuntime) -> Result<(), Fail> {
-    holds(&rt, DRIVES)
-}
-
-#[test]
-fn faulty_scripts(rt: HostRuntime) -> Result<(), Fail> {
-    holds(&rt, FAULTY)
-}
-
-/// The last line of a script may lack the byte that ends it.
-#[test]
-fn a_script_without_its_last_byte(rt: HostRuntime) -> Result<(), Fail> {
-    let left = play(&rt, "ob_tool run --low 200 --high 400", "b 304\nb 0")?;
-    let trace = "id 0 t=400 w=00000000\nid 1 t=496 w=00000001 -\n";
-    left.compare(&rt, "no last byte", 0, "", trace);
+fn stories_hold(rt: HostRuntime) -> Result<(), Fail> {
+    for stories in [RUN, CORE, DRIVES, FAULTY] {
+        for story in stories.split('#').skip(1) {
+            holds(&rt, story)?;
+        }
+    }
     Ok(())
 }

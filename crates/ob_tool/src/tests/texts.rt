@@ -1,18 +1,61 @@
-//! The texts of faults, of `--help` and of `--version`.
+//! What the program tells of its command line, in place of reading a script, and the texts of faults.
 
 use crate::entry_fault::EntryFault;
-use crate::tests::play::told;
+use crate::tests::play::{Host, left};
 use ob_core::{AskFault, WorldFault};
-use std::fmt::Display;
-use std::process::Abort;
-use std::sync::Wait;
 use std::test::Fail;
-use std::thread::Threads;
-use std::time::Clock;
 
-/// What `ob_tool run --help` tells.
-const HELP_OF_RUN: &str = "\
-Reads a script from standard input, and writes one line for each of its lines to standard output
+/// Gives the program words that end it before it reads, and answers its status and what it told.
+fn told<H: Host>(rt: &H, words: &str) -> Result<String, Fail> {
+    let mut unread = b"f\n".as_slice();
+    let told = left(rt, words, &mut unread)?;
+    assert_eq!(rt; unread.len(), 2, "{words}");
+    Ok(told)
+}
+
+static WHOLE: [(&str, &str); 4] = [
+    ("ob_tool run --low 5 --high 4", "status 1: bad marks\n"),
+    ("ob_tool core --low 5 --high 4", "status 1: bad marks\n"),
+    ("ob_tool drive --low 5 --high 4", "status 1: bad marks\n"),
+    ("ob_tool --version", "status 1: ob_tool 0.1.0\n"),
+];
+
+#[test]
+fn tells_bad_marks_and_the_version(rt: HostRuntime) -> Result<(), Fail> {
+    for (words, text) in WHOLE {
+        assert_eq!(rt; told(&rt, words)?.as_str(), text, "{words}");
+    }
+    Ok(())
+}
+
+/// Command lines that are refused, parted by bars. The first has no word.
+static REFUSED: &str = "\
+|ob_tool|ob_tool --low 1|ob_tool walk|ob_tool run more|ob_tool run --low|ob_tool run --low ten|ob_tool run --low -1\
+|ob_tool run --low 2147483648|ob_tool run --high 2147483648|ob_tool run --overhead 65536|ob_tool run --unknown 65536\
+|ob_tool run --limit 0|ob_tool run --limit 1048577|ob_tool run --task 1|ob_tool core --limit 3|ob_tool core --task 1\
+|ob_tool core --low 2147483648|ob_tool drive --task 65536|ob_tool drive --limit 0";
+
+/// Command lines that ask for help or the version.
+static ASKING: &str = "\
+ob_tool --help|ob_tool run --help|ob_tool drive --help|ob_tool help|ob_tool help core|ob_tool --version";
+
+/// A refusal is told as an error. Each text ends with one byte 10.
+#[test]
+fn refuses_command_lines(rt: HostRuntime) -> Result<(), Fail> {
+    for (begin, rows) in [("status 1: error: ", REFUSED), ("status 1: ", ASKING)] {
+        for words in rows.split('|') {
+            let text = told(&rt, words)?;
+            let ends = text.ends_with("\n") && !text.ends_with("\n\n");
+            assert!(rt; text.starts_with(begin) && ends, "{words}: {text}");
+        }
+    }
+    Ok(())
+}
+
+/// All lines of a help, behind its status. Of a line with two dots only what is before them is given, and a bar parts
+/// two lines.
+static HELP_OF_RUN: &str = "\
+status 1: Reads a script from standard input, and writes one line for each of its lines to standard output
 
 Usage: ob_tool run [OPTIONS]
 
@@ -27,159 +70,119 @@ Options:
 The script comes on standard input. Its lines end with the byte 10 alone, one space parts two words:
   ob_tool run --low 200 --high 400 < FILE
 
-Lines of a script:
-  b N     write a block of N bytes, at most 1048576
-  r N     write a region of N bytes
-  o N     write another message, whose number is N
-  f       flush
-  rm      remove the first flushed message, as sent
-  rc C    remove the first flushed message, as failed for the cause C
-  rb N    remove N bytes of the blocks in front
-  p N     tell of N more bytes of progress of the first flushed message
-  x ID    cancel the promise ID
-  fl C V  fail all flushed messages with the cause C, with notice where V is 1, without where it is 0
-  cl C    close with the cause C; it is refused while flushed messages are left
-  u I V   set the user bit I where V is 0, clear it where V is 1
-  ?       look at the buffer
+Lines of a script:|  b N     write a block of N bytes, at most 1048576|  r N  ..|  o N  ..|  f  ..|  rm  ..|  rc C  ..
+  rb N  ..|  p N  ..|  x ID  ..|  fl C V  ..|  cl C  ..|  u I V  ..|  ?  ..
   g C N   gather at most C blocks, 1 to 1024, of together at most N bytes, 1 to 2147483647
 Where no range stands here, the N of r, rb and p go up to 18446744073709551615, I up to 255, and all else up to
 4294967295.
 
 Each line gives one line on standard output; ANSWER t=T w=W CHANGE SETTLEMENTS for a command:
-  ANSWER       `id N` the promise of a write, `n N` so many messages, `yes` or `no` whether there was one to remove or
-               to cancel, `ok`, or `!R` where it is refused
-  t=T w=W      the pending bytes, and the word in hexadecimal digits: the buffer is writable where it is 00000000
-  CHANGE       `-` the buffer became unwritable, `+` it became writable, or nothing
-  SETTLEMENTS  of each promise `ID:ok` as sent, `ID:fC` as failed for the cause C, `ID:x` as cancelled
-A look gives size=S cur=P bu=X bw=Y t=T w=W: S messages are flushed, P is the progress of the first, X bytes more make
-the buffer unwritable, Y bytes fewer writable. A gathering gives g, the length of each block, and t=T w=W.
+  ANSWER  ..|               to cancel, `ok`, or `!R` where it is refused|  t=T w=W  ..|  CHANGE  ..|  SETTLEMENTS  ..
+A look gives size=S cur=P bu=X bw=Y t=T w=W: ..|the buffer unwritable, Y bytes fewer writable. A gathering gives g, ..
 
-A refused command changes nothing. The numbers R of `!R`:
-  1 the message is too long        3 too many pending bytes, or writes    4 the buffer is closed
-  5 nothing is flushed             6 too far a progress                   7 more bytes than the blocks in front have
-  8 no user bit (1 to 31)          9 flushed messages are left            10 no such promise
-  11 as many commands as --limit says are recorded
+A refused command changes nothing. The numbers R of `!R`:|  1 the message is too long  ..|  5 nothing is flushed  ..
+  8 no user bit (1 to 31)  ..|  11 as many commands as --limit says are recorded
 
-Faults of a line, told as `line N: fault F`:
-  1  its first word is none of these
-  2  a word in a number's place is no number
-  3  a number is out of its range
-  4  too few words follow the first
-  5  too many words follow the first
-  6  it has more than 200 bytes
+Faults of a line, told as `line N: fault F`:|  1  its first word is none of these
+  2  a word in a number's place is no number|  3  a number is out of its range|  4  too few words follow the first
+  5  too many words follow the first|  6  it has more than 200 bytes
 
 Faults, and help and the version where they are asked for, go to standard error.
-Status: 0 done, 1 the command line (help and the version too), 2 a line, 3 reading or writing, 4 memory
-";
+Status: 0 done, 1 the command line (help and the version too), 2 a line, 3 reading or writing, 4 memory";
 
-/// Words that ask for a text, and the whole of it.
-static WHOLE: [(&str, &str); 3] = [
-    ("ob_tool run --help", HELP_OF_RUN),
-    ("ob_tool run -h", HELP_OF_RUN),
-    ("ob_tool --version", "ob_tool 0.1.0\n"),
-];
+static HELP_OF_CORE: &str = "\
+status 1: Reads a script of lanes and turns from standard input, ..
 
-#[test]
-fn help_of_run_and_version(rt: HostRuntime) -> Result<(), Fail> {
-    for (words, text) in &WHOLE {
-        assert_eq!(rt; told(&rt, words)?.as_str(), *text, "{words}");
-    }
-    Ok(())
-}
+Usage: ob_tool core [OPTIONS]
 
-/// The lines of a core script, and the fault that only such a line has.
-static HELP_OF_CORE: [&str; 11] = [
-    "Usage: ob_tool core [OPTIONS]\n",
-    "  ob_tool core --low 50 --high 100 < FILE\n",
-    "\n  lane R B  a lane with room R, which holds the bits of the mask B\n  c L N  ",
-    "\n  d L  ",
-    "\n  u L I V  ",
-    "\n  w L  ",
-    "\n  t L  ",
-    "\n  k L  ",
-    "\nEach line gives one line on standard output; `lane K` for a lane, EVENT t=T w=W CHANGE for a turn:\n  EVENT  ",
-    "\nThe numbers F of `!F`:\n  1 no such lane ",
-    "\n  6  it has more than 200 bytes\n  7  a lane behind a turn, a turn before the first lane, ",
-];
+Options:|      --low <BYTES>   Writers may ..|      --high <BYTES>  Writers should ..|  -h, --help          Print help
 
-/// What a drive is for, the lines of its script and of its report, and the faults and the status that it alone has.
-static HELP_OF_DRIVE: [&str; 19] = [
-    "Usage: ob_tool drive [OPTIONS]\n",
-    "\n      --task <BYTES>      Bytes that a message counts beside its own while it is handed over (32 where ",
-    "\nIt loads one buffer as a server does, to see that nothing is lost: ",
-    "\n  b W N K  writer W writes K blocks, 1 to 1024, of N bytes, at most 1048576\n  r W N  ",
-    "\n  o W N  ",
-    "\n  f W  ",
-    "\n  x W ID  ",
-    "\n  u W I V  ",
-    "\n  take N  ",
-    "\n  fail C  ",
-    "\n  then N  ",
-    "\n  turns N  ",
-    "\n  writes, flushes, cancels, bits  ",
-    "\n  taken  ",
-    "\n  success, failed, cancelled, left ",
-    "\n  hand  ",
-    "\nFaults of a drive, told as `drive: fault N`; ",
-    "\n  6  it has more than 200 bytes\n  7  a second `then`, or a second `turns`\n",
-    ", 4 memory, 5 the drive\n",
-];
+The script comes ..|  ob_tool core --low 50 --high 100 < FILE
 
-/// Asks the program for help, and looks for each of these parts in it.
-fn tells_parts<H: Abort + AllocGlobal + Threads + Wait + Clock + Sync>(
-    rt: &H,
-    words: &str,
-    parts: &[&str],
-) -> Result<(), Fail> {
+Lines of a script, ..|  lane R B  a lane with room R, which holds the bits of the mask B|  c L N  ..|  d L  ..
+  u L I V  ..|  w L  ..|  t L  ..|  k L  ..|I goes up to 255, and all else up to 4294967295. A lane in the middle ..
+
+Each line gives one line on standard output; `lane K` for a lane, EVENT t=T w=W CHANGE for a turn:
+  EVENT  ..|           below low; ..|           `total` read; ..|  t=T w=W  ..|  CHANGE  ..|The last line is ..
+
+The numbers F of `!F`:|  1 no such lane  ..|  4 the lane owes nothing  ..
+
+Faults of a line, ..|  1  ..|  2  ..|  3  ..|  4  ..|  5  ..|  6  it has more than 200 bytes
+  7  a lane behind a turn, a turn before the first lane, ..|     another holds, ..
+
+Faults, and help ..|Status: 0 done, 1 the command line (help and the version too), ..";
+
+static HELP_OF_DRIVE: &str = "\
+status 1: Reads a script of writers from standard input, runs them in threads, ..
+
+Usage: ob_tool drive [OPTIONS]
+
+Options:|      --low <BYTES>       ..|      --high <BYTES>      ..|      --overhead <BYTES>  ..
+      --unknown <BYTES>   ..|      --limit <RECORDS>   ..
+      --task <BYTES>      Bytes that a message counts beside its own while it is handed over (32 where it is not given)
+  -h, --help              Print help
+
+The script comes ..|  ob_tool drive < FILE
+
+It loads one buffer as a server does, to see that nothing is lost: ..|thread of its own, ..
+
+Lines of a script; ..|  b W N K  writer W writes K blocks, 1 to 1024, of N bytes, at most 1048576|  r W N  ..
+  o W N  ..|  f W  ..|  x W ID  ..|  u W I V  ..|  take N  ..|  fail C  ..|  then N  ..|  turns N  ..|The N of r ..
+
+All lines are read first. ..|  writes, flushes, cancels, bits  ..|  taken  ..|  success, failed, cancelled, left ..
+  hand  ..
+
+Faults of a drive, told as `drive: fault N`; ..|  1 there is no writer  ..|  6 as many commands as --limit says ..
+
+Faults of a line, ..|  1  ..|  2  ..|  3  ..|  4  ..|  5  ..|  6  it has more than 200 bytes
+  7  a second `then`, or a second `turns`
+
+Faults, and help ..
+Status: 0 done, 1 the command line (help and the version too), 2 a line, 3 reading or writing, 4 memory, 5 the drive";
+
+/// Asks the program for help, and compares each line of it.
+fn tells_help<H: Host>(rt: &H, words: &str, wanted: &str) -> Result<(), Fail> {
     let help = told(rt, words)?;
-    for part in parts {
-        assert!(rt; help.contains(*part), "{words}: {part}");
+    let mut lines = help.lines();
+    for part in wanted.split(['\n', '|']) {
+        let line = lines.next().unwrap_or("no line");
+        let holds = match part.strip_suffix("..") {
+            Some(begin) => line.starts_with(begin),
+            None => line == part,
+        };
+        assert!(rt; holds, "{words}: {part}: {line}");
     }
+    assert_eq!(rt; lines.next(), None, "{words}");
     Ok(())
 }
 
 #[test]
-fn help_of_core_and_drive(rt: HostRuntime) -> Result<(), Fail> {
-    tells_parts(&rt, "ob_tool core --help", &HELP_OF_CORE)?;
-    tells_parts(&rt, "ob_tool drive --help", &HELP_OF_DRIVE)
+fn tells_each_help(rt: HostRuntime) -> Result<(), Fail> {
+    tells_help(&rt, "ob_tool run --help", HELP_OF_RUN)?;
+    tells_help(&rt, "ob_tool run -h", HELP_OF_RUN)?;
+    tells_help(&rt, "ob_tool core --help", HELP_OF_CORE)?;
+    tells_help(&rt, "ob_tool drive --help", HELP_OF_DRIVE)
 }
 
-static ASK_FAULTS: [(AskFault, &str); 6] = [
-    (AskFault::UnknownLane, "there is no such lane"),
-    (AskFault::NoRoom, "the charge is above the room of the lane"),
-    (AskFault::Owing, "the lane owes a charge already"),
-    (AskFault::NotOwing, "the lane owes nothing"),
-    (AskFault::NotHeld, "the lane does not hold the bit"),
-    (AskFault::NotInside, "the lane is in the middle of no call"),
-];
-
-static WORLD_FAULTS: [(WorldFault, &str); 4] = [
-    (WorldFault::BadCount, "a world has 1 to 64 lanes"),
-    (
-        WorldFault::TooMuchRoom,
-        "the rooms of the lanes add up to more than 4294967295",
-    ),
-    (
-        WorldFault::BitsTwice,
-        "a bit is held twice, or bit 0 is held",
-    ),
-    (WorldFault::NoMemory, "out of memory"),
-];
-
-/// Looks at the text of each fault.
-fn are_told<T: Display, H: Abort + AllocGlobal>(rt: &H, faults: &[(T, &str)]) -> Result<(), Fail> {
-    for (fault, text) in faults {
-        let told = format!(in rt.alloc(); "{fault}")?;
-        assert_eq!(rt; told.as_str(), *text);
-    }
-    Ok(())
-}
+static FAULTS: &str = "\
+no subcommand|there is no such lane|the charge is above the room of the lane|the lane owes a charge already|\
+the lane owes nothing|the lane does not hold the bit|the lane is in the middle of no call|\
+a world has 1 to 64 lanes|the rooms of the lanes add up to more than 4294967295|\
+a bit is held twice, or bit 0 is held|out of memory|";
 
 #[test]
 fn texts_of_faults(rt: HostRuntime) -> Result<(), Fail> {
-    are_told(&rt, &[(EntryFault::NoSubcommand, "no subcommand")])?;
-    are_told(&rt, &ASK_FAULTS)?;
-    are_told(&rt, &WORLD_FAULTS)?;
+    use AskFault::{NoRoom, NotHeld, NotInside, NotOwing, Owing, UnknownLane};
+    use WorldFault::{BadCount, BitsTwice, NoMemory, TooMuchRoom};
+
+    let mut texts = format!(in rt.alloc(); "{}|", EntryFault::NoSubcommand)?;
+    for fault in [UnknownLane, NoRoom, Owing, NotOwing, NotHeld, NotInside] {
+        write!(texts, "{fault}|")?;
+    }
+    for fault in [BadCount, TooMuchRoom, BitsTwice, NoMemory] {
+        write!(texts, "{fault}|")?;
+    }
+    assert_eq!(rt; texts.as_str(), FAULTS);
     assert_eq!(rt; EntryFault::NoSubcommand.status(), 1);
     Ok(())
 }
