@@ -3,13 +3,10 @@
 use crate::entry::entry;
 use crate::run_fault::RunFault;
 use crate::script::read_script;
-use crate::tests::doubles::{Page, Script};
-use std::io::{ErrorKind, Read};
-use std::process::Abort;
-use std::sync::Wait;
+use crate::tests::doubles::Failing;
+use crate::tests::play::{Host, ended, leaves};
+use std::io::ErrorKind;
 use std::test::Fail;
-use std::thread::Threads;
-use std::time::Clock;
 
 static WORDS: [&str; 6] = ["ob_tool", "run", "--low", "200", "--high", "400"];
 
@@ -21,160 +18,107 @@ static TRACE: &str =
 /// More calls than any of these runs makes.
 const MANY: u32 = 1000;
 
-/// Runs the program, and compares the status and what is told. The number says which of several runs it is.
-fn tells<H: Abort + AllocGlobal + Threads + Wait + Clock + Sync, R: Read>(
-    rt: &H,
-    number: u32,
-    reader: &mut R,
-    writer: &mut Page,
-    status: u8,
-    told: &str,
-) {
-    let mut errors = Page::new(256, MANY);
-    let ended = entry(rt, &WORDS, reader, writer, &mut errors);
+/// Runs the program while one byte comes or goes a call, and the one behind so many reads or writes fails.
+fn breaks<H: Host>(rt: &H, reads: u32, writes: u32, end: &str, written: &str) -> Result<(), Fail> {
+    let mut reader = Failing::new(SCRIPT.as_bytes(), reads);
+    let mut writer = Failing::new(Vec::new(rt.alloc()), writes);
+    let found = ended(rt, &WORDS, &mut reader, &mut writer)?;
     assert_eq!(rt;
-        (ended, errors.text()),
-        (status, told.as_bytes()),
-        "{number}"
+        (found.as_str(), writer.inner.as_slice()),
+        (end, written.as_bytes()),
+        "{reads} reads, {writes} writes"
     );
-}
-
-/// Runs the program on a script of which one byte comes a call, and whose call behind so many fails.
-fn reads<H: Abort + AllocGlobal + Threads + Wait + Clock + Sync>(
-    rt: &H,
-    calls: u32,
-    status: u8,
-    told: &str,
-    trace: &str,
-) {
-    let mut reader = Script {
-        bytes: SCRIPT.as_bytes(),
-        piece: 1,
-        calls,
-        failure: ErrorKind::BrokenPipe,
-    };
-    let mut writer = Page::new(256, MANY);
-    tells(rt, calls, &mut reader, &mut writer, status, told);
-    assert_eq!(rt; writer.text(), trace.as_bytes(), "{calls}");
+    Ok(())
 }
 
 /// The 15 bytes of the script come one a call, and then its end: each of these 16 calls may fail.
 #[test]
-fn tells_each_failed_read(rt: HostRuntime) {
+fn tells_each_failed_read(rt: HostRuntime) -> Result<(), Fail> {
     for calls in 0..16 {
-        reads(&rt, calls, 3, "read fault\n", "");
+        breaks(&rt, calls, MANY, "status 3: read fault\n", "")?;
     }
     for calls in 16..20 {
-        reads(&rt, calls, 0, "", TRACE);
+        breaks(&rt, calls, MANY, "status 0: ", TRACE)?;
     }
+    Ok(())
 }
 
 /// The bytes of the trace go out one a call, and then the writer is flushed: each of these calls may fail.
 #[test]
-fn tells_each_failed_write(rt: HostRuntime) {
+fn tells_each_failed_write(rt: HostRuntime) -> Result<(), Fail> {
     let all = TRACE.len() as u32 + 1;
     for calls in 0..all {
-        let mut writer = Page::new(1, calls);
-        tells(
-            &rt,
-            calls,
-            &mut SCRIPT.as_bytes(),
-            &mut writer,
-            3,
-            "write fault\n",
-        );
+        let written = TRACE.get(..calls as usize).unwrap_or(TRACE);
+        breaks(&rt, MANY, calls, "status 3: write fault\n", written)?;
     }
     for calls in all..all + 3 {
-        let mut writer = Page::new(1, calls);
-        tells(&rt, calls, &mut SCRIPT.as_bytes(), &mut writer, 0, "");
-        assert_eq!(rt; writer.text(), TRACE.as_bytes(), "{calls}");
+        breaks(&rt, MANY, calls, "status 0: ", TRACE)?;
     }
+    Ok(())
 }
 
-/// A status is answered where its text cannot be told.
+/// A status is answered if its text cannot be told.
 #[test]
-fn keeps_the_status_where_errors_fail(rt: HostRuntime) {
-    let mut reader: &[u8] = b"x\n";
-    let mut writer = Page::new(256, MANY);
-    let mut errors = Page::new(256, 0);
-    assert_eq!(rt;
-        entry(&rt, &WORDS, &mut reader, &mut writer, &mut errors),
-        2
-    );
+fn keeps_the_status_when_errors_fail(rt: HostRuntime) {
+    let mut written: Vec<u8> = Vec::new(rt.alloc());
+    let mut told = Failing::new(Vec::new(rt.alloc()), 0);
+    let status = entry(&rt, &WORDS, &mut b"x\n".as_slice(), &mut written, &mut told);
+    assert_eq!(rt; status, 2);
 }
 
 /// A script of 16777216 bytes is read, and its one line is too long; with one byte more the script is.
 #[test]
 fn counts_the_bytes_of_a_script(rt: HostRuntime) -> Result<(), Fail> {
-    let cases = [
-        (16777216, 2, "line 1: fault 6\n"),
-        (16777217, 3, "script too long\n"),
-    ];
-    for (len, status, told) in cases {
-        let script = vec![in rt.alloc(); b'f'; len]?;
-        let mut writer = Page::new(256, MANY);
-        tells(
-            &rt,
-            len as u32,
-            &mut script.as_slice(),
-            &mut writer,
-            status,
-            told,
-        );
-        assert_eq!(rt; writer.len, 0, "{len}");
+    for (len, end) in [
+        (16777216, "status 2: line 1: fault 6\n"),
+        (16777217, "status 3: script too long\n"),
+    ] {
+        let script = "f".repeat(rt.alloc(), len)?;
+        leaves(&rt, "ob_tool run", &script, end)?;
     }
     Ok(())
 }
 
-/// A script is read in at most so many reads: 15 for its bytes and one for its end.
+/// A script is read in at most so many reads: 15 for its bytes and one for its end. A read that is interrupted counts,
+/// and is tried again.
 #[test]
 fn counts_the_reads_of_a_script(rt: HostRuntime) {
-    for (reads, fault) in [(15, Some(RunFault::Read)), (16, None)] {
-        let mut reader = Script {
-            bytes: SCRIPT.as_bytes(),
-            piece: 1,
-            calls: MANY,
-            failure: ErrorKind::BrokenPipe,
-        };
-        assert_eq!(rt; read_script(rt.alloc(), &mut reader, reads).err(), fault);
+    for (interrupted, reads, wanted) in [
+        (MANY, 15, Err(RunFault::Read)),
+        (MANY, 16, Ok(15)),
+        (7, 16, Err(RunFault::Read)),
+        (7, 17, Ok(15)),
+    ] {
+        let mut reader = Failing::new(SCRIPT.as_bytes(), interrupted);
+        reader.failure = ErrorKind::Interrupted;
+        let found = read_script(rt.alloc(), &mut reader, reads).map(|script| script.len());
+        assert_eq!(rt; found, wanted, "{interrupted}, {reads}");
     }
 }
 
-/// A read that is interrupted counts, and is tried again.
-#[test]
-fn tries_interrupted_reads_again(rt: HostRuntime) {
-    let mut reader = Script {
-        bytes: SCRIPT.as_bytes(),
-        piece: 4,
-        calls: 2,
-        failure: ErrorKind::Interrupted,
-    };
-    let first = read_script(rt.alloc(), &mut reader, 100).err();
-    let left = reader.bytes.len();
-    reader.calls = MANY;
-    let rest = read_script(rt.alloc(), &mut reader, 100).map(|script| script.len());
-    assert_eq!(rt;
-        (first, left, rest),
-        (Some(RunFault::Read), SCRIPT.len() - 8, Ok(SCRIPT.len() - 8))
-    );
-}
-
-/// With ample memory the whole trace is written. Where an allocation fails, as `rt try --test --fail-alloc` has it,
+/// With ample memory the whole trace is written. If an allocation fails, as `rt try --test --fail-alloc` has it,
 /// the trace of the lines before is written, and want of memory is told.
 #[test]
-fn writes_whole_lines_where_memory_runs_out(rt: HostRuntime) {
-    let mut reader = SCRIPT.as_bytes();
-    let mut writer = Page::new(256, MANY);
-    let mut errors = Page::new(256, MANY);
-    let status = entry(&rt, &WORDS, &mut reader, &mut writer, &mut errors);
+fn writes_whole_lines_when_memory_runs_out(rt: HostRuntime) {
+    // both have their room beforehand, so that the program alone may want memory
+    let (Ok(mut written), Ok(mut told)) = (
+        Vec::with_capacity(rt.alloc(), 256),
+        Vec::with_capacity(rt.alloc(), 256),
+    ) else {
+        return;
+    };
+    let status = entry(&rt, &WORDS, &mut SCRIPT.as_bytes(), &mut written, &mut told);
+    let whole = written.is_empty() || written.ends_with(b"\n");
     let trace = TRACE.as_bytes();
-    let written = writer.text();
     if status == 0 {
-        assert_eq!(rt; (written, errors.len), (trace, 0));
+        assert_eq!(rt; (written.as_slice(), told.len()), (trace, 0));
     } else {
-        let whole = written.is_empty() || written.ends_with(b"\n");
         assert_eq!(rt;
-            (status, errors.text(), whole && trace.starts_with(written)),
+            (
+                status,
+                told.as_slice(),
+                whole && trace.starts_with(written.as_slice())
+            ),
             (4, b"no memory\n".as_slice(), true)
         );
     }
