@@ -1,7 +1,7 @@
 //! Stories of `ob_rows`, and some that the program alone can play: each is a script with its trace, or with a fault.
 
 use crate::tests::play::{Host, leaves};
-use ob_rows::{CORE, DRIVES, RUN};
+use ob_rows::{CORE, DRIVES, FULL, RUN};
 use std::alloc::{AllocError, Global};
 use std::test::Fail;
 
@@ -58,10 +58,10 @@ fn push_line(text: &mut String, line: &str) -> Result<(), AllocError> {
     text.push('\n')
 }
 
-/// What the lines of a story ask.
+/// What the lines of a story ask. A line behind a colon is asked of the libraries alone.
 fn script_of(alloc: Global, lines: &str) -> Result<String, AllocError> {
     let mut script = String::new(alloc);
-    for line in lines.lines() {
+    for line in lines.lines().filter(|line| !line.starts_with(':')) {
         let (asked, _) = line.split_once('/').unwrap_or((line, ""));
         push_line(&mut script, asked)?;
     }
@@ -72,7 +72,7 @@ fn script_of(alloc: Global, lines: &str) -> Result<String, AllocError> {
 fn left_of(alloc: Global, lines: &str) -> Result<String, AllocError> {
     let mut left = String::new(alloc);
     let mut status = 0;
-    for line in lines.lines() {
+    for line in lines.lines().filter(|line| !line.starts_with(':')) {
         let (_, answer) = line.split_once('/').unwrap_or((line, ""));
         if let Some((place, _)) = answer.split_once(": fault ") {
             status = if place == " drive" { 5 } else { 2 };
@@ -101,7 +101,7 @@ fn holds<H: Host>(rt: &H, story: &str) -> Result<(), Fail> {
 
 #[test]
 fn stories_hold(rt: HostRuntime) -> Result<(), Fail> {
-    for stories in [RUN, CORE, DRIVES, FAULTY] {
+    for stories in [RUN, FULL, CORE, DRIVES, FAULTY] {
         for story in stories.split('#').skip(1) {
             holds(&rt, story)?;
         }
