@@ -1,3 +1,4 @@
+pub mod Called
 pub mod FinishFault
 pub mod Finished
 pub mod Handed

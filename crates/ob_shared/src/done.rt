@@ -1,8 +1,12 @@
+ghost use Rattle.std.specs.Prelude.{◌≡◌};
+ghost use Rattle.ob_shared.specs.Called.{nothing_done};
+
 use crate::finish_fault::FinishFault;
 use crate::named::Named;
 use crate::share::Share;
 use crate::shared_buffer::SharedBuffer;
 use ob_history::{Receipt, Recorded, Seen};
+use std::alloc::Global;
 use std::marker::Model;
 
 /// What a caller of a shared buffer hands in at the end. Contracts see the vectors as lists.
@@ -29,6 +33,21 @@ impl<L: Named> Model for Done<L> {
       told = done.told.items;
       seen = done.seen.items;
     } };
+}
+
+impl<L: Named> Done<L> {
+    /// What the caller of a share hands in before its first call: the share, and no receipt and no look. It takes no
+    /// memory.
+    pub fn new(alloc: Global, share: Share<L>) -> Done<L>
+        ensures { result ≡ nothing_done share }
+    {
+        Done {
+            share,
+            receipts: Vec::new(alloc),
+            told: Vec::new(alloc),
+            seen: Vec::new(alloc),
+        }
+    }
 }
 
 /// What is left of a shared buffer that is finished.

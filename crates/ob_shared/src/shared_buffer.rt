@@ -3,6 +3,7 @@ ghost use Rattle.std.specs.List.{All, Any};
 ghost use Rattle.ob_types.specs.declared.promise.PromiseId.{PromiseId};
 ghost use Rattle.ob_seq.specs.Settles.{times_settled};
 ghost use Rattle.ob_history.specs.Settlements.{settlements_in};
+ghost use Rattle.ob_shared.specs.Called.{IsKept};
 ghost use Rattle.ob_shared.specs.Finished.{HandsInAll, NamesPlace, StandsIn, first_short};
 ghost use Rattle.ob_shared.specs.Handed.{LacksShare, made_by};
 ghost use Rattle.ob_shared.specs.declared.finish_fault.FinishFault.TheVariants.{ForeignReceipt, ReceiptsMissing};
@@ -16,8 +17,8 @@ use crate::finish_fault::FinishFault;
 use crate::locked::Locked;
 use crate::named::Named;
 use crate::share::Share;
-use ob_history::{Receipt, a_history_settles_each_promise_once};
-use ob_types::{PromiseId, Refusal};
+use ob_history::{Booked, Receipt, a_history_settles_each_promise_once};
+use ob_types::{Command, PromiseId, Refusal};
 use std::sync::{Condvar, Mutex, Wait};
 
 /// A buffer with its whole history under a lock. Callers give it commands from a desk, each with its share.
@@ -49,6 +50,55 @@ impl<L: Named> SharedBuffer<L> {
         ensures opened { IsAsOpened L.opened result.history }
     {
         Desk::new(self, self.locked.lock(rt), share)
+    }
+
+    /// Makes one call from a desk of its own, and keeps its receipt behind the caller's others. It waits while another
+    /// caller has a desk.
+    ///
+    /// `HistoryFull` comes if the history is full. `NoMemory` comes if the allocator refuses room for the receipt, which
+    /// is made before the call, or memory for the call. Each leaves the caller and the buffer as they were: no receipt
+    /// is lost, without which the buffer could never be finished. Our own.
+    pub fn call<R: Wait>(
+        &self,
+        rt: &R,
+        caller: Done<L>,
+        command: Command,
+    ) -> (Done<L>, Result<(), Refusal>)
+        ensures { IsKept L.opened caller command result.1 result.0 }
+    {
+        let Done {
+            share,
+            mut receipts,
+            told,
+            seen,
+        } = caller;
+        let room = receipts.reserve(1);
+        if room.is_err() {
+            let caller = Done {
+                share,
+                receipts,
+                told,
+                seen,
+            };
+            return (caller, Err(Refusal::NoMemory));
+        }
+        let mut desk = self.desk(rt, share);
+        let answer = desk.call(command);
+        let share = desk.leave();
+        let answer = match answer {
+            Ok(receipt) => {
+                receipts.push_reserved(receipt);
+                Ok(())
+            }
+            Err(refusal) => Err(refusal),
+        };
+        let caller = Done {
+            share,
+            receipts,
+            told,
+            seen,
+        };
+        (caller, answer)
     }
 
     /// Waits until a promise is settled, and gives a desk for the caller of the share, with the receipt of the record
