@@ -4,6 +4,7 @@ pub mod First
 pub mod Histories
 pub mod Lasting
 pub mod Own
+pub mod OwnReceipts
 pub mod Rooms
 pub mod Settling
 pub mod Told

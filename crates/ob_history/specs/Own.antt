@@ -1,13 +1,17 @@
 -- The records of one caller, and its own receipts of them.
-use Rattle.std.specs.Prelude.{◌≡◌, ◌≢◌, ℕ, ◌<◌, ◌==◌, List, filter, length, sum_by}
+use Rattle.std.specs.Prelude.{◌≡◌, ◌≢◌, ℕ, ◌<◌, ◌==◌, List, drop, filter, length, map, sum_by}
 use Rattle.std.specs.List.{All, AllPairs}
-use Rattle.ob_history.specs.Receipt.{IsReceiptIn}
+use Rattle.ob_history.specs.Receipt.{IsReceiptIn, receipt_of}
 use Rattle.ob_history.specs.declared.record.Record.{Record}
 use Rattle.ob_history.specs.declared.receipt.Receipt.{Receipt}
 
 -- the records of a caller, in order
 abbrev pub records_of : ℕ → List Record → List Record
 records_of caller records = filter (λ one. one.caller == caller) records
+
+-- the receipts of the records of a caller from a place on, in order
+abbrev pub receipts_since : ℕ → ℕ → List Record → List Receipt
+receipts_since caller place records = map receipt_of (records_of caller (drop place records))
 
 -- receipts are a caller's own where each is the record at its place and names the caller, and their places rise
 pub record AreOwn (caller : ℕ) (records : List Record) (receipts : List Receipt) : Type 0 where

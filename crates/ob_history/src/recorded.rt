@@ -8,6 +8,7 @@ mod check;
 mod copies;
 mod foreign;
 mod look;
+mod own;
 mod replay;
 mod reserve;
 mod settling;

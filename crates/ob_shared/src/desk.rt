@@ -1,9 +1,10 @@
-ghost use Rattle.std.specs.Prelude.{◌≡◌, ◌↔◌, [], IsTrue, OnOk, OnErr};
+ghost use Rattle.std.specs.Prelude.{◌≡◌, ◌↔◌, [], IfOk, IsOkUnless, IsTrue, OnOk, OnErr};
 ghost use Rattle.std.specs.Sync.Mutex.{mutex_guard_value};
 ghost use Rattle.ob_seq.specs.Settles.{settled_by};
 ghost use Rattle.ob_history.specs.Call.{IsCall};
 ghost use Rattle.ob_history.specs.History.{IsReservation};
 ghost use Rattle.ob_history.specs.Legal.{IsBufferOf};
+ghost use Rattle.ob_history.specs.Own.{receipts_since};
 ghost use Rattle.ob_history.specs.Seen.{IsLookAt};
 ghost use Rattle.ob_shared.specs.Maker.{one_more};
 ghost use Rattle.ob_shared.specs.Opened.{IsAsOpened};
@@ -65,6 +66,19 @@ impl<'b, L: Named> Desk<'b, L> {
         ensures { IsLookAt self.now.history result }
     {
         self.locked.look()
+    }
+
+    /// The receipts of the records of the desk's caller from a place on, in the order of its calls. So a receipt can be
+    /// had again that was let go, as by a pass of a transport, or that could not be kept for want of memory.
+    ///
+    /// It goes over the records from that place on once, with the lock in hand. `NoMemory` comes if the allocator
+    /// refused, or a block has more owners than can be counted. Our own.
+    pub fn receipts_since(&self, place: u32) -> Result<Vec<Receipt>, Refusal>
+        ensures receipts { IfOk result (λ receipts.
+            receipts.items ≡ receipts_since self.now.maker.caller place self.now.history.records) }
+        ensures no_memory { IsOkUnless result Refusal.NoMemory }
+    {
+        self.locked.receipts_since(self.share.caller(), place)
     }
 
     /// Lets the lock go, and gives the share back. If a call at this desk settled something, it wakes all who wait for

@@ -8,6 +8,7 @@ ghost use Rattle.ob_history.specs.Accepted.{accepted_commands};
 ghost use Rattle.ob_history.specs.Call.{IsCall};
 ghost use Rattle.ob_history.specs.History.{IsReservation, new_history};
 ghost use Rattle.ob_history.specs.Legal.{IsBufferOf};
+ghost use Rattle.ob_history.specs.Own.{receipts_since};
 ghost use Rattle.ob_history.specs.Receipt.{receipt_of};
 ghost use Rattle.ob_history.specs.Seen.{IsLookAt};
 ghost use Rattle.ob_history.specs.Settlements.{settlements_in};
@@ -108,6 +109,14 @@ impl<L: Named> Locked<L> {
         ensures { IsLookAt self.now result }
     {
         self.recorded.look()
+    }
+
+    /// The receipts of the records of a caller from a place on.
+    pub fn receipts_since(&self, caller: u32, place: u32) -> Result<Vec<Receipt>, Refusal>
+        ensures receipts { IfOk result (λ receipts. receipts.items ≡ receipts_since caller place self.now.records) }
+        ensures no_memory { IsOkUnless result Refusal.NoMemory }
+    {
+        self.recorded.receipts_since(caller, place)
     }
 
     /// The receipt of the record that settled a promise, or nothing while it is not settled. It asks what has become of
