@@ -1,6 +1,6 @@
 /// What callers of a shared buffer do in turn, each call from a desk of its own. A line that begins with the number of a
-/// caller is a call of it, or a look (`?`), which it keeps, or a wait for a promise (`wait`). `made` asks how many
-/// records each made. `finish` hands in all shares, receipts and looks, but for what was laid aside: all that a caller
+/// caller is a call of it, or a look (`?`), which it keeps, or a wait for a promise (`wait`), or has its receipts given
+/// anew (`again`). `made` asks how many records each made. `finish` hands in all shares, receipts and looks, but for what was laid aside: all that a caller
 /// has (`without`), its last receipt (`short`), or the command of its first one, with a flush in its place (`forge`).
 /// The same line puts that back.
 pub static SHARED: &str = "
@@ -32,6 +32,8 @@ finish / 2 records: size=1 cur=0 bu=65437 bw=0 t=100 w=00000000
 # where memory is at hand, no call wants it: one call settles five blocks
 $ shared --callers 2 --limit 16
 5 times 1 b 1 / place 4: id 4 t=485 w=00000000
+1 again / 5 receipts
+0 again / 0 receipts
 1 f / place 5: n 5 t=485 w=00000000
 1 rb 5 / place 6: n 5 t=0 w=00000000 0:ok 1:ok 2:ok 3:ok 4:ok
 0 wait 4 / place 6 of caller 1: 0:ok 1:ok 2:ok 3:ok 4:ok

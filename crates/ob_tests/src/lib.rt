@@ -6,5 +6,6 @@
 #![tactic(auto)]
 
 pub mod caller;
+pub mod shared;
 #[cfg(test)]
 mod tests;

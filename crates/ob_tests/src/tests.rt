@@ -14,6 +14,7 @@ mod run;
 mod schedules;
 mod seq;
 mod shared;
+mod shared_threads;
 mod story;
 mod threads;
 mod trace;

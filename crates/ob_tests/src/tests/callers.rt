@@ -1,12 +1,10 @@
 //! The callers of a shared buffer, each call from a desk of its own, and what they hand in.
 
-ghost use Rattle.std.specs.Prelude.{◌<◌, vec_capacity, vec_len};
-
 use crate::tests::commands::wanted;
 use crate::tests::story::Player;
 use crate::tests::trace::{push_answer, push_look, push_refusal, push_settled};
 use crate::tests::words::{NoAnswer, Words};
-use ob_history::{Booked, Receipt, Recorded};
+use ob_history::{Receipt, Recorded};
 use ob_seq::Look;
 use ob_shared::{Done, Named, Share, SharedBuffer};
 use ob_types::{Command, PromiseId, Refusal};
@@ -14,21 +12,11 @@ use std::alloc::Global;
 use std::sync::Wait;
 use std::test::Fail;
 
-/// What a caller hands in that has its share and the receipts of its calls.
-pub fn done<L: Named>(alloc: Global, share: Share<L>, receipts: Vec<Receipt>) -> Done<L> {
-    Done {
-        share,
-        receipts,
-        told: Vec::new(alloc),
-        seen: Vec::new(alloc),
-    }
-}
-
 /// What the callers of these shares hand in before their first calls.
 pub fn begun<L: Named>(alloc: Global, shares: Vec<Share<L>>) -> Result<Vec<Done<L>>, NoAnswer> {
     let mut dones = Vec::new(alloc);
     for share in shares {
-        dones.push(done(alloc, share, Vec::new(alloc)))?;
+        dones.push(Done::new(alloc, share))?;
     }
     Ok(dones)
 }
@@ -41,46 +29,8 @@ pub fn finished<L: Named>(buffer: SharedBuffer<L>, dones: Vec<Done<L>>) -> Resul
     }
 }
 
-/// One call, whose receipt the caller keeps: what is pending after it.
-pub fn one_call<L: Named, R: Wait>(
-    rt: &R,
-    buffer: &SharedBuffer<L>,
-    caller: Done<L>,
-    command: Command,
-) -> (Done<L>, Result<Look, Refusal>) {
-    let mut caller = caller;
-    let room = caller.receipts.reserve(1);
-    let Done {
-        share,
-        mut receipts,
-        told,
-        seen,
-    } = caller;
-    let mut desk = buffer.desk(rt, share);
-    let answer = match room {
-        Ok(()) => kept(desk.call(command), &mut receipts),
-        Err(_) => Err(Refusal::NoMemory),
-    };
-    let look = desk.look().look;
-    let share = desk.leave();
-    let caller = Done {
-        share,
-        receipts,
-        told,
-        seen,
-    };
-    (caller, answer.map(|()| look))
-}
-
-/// Keeps a receipt, for which there is room.
-fn kept(answer: Result<Receipt, Refusal>, receipts: &mut Vec<Receipt>) -> Result<(), Refusal>
-    requires { vec_len receipts.old < vec_capacity receipts.old }
-{
-    receipts.push_reserved(answer?);
-    Ok(())
-}
-
-/// A caller that plays lines: a command, `?` for a look, or `wait` and a promise. It keeps all that it hands in.
+/// A caller that plays lines: a command, `?` for a look, `wait` and a promise, or `again` for all its receipts anew. It
+/// keeps all that it hands in.
 #[derive(Drop)]
 pub struct Caller<'b, L: Named, R> {
     pub rt: &'b R,
@@ -95,6 +45,7 @@ impl<'b, L: Named, R: Wait> Player for Caller<'b, L, R> {
         match words.word() {
             "?" => self.look(text),
             "wait" => self.wait(PromiseId(words.small()?), text),
+            "again" => self.again(text),
             _ => self.call(wanted(self.alloc, &mut Words::of(asked))?, text),
         }
     }
@@ -103,8 +54,30 @@ impl<'b, L: Named, R: Wait> Player for Caller<'b, L, R> {
 impl<'b, L: Named, R: Wait> Caller<'b, L, R> {
     fn call(&mut self, command: Command, text: &mut String) -> Result<(), NoAnswer> {
         let caller = self.done.take().ok_or(NoAnswer::Unread)?;
-        let (caller, answer) = one_call(self.rt, self.buffer, caller, command);
-        let told = push_call(text, &caller, answer);
+        let (caller, answer) = self.buffer.call(self.rt, caller, command);
+        let desk = self.buffer.desk(self.rt, caller.share);
+        let look = desk.look().look;
+        let share = desk.leave();
+        let caller = Done { share, ..caller };
+        let told = push_call(text, &caller, answer, look);
+        self.done = Some(caller);
+        told
+    }
+
+    /// Lets all receipts go, and has them again from a desk.
+    fn again(&mut self, text: &mut String) -> Result<(), NoAnswer> {
+        let caller = self.done.take().ok_or(NoAnswer::Unread)?;
+        let desk = self.buffer.desk(self.rt, caller.share);
+        let receipts = desk.receipts_since(0);
+        let share = desk.leave();
+        let mut caller = Done { share, ..caller };
+        let told = match receipts {
+            Ok(receipts) => {
+                caller.receipts = receipts;
+                write!(text, "{} receipts", caller.receipts.len()).map_err(NoAnswer::from)
+            }
+            Err(refusal) => push_refusal(text, refusal),
+        };
         self.done = Some(caller);
         told
     }
@@ -137,10 +110,11 @@ impl<'b, L: Named, R: Wait> Caller<'b, L, R> {
 fn push_call<L: Named>(
     text: &mut String,
     caller: &Done<L>,
-    answer: Result<Look, Refusal>,
+    answer: Result<(), Refusal>,
+    look: Look,
 ) -> Result<(), NoAnswer> {
     match (answer, caller.receipts.last()) {
-        (Ok(look), Some(receipt)) => {
+        (Ok(()), Some(receipt)) => {
             write!(text, "place {}: ", receipt.place)?;
             Ok(push_answer(text, &receipt.reply, look)?)
         }

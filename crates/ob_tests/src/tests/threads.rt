@@ -3,7 +3,7 @@
 ghost use Rattle.ob_shared.specs.Opened.{IsNameOf};
 
 use crate::tests::buffers::Options;
-use crate::tests::callers::{done, finished, one_call};
+use crate::tests::callers::finished;
 use crate::tests::commands::block;
 use crate::tests::dice::Dice;
 use crate::tests::words::NoAnswer;
@@ -64,12 +64,12 @@ fn calls<L: Named, R: Wait>(
     asks: Mix,
 ) -> Done<L> {
     let mut dice = Dice::new(share.caller());
-    let mut caller = done(alloc, share, Vec::new(alloc));
+    let mut caller = Done::new(alloc, share);
     for number in 0..250u32 {
         let Ok(command) = command(alloc, &mut dice, asks, number) else {
             break;
         };
-        let (same, answer) = one_call(rt, buffer, caller, command);
+        let (same, answer) = buffer.call(rt, caller, command);
         caller = same;
         if answer.is_err() {
             break;

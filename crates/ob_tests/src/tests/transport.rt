@@ -4,7 +4,7 @@ ghost use Rattle.std.specs.Prelude.{◌≤◌};
 ghost use Rattle.ob_shared.specs.Opened.{IsNameOf};
 
 use crate::tests::buffers::Options;
-use crate::tests::callers::{done, finished};
+use crate::tests::callers::finished;
 use crate::tests::keeping::{Keeping, Scarce};
 use crate::tests::run::Single;
 use crate::tests::story::{Again, Player, Story};
@@ -13,7 +13,7 @@ use crate::tests::words::{MOST, NoAnswer, Words};
 use ob_history::{As, Booked, Receipt};
 use ob_rows::{PASSES, SCARCE, SIX};
 use ob_seq::Look;
-use ob_shared::{Named, Opening};
+use ob_shared::{Done, Named, Opening};
 use ob_transport::{
     Limits, Pass, PassFault, ScriptSink, SinkFault, SinkStep, Stop, book, drain, pass,
 };
@@ -235,7 +235,10 @@ fn over_a_desk<L: Named, R: Wait + Abort>(
     story.play(rt, alloc, &mut lent);
     let (desk, receipts) = lent.into_inner().into_parts();
     let mut dones = Vec::new(alloc);
-    dones.push(done(alloc, desk.leave(), receipts))?;
+    dones.push(Done {
+        receipts,
+        ..Done::new(alloc, desk.leave())
+    })?;
     let _recorded = finished(buffer, dones)?;
     Ok(())
 }

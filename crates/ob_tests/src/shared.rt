@@ -1,0 +1,155 @@
+//! Four writers and a transport over one shared buffer, each in a thread of its own, as `docs/calls.md` shows them.
+
+ghost use Rattle.ob_shared.specs.Opened.{IsNameOf};
+
+use bytes::Bytes;
+use ob_history::{Booked, Recorded};
+use ob_shared::{Done, Named, Opening, Share, SharedBuffer};
+use ob_transport::{Limits, PassFault, Sink, SinkFault, drain};
+use ob_types::{Answer, Cause, Command, Estimate, Message, PromiseId, Refusal, WaterMark};
+use std::alloc::Global;
+use std::marker::Brand;
+use std::sync::Wait;
+use std::thread::{Threads, join, map_vec, sleep};
+use std::time::{Clock, Duration};
+
+/// How many writers there are, and how many writes each makes.
+const WRITERS: u32 = 4;
+
+const WRITES: u32 = 10;
+
+/// Opens a buffer for the writers and the transport, runs them, and gives its whole history.
+pub fn serve<R: Threads + Wait + Clock + Sync, S: Sink + Send>(
+    rt: &R,
+    alloc: Global,
+    sink: &mut S,
+) -> Result<Recorded, Refusal> {
+    let marks = WaterMark::new(32768, 65536)?;
+    let estimate = Estimate {
+        overhead: 96,
+        unknown: 8,
+    };
+    let opening = Opening::new(alloc, marks, estimate, 1000, WRITERS + 1)?;
+    // the name of this one buffer, which its shares carry: what it stands for is said in `proofs/shared/serve`
+    run::<Brand, _, _>(rt, alloc, opening, sink)
+}
+
+fn run<L: Named + Send + Sync, R: Threads + Wait + Clock + Sync, S: Sink + Send>(
+    rt: &R,
+    alloc: Global,
+    opening: Opening,
+    sink: &mut S,
+) -> Result<Recorded, Refusal>
+    requires { IsNameOf opening L.opened L.name L.parts }
+{
+    let (buffer, mut shares) = opening.begin::<L>()?;
+    let Some(last) = shares.pop() else {
+        return Err(Refusal::NoMemory);
+    };
+    let shared = &buffer;
+    // if no second thread can be had, one runs both in this order, so no writer waits for the transport
+    let (writers, (transport, is_sent)) = join(
+        rt,
+        move || map_vec(rt, shares, &|share| write(rt, alloc, shared, share)),
+        move || send(rt, alloc, shared, last, sink),
+    );
+    let mut dones = writers?;
+    if is_sent {
+        if let Some(writer) = dones.pop() {
+            dones.push(is_told(rt, &buffer, writer))?;
+        }
+    }
+    dones.push(transport)?;
+    match buffer.finish(dones) {
+        Ok(finished) => Ok(finished.recorded),
+        Err(_unfinished) => Err(Refusal::NoMemory),
+    }
+}
+
+/// A writer writes its messages, and flushes.
+fn write<L: Named, R: Wait>(
+    rt: &R,
+    alloc: Global,
+    buffer: &SharedBuffer<L>,
+    share: Share<L>,
+) -> Done<L> {
+    let mut caller = Done::new(alloc, share);
+    for _ in 0..WRITES {
+        let Ok(message) = Bytes::copy_from_slice(alloc, b"ten bytes.") else {
+            break;
+        };
+        let (same, written) = buffer.call(rt, caller, Command::Write(Message::Block(message)));
+        caller = same;
+        if written.is_err() {
+            break;
+        }
+    }
+    buffer.call(rt, caller, Command::Flush).0
+}
+
+/// The promise of the first write of a caller, by its receipts.
+fn first_promise<L: Named>(caller: &Done<L>) -> Option<PromiseId> {
+    match &caller.receipts.first()?.reply {
+        Ok(reply) => match reply.answer {
+            Answer::Id(id) => Some(id),
+            _ => None,
+        },
+        Err(_) => None,
+    }
+}
+
+/// Waits until the first write of a caller is sent or given up, and keeps the receipt of what settled it.
+fn is_told<L: Named, R: Wait>(rt: &R, buffer: &SharedBuffer<L>, caller: Done<L>) -> Done<L> {
+    let Some(id) = first_promise(&caller) else {
+        return caller;
+    };
+    let (desk, told) = buffer.wait_settled(rt, caller.share, id);
+    let share = desk.leave();
+    let mut caller = Done { share, ..caller };
+    if let Ok(receipt) = told {
+        let _ = caller.told.push(receipt);
+    }
+    caller
+}
+
+/// How much the sink is offered at once.
+const LIMITS: Limits = Limits {
+    max_count: 64,
+    max_bytes: 65536,
+};
+
+/// The transport hands what is flushed to a sink until all is written and nothing is left: whether that came. If the
+/// sink fails, what is flushed fails too.
+fn send<L: Named, R: Wait + Clock, S: Sink>(
+    rt: &R,
+    alloc: Global,
+    buffer: &SharedBuffer<L>,
+    share: Share<L>,
+    sink: &mut S,
+) -> (Done<L>, bool) {
+    let mut share = share;
+    let mut is_sent = false;
+    for _ in 0..10_000u32 {
+        let mut desk = buffer.desk(rt, share);
+        if let Err(PassFault::Sink(SinkFault(number))) = drain(&mut desk, sink, LIMITS, 16) {
+            let _ = desk.call(Command::FailFlushed(Cause(number), true));
+        }
+        let look = desk.look().look;
+        let written = 1048576u32.saturating_sub(desk.buffer().writes_left());
+        share = desk.leave();
+        is_sent = look.size == 0 && look.total == 0 && written == WRITERS * WRITES;
+        if is_sent {
+            break;
+        }
+        sleep(rt, Duration::from_millis(1));
+    }
+    // its receipts were let go inside the passes, and are had again
+    let desk = buffer.desk(rt, share);
+    let receipts = desk.receipts_since(0).unwrap_or(Vec::new(alloc));
+    let share = desk.leave();
+    let done = Done {
+        receipts,
+        ..Done::new(alloc, share)
+    };
+    (done, is_sent)
+}
