@@ -29,6 +29,21 @@ send / !4, reading: no, may not write, sent=0 settled=3 t=0 bu=0 left=0
 settled / 0:f9 1:f9 2:f9
 sent /
 
+# a connection whose socket breaks is given up by the next send
+$ connection --low 200 --high 400
+takes 100 / ok, reading: untold, may write, sent=0 settled=0 t=0 bu=401 left=1048576
+respond 1 304 / ok, reading: untold, may write, sent=100 settled=0 t=400 bu=1 left=1048575
+breaks 5 / ok, reading: untold, may write, sent=100 settled=0 t=400 bu=1 left=1048575
+send / ok, reading: untold, may write, sent=100 settled=1 t=0 bu=401 left=0
+send / !4, reading: untold, may write, sent=100 settled=1 t=0 bu=401 left=0
+settled / 0:f5
+
+# a connection that breaks near the limit of writes is not renewed
+$ connection
+spend 1047577 / ok, reading: untold, may write, sent=0 settled=0 t=0 bu=65537 left=999
+breaks 5 / ok, reading: untold, may write, sent=0 settled=0 t=0 bu=65537 left=999
+renew / ok, reading: untold, may write, sent=0 settled=0 t=0 bu=65537 left=0
+
 # a buffer near its limit of writes is renewed: with 999 left it waits for what is pending
 $ connection
 spend 1047576 / ok, reading: untold, may write, sent=0 settled=0 t=0 bu=65537 left=1000

@@ -12,8 +12,9 @@ use std::alloc::Global;
 
 /// What a server does for one of its connections.
 pub trait Peer {
-    /// Sends bytes from the front of these blocks, as `writev` does, and tells how many went out: 0 where it failed.
-    fn send(&mut self, blocks: &[Bytes]) -> u64;
+    /// Sends bytes from the front of these blocks, as `writev` does, and tells how many went out: 0 if the socket is not
+    /// ready. If it is broken, the cause is a number of your own.
+    fn send(&mut self, blocks: &[Bytes]) -> Result<u64, Cause>;
     /// The response of this promise has gone out, or is given up.
     fn settled(&mut self, id: PromiseId, outcome: Outcome);
     /// Whether to read further requests from this connection.
@@ -38,12 +39,19 @@ pub fn respond<P: Peer>(buffer: &mut Buffer, peer: &mut P, response: Bytes) -> R
     send(buffer, peer)
 }
 
-/// Sends at most 64 blocks and 65536 bytes: to be called again when the socket is ready, and at once where it took all.
+/// Sends at most 64 blocks and 65536 bytes: to be called again when the socket is ready, and at once if it took all. If
+/// the socket is broken, the connection is given up.
 pub fn send<P: Peer>(buffer: &mut Buffer, peer: &mut P) -> Result<(), Refusal> {
     let blocks = buffer.gather(64, 65536)?;
-    let removed = buffer.remove_bytes(peer.send(&blocks))?;
-    tell(peer, &removed);
-    Ok(())
+    match peer.send(&blocks) {
+        Ok(count) => {
+            // also if nothing went out: empty blocks in front are taken away, or `is_empty` would never come
+            let removed = buffer.remove_bytes(count)?;
+            tell(peer, &removed);
+            Ok(())
+        }
+        Err(cause) => give_up(buffer, peer, cause),
+    }
 }
 
 /// Hands on what a reply tells, which no later call tells again.
@@ -65,12 +73,15 @@ pub fn give_up<P: Peer>(buffer: &mut Buffer, peer: &mut P, cause: Cause) -> Resu
     Ok(())
 }
 
-/// Where few writes are left, takes no more work until all is sent, and goes on with a new buffer.
+/// When few writes are left, takes no more work until all is sent, and goes on with a new buffer.
 pub fn renew<P: Peer>(buffer: &mut Buffer, peer: &mut P, alloc: Global) -> Result<(), Refusal> {
     if buffer.writes_left() >= 1000 {
         return Ok(());
     }
     send(buffer, peer)?;
+    if buffer.is_closed() {
+        return Ok(());
+    }
     let sent = buffer.look().total == 0;
     if sent {
         *buffer = open(alloc)?;

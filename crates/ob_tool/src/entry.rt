@@ -1,4 +1,4 @@
-ghost use Rattle.std.specs.Prelude.{◌≡◌, ◌≤◌, ℕ, IfSome, IfErr, IsErrOf};
+ghost use Rattle.std.specs.Prelude.{◌≡◌, ◌≤◌, ◌⊎◌, ℕ, IfSome, IfErr, IsErrOf};
 ghost use Rattle.std.specs.Io.KnownBytes.{Appends, Keeps};
 ghost use Rattle.ob_tool.specs.Outcome.{WentThrough, fault_told, status_of};
 ghost use Rattle.ob_tool.specs.Request.{WritesRequested, requested_fault, requested_trace_of_first};
@@ -12,7 +12,7 @@ use crate::request::Request;
 use crate::run::run;
 use crate::run_fault::RunFault;
 use std::convert::AsStr;
-use std::io::{Read, Write};
+use std::io::{Error, ErrorKind, Read, Write};
 use std::sync::Wait;
 use std::thread::Threads;
 use std::time::Clock;
@@ -83,6 +83,20 @@ fn carry_out<H: AllocGlobal + Threads + Wait + Clock + Sync, R: Read, W: Write>(
         Request::Core(marks) => core(rt.alloc(), reader, writer, marks),
         Request::Drive(options) => drive_script(rt, reader, writer, options),
     }
+}
+
+/// Tells why the words of the command line could not be had, and answers the status with which the program ends: 4 for
+/// want of memory, and else 1.
+pub fn refused_words<E: Write>(error: &Error, errors: &mut E) -> u8
+    ensures { (result ≡ 1) ⊎ (result ≡ 4) }
+{
+    if error.kind() == ErrorKind::OutOfMemory {
+        let fault = EntryFault::Run(RunFault::NoMemory);
+        tell(&fault, errors);
+        return fault.status();
+    }
+    let _ = writeln!(errors, "{error}");
+    1
 }
 
 /// Tells a fault in its text and one byte 10. Where that fails there is nobody left to tell.

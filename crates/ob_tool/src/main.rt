@@ -41,18 +41,25 @@ mod text;
 mod trace;
 mod writer_line;
 
-use entry::entry;
+use entry::{entry, refused_words};
 use std::process::ExitCode;
 use std::{env, io};
 
-fn main(rt: HostRuntime) -> io::Result<ExitCode> {
-    let words: Vec<String> = env::args(&rt)?.collect(rt.alloc())?;
-    let status = entry(
-        &rt,
-        words.as_slice(),
-        &mut rt.reader(),
-        &mut rt.stdout(),
-        &mut rt.stderr(),
-    );
-    Ok(ExitCode::from(status))
+fn main(rt: HostRuntime) -> ExitCode {
+    let status = match words(&rt) {
+        Ok(words) => entry(
+            &rt,
+            words.as_slice(),
+            &mut rt.reader(),
+            &mut rt.stdout(),
+            &mut rt.stderr(),
+        ),
+        Err(error) => refused_words(&error, &mut rt.stderr()),
+    };
+    ExitCode::from(status)
+}
+
+/// The words of the command line. It fails for want of memory, or if one of them is not UTF-8.
+fn words(rt: &HostRuntime) -> io::Result<Vec<String>> {
+    Ok(env::args(rt)?.collect(rt.alloc())?)
 }

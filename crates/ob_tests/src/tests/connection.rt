@@ -17,6 +17,8 @@ use std::test::Fail;
 #[derive(Drop)]
 struct SlowPeer {
     takes: usize,
+    /// Why it is broken, if it is.
+    broken: Option<Cause>,
     sent: Vec<u8>,
     settled: Vec<(PromiseId, Outcome)>,
     /// What it was told last.
@@ -24,7 +26,10 @@ struct SlowPeer {
 }
 
 impl Peer for SlowPeer {
-    fn send(&mut self, blocks: &[Bytes]) -> u64 {
+    fn send(&mut self, blocks: &[Bytes]) -> Result<u64, Cause> {
+        if let Some(cause) = self.broken {
+            return Err(cause);
+        }
         let mut room = self.takes;
         for block in blocks {
             let taken = block.len().min(room);
@@ -37,7 +42,7 @@ impl Peer for SlowPeer {
             }
             room -= taken;
         }
-        self.takes.saturating_sub(room) as u64
+        Ok(self.takes.saturating_sub(room) as u64)
     }
 
     fn settled(&mut self, id: PromiseId, outcome: Outcome) {
@@ -91,6 +96,10 @@ impl Connection {
             "give-up" => give_up(buffer, peer, Cause(words.small()?)),
             "renew" => renew(buffer, peer, alloc),
             "spend" => spend(buffer, words.small()?),
+            "breaks" => {
+                peer.broken = Some(Cause(words.small()?));
+                Ok(())
+            }
             "takes" => {
                 peer.takes = words.small()? as usize;
                 Ok(())
@@ -154,6 +163,7 @@ impl Begins for Connection {
         };
         let peer = SlowPeer {
             takes: 0,
+            broken: None,
             sent: Vec::new(alloc),
             settled: Vec::new(alloc),
             reading: "untold",
