@@ -1,5 +1,6 @@
 -- What the fields of a lane say of what its seat knows. No public clause cites it.
-use Rattle.std.specs.Prelude.{◌≡◌, ℕ, [], Option}
+use Rattle.std.specs.Prelude.{◌≡◌, ℕ, false, [], Option}
+use Rattle.ob_core.specs.Bits.{is_set}
 use Rattle.ob_core.specs.declared.lane.Phase.TheVariants.{Idle}
 use Rattle.ob_lanes.specs.RunningLane.{RunningLane}
 use Rattle.ob_lanes.specs.declared.running.Running.{Running}
@@ -12,10 +13,12 @@ seen running = record {
   made = running.seat.me.0.made;
 }
 
--- the seat has no slot; room and bits are what it knows; the lane is between two calls, and this is its debt
+-- the seat has no slot; room and bits are what it knows; its words were opened without bit 0, which is the mark's; the
+-- lane is between two calls, and this is its debt
 pub record IsBetweenCalls (running : Running) (debt : Option ℕ) : Type 0 where
   pub no_slot : running.seat.me.1 ≡ []
   pub room : running.seat.me.0.lane.room ≡ running.room
   pub held : running.seat.me.0.lane.held ≡ running.held
+  pub mark : is_set running.seat.me.0.opening.bits 0 ≡ false
   pub idle : running.seat.me.0.lane.phase ≡ Idle
   pub debt_is : running.seat.me.0.lane.debt ≡ debt

@@ -10,6 +10,8 @@ use std::marker::Model;
 
 /// A lane that owes nothing. It may go to another thread.
 ///
+/// Whoever has it has it between two calls, in the middle of none: `every_lane_is_free` tells so.
+///
 /// A lane that is dropped keeps its room and its bits for good: `finish` is refused from then on.
 #[derive(Drop)]
 pub struct Lane {

@@ -25,6 +25,9 @@ pub use charged::Charged;
 pub use facts::Made;
 pub use fault::{NoRoom, NotHeld, RoomOut, SplitFault};
 pub use lane::Lane;
-pub use laws::{a_stuck_mark_waits_for_a_lower, every_run_keeps_the_accounts};
+pub use laws::{
+    a_stuck_mark_waits_for_a_lower, every_charged_lane_is_idle, every_lane_is_free,
+    every_run_keeps_the_accounts,
+};
 pub use opened::lanes;
 pub use words::Words;

@@ -1,6 +1,5 @@
 ghost use Rattle.std.specs.Prelude.{◌≡◌};
 ghost use Rattle.ob_core.specs.Owed.{owed_by};
-ghost use Rattle.ob_core.specs.declared.lane.Phase.TheVariants.{Idle};
 ghost use Rattle.ob_lanes.specs.Read.{IsTotalRead, IsWordRead};
 
 use super::Charged;
@@ -23,10 +22,9 @@ impl Charged {
         words.load_word(&mut self.running.seat) as u32
     }
 
-    /// The bytes that it charged and has not taken back. It is between two calls.
+    /// The bytes that it charged and has not taken back.
     pub fn owed(&self) -> u32
         ensures value { result ≡ owed_by self.now.lane }
-        ensures idle { self.now.lane.phase ≡ Idle }
     {
         self.owed
     }

@@ -1,5 +1,4 @@
 ghost use Rattle.std.specs.Prelude.{◌≡◌};
-ghost use Rattle.ob_core.specs.Shares.{IsFree};
 ghost use Rattle.ob_lanes.specs.Read.{IsTotalRead, IsWordRead};
 
 use super::Lane;
@@ -23,10 +22,9 @@ impl Lane {
         words.load_word(&mut self.running.seat) as u32
     }
 
-    /// The most bytes that a charge of the lane may have. A lane is between two calls, and owes nothing.
+    /// The most bytes that a charge of the lane may have.
     pub fn room(&self) -> u32
         ensures value { result ≡ self.now.lane.room }
-        ensures free { IsFree self.now.lane }
     {
         self.running.room
     }
