@@ -1,7 +1,8 @@
 -- The two lanes that a split makes, and the one that a join makes, share what there was.
-use Rattle.std.proofs.Common.{◌≡◌, ℕ, ◌+◌, ◌≤◌, [], ◌∷◌, Bool, true, false, not, nat_lt, bit_and, bit_or, bit_xor, None}
-use Rattle.std.proofs.Common.{refl, ap, arith}
+use Rattle.std.proofs.Common.{◌≡◌, ℕ, ◌+◌, ◌≤◌, ◌<◌, ◌^◌, [], ◌∷◌, Bool, true, false, not, nat_lt, bit_and, bit_or, bit_xor, None}
+use Rattle.std.proofs.Common.{refl, arith}
 use Rattle.std.specs.Int.{bit_at}
+use Rattle.std.proofs.lemmas.Bool.{le-ltb}
 use Rattle.std.proofs.lemmas.Bool.Decides.{nat_tests}
 use Rattle.std.proofs.lemmas.Nat.Bits.{bit_at_and, bit_at_or, bit_at_xor, bit_at-lt}
 use Rattle.ob_core.specs.FirstFault.{first_fault}
@@ -12,13 +13,11 @@ use Rattle.ob_lanes.specs.Split.{split_fault, are_held, IsSplit}
 use Rattle.ob_core.specs.Bits.{AreAmong, ShareOut}
 use Rattle.ob_core.specs.Shares.{IsFree, AreShares}
 use Rattle.ob_lanes.specs.declared.fault.SplitFault.TheVariants.{NoRoom, NotHeld}
+use Rattle.ob_lanes.proofs.HeldBits.{are_held-from_among, among-from_are_held, among-from_or, or-from_among}
 
-module _ (room bits : ℕ) (lane : Lane) (enough : room ≤ lane.room) (among : bit_or lane.held bits ≡ lane.held) where
-  bit_among : (i : ℕ) → bit_at bits i ≤ bit_at lane.held i
-  bit_among i = omega (arith, bit_at_or lane.held bits i, ap (λ n. bit_at n i) among)
-
+module _ (room bits : ℕ) (lane : Lane) (enough : room ≤ lane.room) (among : AreAmong bits lane.held) where
   held_shared : ShareOut lane.held (bit_xor lane.held bits) bits
-  held_shared i = omega (arith, bit_at_xor lane.held bits i, bit_among i, bit_at-lt lane.held i)
+  held_shared i = omega (arith, bit_at_xor lane.held bits i, among i, bit_at-lt lane.held i)
 
   raised_shared : ShareOut lane.raised (bit_xor lane.raised (bit_and lane.raised bits)) (bit_and lane.raised bits)
   raised_shared i =
@@ -51,7 +50,7 @@ module _ (room bits : ℕ) (lane : Lane) (enough : room ≤ lane.room) (among : 
         held_shared i,
         within i,
         bit_at_and lane.raised bits i,
-        bit_among i,
+        among i,
         bit_at-lt lane.held i,
       )
 
@@ -76,19 +75,33 @@ no_fault true held none = absurd (cc)
 no_fault false true none = (refl, refl)
 no_fault false false none = absurd (cc)
 
--- what the core asks of a division that is not refused
-pub are_shares : (room bits : ℕ) (lane : Lane) → split_fault lane room bits ≡ None → IsFree lane
-    → AreAmong lane.raised lane.held → AreShares lane (kept_lane room bits lane) (given_lane room bits lane)
-are_shares room bits lane fine free within =
+-- a split is not refused when there is room and the bits are held, and only then
+pub not_refused : (room bits : ℕ) (lane : Lane) → room ≤ lane.room → bit_or lane.held bits ≡ lane.held
+    → split_fault lane room bits ≡ None
+not_refused room bits lane enough same =
+    let holds : are_held bits lane.held ≡ true =
+    are_held-from_among bits lane.held (among-from_or bits lane.held same) in
+    rw (le-ltb lane.room room enough, holds) refl
+
+pub held_unless_refused : (room bits : ℕ) (lane : Lane) → bits < 2 ^ 32 → split_fault lane room bits ≡ None
+    → bit_or lane.held bits ≡ lane.held
+held_unless_refused room bits lane small fine =
     let none = no_fault (nat_lt lane.room room) (are_held bits lane.held) fine in
-    shares room bits lane (grind (arith, nat_tests, none.0)) (grind (arith, nat_tests, none.1)) free within
+    or-from_among bits lane.held (among-from_are_held bits lane.held small none.1)
+
+-- what the core asks of a division that is not refused
+pub are_shares : (room bits : ℕ) (lane : Lane) → bits < 2 ^ 32 → split_fault lane room bits ≡ None → IsFree lane
+    → AreAmong lane.raised lane.held → AreShares lane (kept_lane room bits lane) (given_lane room bits lane)
+are_shares room bits lane small fine free within =
+    let none = no_fault (nat_lt lane.room room) (are_held bits lane.held) fine in
+    shares room bits lane (grind (arith, nat_tests, none.0)) (among-from_are_held bits lane.held small none.1) free within
 
 -- the same in the words of the caller
 pub split_told : (room bits : ℕ) (lane seated first second : Lane) → seated ≡ lane → room ≤ seated.room
     → bit_or seated.held bits ≡ seated.held
     → first ≡ kept_lane room bits seated → second ≡ given_lane room bits seated → IsSplit room bits lane first second
 split_told room bits lane seated first second is_lane enough among is_first is_second =
-    rw (is_first, is_second, ← is_lane) (is_split room bits seated enough among)
+    rw (is_first, is_second, ← is_lane) (is_split room bits seated enough (among-from_or bits seated.held among))
 
 -- what a caller is told of a join
 is_joined : (whole : ℕ) (lane other : Lane) → IsJoined whole lane other (both_lanes whole lane other)

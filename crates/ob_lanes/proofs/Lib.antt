@@ -2,6 +2,7 @@ mod Allowed
 mod KeptAccounts
 mod Ends
 mod Halves
+mod HeldBits
 mod Masks
 mod Seats
 mod Views

@@ -1,5 +1,5 @@
 -- A seat that is cut in two, and two that become one, keep what holds between any two steps.
-use Rattle.std.proofs.Common.{◌≡◌, ◌≢◌, ℕ, zero, suc, ◌+◌, ◌≤◌, List, [], ◌∷◌, ◌++◌, map, set, None, Some, sym, refl}
+use Rattle.std.proofs.Common.{◌≡◌, ◌≢◌, ℕ, zero, suc, ◌+◌, ◌≤◌, ◌<◌, ◌^◌, List, [], ◌∷◌, ◌++◌, map, set, None, Some, sym, refl}
 use Rattle.std.proofs.Common.{ap, ◌∙◌, arith}
 use mathlib.Core.Option.{some}
 use lib.ListN.{get_elem?}
@@ -43,7 +43,7 @@ All-one P x holds (suc k) d within = absurd (omega arith)
 
 module _ (opening : Opening) (s : St) (id : ℕ) (facts : Facts) (room bits : ℕ) (ruled : Ruled opening s)
     (at : get_elem? s.views id ≡ some facts)
-    (free : IsFree facts.lane) (fine : split_fault facts.lane room bits ≡ None) where
+    (free : IsFree facts.lane) (small : bits < 2 ^ 32) (fine : split_fault facts.lane room bits ≡ None) where
   abbrev kept : Facts
   kept = kept_facts room bits facts
 
@@ -63,7 +63,7 @@ module _ (opening : Opening) (s : St) (id : ℕ) (facts : Facts) (room bits : �
   is_division = record {
     lane = facts.lane;
     is_lane = slice_get_map lane_of s.views id facts at;
-    shares = are_shares room bits facts.lane fine free (raised_among opening s id facts ruled at);
+    shares = are_shares room bits facts.lane small fine free (raised_among opening s id facts ruled at);
     after = ap (λ lanes. record (core opening s) { lanes = lanes })
         (map-append lane_of (set s.views id kept) (given ∷ [])
         ∙ ap (λ l. l ++ given.lane ∷ []) (map-set lane_of s.views id kept));
@@ -89,11 +89,11 @@ module _ (opening : Opening) (s : St) (id : ℕ) (facts : Facts) (room bits : �
   }
 
 -- a seat that is free may be cut in two, where it has the room and the bits
-pub division_allowed : (opening : Opening) (id : ℕ) (facts : Facts) (room bits : ℕ) → IsFree facts.lane
+pub division_allowed : (opening : Opening) (id : ℕ) (facts : Facts) (room bits : ℕ) → IsFree facts.lane → bits < 2 ^ 32
     → split_fault facts.lane room bits ≡ None
     → Splits (Ruled opening) id facts (kept_facts room bits facts) (given_facts room bits facts)
-division_allowed opening id facts room bits free fine s ruled at =
-    Ruled-division opening s id facts room bits ruled at free fine
+division_allowed opening id facts room bits free small fine s ruled at =
+    Ruled-division opening s id facts room bits ruled at free small fine
 
 module _ (opening : Opening) (s : St) (id other : ℕ) (facts theirs : Facts) (ruled : Ruled opening s)
     (at : get_elem? s.views id ≡ some facts) (their_at : get_elem? s.views other ≡ some theirs)

@@ -1,9 +1,10 @@
 -- The refusals of a split.
-use Rattle.std.specs.Prelude.{◌≡◌, ℕ, ◌+◌, min, Bool, not, nat_lt, ◌==◌, bit_or, [], ◌∷◌, Option}
+use Rattle.std.specs.Prelude.{◌≡◌, ℕ, ◌+◌, min, Bool, not, ◌||◌, nat_lt, [], ◌∷◌, Option}
 use Rattle.std.specs.Int.{bit_at}
+use Rattle.std.specs.List.{list_all, range_with_len}
 use Rattle.ob_core.specs.FirstFault.{first_fault}
 use Rattle.ob_core.specs.declared.lane.Lane.{Lane}
-use Rattle.ob_core.specs.Bits.{ShareOut}
+use Rattle.ob_core.specs.Bits.{is_set, ShareOut}
 use Rattle.ob_core.specs.Shares.{IsFree}
 use Rattle.ob_lanes.specs.declared.fault.SplitFault.{SplitFault}
 use Rattle.ob_lanes.specs.declared.fault.SplitFault.TheVariants.{NoRoom, NotHeld}
@@ -13,9 +14,9 @@ abbrev pub number_of : SplitFault → ℕ
 number_of NoRoom = 1
 number_of NotHeld = 2
 
--- whether each of these bits is among the bits held: to add them adds nothing
-abbrev pub are_held : ℕ → ℕ → Bool
-are_held bits held = bit_or held bits == held
+-- whether each of the bits 0 to 31 that is set in the first mask is set in the second
+unfoldable pub are_held : ℕ → ℕ → Bool
+are_held bits held = list_all (λ index. not (is_set bits index) || is_set held index) (range_with_len 0 32)
 
 -- the first refusal of a split that asks for this room and these bits, or none
 abbrev pub split_fault : Lane → ℕ → ℕ → Option SplitFault

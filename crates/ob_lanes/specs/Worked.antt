@@ -62,9 +62,17 @@ Discharges =
     × IsDischarge 50 60 [] (one_step (Subtract 60) 60 ++ one_step Lower 5) None
     × IsDischarge 50 60 [] (one_step (Subtract 60) 110) None
 
--- a lane with room 10 and bits 1 and 2 has no room of 11 and no bit 3, and refuses the room first
+-- a free lane with this room that holds this mask
+abbrev pub holding : ℕ → ℕ → Lane
+holding room held = record { room = room; debt = None; held = held; raised = 0; phase = Idle }
+
+-- a lane with room 10 and bits 1 and 2 has no room of 11 and no bit 3, and refuses the room first; it has room 10, each
+-- of its bits alone, and all of both; bit 31 is a bit as the others
 abbrev pub Splits : Type 0
 Splits =
-    (split_fault (record { room = 10; debt = None; held = 6; raised = 0; phase = Idle }) 11 8 ≡ Some NoRoom)
-    × (split_fault (record { room = 10; debt = None; held = 6; raised = 0; phase = Idle }) 0 8 ≡ Some NotHeld)
-    × (split_fault (record { room = 10; debt = None; held = 6; raised = 0; phase = Idle }) 10 6 ≡ None)
+    (split_fault (holding 10 6) 11 8 ≡ Some NoRoom)
+    × (split_fault (holding 10 6) 0 12 ≡ Some NotHeld)
+    × (split_fault (holding 10 6) 10 2 ≡ None)
+    × (split_fault (holding 10 6) 10 6 ≡ None)
+    × (split_fault (holding 10 6) 10 2147483648 ≡ Some NotHeld)
+    × (split_fault (holding 10 2147483648) 10 2147483648 ≡ None)
