@@ -7,3 +7,4 @@ mod Masks
 mod Seats
 mod Views
 mod Moves
+mod WorkedRuns

@@ -10,7 +10,8 @@ use atomic_table::Table;
 use ob_types::{Refusal, WaterMark};
 use std::alloc::Global;
 
-/// Two words, both 0, and the lane that has the whole room and all bits, none of which it has set.
+/// Two words, and the lane that has the whole room and all bits. It owes nothing and has set no bit, so what it reads
+/// first is a total of 0, and a word that shows none of its bits.
 ///
 /// `room` is the most bytes that all lanes together may owe at a time, and `bits` the mask of the user bits, with an
 /// index of 1 to 31 each. `NoMemory` comes only where the allocator refuses; no later call takes memory.
