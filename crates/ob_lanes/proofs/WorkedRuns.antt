@@ -1,5 +1,5 @@
 -- The runs of the worked rows, move by move.
-use Rattle.std.proofs.Common.{ℕ, ◌<◌, ◌≤◌, [], ◌∷◌, ◌++◌, None, Some, refl, arith}
+use Rattle.std.proofs.Common.{ℕ, ◌<◌, ◌≤◌, List, [], ◌∷◌, ◌++◌, None, Some, refl, arith}
 use Rattle.ob_core.specs.CoreState.{CoreState}
 use Rattle.ob_core.specs.CoreStep.{IsCoreStep}
 use Rattle.ob_core.specs.Opening.{one_lane}
@@ -12,7 +12,13 @@ use Rattle.std.proofs.lemmas.Nat.Bits.{bit_at-zero}
 use Rattle.ob_lanes.specs.Facts.{one_step}
 use Rattle.ob_lanes.specs.InRun.{IsInRun}
 use Rattle.ob_lanes.specs.Run.{steps, divides, Leads}
+use Rattle.ob_lanes.specs.declared.facts.Made.{Made}
 use Rattle.ob_lanes.specs.Worked.{opening, half, met, meeting, with_bits, lone, bit_2_set}
+
+-- what the first of some steps found
+abbrev pub first_found : List Made → ℕ
+first_found [] = 0
+first_found (first ∷ others) = first.found
 
 -- a core state of one lane
 abbrev pub alone : ℕ → ℕ → Lane → CoreState

@@ -1,6 +1,8 @@
 -- Small runs and calls, with what the definitions have to say of them.
-use Rattle.std.specs.Prelude.{◌≡◌, ℕ, List, [], ◌∷◌, ◌++◌, Option, Some, None}
+use Rattle.std.specs.Prelude.{◌≡◌, ◌^◌, ℕ, List, [], ◌∷◌, ◌++◌, Option, Some, None}
+use mathlib.Core.Option.{none}
 use Rattle.atomic_table.specs.Seated.{TableId}
+use Rattle.atomic_table.specs.Table.{step}
 use Rattle.ob_types.specs.declared.reply.Change.TheVariants.{Unwritable, Writable}
 use Rattle.ob_core.specs.CoreState.{CoreState}
 use Rattle.ob_core.specs.Opening.{Opening, one_lane}
@@ -18,6 +20,7 @@ use Rattle.ob_lanes.specs.Read.{IsTotalRead, IsWordRead}
 use Rattle.ob_lanes.specs.Run.{Move, steps, divides, Leads, own_steps}
 use Rattle.ob_lanes.specs.RunningLane.{RunningLane, ShowsHeld}
 use Rattle.ob_lanes.specs.Split.{split_fault, IsSplit}
+use Rattle.ob_lanes.specs.Told.{Knows, ToldOfBit}
 use Rattle.ob_lanes.specs.declared.facts.Made.{Made}
 use Rattle.ob_lanes.specs.declared.fault.SplitFault.TheVariants.{NoRoom, NotHeld}
 
@@ -59,19 +62,23 @@ OwnSteps =
 abbrev pub RaisedNothing : Type 0
 RaisedNothing = Leads (one_lane opening) meeting (met 0) → ⊥
 
--- a charge of 60 to above 100 raises, and stops the writers where no bit was set; one to 100 does not raise
+-- a charge of 60 to above 100 raises, and stops the writers if no bit was set; one to 100 does not raise
 abbrev pub Charges : Type 0
 Charges =
     IsCharge 100 60 [] (one_step (Add 60) 60 ++ one_step Raise 0) (Some Unwritable)
     × IsCharge 100 60 [] (one_step (Add 60) 41 ++ one_step Raise 4) None
     × IsCharge 100 60 [] (one_step (Add 60) 40) None
+    × (IsCharge 100 60 [] (one_step (Add 60) 41) None → ⊥)
+    × (IsCharge 100 60 [] (one_step (Add 60) 40 ++ one_step Raise 0) (Some Unwritable) → ⊥)
 
--- a discharge of 60 to below 50 lowers, and lets the writers go on where no other bit was set; one to 50 does not lower
+-- a discharge of 60 to below 50 lowers, and lets the writers go on if no other bit was set; one to 50 does not lower
 abbrev pub Discharges : Type 0
 Discharges =
     IsDischarge 50 60 [] (one_step (Subtract 60) 109 ++ one_step Lower 1) (Some Writable)
     × IsDischarge 50 60 [] (one_step (Subtract 60) 60 ++ one_step Lower 5) None
     × IsDischarge 50 60 [] (one_step (Subtract 60) 110) None
+    × (IsDischarge 50 60 [] (one_step (Subtract 60) 109) None → ⊥)
+    × (IsDischarge 50 60 [] (one_step (Subtract 60) 110 ++ one_step Lower 1) (Some Writable) → ⊥)
 
 -- a free lane with this room, these bits, and these of them raised
 abbrev pub free_lane : ℕ → ℕ → ℕ → Lane
@@ -250,3 +257,18 @@ EndsWithBit2 =
     × (EndsRun (runs_alone id 4 None bit_2_set) 4 0 → ⊥)
     × (EndsRun (runs_alone id 4 None bit_2_set) 1 4 → ⊥)
     × (EndsRun (runs_alone id 4 None bit_2_set) 0 6 → ⊥)
+
+-- ---- what a step tells its lane
+
+-- what a lane with all of the room knows
+abbrev pub knows : ℕ → List Made → Knows
+knows raised made = (record { opening = with_bits; lane = lone raised None; made = made }, [])
+
+-- to set the mask 4 in a word of 0 tells of bit 2; to set the mask 2 does not, nor to set it and keep no step, and no
+-- word that is found shows bit 1, which the lane holds and has not raised
+abbrev pub TellsOfBit2 : Type 0
+TellsOfBit2 =
+    ToldOfBit SetBit (λ index. 2 ^ index) (step 0 8 4 0 none) (knows 0 []) 0 (knows 4 bit_2_set)
+    × (ToldOfBit SetBit (λ index. 2 ^ index) (step 0 8 2 0 none) (knows 0 []) 0 (knows 4 bit_2_set) → ⊥)
+    × (ToldOfBit SetBit (λ index. 2 ^ index) (step 0 8 4 0 none) (knows 0 []) 0 (knows 4 []) → ⊥)
+    × (ToldOfBit SetBit (λ index. 2 ^ index) (step 0 8 4 0 none) (knows 0 []) 2 (knows 4 (one_step (SetBit 2) 2)) → ⊥)

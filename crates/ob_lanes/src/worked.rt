@@ -3,7 +3,7 @@
 ghost use Rattle.ob_lanes.specs.Worked.{Meets, OwnSteps, RaisedNothing, Charges, Discharges, Splits};
 ghost use Rattle.ob_lanes.specs.Worked.{SetsBit2, ReadsBehind, ShowsBit2, ReadsWord, Owes, OwesNothing};
 ghost use Rattle.ob_lanes.specs.Worked.{ReadsTotal, ReadsNothing, SplitInTwo, JoinedInOne, SecondHalfInRun};
-ghost use Rattle.ob_lanes.specs.Worked.{EndsWithBit2};
+ghost use Rattle.ob_lanes.specs.Worked.{EndsWithBit2, TellsOfBit2};
 
 fn worked_runs()
     ensures meets { Meets }
@@ -24,6 +24,7 @@ fn worked_steps()
     ensures reads_word { ReadsWord }
     ensures owes { Owes }
     ensures owes_nothing { OwesNothing }
+    ensures tells_of_bit_2 { TellsOfBit2 }
 {}
 
 fn worked_totals()

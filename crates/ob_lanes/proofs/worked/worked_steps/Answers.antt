@@ -1,4 +1,4 @@
-use Rattle.std.proofs.Common.{◌≡◌, ℕ, ◌<◌, List, [], ◌∷◌, None, Some, w32, if◌then◌else◌, refl, sym, ap, subst, arith}
+use Rattle.std.proofs.Common.{◌≡◌, ℕ, ◌<◌, List, None, Some, w32, if◌then◌else◌, refl, sym, ap, subst, arith}
 use Rattle.std.specs.List.{sum_by}
 use Rattle.std.proofs.lemmas.Nat.Bits.{bit_at-lt}
 use Rattle.ob_types.specs.Change.{change_between}
@@ -9,15 +9,13 @@ use Rattle.ob_core.specs.declared.lane_step.LaneStep.TheVariants.{Raise}
 use Rattle.ob_core.proofs.BitLemmas.{ShareOut-and}
 use Rattle.ob_lanes.specs.Charge.{is_above}
 use Rattle.ob_lanes.specs.Worked.{lone}
+use Rattle.ob_lanes.specs.declared.facts.Facts.{Facts}
 use Rattle.ob_lanes.specs.declared.facts.Made.{Made}
-use Rattle.ob_lanes.proofs.WorkedRuns.{alone, set_in_run, read_in_run, charge_in_run}
+use Rattle.ob_lanes.proofs.Masks.{same_power}
+use Rattle.ob_lanes.proofs.WorkedRuns.{first_found, alone, set_in_run, read_in_run, charge_in_run}
 use Rattle.ob_lanes.proofs.worked.worked_steps.Goals as goal
 
--- what the first of some steps found, and what all found together
-abbrev first_found : List Made → ℕ
-first_found [] = 0
-first_found (first ∷ others) = first.found
-
+-- what some steps found, added up
 abbrev all_found : List Made → ℕ
 all_found made = sum_by (λ (m : Made). m.found) made
 
@@ -95,3 +93,25 @@ returns-clause-owes c id =
           absurd (cc)),
       (λ call. let wrong : ◌≡◌ {A = ℕ} 4 0 = ap (λ l. l.raised) call.owes in absurd (omega (arith, wrong))),
     )
+
+pub returns-clause-tells_of_bit_2 : goal.returns-clause-tells_of_bit_2
+returns-clause-tells_of_bit_2 c = (
+  record {
+    index = 2;
+    within = omega arith;
+    mask = refl;
+    told = record {
+      after = refl;
+      slots = refl;
+      run = (alone 0 4 (lone 4 None), set_in_run);
+      tells = record { fits = omega arith; shows = λ i held. refl };
+    };
+  },
+  (λ bit.
+      let one : 1 ≡ bit.index = same_power 1 bit.index bit.mask in
+      let wrong : ◌≡◌ {A = ℕ} 4 2 =
+      subst (λ i. 4 ≡ with_bit 0 i) (sym one) (ap (λ (f : Facts). f.lane.raised) bit.told.after) in
+      absurd (omega (arith, wrong))),
+  (λ bit. let made = ap (λ (f : Facts). f.made) bit.told.after in absurd (cc)),
+  (λ bit. let wrong : ◌≡◌ {A = ℕ} 1 0 = bit.told.tells.shows 1 refl in absurd (omega (arith, wrong))),
+)
