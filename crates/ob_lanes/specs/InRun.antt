@@ -20,7 +20,7 @@ pub record IsInRun (opening : Opening) (core : CoreState) (lane : Lane) (made : 
 abbrev pub StandsInRun : RunningLane → Type 0
 StandsInRun lane = (core : CoreState) × IsInRun lane.words.opening core lane.lane lane.made
 
--- the same of a core state with this total and this word
+-- these are the total and the word of a core state that some run leads to, and of which the running lane is one
 pub record EndsRun (lane : RunningLane) (total word : ℕ) : Type 0 where
   pub core : CoreState
   pub in_run : IsInRun lane.words.opening core lane.lane lane.made
