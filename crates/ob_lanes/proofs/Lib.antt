@@ -2,7 +2,7 @@ mod Allowed
 mod KeptAccounts
 mod Ends
 mod Halves
-mod HeldBits
+pub mod HeldBits
 mod Masks
 mod Seats
 mod Views

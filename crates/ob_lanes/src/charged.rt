@@ -6,7 +6,7 @@ use std::marker::Model;
 
 /// A lane between a charge and its discharge. It may go to another thread, and be discharged there.
 ///
-/// Whoever has it has it in the middle of no call: `every_charged_lane_is_idle` tells so.
+/// Whoever has one has it between two calls: see `every_charged_lane_is_idle`.
 ///
 /// One that is dropped keeps its charge in the total, and its room, for good: `finish` is refused from then on.
 #[derive(Drop)]

@@ -10,7 +10,7 @@ use std::marker::Model;
 
 /// A lane that owes nothing. It may go to another thread.
 ///
-/// Whoever has it has it between two calls, in the middle of none: `every_lane_is_free` tells so.
+/// Whoever has one has it between two calls: see `every_lane_is_free`.
 ///
 /// A lane that is dropped keeps its room and its bits for good: `finish` is refused from then on.
 #[derive(Drop)]

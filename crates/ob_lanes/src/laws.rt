@@ -38,7 +38,7 @@ pub fn every_lane_is_free(lane: &Lane)
 }
 
 /// Whoever has a charged lane has one that is in the middle of no call. Bit 0 is none of the bits that its words were
-/// opened with, as of a lane.
+/// opened with either.
 pub fn every_charged_lane_is_idle(charged: &Charged)
     ensures idle { charged.now.lane.phase ≡ Idle }
     ensures mark { is_set charged.now.words.opening.bits 0 ≡ false }
