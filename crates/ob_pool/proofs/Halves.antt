@@ -1,12 +1,11 @@
 -- What two lists of writers do is what their list does.
-use Rattle.std.proofs.Common.{◌≡◌, ℕ, ◌+◌, ◌≤◌, true, false, eqb, List, ◌++◌, map, take, drop, refl, sym, ap, ◌∙◌, ap₂}
+use Rattle.std.proofs.Common.{◌≡◌, ℕ, ◌+◌, ◌≤◌, true, false, List, ◌++◌, map, take, drop, refl, sym, ap, ◌∙◌, ap₂}
 use Rattle.std.proofs.Common.{subst, arith}
-use Rattle.std.specs.Prelude.{bit_or, nat_lt, IfOk, IsOkAnd, None, Result, Ok, Err}
-use Rattle.std.proofs.lemmas.Bool.{eq-eqb}
+use Rattle.std.specs.Prelude.{nat_lt, IfOk, IsOkAnd, None, Result, Ok, Err}
 use Rattle.std.proofs.lemmas.Bool.Decides.{nat_tests}
-use Rattle.std.proofs.lemmas.Nat.Bits.{bit_at-zero, bit_at_or, same_from_bits}
 use Rattle.ob_core.specs.declared.lane.Lane.{Lane}
 use Rattle.ob_lanes.specs.Split.{split_fault}
+use Rattle.ob_lanes.proofs.HeldBits.{none_held}
 use Rattle.std.proofs.lemmas.List.{map-append, take-append-drop}
 use Rattle.std.proofs.lemmas.List.Elements.{All-drop, All-take}
 use Rattle.std.specs.List.{All}
@@ -42,12 +41,7 @@ parts_done at errands first second dones front back done =
 pub splits : (lane : Lane) (room : ℕ) → room ≤ lane.room → split_fault lane room 0 ≡ None
 splits lane room enough =
     let has_room : nat_lt lane.room room ≡ false = grind (arith, nat_tests, enough) in
-    let holds_none : bit_or lane.held 0 ≡ lane.held = same_from_bits (bit_or lane.held 0) lane.held
-    (λ i. omega (arith, bit_at_or lane.held 0 i, bit_at-zero i)) in
-    rw (has_room, holds_none, eqb_same lane.held) refl
-  where
-    eqb_same : (n : ℕ) → eqb n n ≡ true
-    eqb_same n = eq-eqb n n refl
+    rw (has_room, none_held lane.held) refl
 
 -- the room of a list of errands is that of its two parts
 pub rooms_of_parts : (at : ℕ) (errands first second : List Errand) → first ≡ take at errands →
