@@ -1,11 +1,7 @@
-//! The words of a buffer: texts of refusals, lists that grow, copies, sizes and marks.
+//! The words of a buffer: texts of refusals, copies of commands, and marks.
 
 use crate::tests::commands::block;
-use crate::tests::trace::push_settlements;
-use ob_types::{
-    Answer, Cause, Change, Command, Estimate, Message, Outcome, PromiseId, Refusal, Reply,
-    Settlements, WaterMark, pending_size,
-};
+use ob_types::{Cause, Command, PromiseId, Refusal, WaterMark};
 use std::test::Fail;
 
 /// The texts of the refusals by their numbers.
@@ -47,19 +43,6 @@ fn refusals_tell_what_was_wrong(rt: HostRuntime) -> Result<(), Fail> {
     Ok(())
 }
 
-#[test]
-fn settlements_grow_past_the_first_four(rt: HostRuntime) -> Result<(), Fail> {
-    let mut settled = Settlements::one(rt.alloc(), PromiseId(0), Outcome::Success);
-    for id in 1..6 {
-        settled.push(PromiseId(id), Outcome::Failed(Cause(id)))?;
-    }
-    let mut told = String::new(rt.alloc());
-    push_settlements(&mut told, settled.as_slice())?;
-    assert_eq!(rt; told.as_str(), " 0:ok 1:f1 2:f2 3:f3 4:f4 5:f5");
-    assert!(rt; Settlements::new(rt.alloc()).as_slice().is_empty());
-    Ok(())
-}
-
 /// The ten commands: the copy of a block wants memory, and has it here.
 #[test]
 fn each_command_is_copied(rt: HostRuntime) -> Result<(), Fail> {
@@ -77,39 +60,6 @@ fn each_command_is_copied(rt: HostRuntime) -> Result<(), Fail> {
     ];
     for command in &commands {
         assert!(rt; command.copy()? == *command, "{command:?}");
-    }
-    Ok(())
-}
-
-#[test]
-fn a_long_reply_is_copied(rt: HostRuntime) -> Result<(), Fail> {
-    let mut settled = Settlements::new(rt.alloc());
-    for id in 0..5 {
-        settled.push(PromiseId(id), Outcome::Success)?;
-    }
-    let reply = Reply {
-        answer: Answer::Count(5),
-        settled,
-        change: Some(Change::Writable),
-    };
-    assert!(rt; reply.copy()?.is_same(&reply));
-    Ok(())
-}
-
-#[test]
-fn counts_messages_by_their_kind(rt: HostRuntime) -> Result<(), Fail> {
-    let estimate = Estimate {
-        overhead: 96,
-        unknown: 8,
-    };
-    let rows = [
-        (block(rt.alloc(), 0, 4)?, Ok(100)),
-        (Message::Region(9223372036854775807), Ok(96)),
-        (Message::Region(9223372036854775808), Err(Refusal::Oversize)),
-        (Message::Other(5), Ok(104)),
-    ];
-    for (message, size) in &rows {
-        assert_eq!(rt; pending_size(message, estimate), *size, "{message:?}");
     }
     Ok(())
 }
