@@ -56,8 +56,8 @@ impl<L: Named> SharedBuffer<L> {
     /// caller has a desk.
     ///
     /// `HistoryFull` comes if the history is full. `NoMemory` comes if the allocator refuses room for the receipt, which
-    /// is made before the call, or memory for the call. Each leaves the caller and the buffer as they were: no receipt
-    /// is lost, without which the buffer could never be finished. Our own.
+    /// is made before the call, or memory for the call. Each leaves the caller and the buffer as they were, so no receipt
+    /// is lost. Our own.
     pub fn call<R: Wait>(
         &self,
         rt: &R,
