@@ -1,6 +1,7 @@
 pub mod Block
 pub mod Change
 pub mod Limits
+pub mod Packed
 pub mod PendingSize
 pub mod Refusal
 pub mod Traits

@@ -2,8 +2,9 @@
 use Rattle.std.specs.Prelude.{ℕ, Bool, true, false, not, Option, Some, None}
 use Rattle.ob_types.specs.declared.command.Command.{Command}
 use Rattle.ob_types.specs.declared.command.Command.TheVariants.{Write, Flush, Remove, RemoveWith, RemoveBytes, Progress}
-use Rattle.ob_types.specs.declared.command.Command.TheVariants.{Cancel, FailFlushed, Close, UserBit}
+use Rattle.ob_types.specs.declared.command.Command.TheVariants.{Cancel, FailFlushed, Close, UserBit, SetMarks}
 use Rattle.ob_types.specs.declared.message.Message.{Message}
+use Rattle.ob_types.specs.WaterMark.{Marks}
 
 -- what is asked of a user bit: the index of the bit, and whether it is to be set
 pub record BitRequest : Type 0 where
@@ -11,8 +12,8 @@ pub record BitRequest : Type 0 where
   pub set : Bool
 
 -- the traits of a command: the message that it writes, whether it is a flush, a cancellation, a failing of what is
--- flushed or a close, what it asks of a user bit, how many bytes it names to be removed, whether its falls are with
--- notice, whether it may want memory, and whether it may stand in a plan of a writer
+-- flushed or a close, what it asks of a user bit, the marks that it sets, how many bytes it names to be removed, whether
+-- its falls are with notice, whether it may want memory, and whether it may stand in a plan of a writer
 pub record Traits : Type 0 where
   pub message : Option Message
   pub flush : Bool
@@ -20,6 +21,7 @@ pub record Traits : Type 0 where
   pub failing : Bool
   pub close : Bool
   pub bit : Option BitRequest
+  pub marks : Option Marks
   pub removed : ℕ
   pub notice : Bool
   pub wants_memory : Bool
@@ -34,6 +36,7 @@ plain = record {
   failing = false;
   close = false;
   bit = None;
+  marks = None;
   removed = 0;
   notice = true;
   wants_memory = false;
@@ -54,3 +57,4 @@ traits_of (FailFlushed cause notify) = record plain { failing = true; notice = n
 traits_of (Close cause) = record plain { close = true; notice = false; wants_memory = true }
 traits_of (UserBit index writable) =
     record plain { bit = Some (record { index = index; set = not writable }); planned = true }
+traits_of (SetMarks marks) = record plain { marks = Some marks; planned = true }

@@ -3,6 +3,7 @@ ghost use Rattle.ob_types.specs.Block.{writes_block};
 
 use crate::message::Message;
 use crate::promise::{Cause, PromiseId};
+use crate::water_mark::WaterMark;
 use std::alloc::AllocError;
 
 /// One call of a buffer.
@@ -31,6 +32,9 @@ pub enum Command {
     /// Sets the user bit of this index where the second is not set, and clears it where it is (Netty's
     /// `setUserDefinedWritability`).
     UserBit(u32, bool),
+    /// Sets the marks that are in force from then on, for later moments and looks. It moves no bit of the word itself
+    /// (Netty's `setWriteBufferWaterMark` on an open channel).
+    SetMarks(WaterMark),
 }
 
 impl Command {
@@ -50,6 +54,7 @@ impl Command {
             Command::FailFlushed(cause, notify) => Command::FailFlushed(*cause, *notify),
             Command::Close(cause) => Command::Close(*cause),
             Command::UserBit(index, writable) => Command::UserBit(*index, *writable),
+            Command::SetMarks(marks) => Command::SetMarks(*marks),
         })
     }
 }

@@ -4,6 +4,7 @@
 mod command;
 mod estimate;
 mod message;
+mod packed;
 mod promise;
 mod refusal;
 mod reply;
@@ -13,6 +14,7 @@ mod water_mark;
 pub use command::Command;
 pub use estimate::{Estimate, pending_size};
 pub use message::Message;
+pub use packed::{pack, unpack};
 pub use promise::{Cause, Outcome, PromiseId, PromiseState};
 pub use refusal::Refusal;
 pub use reply::{Answer, Change, Reply};
