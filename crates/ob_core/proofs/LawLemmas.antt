@@ -1,30 +1,26 @@
--- The laws of whole runs: the accounts of the bytes after any turns, and the changes.
-use Rattle.std.proofs.Common.{◌≡◌, ℕ, ◌<◌, Bool, true, false, cond, List, [], ◌∷◌, None, refl, ap, ◌∙◌, arith}
+-- The laws of whole runs: the accounts of the bytes and of the mark after any turns, and the changes.
+use Rattle.std.proofs.Common.{◌≡◌, ◌<◌, ◌≤◌, Bool, true, false, List, [], ◌∷◌, None, refl, ap, arith}
 use Rattle.std.specs.List.{cons_option}
 use Rattle.ob_types.specs.Change.{is_writable, turn as turned}
 use Rattle.ob_types.specs.WaterMark.{Marks}
 use Rattle.ob_types.specs.declared.reply.Change.{Change}
 use Rattle.ob_types.specs.declared.reply.Change.TheVariants.{Unwritable, Writable}
-use Rattle.ob_core.specs.Accounts.{AccountsHold, BytesAgree, is_to_lower, lowerers}
+use Rattle.ob_core.specs.Accounts.{AccountsHold, BytesAgree, MarkAgrees}
 use Rattle.ob_core.specs.AskFault.{refusal_of}
 use Rattle.ob_core.specs.Bits.{is_set}
 use Rattle.ob_core.specs.CoreState.{CoreState}
 use Rattle.ob_core.specs.Opening.{Opening, new_core, opening_of}
 use Rattle.ob_core.specs.Owed.{sum_owed}
-use Rattle.ob_core.specs.Quiet.{IsQuiet}
 use Rattle.ob_core.specs.Run.{answers_of, changes_in, core_after_all, AlternateFrom}
 use Rattle.ob_core.specs.Turn.{step_of, lane_after_nothing, core_after}
 use Rattle.ob_core.specs.declared.ask.Ask.{Ask}
 use Rattle.ob_core.specs.declared.ask.Turn.{Turn}
 use Rattle.ob_core.specs.declared.lane.Lane.{Lane}
-use Rattle.ob_core.specs.declared.lane.Phase.{Phase}
-use Rattle.ob_core.specs.declared.lane.Phase.TheVariants.{Idle, ToRaise, ToLower}
 use Rattle.ob_core.specs.declared.lane_start.LaneStart.{LaneStart}
 use Rattle.ob_core.proofs.AccountsLemmas.{AccountsHold-step, AccountsHold-alike, BytesAgree-step, BytesAgree-alike}
-use Rattle.ob_core.proofs.AccountsLemmas.{IsAlike}
+use Rattle.ob_core.proofs.AccountsLemmas.{IsAlike, MarkAgrees-core_step, MarkAgrees-lanes}
 use Rattle.ob_core.proofs.Kept.{kept_by_all, kept_by_turn}
-use Rattle.ob_core.proofs.LaneSums.{sum_by-none}
-use Rattle.ob_core.proofs.OpeningLemmas.{BytesAgree-new}
+use Rattle.ob_core.proofs.OpeningLemmas.{BytesAgree-new, MarkAgrees-new}
 use Rattle.ob_core.proofs.TurnLemmas.{owed_by-lane_after_nothing, rest-lane_after_nothing}
 
 -- ---- the accounts
@@ -39,7 +35,6 @@ IsAlike-nothing lane ask accepted no_step =
       room = ap (λ (l : Lane). l.room) rest;
       held = ap (λ (l : Lane). l.held) rest;
       raised = ap (λ (l : Lane). l.raised) rest;
-      phase = ap (λ (l : Lane). l.phase) rest;
     }
 
 pub AccountsHold-turn : (opening : Opening) (core : CoreState) (turn : Turn) → AccountsHold opening core
@@ -62,25 +57,38 @@ BytesAgree-all marks starts turns =
           (IsAlike-nothing lane turn.ask accepted no_step) agree;
     }) turns (new_core marks starts) (BytesAgree-new marks starts)
 
--- ---- at rest
+-- and so does the mark
+pub MarkAgrees-all : (marks : Marks) (starts : List LaneStart) (turns : List Turn)
+    → MarkAgrees (core_after_all (new_core marks starts) turns)
+MarkAgrees-all marks starts turns =
+    kept_by_all MarkAgrees (λ core turn agree. record {
+      by_step = λ lane step is_lane may. MarkAgrees-core_step core turn.lane lane step may agree;
+      by_nothing = λ lane is_lane accepted no_step. MarkAgrees-lanes core _ agree;
+    }) turns (new_core marks starts) (MarkAgrees-new marks starts)
 
-idle-not-lower : (phase : Phase) → phase ≡ Idle → is_to_lower phase ≡ false
-idle-not-lower Idle idle = refl
-idle-not-lower ToRaise idle = refl
-idle-not-lower ToLower idle = absurd (cc)
+-- ---- the mark
 
-not-true : (b : Bool) → (b ≡ true → 0 < 0) → b ≡ false
-not-true true never = absurd (omega (arith, never refl))
-not-true false never = refl
+-- in order, the marks are such that a total above the high one is not below the low one, and the other way round
+pub set_above : (opening : Opening) (core : CoreState) → core.marks ≡ opening.marks → MarkAgrees core
+    → opening.marks.low ≤ opening.marks.high → opening.marks.high < core.total → is_set core.word 0 ≡ true
+set_above opening core same agree ordered above =
+    let same_low : core.marks.low ≡ opening.marks.low = ap (λ (m : Marks). m.low) same in
+    let same_high : core.marks.high ≡ opening.marks.high = ap (λ (m : Marks). m.high) same in
+    agree.above (omega (arith, same_high, above)) (omega (arith, same_low, ordered, above))
 
--- where no lane is about to lower the mark and nothing is owed, bit 0 is clear
-pub clear_at_rest : (opening : Opening) (core : CoreState) → BytesAgree opening core → 0 < opening.marks.low
-    → sum_owed core.lanes ≡ 0 → IsQuiet core → is_set core.word 0 ≡ false
-clear_at_rest opening core agree low nothing quiet =
-    let none : lowerers core.lanes ≡ 0 =
-    sum_by-none (λ l. cond (is_to_lower l.phase) 1 0) core.lanes
-    (λ k d within. ap {B = ℕ} (λ b. cond b 1 0) (idle-not-lower _ (quiet k d within))) in
-    not-true (is_set core.word 0) (λ is_one. omega (arith, agree.empty low (agree.total ∙ nothing) is_one, none))
+pub clear_below : (opening : Opening) (core : CoreState) → core.marks ≡ opening.marks → MarkAgrees core
+    → opening.marks.low ≤ opening.marks.high → core.total < opening.marks.low → is_set core.word 0 ≡ false
+clear_below opening core same agree ordered below =
+    let same_low : core.marks.low ≡ opening.marks.low = ap (λ (m : Marks). m.low) same in
+    let same_high : core.marks.high ≡ opening.marks.high = ap (λ (m : Marks). m.high) same in
+    agree.below (omega (arith, same_low, below)) (omega (arith, same_high, ordered, below))
+
+-- where nothing is owed, bit 0 is clear
+pub clear_at_rest : (opening : Opening) (core : CoreState) → BytesAgree opening core → MarkAgrees core
+    → 0 < opening.marks.low → sum_owed core.lanes ≡ 0 → is_set core.word 0 ≡ false
+clear_at_rest opening core bytes agree low nothing =
+    let same_low : core.marks.low ≡ opening.marks.low = ap (λ (m : Marks). m.low) bytes.marks in
+    agree.below (omega (arith, same_low, low, bytes.total, nothing)) (omega (arith, bytes.total, nothing))
 
 -- ---- changes
 

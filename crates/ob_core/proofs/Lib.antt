@@ -7,6 +7,7 @@ pub mod LaneSums
 pub mod LawLemmas
 pub mod Masks
 pub mod OpeningLemmas
+pub mod RestLemmas
 pub mod ShareLemmas
 pub mod SoundLemmas
 pub mod StepLemmas

@@ -1,5 +1,5 @@
 -- The accounts hold at the beginning.
-use Rattle.std.proofs.Common.{◌≡◌, ℕ, ◌+◌, ◌<◌, ◌≤◌, Bool, true, false, cond, ◌||◌, ◌==◌, nat_lt, List, [], ◌∷◌, length}
+use Rattle.std.proofs.Common.{◌≡◌, ℕ, ◌+◌, ◌<◌, ◌≤◌, Bool, true, false, ◌||◌, ◌==◌, nat_lt, List, [], ◌∷◌, length}
 use Rattle.std.proofs.Common.{map, bit_and, None, refl, sym, ap, arith}
 use Rattle.std.specs.Int.{bit_at}
 use Rattle.std.specs.List.{All, list_any}
@@ -8,7 +8,7 @@ use Rattle.std.proofs.lemmas.List.Elements.{All-map}
 use Rattle.std.proofs.lemmas.List.Sums.{sum_by-cons}
 use Rattle.std.proofs.lemmas.Nat.Bits.{bit_at-lt, bit_at-zero, bit_at_and, bit_at_or}
 use Rattle.ob_types.specs.WaterMark.{Marks}
-use Rattle.ob_core.specs.Accounts.{AccountsHold, BitsAgree, BytesAgree, IsWithinRoom, holders, raisers, sum_of_rooms}
+use Rattle.ob_core.specs.Accounts.{AccountsHold, BitsAgree, BytesAgree, IsWithinRoom, MarkAgrees, holders, raisers, sum_of_rooms}
 use Rattle.ob_core.specs.Bits.{is_set, AreAmong}
 use Rattle.ob_core.specs.FirstFault.{first_fault}
 use Rattle.ob_core.specs.Limits.{most_lanes, greatest_room}
@@ -18,6 +18,7 @@ use Rattle.ob_core.specs.Owed.{owed_by, sum_owed}
 use Rattle.ob_core.specs.declared.lane.Lane.{Lane}
 use Rattle.ob_core.specs.declared.lane_start.LaneStart.{LaneStart}
 use Rattle.ob_core.specs.declared.world_fault.WorldFault.TheVariants.{BadCount, TooMuchRoom, BitsTwice}
+use Rattle.ob_core.proofs.StepLemmas.{zero-clear}
 
 -- ---- no fault
 
@@ -72,23 +73,18 @@ same_rooms (start ∷ starts) =
       same_rooms starts,
     )
 
-within_new : (start : LaneStart) → IsWithinRoom (new_lane start)
-within_new start = record {
-  owes = omega arith;
-  busy = λ inside. absurd (inside refl);
-  raising =
-      λ is_raise. absurd (cc);
-}
-
 pub BytesAgree-new : (marks : Marks) (starts : List LaneStart)
     → BytesAgree (opening_of marks starts) (new_core marks starts)
 BytesAgree-new marks starts = record {
   marks = refl;
   total = sym (no_debts starts);
   rooms = same_rooms starts;
-  within = All-map IsWithinRoom new_lane starts (λ k d inside. within_new _);
-  empty = λ low none is_one. absurd (omega (arith, ap {B = ℕ} (λ b. cond b 1 0) is_one));
+  within = All-map IsWithinRoom new_lane starts (λ k d inside. omega arith);
 }
+
+pub MarkAgrees-new : (marks : Marks) (starts : List LaneStart) → MarkAgrees (new_core marks starts)
+MarkAgrees-new marks starts =
+    record { above = λ high low. absurd (omega (arith, high)); below = λ low high. zero-clear 0 0 (bit_at-zero 0) }
 
 -- ---- the bits
 
@@ -144,16 +140,13 @@ none_among : (starts : List LaneStart) → All (λ (l : Lane). AreAmong l.raised
 none_among starts = All-map (λ (l : Lane). AreAmong l.raised l.held) new_lane starts
     (λ k d inside i. omega (arith, bit_at-zero i))
 
-clear-not_one : (word : ℕ) → bit_at word 0 ≡ 0 → is_set word 0 ≡ false
-clear-not_one word clear = grind (arith, nat_tests)
-
 pub BitsAgree-new : (marks : Marks) (starts : List LaneStart)
     → any_overlap (holders_of (map (λ start. start.bits) starts)) ≡ false
     → BitsAgree (opening_of marks starts) (new_core marks starts)
 BitsAgree-new marks starts apart =
     let both = neither (list_any (share_a_bit 1) (map (λ s. s.bits) starts)) _ apart in
     record {
-      mark = clear-not_one (bits_of starts) (omega (arith, apart_of_all 1 starts both.0 0));
+      mark = zero-clear (bits_of starts) 0 (omega (arith, apart_of_all 1 starts both.0 0));
       held = held_once starts both.1;
       among = none_among starts;
       shown = λ i above. omega (arith, none_raised starts i, bit_at-zero i);
@@ -163,6 +156,7 @@ pub AccountsHold-new : (marks : Marks) (starts : List LaneStart) → opening_fau
     → AccountsHold (opening_of marks starts) (new_core marks starts)
 AccountsHold-new marks starts none = record {
   bytes = BytesAgree-new marks starts;
+  mark = MarkAgrees-new marks starts;
   bits = BitsAgree-new marks starts (AreFine-no_fault starts none).bits_apart;
 }
 
@@ -178,10 +172,9 @@ AccountsHold-one_lane opening mark =
         marks = refl;
         total = bytes.total;
         rooms = omega (arith, bytes.rooms);
-        within =
-            bytes.within;
-        empty = bytes.empty;
+        within = bytes.within;
       };
+      mark = MarkAgrees-new opening.marks starts;
       bits = record {
         mark = mark;
         held = λ i. omega arith;

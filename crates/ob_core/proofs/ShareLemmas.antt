@@ -1,5 +1,5 @@
 -- Lanes that are divided or merged keep the accounts.
-use Rattle.std.proofs.Common.{◌≡◌, ◌≢◌, ℕ, ◌+◌, ◌-◌, ◌^◌, ◌<◌, ◌≤◌, bit_and, cond, List, [], ◌∷◌, ◌++◌, set, Some, None}
+use Rattle.std.proofs.Common.{◌≡◌, ◌≢◌, ℕ, ◌+◌, ◌-◌, ◌^◌, ◌<◌, ◌≤◌, bit_and, List, [], ◌∷◌, ◌++◌, set, Some, None}
 use Rattle.std.proofs.Common.{slice_get, unwrap_or, refl, ap, arith}
 use Rattle.std.specs.Int.{bit_at, bit_not, Width}
 use mir.Val.{bits}
@@ -7,15 +7,14 @@ use Rattle.std.specs.List.{All, sum_by}
 use Rattle.std.proofs.lemmas.List.Elements.{All-set, All-push}
 use Rattle.std.proofs.lemmas.List.Sums.{sum_by_push}
 use Rattle.std.proofs.lemmas.Nat.Bits.{bit_at-zero}
-use Rattle.ob_core.specs.Accounts.{AccountsHold, IsWithinRoom, holders, is_to_lower, lowerers, raisers, sum_of_rooms}
+use Rattle.ob_core.specs.Accounts.{AccountsHold, IsWithinRoom, holders, raisers, sum_of_rooms}
 use Rattle.ob_core.specs.Bits.{AreAmong}
 use Rattle.ob_core.specs.CoreState.{CoreState}
 use Rattle.ob_core.specs.Opening.{Opening}
 use Rattle.ob_core.specs.Owed.{owed_by, sum_owed}
 use Rattle.ob_core.specs.Shares.{IsFree, AreShares, spent_lane}
 use Rattle.ob_core.specs.declared.lane.Lane.{Lane}
-use Rattle.ob_core.specs.declared.lane.Phase.TheVariants.{Idle}
-use Rattle.ob_core.proofs.AccountsLemmas.{lowers}
+use Rattle.ob_core.proofs.AccountsLemmas.{MarkAgrees-lanes}
 use Rattle.ob_core.proofs.BitLemmas.{AreAmong-and, ShareOut-and}
 use Rattle.ob_core.proofs.LaneSums.{sum_by-put, slice_get-put_other}
 
@@ -27,18 +26,11 @@ Among lane = AreAmong lane.raised lane.held
 owes_nothing : (lane : Lane) → IsFree lane → owed_by lane ≡ 0
 owes_nothing lane free = ap (λ debt. unwrap_or debt 0) free.debt
 
-does_not_lower : (lane : Lane) → IsFree lane → lowers lane ≡ 0
-does_not_lower lane free = ap {B = ℕ} (λ phase. cond (is_to_lower phase) 1 0) free.idle
-
 within_free : (lane : Lane) → IsFree lane → IsWithinRoom lane
-within_free lane free = record {
-  owes = omega (arith, owes_nothing lane free);
-  busy = λ inside. absurd (inside free.idle);
-  raising = λ is_raise. absurd (cc (free.idle, is_raise));
-}
+within_free lane free = omega (arith, owes_nothing lane free)
 
 spent_free : IsFree spent_lane
-spent_free = record { idle = refl; debt = refl }
+spent_free = record { debt = refl }
 
 -- a lane cut in two by a room and a mask: it keeps its other room and its bits outside the mask, and the rest is given
 abbrev pub lane_kept : Width → Lane → ℕ → ℕ → Lane
@@ -47,7 +39,6 @@ lane_kept w lane room mask = record {
   debt = None;
   held = bit_and lane.held (bit_not w mask);
   raised = bit_and lane.raised (bit_not w mask);
-  phase = Idle;
 }
 
 abbrev pub lane_given : Lane → ℕ → ℕ → Lane
@@ -56,7 +47,6 @@ lane_given lane room mask = record {
   debt = None;
   held = bit_and lane.held mask;
   raised = bit_and lane.raised mask;
-  phase = Idle;
 }
 
 pub AreShares-cut : (w : Width) (lane : Lane) (room mask : ℕ) → IsFree lane → AreAmong lane.raised lane.held
@@ -64,8 +54,8 @@ pub AreShares-cut : (w : Width) (lane : Lane) (room mask : ℕ) → IsFree lane 
     → AreShares lane (lane_kept w lane room mask) (lane_given lane room mask)
 AreShares-cut w lane room mask free among within held_fits raised_fits mask_fits = record {
   whole_free = free;
-  first_free = record { idle = refl; debt = refl };
-  second_free = record { idle = refl; debt = refl };
+  first_free = record { debt = refl };
+  second_free = record { debt = refl };
   rooms = omega (arith, within);
   held = ShareOut-and w lane.held mask held_fits mask_fits;
   raised = ShareOut-and w lane.raised mask raised_fits mask_fits;
@@ -83,15 +73,6 @@ owed_shared whole first second shares =
       owes_nothing whole shares.whole_free,
       owes_nothing first shares.first_free,
       owes_nothing second shares.second_free,
-    )
-
-lower_shared : (whole first second : Lane) → AreShares whole first second → lowers first + lowers second ≡ lowers whole
-lower_shared whole first second shares =
-    omega (
-      arith,
-      does_not_lower whole shares.whole_free,
-      does_not_lower first shares.first_free,
-      does_not_lower second shares.second_free,
     )
 
 -- a sum in which the shares stand for the lane: one in its place, one behind all
@@ -127,7 +108,6 @@ sum_by-merged f core index other lane other_lane both meet same none =
 record HaveTogether (old new : List Lane) : Type 0 where
   owed : sum_owed new ≡ sum_owed old
   rooms : sum_of_rooms new ≡ sum_of_rooms old
-  lower : lowerers new ≡ lowerers old
   held : (i : ℕ) → holders new i ≡ holders old i
   raised : (i : ℕ) → raisers new i ≡ raisers old i
   within : All IsWithinRoom old → All IsWithinRoom new
@@ -142,8 +122,8 @@ AccountsHold-together opening core lanes have accounts = record {
     total = omega (arith, have.owed, accounts.bytes.total);
     rooms = omega (arith, have.rooms, accounts.bytes.rooms);
     within = have.within accounts.bytes.within;
-    empty = λ low none is_one. omega (arith, accounts.bytes.empty low none is_one, have.lower);
   };
+  mark = MarkAgrees-lanes core lanes accounts.mark;
   bits = record {
     mark = accounts.bits.mark;
     held = λ i. omega (arith, have.held i, accounts.bits.held i);
@@ -162,7 +142,6 @@ AccountsHold-division opening core index lane kept given is_lane shares =
     AccountsHold-together opening core (put ++ given ∷ []) (record {
       owed = divided owed_by (owed_shared lane kept given shares);
       rooms = divided (λ l. l.room) shares.rooms;
-      lower = divided lowers (lower_shared lane kept given shares);
       held = λ i. divided (λ l. bit_at l.held i) (shares.held i);
       raised = λ i. divided (λ l. bit_at l.raised i) (shares.raised i);
       within = λ within. All-push IsWithinRoom put given
@@ -185,7 +164,6 @@ AccountsHold-merger opening core index other lane other_lane both meet shares =
     AccountsHold-together opening core (set put other spent_lane) (record {
       owed = merged owed_by (owed_shared both lane other_lane shares) refl;
       rooms = merged (λ l. l.room) shares.rooms refl;
-      lower = merged lowers (lower_shared both lane other_lane shares) refl;
       held = λ i. merged (λ l. bit_at l.held i) (shares.held i) (bit_at-zero i);
       raised = λ i. merged (λ l. bit_at l.raised i) (shares.raised i) (bit_at-zero i);
       within = λ within. All-set IsWithinRoom put other spent_lane (within_free spent_lane spent_free)

@@ -18,20 +18,20 @@ use Rattle.ob_core.specs.declared.ask.Turn.{Turn}
 use Rattle.ob_core.specs.declared.lane.Lane.{Lane}
 use Rattle.ob_core.specs.declared.lane_start.LaneStart.{LaneStart}
 use Rattle.ob_core.specs.declared.lane_step.LaneStep.{LaneStep}
-use Rattle.ob_core.specs.declared.lane_step.LaneStep.TheVariants.{Add, Subtract, Raise, Lower, SetBit, ClearBit}
-use Rattle.ob_core.specs.declared.lane_step.LaneStep.TheVariants.{LoadWord, LoadTotal}
+use Rattle.ob_core.specs.declared.lane_step.LaneStep.TheVariants.{Add, Subtract, SetBit, ClearBit, Load}
 use Rattle.ob_core.proofs.AccountsLemmas.{AccountsHold-step, AccountsHold-alike, owed_by-le-total, total-le-room}
 use Rattle.ob_core.proofs.LawLemmas.{IsAlike-nothing}
 use Rattle.ob_core.proofs.OpeningLemmas.{AccountsHold-new, AreFine-no_fault}
 use Rattle.ob_core.proofs.TurnLemmas.{HasTurn, can_make-step_of}
 
-pub IsSound-new : (marks : Marks) (starts : List LaneStart) → opening_fault starts ≡ None
+pub IsSound-new : (marks : Marks) (starts : List LaneStart) → marks.low ≤ marks.high → opening_fault starts ≡ None
     → IsSound (new_core marks starts)
-IsSound-new marks starts none =
+IsSound-new marks starts ordered none =
     let fine = AreFine-no_fault starts none in
     record {
       opening = opening_of marks starts;
       accounts = AccountsHold-new marks starts none;
+      ordered = ordered;
       rooms_fit = fine.rooms_fit;
       some_lane = omega (arith, length-map starts new_lane, fine.some_lane);
       few_lanes = omega (arith, length-map starts new_lane, fine.few_lanes);
@@ -45,6 +45,7 @@ IsSound-put : (core : CoreState) (total word index : ℕ) (lane : Lane) (sound :
 IsSound-put core total word index lane sound accounts = record {
   opening = sound.opening;
   accounts = accounts;
+  ordered = sound.ordered;
   rooms_fit = sound.rooms_fit;
   some_lane = omega (arith, length-set core.lanes index lane, sound.some_lane);
   few_lanes = omega (arith, length-set core.lanes index lane, sound.few_lanes);
@@ -77,25 +78,19 @@ FitsTotal-step core index lane (Add amount) is_lane may sound =
     let after = IsSound-step core index lane (Add amount) is_lane may sound in
     omega (arith, total-le-room after.opening _ after.accounts.bytes, after.rooms_fit)
 FitsTotal-step core index lane (Subtract amount) is_lane may sound =
-    let all_of_it : owed_by lane ≡ amount = ap (λ debt. unwrap_or debt 0) may.1 in
+    let all_of_it : owed_by lane ≡ amount = ap (λ debt. unwrap_or debt 0) may.0 in
     omega (arith, all_of_it, owed_by-le-total sound.opening core index lane sound.accounts.bytes is_lane)
-FitsTotal-step core index lane Raise is_lane may sound = tt
-FitsTotal-step core index lane Lower is_lane may sound = tt
 FitsTotal-step core index lane (SetBit bit) is_lane may sound = tt
 FitsTotal-step core index lane (ClearBit bit) is_lane may sound = tt
-FitsTotal-step core index lane LoadWord is_lane may sound = tt
-FitsTotal-step core index lane LoadTotal is_lane may sound = tt
+FitsTotal-step core index lane Load is_lane may sound = tt
 
 -- and the word has the bit that it names
 pub FitsWord-step : (lane : Lane) (step : LaneStep) → CanMake lane step → FitsWord step
 FitsWord-step lane (Add amount) may = tt
 FitsWord-step lane (Subtract amount) may = tt
-FitsWord-step lane Raise may = tt
-FitsWord-step lane Lower may = tt
-FitsWord-step lane (SetBit bit) may = grind (arith, nat_tests, may.1)
-FitsWord-step lane (ClearBit bit) may = grind (arith, nat_tests, may.1)
-FitsWord-step lane LoadWord may = tt
-FitsWord-step lane LoadTotal may = tt
+FitsWord-step lane (SetBit bit) may = grind (arith, nat_tests, may)
+FitsWord-step lane (ClearBit bit) may = grind (arith, nat_tests, may)
+FitsWord-step lane Load may = tt
 
 -- ---- in a turn
 

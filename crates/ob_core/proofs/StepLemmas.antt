@@ -1,20 +1,19 @@
--- A lane after a step, by small tables over the kinds of step.
-use Rattle.std.proofs.Common.{◌≡◌, ◌≢◌, ℕ, ◌+◌, ◌<◌, ◌≤◌, Bool, true, false, nat_lt, Some, unwrap_or, ⊎_elim}
-use Rattle.std.proofs.Common.{if◌then◌else◌, refl, sym, ap, ◌∙◌, subst, arith}
+-- A lane after a step, and the mark, by small tables over the kinds of step.
+use Rattle.std.proofs.Common.{◌≡◌, ℕ, ◌+◌, ◌-◌, ◌<◌, ◌≤◌, Bool, true, false, nat_lt, unwrap_or, ⊎_elim}
+use Rattle.std.proofs.Common.{eqb, if◌then◌else◌, refl, sym, ap, ◌∙◌, subst, arith}
 use Rattle.std.specs.Int.{bit_at}
 use Rattle.std.proofs.lemmas.Bool.{cases_eq}
 use Rattle.std.proofs.lemmas.Bool.Decides.{nat_tests}
 use Rattle.ob_types.specs.WaterMark.{Marks}
-use Rattle.ob_core.specs.Accounts.{IsWithinRoom}
+use Rattle.ob_core.specs.Accounts.{IsWithinRoom, MarkAgrees}
 use Rattle.ob_core.specs.AskFault.{is_held}
-use Rattle.ob_core.specs.Bits.{PutsBit, AreAmong}
-use Rattle.ob_core.specs.LaneStep.{total_after, word_after, lane_after, CanMake}
+use Rattle.ob_core.specs.Bits.{is_set, with_bit, without_bit, PutsBit, AreAmong}
+use Rattle.ob_core.specs.CoreState.{CoreState}
+use Rattle.ob_core.specs.LaneStep.{total_after, raised_word, lowered_word, word_after, lane_after, CanMake}
 use Rattle.ob_core.specs.Owed.{owed_by}
 use Rattle.ob_core.specs.declared.lane.Lane.{Lane}
-use Rattle.ob_core.specs.declared.lane.Phase.TheVariants.{Idle, ToRaise, ToLower}
 use Rattle.ob_core.specs.declared.lane_step.LaneStep.{LaneStep}
-use Rattle.ob_core.specs.declared.lane_step.LaneStep.TheVariants.{Add, Subtract, Raise, Lower, SetBit, ClearBit}
-use Rattle.ob_core.specs.declared.lane_step.LaneStep.TheVariants.{LoadWord, LoadTotal}
+use Rattle.ob_core.specs.declared.lane_step.LaneStep.TheVariants.{Add, Subtract, SetBit, ClearBit, Load}
 use Rattle.ob_core.proofs.BitLemmas.{SetsBit-with_bit, ClearsBit-without_bit}
 
 -- a lane has the room and the held bits of another
@@ -23,65 +22,33 @@ pub record HasShareOf (old new : Lane) : Type 0 where
   pub held : new.held ≡ old.held
 
 -- a step leaves its lane both
-pub share-lane_after : (step : LaneStep) (marks : Marks) (total : ℕ) (lane : Lane)
-    → HasShareOf lane (lane_after step marks total lane)
-share-lane_after (Add amount) marks total lane = record { room = refl; held = refl }
-share-lane_after (Subtract amount) marks total lane = record { room = refl; held = refl }
-share-lane_after Raise marks total lane = record { room = refl; held = refl }
-share-lane_after Lower marks total lane = record { room = refl; held = refl }
-share-lane_after (SetBit index) marks total lane = record { room = refl; held = refl }
-share-lane_after (ClearBit index) marks total lane = record { room = refl; held = refl }
-share-lane_after LoadWord marks total lane = record { room = refl; held = refl }
-share-lane_after LoadTotal marks total lane = record { room = refl; held = refl }
+pub share-lane_after : (step : LaneStep) (lane : Lane) → HasShareOf lane (lane_after step lane)
+share-lane_after (Add amount) lane = record { room = refl; held = refl }
+share-lane_after (Subtract amount) lane = record { room = refl; held = refl }
+share-lane_after (SetBit index) lane = record { room = refl; held = refl }
+share-lane_after (ClearBit index) lane = record { room = refl; held = refl }
+share-lane_after Load lane = record { room = refl; held = refl }
 
 -- the total moves by as much as the debt of the lane
-pub moved-step : (step : LaneStep) (marks : Marks) (total : ℕ) (lane : Lane) → CanMake lane step
-    → owed_by lane ≤ total
-    → total_after step total + owed_by lane ≡ total + owed_by (lane_after step marks (total_after step total) lane)
-moved-step (Add amount) marks total lane may owes =
-    let nothing : owed_by lane ≡ 0 = ap (λ debt. unwrap_or debt 0) may.1 in omega (arith, nothing)
-moved-step (Subtract amount) marks total lane may owes =
-    let all_of_it : owed_by lane ≡ amount = ap (λ debt. unwrap_or debt 0) may.1 in omega (arith, all_of_it, owes)
-moved-step Raise marks total lane may owes = refl
-moved-step Lower marks total lane may owes = refl
-moved-step (SetBit index) marks total lane may owes = refl
-moved-step (ClearBit index) marks total lane may owes = refl
-moved-step LoadWord marks total lane may owes = refl
-moved-step LoadTotal marks total lane may owes = refl
+pub moved-step : (step : LaneStep) (total : ℕ) (lane : Lane) → CanMake lane step → owed_by lane ≤ total
+    → total_after step total + owed_by lane ≡ total + owed_by (lane_after step lane)
+moved-step (Add amount) total lane may owes =
+    let nothing : owed_by lane ≡ 0 = ap (λ debt. unwrap_or debt 0) may.0 in omega (arith, nothing)
+moved-step (Subtract amount) total lane may owes =
+    let all_of_it : owed_by lane ≡ amount = ap (λ debt. unwrap_or debt 0) may.0 in omega (arith, all_of_it, owes)
+moved-step (SetBit index) total lane may owes = refl
+moved-step (ClearBit index) total lane may owes = refl
+moved-step Load total lane may owes = refl
 
--- who lowers does not raise
-raise-not-lower : (below : Bool) → (if below then ToLower else Idle) ≢ ToRaise
-raise-not-lower true is_raise = absurd (cc)
-raise-not-lower false is_raise = absurd (cc)
+pub IsWithinRoom-step : (step : LaneStep) (lane : Lane) → CanMake lane step → IsWithinRoom lane
+    → IsWithinRoom (lane_after step lane)
+IsWithinRoom-step (Add amount) lane may within = may.2
+IsWithinRoom-step (Subtract amount) lane may within = omega arith
+IsWithinRoom-step (SetBit index) lane may within = within
+IsWithinRoom-step (ClearBit index) lane may within = within
+IsWithinRoom-step Load lane may within = within
 
--- a lane with a debt above 0 has room
-room_of_debt : (lane : Lane) (amount : ℕ) → lane.debt ≡ Some amount → 0 < amount → owed_by lane ≤ lane.room
-    → 0 < lane.room
-room_of_debt lane amount owing some within =
-    let owes : owed_by lane ≡ amount = ap (λ debt. unwrap_or debt 0) owing in omega (arith, owes, some, within)
-
-pub IsWithinRoom-step : (step : LaneStep) (marks : Marks) (total : ℕ) (lane : Lane) → CanMake lane step
-    → IsWithinRoom lane → IsWithinRoom (lane_after step marks total lane)
-IsWithinRoom-step (Add amount) marks total lane may within = record {
-  owes = may.3;
-  busy = λ inside. omega (arith, may.2, may.3);
-  raising = λ is_raise. may.2;
-}
-IsWithinRoom-step (Subtract amount) marks total lane may within = record {
-  owes = omega arith;
-  busy = λ inside. room_of_debt lane amount may.1 may.2 within.owes;
-  raising = λ is_raise. absurd (raise-not-lower (nat_lt total marks.low) is_raise);
-}
-IsWithinRoom-step Raise marks total lane may within =
-    record { owes = within.owes; busy = λ inside. absurd (inside refl); raising = λ is_raise. absurd (cc) }
-IsWithinRoom-step Lower marks total lane may within =
-    record { owes = within.owes; busy = λ inside. absurd (inside refl); raising = λ is_raise. absurd (cc) }
-IsWithinRoom-step (SetBit index) marks total lane may within =
-    record { owes = within.owes; busy = within.busy; raising = within.raising }
-IsWithinRoom-step (ClearBit index) marks total lane may within =
-    record { owes = within.owes; busy = within.busy; raising = within.raising }
-IsWithinRoom-step LoadWord marks total lane may within = within
-IsWithinRoom-step LoadTotal marks total lane may within = within
+-- ---- bits
 
 -- a held bit is a set bit of the mask, and not bit 0
 pub is_held-set : (lane : Lane) (index : ℕ) → is_held lane index ≡ true → bit_at lane.held index ≡ 1
@@ -99,19 +66,33 @@ among-bit value index raised lane puts within among = λ i.
     (λ other. omega (arith, puts.others i other, among i))
     (cases_eq i index)
 
-pub AreAmong-step : (step : LaneStep) (marks : Marks) (total : ℕ) (lane : Lane) → CanMake lane step
-    → AreAmong lane.raised lane.held
-    → AreAmong (lane_after step marks total lane).raised (lane_after step marks total lane).held
-AreAmong-step (Add amount) marks total lane may among = among
-AreAmong-step (Subtract amount) marks total lane may among = among
-AreAmong-step Raise marks total lane may among = among
-AreAmong-step Lower marks total lane may among = among
-AreAmong-step (SetBit index) marks total lane may among =
-    among-bit 1 index _ lane (SetsBit-with_bit lane.raised index) (omega (arith, is_held-set lane index may.1)) among
-AreAmong-step (ClearBit index) marks total lane may among =
+pub AreAmong-step : (step : LaneStep) (lane : Lane) → CanMake lane step → AreAmong lane.raised lane.held
+    → AreAmong (lane_after step lane).raised (lane_after step lane).held
+AreAmong-step (Add amount) lane may among = among
+AreAmong-step (Subtract amount) lane may among = among
+AreAmong-step (SetBit index) lane may among =
+    among-bit 1 index _ lane (SetsBit-with_bit lane.raised index) (omega (arith, is_held-set lane index may)) among
+AreAmong-step (ClearBit index) lane may among =
     among-bit 0 index _ lane (ClearsBit-without_bit lane.raised index) (omega arith) among
-AreAmong-step LoadWord marks total lane may among = among
-AreAmong-step LoadTotal marks total lane may among = among
+AreAmong-step Load lane may among = among
+
+-- a word that is raised or lowered has its bits above bit 0 as before
+raised_above : (word i : ℕ) (above : Bool) → 0 < i → bit_at (if above then with_bit word 0 else word) i ≡ bit_at word i
+raised_above word i true above = (SetsBit-with_bit word 0).others i (λ at. absurd (omega (arith, at, above)))
+raised_above word i false above = refl
+
+lowered_above : (word i : ℕ) (below : Bool) → 0 < i
+    → bit_at (if below then without_bit word 0 else word) i ≡ bit_at word i
+lowered_above word i true above = (ClearsBit-without_bit word 0).others i (λ at. absurd (omega (arith, at, above)))
+lowered_above word i false above = refl
+
+pub bit_at-raised_word : (marks : Marks) (total word i : ℕ) → 0 < i
+    → bit_at (raised_word marks total word) i ≡ bit_at word i
+bit_at-raised_word marks total word i above = raised_above word i (nat_lt marks.high total) above
+
+pub bit_at-lowered_word : (marks : Marks) (total word i : ℕ) → 0 < i
+    → bit_at (lowered_word marks total word) i ≡ bit_at word i
+bit_at-lowered_word marks total word i above = lowered_above word i (nat_lt total marks.low) above
 
 -- how a bit that some lanes raise goes with the word: as many raise it as before but for this lane, and where this lane
 -- holds it, no other does
@@ -119,13 +100,7 @@ pub record Raising (i word : ℕ) (lane : Lane) (others : ℕ) : Type 0 where
   pub shown : others + bit_at lane.raised i ≡ bit_at word i
   pub alone : bit_at lane.held i ≡ 1 → others ≡ 0
 
--- it does where the mark is put
-shown-mark : (value word new_word : ℕ) (lane : Lane) (i others : ℕ) → PutsBit value word 0 new_word → 0 < i
-    → Raising i word lane others → others + bit_at lane.raised i ≡ bit_at new_word i
-shown-mark value word new_word lane i others puts above raising =
-    omega (arith, raising.shown, puts.others i (λ at. absurd (omega (arith, at, above))))
-
--- and where the lane puts a bit that it holds, in the word and in its own mask
+-- it does where the lane puts a bit that it holds, in the word and in its own mask
 shown-bit : (value word index new_word raised : ℕ) (lane : Lane) (i others : ℕ) → is_held lane index ≡ true
     → PutsBit value word index new_word → PutsBit value lane.raised index raised → Raising i word lane others
     → others + bit_at raised i ≡ bit_at new_word i
@@ -143,18 +118,90 @@ shown-bit value word index new_word raised lane i others held of_word of_lane ra
 
 pub shown-step : (step : LaneStep) (marks : Marks) (total word : ℕ) (lane : Lane) (i others : ℕ) → CanMake lane step
     → 0 < i → Raising i word lane others
-    → others + bit_at (lane_after step marks total lane).raised i ≡ bit_at (word_after step word) i
-shown-step (Add amount) marks total word lane i others may above raising = raising.shown
-shown-step (Subtract amount) marks total word lane i others may above raising = raising.shown
-shown-step Raise marks total word lane i others may above raising =
-    shown-mark 1 word _ lane i others (SetsBit-with_bit word 0) above raising
-shown-step Lower marks total word lane i others may above raising =
-    shown-mark 0 word _ lane i others (ClearsBit-without_bit word 0) above raising
+    → others + bit_at (lane_after step lane).raised i ≡ bit_at (word_after step marks total word) i
+shown-step (Add amount) marks total word lane i others may above raising =
+    raising.shown ∙ sym (bit_at-raised_word marks (total + amount) word i above)
+shown-step (Subtract amount) marks total word lane i others may above raising =
+    raising.shown ∙ sym (bit_at-lowered_word marks (total - amount) word i above)
 shown-step (SetBit index) marks total word lane i others may above raising =
-    shown-bit 1 word index _ _ lane i others may.1 (SetsBit-with_bit word index) (SetsBit-with_bit lane.raised index)
+    shown-bit 1 word index _ _ lane i others may (SetsBit-with_bit word index) (SetsBit-with_bit lane.raised index)
     raising
 shown-step (ClearBit index) marks total word lane i others may above raising =
-    shown-bit 0 word index _ _ lane i others may.1 (ClearsBit-without_bit word index)
+    shown-bit 0 word index _ _ lane i others may (ClearsBit-without_bit word index)
     (ClearsBit-without_bit lane.raised index) raising
-shown-step LoadWord marks total word lane i others may above raising = raising.shown
-shown-step LoadTotal marks total word lane i others may above raising = raising.shown
+shown-step Load marks total word lane i others may above raising = raising.shown
+
+-- ---- the mark
+
+-- a bit that is 1 is set, and one that is 0 is clear
+one-set : (word i : ℕ) → bit_at word i ≡ 1 → is_set word i ≡ true
+one-set word i is_one = grind (arith, nat_tests)
+
+pub zero-clear : (word i : ℕ) → bit_at word i ≡ 0 → is_set word i ≡ false
+zero-clear word i is_zero = grind (arith, nat_tests)
+
+-- bit 0 once the total is above the high mark, and once it is below the low one
+raised_set : (marks : Marks) (total word : ℕ) → marks.high < total → is_set (raised_word marks total word) 0 ≡ true
+raised_set marks total word above =
+    let yes : nat_lt marks.high total ≡ true = grind (arith, nat_tests) in
+    rw yes (one-set (with_bit word 0) 0 (SetsBit-with_bit word 0).here)
+
+lowered_clear : (marks : Marks) (total word : ℕ) → total < marks.low → is_set (lowered_word marks total word) 0 ≡ false
+lowered_clear marks total word below =
+    let yes : nat_lt total marks.low ≡ true = grind (arith, nat_tests) in
+    rw yes (zero-clear (without_bit word 0) 0 (ClearsBit-without_bit word 0).here)
+
+-- the word stays where the total passes no mark
+not_raised : (marks : Marks) (total word : ℕ) → total ≤ marks.high → raised_word marks total word ≡ word
+not_raised marks total word within =
+    let no : nat_lt marks.high total ≡ false = grind (arith, nat_tests) in rw no refl
+
+not_lowered : (marks : Marks) (total word : ℕ) → marks.low ≤ total → lowered_word marks total word ≡ word
+not_lowered marks total word within =
+    let no : nat_lt total marks.low ≡ false = grind (arith, nat_tests) in rw no refl
+
+-- another bit put leaves bit 0
+same_mark : (value word index new : ℕ) (lane : Lane) → is_held lane index ≡ true → PutsBit value word index new
+    → is_set new 0 ≡ is_set word 0
+same_mark value word index new lane held puts =
+    let above : 0 < index = is_held-above lane index held in
+    ap (λ n. eqb n 1) (puts.others 0 (λ at. absurd (omega (arith, at, above))))
+
+-- a core state with the same marks and total, and with bit 0 as it was, has its mark as it was
+marked_alike : (core : CoreState) (word : ℕ) → is_set word 0 ≡ is_set core.word 0 → MarkAgrees core
+    → MarkAgrees (record core { word = word })
+marked_alike core word same agree = record {
+  above = λ high low. same ∙ agree.above high low;
+  below = λ low high. same ∙ agree.below low high;
+}
+
+marked_above : (core : CoreState) (amount : ℕ) → MarkAgrees core
+    → MarkAgrees (record core { total = core.total + amount; word = raised_word core.marks (core.total + amount) core.word })
+marked_above core amount agree = record {
+  above = λ high low. raised_set core.marks (core.total + amount) core.word high;
+  below = λ low high. ap (λ word. is_set word 0) (not_raised core.marks (core.total + amount) core.word high)
+      ∙ agree.below (omega (arith, low)) (omega (arith, high));
+}
+
+marked_below : (core : CoreState) (amount : ℕ) → MarkAgrees core
+    → MarkAgrees (record core { total = core.total - amount; word = lowered_word core.marks (core.total - amount) core.word })
+marked_below core amount agree = record {
+  above = λ high low. ap (λ word. is_set word 0) (not_lowered core.marks (core.total - amount) core.word low)
+      ∙ agree.above (omega (arith, high)) (omega (arith, low));
+  below = λ low high. lowered_clear core.marks (core.total - amount) core.word low;
+}
+
+pub MarkAgrees-step : (step : LaneStep) (core : CoreState) (lane : Lane) → CanMake lane step → MarkAgrees core
+    → MarkAgrees (record core {
+      total = total_after step core.total;
+      word = word_after step core.marks core.total core.word;
+    })
+MarkAgrees-step (Add amount) core lane may agree = marked_above core amount agree
+MarkAgrees-step (Subtract amount) core lane may agree = marked_below core amount agree
+MarkAgrees-step (SetBit index) core lane may agree =
+    marked_alike core (with_bit core.word index)
+    (same_mark 1 core.word index _ lane may (SetsBit-with_bit core.word index)) agree
+MarkAgrees-step (ClearBit index) core lane may agree =
+    marked_alike core (without_bit core.word index)
+    (same_mark 0 core.word index _ lane may (ClearsBit-without_bit core.word index)) agree
+MarkAgrees-step Load core lane may agree = agree

@@ -2,31 +2,19 @@
 use Rattle.std.proofs.Common.{◌≡◌, ℕ, zero, suc, ◌<◌, ◌≤◌, Bool, true, false, not, eqb, [], ◌∷◌, nat_lt, is_some}
 use Rattle.std.proofs.Common.{List, Option, Some, None, refl, sym, ap, subst, ◌∙◌, slice_get, unwrap_or, arith}
 use Rattle.std.proofs.lemmas.Bool.Decides.{nat_tests}
-use Rattle.ob_types.specs.Change.{change_between, is_writable, turn}
-use Rattle.ob_core.specs.AskFault.{is_held, idle_refusal, phase_refusal, refusal_of}
+use Rattle.ob_core.specs.AskFault.{is_held, refusal_of}
 use Rattle.ob_core.specs.FirstFault.{first_fault}
 use Rattle.ob_core.specs.LaneStep.{CanMake}
 use Rattle.ob_core.specs.CoreState.{CoreState}
 use Rattle.ob_core.specs.Owed.{owed_by}
-use Rattle.ob_core.specs.Turn.{charge_step, discharge_step, idle_step, phase_step, step_of, lane_after_nothing}
+use Rattle.ob_core.specs.Turn.{charge_step, discharge_step, step_of, lane_after_nothing}
 use Rattle.ob_core.specs.declared.ask.Ask.{Ask}
 use Rattle.ob_core.specs.declared.ask.Ask.TheVariants.{Charge, Discharge, Bit, Word, Total, Go}
 use Rattle.ob_core.specs.declared.ask.Turn.{Turn}
 use Rattle.ob_core.specs.declared.ask_fault.AskFault.TheVariants.{NoRoom, Owing, NotHeld}
 use Rattle.ob_core.specs.declared.lane.Lane.{Lane}
-use Rattle.ob_core.specs.declared.lane.Phase.{Phase}
-use Rattle.ob_core.specs.declared.lane.Phase.TheVariants.{Idle, ToRaise, ToLower}
 use Rattle.ob_core.specs.declared.lane_step.LaneStep.{LaneStep}
-use Rattle.ob_core.specs.declared.lane_step.LaneStep.TheVariants.{Add, Subtract, Raise, Lower, SetBit, ClearBit}
-use Rattle.ob_core.specs.declared.lane_step.LaneStep.TheVariants.{LoadWord, LoadTotal}
-
--- a word that stays has not turned
-same_writability : (b : Bool) → turn b b ≡ None
-same_writability true = refl
-same_writability false = refl
-
-pub change_between-same : (word : ℕ) → change_between word word ≡ None
-change_between-same word = same_writability (is_writable word)
+use Rattle.ob_core.specs.declared.lane_step.LaneStep.TheVariants.{Add, Subtract, SetBit, ClearBit, Load}
 
 -- a charge that is not refused is by a lane without a debt, within its room
 pub accepted_charge : (debt : Option ℕ) (room amount : ℕ)
@@ -54,39 +42,25 @@ pub accepted_bit : (held : Bool) → first_fault ((not held, NotHeld) ∷ []) �
 accepted_bit true accepted = refl
 accepted_bit false accepted = absurd (cc)
 
-can_make_idle : (lane : Lane) (ask : Ask) (step : LaneStep) → lane.phase ≡ Idle → idle_refusal lane ask ≡ None
-    → idle_step lane ask ≡ Some step → CanMake lane step
-can_make_idle lane (Charge amount) step idle accepted some_step =
-    let within = accepted_charge lane.debt lane.room amount accepted in
-    let is_add = charge_step-some amount step some_step in
-    subst (CanMake lane) is_add.1 (idle, within.0, is_add.0, within.1)
-can_make_idle lane Discharge step idle accepted some_step =
-    let is_subtract = discharge_step-some lane.debt step some_step in
-    subst (CanMake lane) is_subtract.3 (idle, is_subtract.1, is_subtract.2)
-can_make_idle lane (Bit index true) step idle accepted some_step =
-    let is_clear : ClearBit index ≡ step = cc in
-    subst (CanMake lane) is_clear (idle, accepted_bit (is_held lane index) accepted)
-can_make_idle lane (Bit index false) step idle accepted some_step =
-    let is_set : SetBit index ≡ step = cc in
-    subst (CanMake lane) is_set (idle, accepted_bit (is_held lane index) accepted)
-can_make_idle lane Word step idle accepted some_step =
-    let is_load : LoadWord ≡ step = cc in subst (CanMake lane) is_load idle
-can_make_idle lane Total step idle accepted some_step =
-    let is_load : LoadTotal ≡ step = cc in subst (CanMake lane) is_load idle
-can_make_idle lane Go step idle accepted some_step = absurd (cc)
-
-can_make_in : (phase : Phase) (lane : Lane) (ask : Ask) (step : LaneStep) → lane.phase ≡ phase
-    → phase_refusal phase lane ask ≡ None → phase_step phase lane ask ≡ Some step → CanMake lane step
-can_make_in Idle lane ask step here accepted some_step = can_make_idle lane ask step here accepted some_step
-can_make_in ToRaise lane ask step here accepted some_step =
-    let is_raise : Raise ≡ step = cc in subst (CanMake lane) is_raise here
-can_make_in ToLower lane ask step here accepted some_step =
-    let is_lower : Lower ≡ step = cc in subst (CanMake lane) is_lower here
-
 -- a step that follows an ask that is not refused is one that the lane may make
 pub can_make-step_of : (lane : Lane) (ask : Ask) (step : LaneStep) → refusal_of lane ask ≡ None
     → step_of lane ask ≡ Some step → CanMake lane step
-can_make-step_of lane ask step accepted some_step = can_make_in lane.phase lane ask step refl accepted some_step
+can_make-step_of lane (Charge amount) step accepted some_step =
+    let within = accepted_charge lane.debt lane.room amount accepted in
+    let is_add = charge_step-some amount step some_step in
+    subst (CanMake lane) is_add.1 (within.0, is_add.0, within.1)
+can_make-step_of lane Discharge step accepted some_step =
+    let is_subtract = discharge_step-some lane.debt step some_step in
+    subst (CanMake lane) is_subtract.3 (is_subtract.1, is_subtract.2)
+can_make-step_of lane (Bit index true) step accepted some_step =
+    let is_clear : ClearBit index ≡ step = cc in
+    subst (CanMake lane) is_clear (accepted_bit (is_held lane index) accepted)
+can_make-step_of lane (Bit index false) step accepted some_step =
+    let is_set : SetBit index ≡ step = cc in
+    subst (CanMake lane) is_set (accepted_bit (is_held lane index) accepted)
+can_make-step_of lane Word step accepted some_step = let is_load : Load ≡ step = cc in subst (CanMake lane) is_load tt
+can_make-step_of lane Total step accepted some_step = let is_load : Load ≡ step = cc in subst (CanMake lane) is_load tt
+can_make-step_of lane Go step accepted some_step = absurd (cc)
 
 -- a lane has its turn, and its ask is not refused
 pub record HasTurn (core : CoreState) (turn : Turn) (lane : Lane) : Type 0 where
@@ -114,27 +88,17 @@ discharge_step-none (Some zero) no_step = refl
 discharge_step-none (Some (suc amount)) no_step =
     let not_zero : eqb (suc amount) 0 ≡ false = grind (arith, nat_tests) in absurd (cc)
 
-owed_after_idle : (lane : Lane) (ask : Ask) → idle_refusal lane ask ≡ None → idle_step lane ask ≡ None
+pub owed_by-lane_after_nothing : (lane : Lane) (ask : Ask) → refusal_of lane ask ≡ None → step_of lane ask ≡ None
     → owed_by (lane_after_nothing lane ask) ≡ owed_by lane
-owed_after_idle lane (Charge amount) accepted no_step =
+owed_by-lane_after_nothing lane (Charge amount) accepted no_step =
     let no_debt : owed_by lane ≡ 0 =
     ap (λ debt. unwrap_or debt 0) (accepted_charge lane.debt lane.room amount accepted).0 in
     omega (arith, no_debt, charge_step-none amount no_step)
-owed_after_idle lane Discharge accepted no_step = discharge_step-none lane.debt no_step
-owed_after_idle lane (Bit index writable) accepted no_step = refl
-owed_after_idle lane Word accepted no_step = refl
-owed_after_idle lane Total accepted no_step = refl
-owed_after_idle lane Go accepted no_step = refl
-
-owed_after_in : (phase : Phase) (lane : Lane) (ask : Ask) → phase_refusal phase lane ask ≡ None
-    → phase_step phase lane ask ≡ None → owed_by (lane_after_nothing lane ask) ≡ owed_by lane
-owed_after_in Idle lane ask accepted no_step = owed_after_idle lane ask accepted no_step
-owed_after_in ToRaise lane ask accepted no_step = absurd (cc)
-owed_after_in ToLower lane ask accepted no_step = absurd (cc)
-
-pub owed_by-lane_after_nothing : (lane : Lane) (ask : Ask) → refusal_of lane ask ≡ None → step_of lane ask ≡ None
-    → owed_by (lane_after_nothing lane ask) ≡ owed_by lane
-owed_by-lane_after_nothing lane ask accepted no_step = owed_after_in lane.phase lane ask accepted no_step
+owed_by-lane_after_nothing lane Discharge accepted no_step = discharge_step-none lane.debt no_step
+owed_by-lane_after_nothing lane (Bit index writable) accepted no_step = refl
+owed_by-lane_after_nothing lane Word accepted no_step = refl
+owed_by-lane_after_nothing lane Total accepted no_step = refl
+owed_by-lane_after_nothing lane Go accepted no_step = refl
 
 -- and it leaves the rest of the lane
 pub rest-lane_after_nothing : (lane : Lane) (ask : Ask)

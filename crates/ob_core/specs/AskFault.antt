@@ -8,8 +8,6 @@ use Rattle.ob_core.specs.declared.ask_fault.AskFault.{AskFault}
 use Rattle.ob_core.specs.declared.ask_fault.AskFault.TheVariants.{UnknownLane, NoRoom, Owing, NotOwing, NotHeld}
 use Rattle.ob_core.specs.declared.ask_fault.AskFault.TheVariants.{NotInside}
 use Rattle.ob_core.specs.declared.lane.Lane.{Lane}
-use Rattle.ob_core.specs.declared.lane.Phase.{Phase}
-use Rattle.ob_core.specs.declared.lane.Phase.TheVariants.{Idle, ToRaise, ToLower}
 
 -- the number under which a fault is known in traces
 abbrev pub number_of : AskFault → ℕ
@@ -24,24 +22,15 @@ number_of NotInside = 6
 abbrev pub is_held : Lane → ℕ → Bool
 is_held lane index = nat_lt 0 index && nat_lt index 32 && is_set lane.held index
 
--- the refusal of an ask by a lane between two calls, the first that holds, or none
-abbrev pub idle_refusal : Lane → Ask → Option AskFault
-idle_refusal lane (Charge amount) = first_fault ((is_some lane.debt, Owing) ∷ (nat_lt lane.room amount, NoRoom) ∷ [])
-idle_refusal lane Discharge = first_fault ((is_none lane.debt, NotOwing) ∷ [])
-idle_refusal lane (Bit index writable) = first_fault ((not (is_held lane index), NotHeld) ∷ [])
-idle_refusal lane Word = None
-idle_refusal lane Total = None
-idle_refusal lane Go = Some NotInside
-
--- the refusal in a phase: in the middle of a call a lane refuses nothing, since it ignores the ask
-abbrev pub phase_refusal : Phase → Lane → Ask → Option AskFault
-phase_refusal Idle lane ask = idle_refusal lane ask
-phase_refusal ToRaise lane ask = None
-phase_refusal ToLower lane ask = None
-
--- the refusal of an ask, or none
+-- the refusal of an ask by a lane, the first that holds, or none; a lane is never in the middle of a call, so it has none
+-- to go on with
 abbrev pub refusal_of : Lane → Ask → Option AskFault
-refusal_of lane ask = phase_refusal lane.phase lane ask
+refusal_of lane (Charge amount) = first_fault ((is_some lane.debt, Owing) ∷ (nat_lt lane.room amount, NoRoom) ∷ [])
+refusal_of lane Discharge = first_fault ((is_none lane.debt, NotOwing) ∷ [])
+refusal_of lane (Bit index writable) = first_fault ((not (is_held lane index), NotHeld) ∷ [])
+refusal_of lane Word = None
+refusal_of lane Total = None
+refusal_of lane Go = Some NotInside
 
 -- the refusal of an ask to a lane that may not be there, or none
 abbrev pub refusal_at : Option Lane → Ask → Option AskFault

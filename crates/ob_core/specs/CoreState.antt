@@ -1,4 +1,4 @@
--- The core state: the two words, the marks, and the lanes.
+-- The core state: the two halves of the one word, the marks, and the lanes.
 use Rattle.std.specs.Prelude.{ℕ, List, Option}
 use Rattle.ob_types.specs.WaterMark.{Marks}
 use Rattle.ob_types.specs.declared.reply.Change.{Change}

@@ -11,7 +11,7 @@ pub mod Limits
 pub mod OneStep
 pub mod Opening
 pub mod Owed
-pub mod Quiet
+pub mod Rest
 pub mod Run
 pub mod Shares
 pub mod Sound

@@ -7,7 +7,6 @@ use Rattle.ob_core.specs.CoreState.{CoreState, WorldState}
 use Rattle.ob_core.specs.FirstFault.{first_fault}
 use Rattle.ob_core.specs.Limits.{most_lanes, greatest_room}
 use Rattle.ob_core.specs.declared.lane.Lane.{Lane}
-use Rattle.ob_core.specs.declared.lane.Phase.TheVariants.{Idle}
 use Rattle.ob_core.specs.declared.lane_start.LaneStart.{LaneStart}
 use Rattle.ob_core.specs.declared.world_fault.WorldFault.{WorldFault}
 use Rattle.ob_core.specs.declared.world_fault.WorldFault.TheVariants.{BadCount, TooMuchRoom, BitsTwice}
@@ -57,11 +56,11 @@ pub record Opening : Type 0 where
 abbrev pub opening_of : Marks → List LaneStart → Opening
 opening_of marks starts = record { marks = marks; room = room_of starts; bits = bits_of starts }
 
--- a lane that begins owes nothing, has set no bit and is between two calls
+-- a lane that begins owes nothing and has set no bit
 abbrev pub new_lane : LaneStart → Lane
-new_lane start = record { room = start.room; debt = None; held = start.bits; raised = 0; phase = Idle }
+new_lane start = record { room = start.room; debt = None; held = start.bits; raised = 0 }
 
--- both words of a core state that begins are 0
+-- a core state begins with a total of 0 and a word of 0
 abbrev pub new_core : Marks → List LaneStart → CoreState
 new_core marks starts = record { total = 0; word = 0; marks = marks; lanes = map new_lane starts }
 

@@ -1,18 +1,16 @@
--- Lanes divided and merged. It is no step of one lane, and changes neither word.
+-- Lanes divided and merged. It is no step of one lane, and changes neither the total nor the word.
 use Rattle.std.specs.Prelude.{◌≡◌, ◌≢◌, ℕ, ◌+◌, [], ◌∷◌, ◌++◌, Some, None, slice_get, slice_set}
 use Rattle.ob_core.specs.Bits.{AreAmong, ShareOut}
 use Rattle.ob_core.specs.CoreState.{CoreState}
 use Rattle.ob_core.specs.declared.lane.Lane.{Lane}
-use Rattle.ob_core.specs.declared.lane.Phase.TheVariants.{Idle}
 
--- a lane is between two calls and has no debt
+-- a free lane has no debt
 pub record IsFree (lane : Lane) : Type 0 where
-  pub idle : lane.phase ≡ Idle
   pub debt : lane.debt ≡ None
 
 -- a spent lane: it is free, and has no room and no bits
 abbrev pub spent_lane : Lane
-spent_lane = record { room = 0; debt = None; held = 0; raised = 0; phase = Idle }
+spent_lane = record { room = 0; debt = None; held = 0; raised = 0 }
 
 -- two free lanes have together the room and the bits of a third, each raised bit where it is held
 pub record AreShares (whole first second : Lane) : Type 0 where

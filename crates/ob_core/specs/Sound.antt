@@ -5,11 +5,12 @@ use Rattle.ob_core.specs.CoreState.{CoreState}
 use Rattle.ob_core.specs.Limits.{most_lanes, greatest_room}
 use Rattle.ob_core.specs.Opening.{Opening}
 
--- there are some lanes, and not too many, whose accounts hold with what they were opened with, and their room keeps to
--- its limit
+-- there are some lanes, and not too many, whose accounts hold with what they were opened with; the low mark is at most
+-- the high one, and the rooms keep to their limit
 pub record IsSound (core : CoreState) : Type 0 where
   pub opening : Opening
   pub accounts : AccountsHold opening core
+  pub ordered : opening.marks.low ≤ opening.marks.high
   pub rooms_fit : opening.room ≤ greatest_room
   pub some_lane : 0 < length core.lanes
   pub few_lanes : length core.lanes ≤ most_lanes

@@ -10,14 +10,11 @@ use Rattle.ob_core.specs.declared.ask.Ask.TheVariants.{Charge, Discharge, Bit, W
 use Rattle.ob_core.specs.declared.ask.Turn.{Turn}
 use Rattle.ob_core.specs.declared.ask_fault.AskFault.{AskFault}
 use Rattle.ob_core.specs.declared.event.Event.{Event}
-use Rattle.ob_core.specs.declared.event.Event.TheVariants.{Added, Subtracted, Raised, Lowered, BitSet, BitCleared}
+use Rattle.ob_core.specs.declared.event.Event.TheVariants.{Added, Subtracted, BitSet, BitCleared}
 use Rattle.ob_core.specs.declared.event.Event.TheVariants.{ReadWord, ReadTotal, Nothing, Refused}
 use Rattle.ob_core.specs.declared.lane.Lane.{Lane}
-use Rattle.ob_core.specs.declared.lane.Phase.{Phase}
-use Rattle.ob_core.specs.declared.lane.Phase.TheVariants.{Idle, ToRaise, ToLower}
 use Rattle.ob_core.specs.declared.lane_step.LaneStep.{LaneStep}
-use Rattle.ob_core.specs.declared.lane_step.LaneStep.TheVariants.{Add, Subtract, Raise, Lower, SetBit, ClearBit}
-use Rattle.ob_core.specs.declared.lane_step.LaneStep.TheVariants.{LoadWord, LoadTotal}
+use Rattle.ob_core.specs.declared.lane_step.LaneStep.TheVariants.{Add, Subtract, SetBit, ClearBit, Load}
 
 -- the step of a charge, none where it is 0
 abbrev pub charge_step : ℕ → Option LaneStep
@@ -28,24 +25,14 @@ abbrev pub discharge_step : Option ℕ → Option LaneStep
 discharge_step None = None
 discharge_step (Some amount) = if amount == 0 then None else Some (Subtract amount)
 
--- the step that an ask is to a lane between two calls, if it is one
-abbrev pub idle_step : Lane → Ask → Option LaneStep
-idle_step lane (Charge amount) = charge_step amount
-idle_step lane Discharge = discharge_step lane.debt
-idle_step lane (Bit index writable) = Some (if writable then ClearBit index else SetBit index)
-idle_step lane Word = Some LoadWord
-idle_step lane Total = Some LoadTotal
-idle_step lane Go = None
-
--- the step in a phase: in the middle of a call it is what is left of that call, whatever is asked
-abbrev pub phase_step : Phase → Lane → Ask → Option LaneStep
-phase_step Idle lane ask = idle_step lane ask
-phase_step ToRaise lane ask = Some Raise
-phase_step ToLower lane ask = Some Lower
-
 -- the step that a lane makes at an ask that is not refused, none at a charge of 0 and at its discharge
 abbrev pub step_of : Lane → Ask → Option LaneStep
-step_of lane ask = phase_step lane.phase lane ask
+step_of lane (Charge amount) = charge_step amount
+step_of lane Discharge = discharge_step lane.debt
+step_of lane (Bit index writable) = Some (if writable then ClearBit index else SetBit index)
+step_of lane Word = Some Load
+step_of lane Total = Some Load
+step_of lane Go = None
 
 -- the lane after an ask that is no step: after a charge it owes, after a discharge it does not
 abbrev pub lane_after_nothing : Lane → Ask → Lane
@@ -56,26 +43,24 @@ lane_after_nothing lane Word = lane
 lane_after_nothing lane Total = lane
 lane_after_nothing lane Go = lane
 
--- the event of a step
-abbrev pub event_of_step : LaneStep → Event
-event_of_step (Add amount) = Added
-event_of_step (Subtract amount) = Subtracted
-event_of_step Raise = Raised
-event_of_step Lower = Lowered
-event_of_step (SetBit index) = BitSet
-event_of_step (ClearBit index) = BitCleared
-event_of_step LoadWord = ReadWord
-event_of_step LoadTotal = ReadTotal
+-- the event of the step that an ask is
+abbrev pub event_of_ask : Ask → Event
+event_of_ask (Charge amount) = Added
+event_of_ask Discharge = Subtracted
+event_of_ask (Bit index writable) = if writable then BitCleared else BitSet
+event_of_ask Word = ReadWord
+event_of_ask Total = ReadTotal
+event_of_ask Go = Nothing
 
--- the event of a turn that is not refused
-abbrev pub accepted_event : Option LaneStep → Event
-accepted_event None = Nothing
-accepted_event (Some step) = event_of_step step
+-- the event of an ask that is not refused, by its step
+abbrev pub accepted_event : Ask → Option LaneStep → Event
+accepted_event ask None = Nothing
+accepted_event ask (Some step) = event_of_ask ask
 
--- the event of a turn, by its refusal
-abbrev pub event_unless : Option AskFault → Option LaneStep → Event
-event_unless (Some fault) step = Refused fault
-event_unless None step = accepted_event step
+-- the event of an ask, by its refusal
+abbrev pub event_unless : Option AskFault → Ask → Option LaneStep → Event
+event_unless (Some fault) ask step = Refused fault
+event_unless None ask step = accepted_event ask step
 
 -- the step of a lane that may not be there
 abbrev pub step_at : Option Lane → Ask → Option LaneStep
@@ -85,7 +70,8 @@ step_at (Some lane) ask = step_of lane ask
 -- the event of a turn
 abbrev pub event_of : CoreState → Turn → Event
 event_of core turn =
-    let lane = slice_get core.lanes turn.lane in event_unless (refusal_at lane turn.ask) (step_at lane turn.ask)
+    let lane = slice_get core.lanes turn.lane in
+    event_unless (refusal_at lane turn.ask) turn.ask (step_at lane turn.ask)
 
 -- the core state after an ask that is not refused
 abbrev pub core_after_ask : CoreState → ℕ → Lane → Ask → Option LaneStep → CoreState

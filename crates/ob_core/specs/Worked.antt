@@ -1,17 +1,16 @@
 -- Small core states and steps, with what the definitions have to say of them.
 use Rattle.std.specs.Prelude.{◌≡◌, ℕ, ◌+◌, ◌*◌, ◌^◌, List, [], ◌∷◌, Some, None}
 use Rattle.ob_types.specs.declared.reply.Change.TheVariants.{Unwritable, Writable}
-use Rattle.ob_core.specs.Accounts.{AccountsHold}
+use Rattle.ob_core.specs.Accounts.{AccountsHold, MarkAgrees}
 use Rattle.ob_core.specs.Bits.{with_bit, without_bit, SetsBit, ClearsBit}
 use Rattle.ob_core.specs.CoreState.{CoreState}
-use Rattle.ob_core.specs.Found.{value_found, change_found, LeavesOther}
+use Rattle.ob_core.specs.Found.{value_found, change_found}
+use Rattle.ob_core.specs.LaneStep.{word_after}
 use Rattle.ob_core.specs.Opening.{Opening}
+use Rattle.ob_core.specs.Rest.{LeavesRest}
 use Rattle.ob_core.specs.Shares.{AreShares, IsDivision, IsMerger, spent_lane}
 use Rattle.ob_core.specs.declared.lane.Lane.{Lane}
-use Rattle.ob_core.specs.declared.lane.Phase.{Phase}
-use Rattle.ob_core.specs.declared.lane.Phase.TheVariants.{Idle, ToRaise, ToLower}
-use Rattle.ob_core.specs.declared.lane_step.LaneStep.TheVariants.{Add, Subtract, Raise, Lower, SetBit, ClearBit}
-use Rattle.ob_core.specs.declared.lane_step.LaneStep.TheVariants.{LoadWord, LoadTotal}
+use Rattle.ob_core.specs.declared.lane_step.LaneStep.TheVariants.{Add, Subtract, SetBit, ClearBit, Load}
 
 -- ---- accounts
 
@@ -20,56 +19,61 @@ abbrev pub opening : Opening
 opening = record { marks = record { low = 50; high = 100 }; room = 120; bits = 6 }
 
 -- a lane that holds bit 1 and one that holds bit 2, with half of the room each
-abbrev pub first_lane : ℕ → Phase → Lane
-first_lane raised phase = record { room = 60; debt = Some 60; held = 2; raised = raised; phase = phase }
+abbrev pub first_lane : ℕ → Lane
+first_lane raised = record { room = 60; debt = Some 60; held = 2; raised = raised }
 
 abbrev pub second_lane : Lane
-second_lane = record { room = 60; debt = None; held = 4; raised = 0; phase = Idle }
+second_lane = record { room = 60; debt = None; held = 4; raised = 0 }
 
 abbrev pub state : ℕ → ℕ → List Lane → CoreState
 state total word lanes = record { total = total; word = word; marks = opening.marks; lanes = lanes }
 
 -- the first lane owes 60 and has raised bit 1
 abbrev pub GoodAccounts : Type 0
-GoodAccounts = AccountsHold opening (state 60 2 (first_lane 2 Idle ∷ second_lane ∷ []))
+GoodAccounts = AccountsHold opening (state 60 2 (first_lane 2 ∷ second_lane ∷ []))
 
 -- none of these accounts holds: the total is not what is owed; bit 2 is shown, and no lane raised it; bit 1 is raised,
 -- and not shown; both lanes hold bit 1; a lane raises bit 2, which it does not hold; a lane is missing, and its room
 abbrev pub WrongTotal : Type 0
-WrongTotal = AccountsHold opening (state 61 2 (first_lane 2 Idle ∷ second_lane ∷ [])) → ⊥
+WrongTotal = AccountsHold opening (state 61 2 (first_lane 2 ∷ second_lane ∷ [])) → ⊥
 
 abbrev pub ShownAndNotRaised : Type 0
-ShownAndNotRaised = AccountsHold opening (state 60 6 (first_lane 2 Idle ∷ second_lane ∷ [])) → ⊥
+ShownAndNotRaised = AccountsHold opening (state 60 6 (first_lane 2 ∷ second_lane ∷ [])) → ⊥
 
 abbrev pub RaisedAndNotShown : Type 0
-RaisedAndNotShown = AccountsHold opening (state 60 0 (first_lane 2 Idle ∷ second_lane ∷ [])) → ⊥
+RaisedAndNotShown = AccountsHold opening (state 60 0 (first_lane 2 ∷ second_lane ∷ [])) → ⊥
 
 abbrev pub HeldTwice : Type 0
-HeldTwice = AccountsHold opening (state 60 0 (first_lane 0 Idle ∷ (record second_lane { held = 2 }) ∷ [])) → ⊥
+HeldTwice = AccountsHold opening (state 60 0 (first_lane 0 ∷ (record second_lane { held = 2 }) ∷ [])) → ⊥
 
 abbrev pub RaisedAndNotHeld : Type 0
-RaisedAndNotHeld = AccountsHold opening (state 60 4 (first_lane 4 Idle ∷ second_lane ∷ [])) → ⊥
+RaisedAndNotHeld = AccountsHold opening (state 60 4 (first_lane 4 ∷ second_lane ∷ [])) → ⊥
 
 abbrev pub LostRoom : Type 0
-LostRoom = AccountsHold opening (state 60 2 (first_lane 2 Idle ∷ [])) → ⊥
+LostRoom = AccountsHold opening (state 60 2 (first_lane 2 ∷ [])) → ⊥
 
--- the mark stands at total 0, and no lane is about to lower it
+-- bit 0 is set at a total of 0
 abbrev pub ForgottenMark : Type 0
 ForgottenMark = AccountsHold opening (state 0 1 ((record second_lane { room = 120 }) ∷ [])) → ⊥
 
--- a lane is to raise the mark, and owes nothing
-abbrev pub RaisingNothing : Type 0
-RaisingNothing = AccountsHold opening (state 0 0 ((record second_lane { room = 120; phase = ToRaise }) ∷ [])) → ⊥
+-- bit 0 is clear at a total of 120
+abbrev pub LostMark : Type 0
+LostMark = AccountsHold opening (state 120 0 ((record second_lane { room = 120; debt = Some 120 }) ∷ [])) → ⊥
 
--- a lane is about to lower the mark, and has no room; a lane owes more than its room
-abbrev pub BusyWithoutRoom : Type 0
-BusyWithoutRoom =
-    AccountsHold opening (state 0 1
-    ((record second_lane { room = 0; phase = ToLower }) ∷ (record second_lane { room = 120; held = 0 }) ∷ [])) → ⊥
+-- bit 0 is set above 100 and clear below 50, and from 50 to 100 it may be either
+abbrev pub Marked : Type 0
+Marked =
+    MarkAgrees (state 101 1 [])
+    × (MarkAgrees (state 101 0 []) → ⊥)
+    × MarkAgrees (state 100 0 [])
+    × MarkAgrees (state 50 1 [])
+    × MarkAgrees (state 49 4 [])
+    × (MarkAgrees (state 49 5 []) → ⊥)
 
+-- a lane owes more than its room
 abbrev pub OwingMoreThanRoom : Type 0
 OwingMoreThanRoom =
-    AccountsHold opening (state 61 2 ((record (first_lane 2 Idle) { debt = Some 61 }) ∷ second_lane ∷ [])) → ⊥
+    AccountsHold opening (state 61 2 ((record (first_lane 2) { debt = Some 61 }) ∷ second_lane ∷ [])) → ⊥
 
 -- ---- shares
 
@@ -77,62 +81,65 @@ OwingMoreThanRoom =
 abbrev pub BitGiven : Type 0
 BitGiven =
     AreShares
-    (record { room = 10; debt = None; held = 6; raised = 2; phase = Idle })
-    (record { room = 10; debt = None; held = 2; raised = 2; phase = Idle })
-    (record { room = 0; debt = None; held = 4; raised = 0; phase = Idle })
+    (record { room = 10; debt = None; held = 6; raised = 2 })
+    (record { room = 10; debt = None; held = 2; raised = 2 })
+    (record { room = 0; debt = None; held = 4; raised = 0 })
 
 -- it can't give bit 2 and keep it
 abbrev pub BitGivenAndKept : Type 0
 BitGivenAndKept =
     AreShares
-    (record { room = 10; debt = None; held = 6; raised = 2; phase = Idle })
-    (record { room = 10; debt = None; held = 6; raised = 2; phase = Idle })
-    (record { room = 0; debt = None; held = 4; raised = 0; phase = Idle })
+    (record { room = 10; debt = None; held = 6; raised = 2 })
+    (record { room = 10; debt = None; held = 6; raised = 2 })
+    (record { room = 0; debt = None; held = 4; raised = 0 })
     → ⊥
 
 -- a free lane with half of the room gives 20 of it and no bit to a new lane behind all lanes
 abbrev pub Divided : Type 0
 Divided =
-    IsDivision (state 60 2 (first_lane 2 Idle ∷ second_lane ∷ [])) 1
+    IsDivision (state 60 2 (first_lane 2 ∷ second_lane ∷ [])) 1
     (record second_lane { room = 40 }) (record second_lane { room = 20; held = 0 })
     (state 60 2
-    (first_lane 2 Idle ∷ (record second_lane { room = 40 }) ∷ (record second_lane { room = 20; held = 0 }) ∷ []))
+    (first_lane 2 ∷ (record second_lane { room = 40 }) ∷ (record second_lane { room = 20; held = 0 }) ∷ []))
 
 -- and takes it back, with a spent lane left where the other was
 abbrev pub Merged : Type 0
 Merged =
     IsMerger (state 60 2
-    (first_lane 2 Idle ∷ (record second_lane { room = 40 }) ∷ (record second_lane { room = 20; held = 0 }) ∷ []))
-    1 2 second_lane (state 60 2 (first_lane 2 Idle ∷ second_lane ∷ spent_lane ∷ []))
+    (first_lane 2 ∷ (record second_lane { room = 40 }) ∷ (record second_lane { room = 20; held = 0 }) ∷ []))
+    1 2 second_lane (state 60 2 (first_lane 2 ∷ second_lane ∷ spent_lane ∷ []))
 
 -- ---- steps
 
--- of a total of 60 and a word of 5, a step on the one finds the one
+-- a step finds a total of 60 and a word of 5 in one number
 abbrev pub Finds : Type 0
-Finds =
-    (value_found (Add 1) (state 60 5 []) ≡ 60)
-    × (value_found (Subtract 60) (state 60 5 []) ≡ 60)
-    × (value_found Raise (state 60 5 []) ≡ 5)
-    × (value_found Lower (state 60 5 []) ≡ 5)
-    × (value_found (SetBit 1) (state 60 5 []) ≡ 5)
-    × (value_found (ClearBit 1) (state 60 5 []) ≡ 5)
-    × (value_found LoadWord (state 60 5 []) ≡ 5)
-    × (value_found LoadTotal (state 60 5 []) ≡ 60)
+Finds = value_found (state 60 5 []) ≡ 21474836540
 
--- the writers stop where a bit was set in 0, and go on where the one bit that was set was cleared
+-- an add to above 100 sets bit 0 and one to 100 does not; a subtract to below 50 clears it and one to 50 does not; the
+-- other bits stay
+abbrev pub WordsAfter : Type 0
+WordsAfter =
+    (word_after (Add 41) opening.marks 60 4 ≡ 5)
+    × (word_after (Add 40) opening.marks 60 4 ≡ 4)
+    × (word_after (Subtract 11) opening.marks 60 5 ≡ 4)
+    × (word_after (Subtract 10) opening.marks 60 5 ≡ 5)
+
+-- the writers stop where a bit was set in a word of 0, and go on where the one bit that was set was cleared, whatever
+-- the total beside it
 abbrev pub Changes : Type 0
 Changes =
-    (change_found (Add 101) 0 ≡ None)
-    × (change_found Raise 0 ≡ Some Unwritable)
-    × (change_found Raise 1 ≡ None)
-    × (change_found Raise 4 ≡ None)
-    × (change_found Lower 1 ≡ Some Writable)
-    × (change_found Lower 0 ≡ None)
-    × (change_found Lower 5 ≡ None)
-    × (change_found (SetBit 2) 0 ≡ Some Unwritable)
-    × (change_found (ClearBit 2) 4 ≡ Some Writable)
-    × (change_found (ClearBit 2) 6 ≡ None)
-    × (change_found (ClearBit 2) 2 ≡ None)
+    (change_found (Add 41) opening.marks 60 ≡ Some Unwritable)
+    × (change_found (Add 40) opening.marks 60 ≡ None)
+    × (change_found (Add 41) opening.marks (4 * 2 ^ 32 + 60) ≡ None)
+    × (change_found (Subtract 60) opening.marks (2 ^ 32 + 109) ≡ Some Writable)
+    × (change_found (Subtract 60) opening.marks (2 ^ 32 + 110) ≡ None)
+    × (change_found (Subtract 60) opening.marks (5 * 2 ^ 32 + 109) ≡ None)
+    × (change_found (SetBit 2) opening.marks 60 ≡ Some Unwritable)
+    × (change_found (SetBit 2) opening.marks (2 ^ 32 + 60) ≡ None)
+    × (change_found (ClearBit 2) opening.marks (4 * 2 ^ 32 + 60) ≡ Some Writable)
+    × (change_found (ClearBit 2) opening.marks (6 * 2 ^ 32) ≡ None)
+    × (change_found (ClearBit 2) opening.marks (2 * 2 ^ 32) ≡ None)
+    × (change_found Load opening.marks 60 ≡ None)
 
 -- bits 31, 32 and 33 of a word of more than 32 bits
 abbrev pub WideBits : Type 0
@@ -160,10 +167,11 @@ BitCleared =
     × (ClearsBit 6 1 0 → ⊥)
     × (ClearsBit 6 1 6 → ⊥)
 
--- an addition that changes the word too, and a raise that changes the total too, do not leave the other word
-abbrev pub OtherLeft : Type 0
-OtherLeft =
-    LeavesOther (Add 1) (state 60 5 []) (state 61 5 [])
-    × (LeavesOther (Add 1) (state 60 5 []) (state 61 4 []) → ⊥)
-    × LeavesOther Raise (state 60 4 []) (state 60 5 [])
-    × (LeavesOther Raise (state 60 4 []) (state 61 5 []) → ⊥)
+-- an add leaves bits 1 and 2, and may set bit 0; to set a bit leaves the total; a load leaves both
+abbrev pub RestLeft : Type 0
+RestLeft =
+    LeavesRest (Add 1) (state 60 6 []) (state 61 7 [])
+    × (LeavesRest (Add 1) (state 60 6 []) (state 61 4 []) → ⊥)
+    × LeavesRest (SetBit 1) (state 60 4 []) (state 60 6 [])
+    × (LeavesRest (SetBit 1) (state 60 4 []) (state 61 6 []) → ⊥)
+    × (LeavesRest Load (state 60 4 []) (state 60 5 []) → ⊥)

@@ -1,11 +1,15 @@
-/// What a lane that is between two calls is asked to do.
+use crate::event::Event;
+
+/// What a lane is asked to do.
 ///
-/// Our own choice: each is one call of a writer that shares the two words with others.
+/// Our own choice: each is one call of a writer that shares the one word with others.
 #[derive(Clone, Copy, Debug, PartialEq, Eq)]
 pub enum Ask {
-    /// Adds so many bytes to the total (Netty's `incrementPendingOutboundBytes`). The lane owes them from then on.
+    /// Adds *n* bytes to the total (Netty's `incrementPendingOutboundBytes`). The lane owes them from then on. Bit 0 of
+    /// the word is set in the same step if the total is above the high mark then.
     Charge(u32),
-    /// Takes the bytes that the lane owes off the total (Netty's `decrementPendingOutboundBytes`).
+    /// Takes the bytes that the lane owes off the total (Netty's `decrementPendingOutboundBytes`). Bit 0 of the word is
+    /// cleared in the same step if the total is below the low mark then.
     Discharge,
     /// Sets a user bit of index 1 to 31 where the flag is false, and clears it where it is true
     /// (Netty's `setUserDefinedWritability`).
@@ -14,8 +18,28 @@ pub enum Ask {
     Word,
     /// Reads the total.
     Total,
-    /// Goes on with the call that the lane is in the middle of.
+    /// Goes on with the call that the lane is in the middle of. It is in the middle of none, so this is refused.
     Go,
+}
+
+impl Ask {
+    ghost use Rattle.std.specs.Prelude.{◌≡◌};
+    ghost use Rattle.ob_core.specs.Turn.{event_of_ask};
+
+    /// What a turn answers in which the ask is a step.
+    pub(crate) fn event(self) -> Event
+        ensures { result ≡ event_of_ask self }
+    {
+        match self {
+            Ask::Charge(_) => Event::Added,
+            Ask::Discharge => Event::Subtracted,
+            Ask::Bit(_, false) => Event::BitSet,
+            Ask::Bit(_, true) => Event::BitCleared,
+            Ask::Word => Event::ReadWord,
+            Ask::Total => Event::ReadTotal,
+            Ask::Go => Event::Nothing,
+        }
+    }
 }
 
 /// One turn of a schedule: a lane, counted from 0, and what it is asked.
@@ -23,6 +47,6 @@ pub enum Ask {
 pub struct Turn {
     /// Which lane has the turn, in the order in which the lanes were given.
     pub lane: u32,
-    /// What it is asked. A lane in the middle of a call goes on with that call and ignores it.
+    /// What it is asked.
     pub ask: Ask,
 }

@@ -2,7 +2,7 @@ ghost use Rattle.std.specs.Prelude.{◌≡◌};
 
 use thiserror::Error;
 
-/// Why an ask was refused. A refused ask leaves the two words and the lanes as they were.
+/// Why an ask was refused. A refused ask leaves the word, the total and the lanes as they were.
 #[derive(Clone, Copy, Debug, PartialEq, Eq, Error)]
 pub enum AskFault {
     /// There is no lane with this number.
@@ -20,7 +20,7 @@ pub enum AskFault {
     /// The lane does not hold the bit, or the index is none of 1 to 31.
     #[error("the lane does not hold the bit")]
     NotHeld = 5,
-    /// A lane that is between two calls was asked to go on.
+    /// A lane was asked to go on. No lane is ever in the middle of a call.
     #[error("the lane is in the middle of no call")]
     NotInside = 6,
 }

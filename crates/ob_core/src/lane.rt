@@ -1,5 +1,4 @@
-ghost use Rattle.std.specs.Prelude.{◌≡◌, ◌≤◌, length, ◌↔◌, map, All, IsTrue, IfOk, slice_get};
-ghost use Rattle.ob_core.specs.declared.lane.Phase.TheVariants.{Idle};
+ghost use Rattle.std.specs.Prelude.{◌≡◌, ◌≤◌, length, map, IfOk, slice_get};
 ghost use Rattle.ob_core.specs.Limits.{most_lanes};
 ghost use Rattle.ob_core.specs.Opening.{new_lane};
 ghost use Rattle.ob_core.specs.Owed.{sum_owed};
@@ -10,17 +9,6 @@ use crate::bits::has_bit;
 use crate::lane_start::LaneStart;
 use crate::lane_step::LaneStep;
 use std::alloc::{AllocError, Global};
-
-/// Where a lane is in its call.
-#[derive(Clone, Copy, Debug, PartialEq, Eq)]
-pub enum Phase {
-    /// Between two calls.
-    Idle,
-    /// Its charge brought the total above the high mark: bit 0 of the word is still to be set.
-    ToRaise,
-    /// Its discharge brought the total below the low mark: bit 0 of the word is still to be cleared.
-    ToLower,
-}
 
 /// A lane between two of its steps, as clauses show it. No call takes one or gives one out: a world is asked by the
 /// numbers of its lanes.
@@ -35,18 +23,16 @@ pub struct Lane {
     /// The mask of those among them that it has set. No call reads it: it says which bits of the word are the lane's
     /// own doing.
     pub raised: u32,
-    /// Where it is in its call.
-    pub phase: Phase,
 }
 
 impl Lane {
     ghost use Rattle.std.specs.Prelude.{◌≡◌};
-    ghost use Rattle.ob_core.specs.AskFault.{is_held, idle_refusal, refusal_of};
+    ghost use Rattle.ob_core.specs.AskFault.{is_held, refusal_of};
     ghost use Rattle.ob_core.specs.Opening.{new_lane};
     ghost use Rattle.ob_core.specs.Owed.{owed_by};
-    ghost use Rattle.ob_core.specs.Turn.{idle_step, step_of, lane_after_nothing};
+    ghost use Rattle.ob_core.specs.Turn.{step_of, lane_after_nothing};
 
-    /// A lane that owes nothing, has set no bit and is between two calls.
+    /// A lane that owes nothing and has set no bit.
     pub(crate) fn new(start: LaneStart) -> Lane
         ensures { result ≡ new_lane start }
     {
@@ -55,7 +41,6 @@ impl Lane {
             debt: None,
             held: start.bits,
             raised: 0,
-            phase: Phase::Idle,
         }
     }
 
@@ -73,18 +58,9 @@ impl Lane {
         0 < index && index < 32 && has_bit(self.held, index)
     }
 
-    /// Why the ask is refused, if it is. In the middle of a call the ask is ignored, so nothing is refused.
+    /// Why the ask is refused, if it is.
     pub(crate) fn refusal(self, ask: Ask) -> Option<AskFault>
         ensures { result ≡ refusal_of self ask }
-    {
-        match self.phase {
-            Phase::Idle => self.idle_refusal(ask),
-            Phase::ToRaise | Phase::ToLower => None,
-        }
-    }
-
-    fn idle_refusal(self, ask: Ask) -> Option<AskFault>
-        ensures { result ≡ idle_refusal self ask }
     {
         match ask {
             Ask::Charge(_) if self.debt.is_some() => Some(AskFault::Owing),
@@ -96,20 +72,9 @@ impl Lane {
         }
     }
 
-    /// The step that the lane makes at an ask that is not refused: what is left of its call, or the first step of
-    /// the call that is asked. A charge of 0 and its discharge make none.
+    /// The step that the lane makes at an ask that is not refused. A charge of 0 and its discharge make none.
     pub(crate) fn step(self, ask: Ask) -> Option<LaneStep>
         ensures { result ≡ step_of self ask }
-    {
-        match self.phase {
-            Phase::Idle => self.idle_step(ask),
-            Phase::ToRaise => Some(LaneStep::Raise),
-            Phase::ToLower => Some(LaneStep::Lower),
-        }
-    }
-
-    fn idle_step(self, ask: Ask) -> Option<LaneStep>
-        ensures { result ≡ idle_step self ask }
     {
         match ask {
             Ask::Charge(0) => None,
@@ -120,8 +85,7 @@ impl Lane {
             },
             Ask::Bit(index, true) => Some(LaneStep::ClearBit(index)),
             Ask::Bit(index, false) => Some(LaneStep::SetBit(index)),
-            Ask::Word => Some(LaneStep::LoadWord),
-            Ask::Total => Some(LaneStep::LoadTotal),
+            Ask::Word | Ask::Total => Some(LaneStep::Load),
             Ask::Go => None,
         }
     }
@@ -154,13 +118,6 @@ pub fn add_debts(lanes: &[Lane]) -> u64
     ensures { result ≡ sum_owed lanes.now }
 {
     lanes.iter().map(|lane| u64::from(lane.owed())).sum()
-}
-
-/// Whether each lane is between two calls.
-pub fn are_idle(lanes: &[Lane]) -> bool
-    ensures { IsTrue result ↔ All (λ lane. lane.phase ≡ Idle) lanes.now }
-{
-    lanes.iter().all(|lane| lane.phase == Phase::Idle)
 }
 
 /// The lane with this number, if there is one.

@@ -4,7 +4,7 @@
 pub mod accounts;
 pub mod steps;
 
-ghost use Rattle.std.specs.Prelude.{◌≡◌, ◌<◌, List, Bool, false};
+ghost use Rattle.std.specs.Prelude.{◌≡◌, ◌<◌, ◌≤◌, List, true, false};
 ghost use Rattle.ob_types.specs.WaterMark.{Marks};
 ghost use Rattle.ob_types.specs.declared.reply.Change.TheVariants.{Unwritable};
 ghost use Rattle.ob_core.specs.Bits.{is_set};
@@ -12,7 +12,6 @@ ghost use Rattle.ob_core.specs.CoreState.{CoreState};
 ghost use Rattle.ob_core.specs.OneStep.{IsOneStep};
 ghost use Rattle.ob_core.specs.Opening.{new_core, new_world};
 ghost use Rattle.ob_core.specs.Owed.{sum_owed};
-ghost use Rattle.ob_core.specs.Quiet.{IsQuiet};
 ghost use Rattle.ob_core.specs.Run.{answers_of, changes_in, core_after_all, AlternateFrom};
 ghost use Rattle.ob_core.specs.Turn.{event_of, core_after};
 ghost use Rattle.ob_core.specs.declared.ask.Turn.{Turn};
@@ -37,12 +36,23 @@ pub fn changes_alternate()
         AlternateFrom Unwritable (changes_in (answers_of (new_core marks starts) turns)) }
 {}
 
-/// Where the low mark is positive, the lanes owe nothing and no lane is in the middle of a call, bit 0 is clear.
-/// At a low mark of 0 it may stay set: no total is below 0.
+/// After any turns bit 0 is set if the total is above the high mark, and clear if it is below the low mark.
+pub fn the_mark_stands()
+    ensures above { (marks : Marks) (starts : List LaneStart) (turns : List Turn) →
+        marks.low ≤ marks.high →
+        marks.high < (core_after_all (new_core marks starts) turns).total →
+        is_set (core_after_all (new_core marks starts) turns).word 0 ≡ true }
+    ensures below { (marks : Marks) (starts : List LaneStart) (turns : List Turn) →
+        marks.low ≤ marks.high →
+        (core_after_all (new_core marks starts) turns).total < marks.low →
+        is_set (core_after_all (new_core marks starts) turns).word 0 ≡ false }
+{}
+
+/// If the low mark is positive and the lanes owe nothing, bit 0 is clear. At a low mark of 0 it may stay set: no total
+/// is below 0.
 pub fn bit_zero_is_clear_at_rest()
     ensures clear { (marks : Marks) (starts : List LaneStart) (turns : List Turn) →
         0 < marks.low →
         sum_owed (core_after_all (new_core marks starts) turns).lanes ≡ 0 →
-        IsQuiet (core_after_all (new_core marks starts) turns) →
         is_set (core_after_all (new_core marks starts) turns).word 0 ≡ false }
 {}

@@ -1,9 +1,9 @@
 //! The definitions, computed on small core states and steps.
 
 ghost use Rattle.ob_core.specs.Worked.{GoodAccounts, WrongTotal, ShownAndNotRaised, RaisedAndNotShown, HeldTwice};
-ghost use Rattle.ob_core.specs.Worked.{RaisedAndNotHeld, LostRoom, ForgottenMark, RaisingNothing, BusyWithoutRoom};
-ghost use Rattle.ob_core.specs.Worked.{OwingMoreThanRoom, BitGiven, BitGivenAndKept, Divided, Merged, Finds, Changes};
-ghost use Rattle.ob_core.specs.Worked.{WideBits, BitSet, BitCleared, OtherLeft};
+ghost use Rattle.ob_core.specs.Worked.{RaisedAndNotHeld, LostRoom, ForgottenMark, LostMark, Marked, OwingMoreThanRoom};
+ghost use Rattle.ob_core.specs.Worked.{BitGiven, BitGivenAndKept, Divided, Merged, Finds, WordsAfter, Changes};
+ghost use Rattle.ob_core.specs.Worked.{WideBits, BitSet, BitCleared, RestLeft};
 
 fn worked_accounts()
     ensures good { GoodAccounts }
@@ -14,8 +14,8 @@ fn worked_accounts()
     ensures raised_and_not_held { RaisedAndNotHeld }
     ensures lost_room { LostRoom }
     ensures forgotten_mark { ForgottenMark }
-    ensures raising_nothing { RaisingNothing }
-    ensures busy_without_room { BusyWithoutRoom }
+    ensures lost_mark { LostMark }
+    ensures marked { Marked }
     ensures owing_more_than_room { OwingMoreThanRoom }
 {}
 
@@ -28,9 +28,10 @@ fn worked_shares()
 
 fn worked_steps()
     ensures finds { Finds }
+    ensures words_after { WordsAfter }
     ensures changes { Changes }
     ensures wide_bits { WideBits }
     ensures bit_set { BitSet }
     ensures bit_cleared { BitCleared }
-    ensures other_left { OtherLeft }
+    ensures rest_left { RestLeft }
 {}

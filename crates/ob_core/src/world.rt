@@ -15,10 +15,10 @@ use ob_types::{Change, WaterMark};
 use std::alloc::Global;
 use std::marker::Model;
 
-/// The two words of an outbound buffer, a total and a word, and the lanes that change them.
+/// The one word of an outbound buffer, in its two halves, a total and a word of bits, and the lanes that change them.
 ///
-/// A schedule gives the lanes their turns. In a turn a lane makes one atomic step on one of the words, so what holds
-/// of a `World` under every schedule holds of every interleaving. It is our own machine for what Netty does with
+/// A schedule gives the lanes their turns. In a turn a lane makes one atomic step on the one word, so what holds of a
+/// `World` under every schedule holds of every interleaving. It is our own machine for what Netty does with
 /// `totalPendingSize` and `unwritable`.
 #[derive(Debug, Drop)]
 pub struct World {
@@ -43,8 +43,8 @@ impl Model for World {
 }
 
 impl World {
-    /// A world whose lanes are numbered from 0 in the order given. Both words are 0, no lane owes anything, and no
-    /// lane is in the middle of a call. The faults are asked in the order of `WorldFault`; `NoMemory` comes only
+    /// A world whose lanes are numbered from 0 in the order given. The total and the word are 0, and no
+    /// lane owes anything. The faults are asked in the order of `WorldFault`; `NoMemory` comes only
     /// where there is no other.
     pub fn new(alloc: Global, marks: WaterMark, starts: &[LaneStart]) -> Result<World, WorldFault>
         ensures fault { IfSome (opening_fault starts.now) (λ fault. result ≡ Err fault) }
@@ -66,9 +66,9 @@ impl World {
 
     /// Gives a lane its turn, and tells what it did. It takes no memory.
     ///
-    /// A lane between two calls begins the call that is asked, or refuses it. A lane in the middle of a call goes on
-    /// with it and ignores the ask. A refused ask changes nothing but that there is no last change then. A charge of
-    /// 0 and its discharge touch neither word, and the lane counts as owing in between.
+    /// A refused ask changes nothing but that there is no last change then. `Go` is refused with `NotInside` by every
+    /// lane there is, since each call is one step. A charge of 0 and its discharge do not touch the word, and the lane
+    /// counts as owing in between.
     pub fn turn(&mut self, turn: Turn) -> Event
         ensures event { result ≡ event_of self.old.core turn }
         ensures core { self.new.core ≡ core_after self.old.core turn }
@@ -87,10 +87,10 @@ impl World {
             return Event::Nothing;
         };
         let before = self.word;
+        self.word = step.word_after(self.marks, self.total, before);
         self.total = step.total_after(self.total);
-        self.word = step.word_after(before);
-        self.lanes[index] = step.lane_after(self.marks, self.total, lane);
+        self.lanes[index] = step.lane_after(lane);
         self.last_change = Change::between(before, self.word);
-        step.event()
+        turn.ask.event()
     }
 }

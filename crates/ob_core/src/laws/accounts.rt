@@ -1,7 +1,7 @@
-//! The accounts of the lanes: where they hold at the beginning, each step, each turn, each division and each merger
+//! The accounts of the lanes: if they hold at the beginning, each step, each turn, each division and each merger
 //! keeps them, and what follows from them.
 
-ghost use Rattle.std.specs.Prelude.{◌≡◌, ℕ, ◌+◌, ◌<◌, ◌≤◌, List, false, Some, None, slice_get};
+ghost use Rattle.std.specs.Prelude.{◌≡◌, ℕ, ◌+◌, ◌<◌, ◌≤◌, List, true, false, Some, None, slice_get};
 ghost use Rattle.std.specs.Int.{bit_at};
 ghost use Rattle.ob_types.specs.WaterMark.{Marks};
 ghost use Rattle.ob_core.specs.Accounts.{AccountsHold};
@@ -23,7 +23,7 @@ pub fn a_new_world_has_its_accounts()
         AccountsHold (opening_of marks starts) (new_core marks starts) }
 {}
 
-/// The accounts of a lone lane with the whole room and all bits hold, where these leave bit 0 to the mark.
+/// The accounts of a lone lane with the whole room and all bits hold, if these leave bit 0 to the mark.
 pub fn one_lane_has_its_accounts()
     ensures new { (opening : Opening) → is_set opening.bits 0 ≡ false →
         AccountsHold opening (one_lane opening) }
@@ -35,7 +35,7 @@ pub fn each_step_keeps_the_accounts()
         IsCoreStep old index step new → AccountsHold opening old → AccountsHold opening new }
 {}
 
-/// Each turn keeps the accounts, also one that is refused or touches neither word.
+/// Each turn keeps the accounts, also one that is refused or does not touch the word.
 pub fn each_turn_keeps_the_accounts()
     ensures kept { (opening : Opening) (core : CoreState) (turn : Turn) →
         AccountsHold opening core → AccountsHold opening (core_after core turn) }
@@ -69,8 +69,17 @@ pub fn accounts_show_held_bits()
         bit_at lane.held bit ≡ 1 → bit_at core.word bit ≡ bit_at lane.raised bit }
 {}
 
-/// Where a lane between two calls owes nothing and has the whole room, the total is 0, and at a positive low mark bit 0
-/// is clear: no lane has room left to be in the middle of a call.
+/// Bit 0 is set while the total is above the high mark, and clear while it is below the low mark.
+pub fn accounts_show_the_mark()
+    ensures above { (opening : Opening) (core : CoreState) →
+        AccountsHold opening core → opening.marks.low ≤ opening.marks.high → opening.marks.high < core.total →
+        is_set core.word 0 ≡ true }
+    ensures below { (opening : Opening) (core : CoreState) →
+        AccountsHold opening core → opening.marks.low ≤ opening.marks.high → core.total < opening.marks.low →
+        is_set core.word 0 ≡ false }
+{}
+
+/// If a lane owes nothing and has the whole room, the total is 0, and at a positive low mark bit 0 is clear.
 pub fn a_free_lane_with_the_whole_room_ends_at_nothing()
     ensures total { (opening : Opening) (core : CoreState) (index : ℕ) (lane : Lane) →
         AccountsHold opening core → slice_get core.lanes index ≡ Some lane → IsFree lane → opening.room ≤ lane.room →

@@ -1,9 +1,8 @@
-ghost use Rattle.std.specs.Prelude.{◌≡◌, ◌<◌, ◌↔◌, false, IsTrue};
+ghost use Rattle.std.specs.Prelude.{◌≡◌, ◌<◌, true, false};
 ghost use Rattle.ob_core.specs.Bits.{is_set};
 ghost use Rattle.ob_core.specs.Owed.{sum_owed};
-ghost use Rattle.ob_core.specs.Quiet.{IsQuiet};
 
-use crate::lane::{add_debts, are_idle};
+use crate::lane::add_debts;
 use crate::world::World;
 use ob_types::Change;
 
@@ -16,13 +15,14 @@ impl World {
         self.total
     }
 
-    /// The word: bit 0 is set where a mark was passed, bit i by the user bit with index i (Netty's `unwritable`).
-    /// Where the low mark is positive, nothing is owed and no lane is in the middle of a call, bit 0 is clear; at a
-    /// low mark of 0 it may stay set. It takes no memory.
+    /// The word: bit 0 is the mark's, and bit i is the user bit with index i (Netty's `unwritable`). Bit 0 is set while
+    /// the total is above the high mark, and clear while it is below the low mark. If the low mark is positive and
+    /// nothing is owed, bit 0 is clear; at a low mark of 0 it may stay set. It takes no memory.
     pub fn word(&self) -> u32
         ensures value { result ≡ self.now.core.word }
-        ensures at_rest { 0 < self.now.core.marks.low → sum_owed self.now.core.lanes ≡ 0 → IsQuiet self.now.core →
-            is_set result 0 ≡ false }
+        ensures above { self.now.core.marks.high < self.now.core.total → is_set result 0 ≡ true }
+        ensures below { self.now.core.total < self.now.core.marks.low → is_set result 0 ≡ false }
+        ensures at_rest { 0 < self.now.core.marks.low → sum_owed self.now.core.lanes ≡ 0 → is_set result 0 ≡ false }
     {
         self.word
     }
@@ -34,14 +34,15 @@ impl World {
         add_debts(&self.lanes) as u32
     }
 
-    /// Whether no lane is in the middle of a call. It takes no memory.
+    /// Whether no lane is in the middle of a call. None ever is, since each call is one step, so this is always true.
+    /// It takes no memory.
     pub fn quiet(&self) -> bool
-        ensures { IsTrue result ↔ IsQuiet self.now.core }
+        ensures { result ≡ true }
     {
-        are_idle(&self.lanes)
+        true
     }
 
-    /// How the last turn turned writability, if it did: `Unwritable` where the word was 0 before it and is not 0
+    /// How the last turn turned writability, if it did: `Unwritable` if the word was 0 before it and is not 0
     /// after it, `Writable` in the opposite case. There is none before the first turn. It takes no memory.
     pub fn last_change(&self) -> Option<Change>
         ensures { result ≡ self.now.last_change }

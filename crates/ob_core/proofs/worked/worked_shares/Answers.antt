@@ -3,15 +3,14 @@ use Rattle.std.proofs.lemmas.Nat.Bits.{bit_at-zero}
 use Rattle.ob_core.specs.Shares.{AreShares}
 use Rattle.ob_core.specs.Worked.{second_lane}
 use Rattle.ob_core.specs.declared.lane.Lane.{Lane}
-use Rattle.ob_core.specs.declared.lane.Phase.TheVariants.{Idle}
 use Rattle.ob_core.proofs.BitLemmas.{ShareOut-and}
 use Rattle.ob_core.proofs.ShareLemmas.{AreShares-cut}
 use Rattle.ob_core.proofs.worked.worked_shares.Goals as goal
 
 pub returns-clause-bit_given : goal.returns-clause-bit_given
 returns-clause-bit_given c =
-    let lane : Lane = record { room = 10; debt = None; held = 6; raised = 2; phase = Idle } in
-    AreShares-cut w32 lane 0 4 (record { idle = refl; debt = refl })
+    let lane : Lane = record { room = 10; debt = None; held = 6; raised = 2 } in
+    AreShares-cut w32 lane 0 4 (record { debt = refl })
     (λ i. omega (arith, ShareOut-and w32 6 4 (omega arith) (omega arith) i)) (omega arith) (omega arith) (omega arith)
     (omega arith)
 
@@ -22,9 +21,9 @@ returns-clause-bit_given_and_kept c = λ shares.
 -- half of the room, 40 of it kept and 20 given, with no bit
 forty_and_twenty : AreShares second_lane (record second_lane { room = 40 }) (record second_lane { room = 20; held = 0 })
 forty_and_twenty = record {
-  whole_free = record { idle = refl; debt = refl };
-  first_free = record { idle = refl; debt = refl };
-  second_free = record { idle = refl; debt = refl };
+  whole_free = record { debt = refl };
+  first_free = record { debt = refl };
+  second_free = record { debt = refl };
   rooms = refl;
   held = λ i. omega (arith, bit_at-zero i);
   raised = λ i. omega (arith, bit_at-zero i);

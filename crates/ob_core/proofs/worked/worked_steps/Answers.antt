@@ -1,4 +1,4 @@
-use Rattle.std.proofs.Common.{◌≢◌, ℕ, refl, arith}
+use Rattle.std.proofs.Common.{◌≡◌, ◌≢◌, ℕ, refl, arith}
 use Rattle.std.specs.Int.{bit_at}
 use Rattle.ob_core.specs.Bits.{PutsBit}
 use Rattle.ob_core.proofs.BitLemmas.{SetsBit-with_bit, ClearsBit-without_bit}
@@ -26,10 +26,16 @@ returns-clause-bit_cleared c =
     only_first 0 6 4 5 0 (ClearsBit-without_bit 6 1) (λ same. absurd (omega (arith, same)))
     (λ same. absurd (omega (arith, same))) (λ same. absurd (omega (arith, same)))
 
-pub returns-clause-other_left : goal.returns-clause-other_left
-returns-clause-other_left c = (
+-- bits 1 and above of 6 are those of 7
+seven : (i : ℕ) → i ≢ 0 → bit_at 7 i ≡ bit_at 6 i
+seven i other = (SetsBit-with_bit 6 0).others i other
+
+pub returns-clause-rest_left : goal.returns-clause-rest_left
+returns-clause-rest_left c = (
+  seven,
+  (λ left. let wrong : bit_at 4 1 ≡ bit_at 6 1 = left 1 (λ same. absurd (omega (arith, same))) in
+      absurd (omega (arith, wrong))),
   refl,
   (λ left. absurd (omega (arith, left))),
-  refl,
-  (λ left. absurd (omega (arith, left))),
+  (λ left. absurd (omega (arith, left.1))),
 )

@@ -12,6 +12,13 @@ invariant_of-self-in_default-step c =
     let no_step = sym c.in_default-step.ensures in
     rw c.after_nothing.ensures (IsSound-turn_nothing core c.args.turn c.in-Some.lane has no_step c.self.invariant)
 
+pub word_after-self-inside-requires-clause-total : goal.word_after-self-inside-requires-clause-total
+word_after-self-inside-requires-clause-total c =
+    let core = core_of c.self.inside in
+    let has = HasTurn-found core c.args.turn c.in-Some.ensures c.deref.ensures.value c.in_default-refusal.ensures in
+    let is_step = sym c.in-Some-step.ensures in
+    FitsTotal-turn core c.args.turn c.in-Some.lane c.in-Some-step.step has is_step c.self.invariant
+
 pub total_after-self-inside-requires : goal.total_after-self-inside-requires
 total_after-self-inside-requires c =
     let core = core_of c.self.inside in
