@@ -1,26 +1,29 @@
 -- What the words hold when one lane has the whole room.
-use Rattle.std.proofs.Common.{◌≡◌, ℕ, ◌^◌, ◌<◌, ◌≤◌, false, List, map, Some, sym, ap, ◌∙◌, arith}
+use Rattle.std.proofs.Common.{◌≡◌, ℕ, ◌<◌, ◌≤◌, false, List, map, Some, sym, ap, ◌∙◌}
 use Rattle.std.specs.Int.{bit_at}
-use Rattle.std.specs.List.{slice_get}
+use Rattle.std.specs.List.{All, slice_get}
 use Rattle.atomic_table.specs.declared.shared.Seat.{Seat}
+use Rattle.ob_types.specs.Packed.{word_half, total_half}
 use Rattle.ob_core.specs.Bits.{is_set}
 use Rattle.ob_core.specs.declared.lane.Lane.{Lane}
 use Rattle.ob_core.specs.Opening.{Opening}
 use Rattle.ob_core.specs.Shares.{IsFree}
-use Rattle.ob_lanes.specs.InRun.{EndsRun}
+use Rattle.ob_lanes.specs.InRun.{EndsRun, EndedIn}
+use Rattle.ob_lanes.specs.Ruled.{HasEnded}
+use Rattle.std.proofs.lemmas.List.Elements.{All-weaker}
 use Rattle.ob_lanes.specs.Inside.{IsEnd}
 use Rattle.ob_lanes.specs.RunningLane.{RunningLane, ShowsHeld}
 use Rattle.ob_lanes.specs.declared.facts.Facts.{Facts}
 use Rattle.ob_core.proofs.AccountsLemmas.{shown-held}
 use Rattle.ob_core.proofs.EndLemmas.{nothing_left, mark_clear}
-use Rattle.ob_lanes.proofs.KeptAccounts.{word_fits, not_opened}
-use Rattle.ob_lanes.proofs.Moves.{core, stands}
-use Rattle.ob_lanes.proofs.Views.{slice_get_map}
+use Rattle.ob_lanes.proofs.KeptAccounts.{not_opened}
+use Rattle.ob_lanes.proofs.Moves.{core, stands, begins_seen, of_seat}
+use Rattle.ob_lanes.proofs.Views.{slice_get_map, made_at-here, spent-apart}
 
 abbrev lane_of : Facts → Lane
 lane_of facts = facts.lane
 
-module _ (opening : Opening) (seat : Seat (Unit {0}) Facts) (total word : ℕ) (end : IsEnd opening seat total word) where
+module _ (opening : Opening) (seat : Seat (Unit {0}) Facts) (both : ℕ) (end : IsEnd opening seat both) where
   abbrev facts : Facts
   facts = seat.me.0
 
@@ -30,39 +33,53 @@ module _ (opening : Opening) (seat : Seat (Unit {0}) Facts) (total word : ℕ) (
   at_lane : slice_get lanes seat.id ≡ Some facts.lane
   at_lane = slice_get_map lane_of end.state.views seat.id facts end.at
 
-  pub word_below : opening.bits < 2 ^ 32 → word < 2 ^ 32
-  word_below fits = let below =
-      word_fits opening (core opening end.state) end.ruled.accounts fits in omega (arith, below, end.word_is)
-
-  pub held_shown : ShowsHeld facts.lane word
+  pub held_shown : ShowsHeld facts.lane (word_half both)
   held_shown index held =
-      ap (λ n. bit_at n index) (sym end.word_is)
+      ap (λ n. bit_at n index) (ap word_half (sym end.both_is))
       ∙ shown-held opening (core opening end.state) seat.id facts.lane index end.ruled.accounts.bits at_lane held
 
+  -- each lane that the seat has taken in stands in the run
+  all_ended : facts.spent ≡ false → All (EndedIn end.ruled.run.moves seat.id) facts.taken
+  all_ended live =
+      let run = end.ruled.run in
+      let views = end.state.views in
+      All-weaker (HasEnded views) (EndedIn run.moves seat.id) (λ one has. record {
+        place = has.seat;
+        apart = spent-apart views seat.id has.seat facts has.facts end.at live has.at has.spent;
+        is_named = ap (λ names. slice_get names has.seat) (sym run.named)
+            ∙ slice_get_map (λ (f : Facts). f.name) views has.seat has.facts has.at ∙ ap Some has.name;
+        is_made = run.own has.seat ∙ made_at-here views has.seat has.facts has.at ∙ has.made;
+      }) facts.taken
+      (of_seat (λ (f : Facts). All (HasEnded views) f.taken) end.state seat.id facts end.ruled.taken end.at)
+
   pub runs : (lane : RunningLane) → lane.words.opening ≡ opening → lane.lane ≡ facts.lane → lane.made ≡ facts.made
-      → EndsRun lane total word
-  runs lane same_opening same_lane same_made =
+      → lane.seen ≡ facts.seen → lane.name ≡ facts.name → lane.taken ≡ facts.taken → facts.spent ≡ false → EndsRun lane (total_half both) (word_half both)
+  runs lane same_opening same_lane same_made same_seen same_name same_taken live =
       let here = stands opening end.state seat.id facts end.ruled end.at in
       record {
         core = core opening end.state;
-        in_run = rw (same_opening, same_lane, same_made) here;
-        total_is = end.total_is;
-        word_is = end.word_is;
+        moves = end.ruled.run.moves;
+        seat = seat.id;
+        in_run = rw (same_opening, same_lane, same_made, same_name) here;
+        begins = rw same_seen (begins_seen opening end.state seat.id facts end.ruled end.at);
+        ended = rw same_taken (all_ended live);
+        total_is = ap total_half end.both_is;
+        word_is = ap word_half end.both_is;
       }
 
   -- no lane has raised a bit that the opening has not
-  pub foreign_clear : (index : ℕ) → 0 < index → bit_at opening.bits index ≡ 0 → bit_at word index ≡ 0
+  pub foreign_clear : (index : ℕ) → 0 < index → bit_at opening.bits index ≡ 0 → bit_at (word_half both) index ≡ 0
   foreign_clear index user none =
-      ap (λ n. bit_at n index) (sym end.word_is)
+      ap (λ n. bit_at n index) (ap word_half (sym end.both_is))
       ∙ not_opened opening (core opening end.state) index end.ruled.accounts user none
 
   module _ (free : IsFree facts.lane) (whole : opening.room ≤ facts.lane.room) where
-    pub none_left : total ≡ 0
+    pub none_left : total_half both ≡ 0
     none_left =
-        sym end.total_is ∙ nothing_left opening (core opening end.state) seat.id facts.lane end.ruled.accounts at_lane
+        ap total_half (sym end.both_is) ∙ nothing_left opening (core opening end.state) seat.id facts.lane end.ruled.accounts at_lane
         free whole
 
-    pub mark_is_clear : 0 < opening.marks.low → is_set word 0 ≡ false
+    pub mark_is_clear : 0 < opening.marks.low → is_set (word_half both) 0 ≡ false
     mark_is_clear positive =
-        ap (λ n. is_set n 0) (sym end.word_is)
+        ap (λ n. is_set n 0) (ap word_half (sym end.both_is))
         ∙ mark_clear opening (core opening end.state) seat.id facts.lane end.ruled.accounts at_lane free whole positive

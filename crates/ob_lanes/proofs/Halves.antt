@@ -31,8 +31,8 @@ module _ (room bits : ℕ) (lane : Lane) (enough : room ≤ lane.room) (among : 
   -- what a caller is told of a split
   is_split : IsSplit room bits lane (kept_lane room bits lane) (given_lane room bits lane)
   is_split = record {
-    first_free = record { idle = refl; debt = refl };
-    second_free = record { idle = refl; debt = refl };
+    first_free = record { debt = refl };
+    second_free = record { debt = refl };
     rooms = omega (arith, enough);
     second_room = refl;
     held = held_shared;
@@ -59,8 +59,8 @@ module _ (room bits : ℕ) (lane : Lane) (enough : room ≤ lane.room) (among : 
       → AreShares lane (kept_lane room bits lane) (given_lane room bits lane)
   shares free within = record {
     whole_free = free;
-    first_free = record { idle = refl; debt = refl };
-    second_free = record { idle = refl; debt = refl };
+    first_free = record { debt = refl };
+    second_free = record { debt = refl };
     rooms = omega (arith, enough);
     held = held_shared;
     raised = raised_shared;
@@ -106,7 +106,7 @@ split_told room bits lane seated first second is_lane enough among is_first is_s
 -- what a caller is told of a join
 is_joined : (whole : ℕ) (lane other : Lane) → IsJoined whole lane other (both_lanes whole lane other)
 is_joined whole lane other = record {
-  free = record { idle = refl; debt = refl };
+  free = record { debt = refl };
   room = refl;
   held = bit_at_or lane.held other.held;
   raised = bit_at_or lane.raised other.raised;
@@ -121,7 +121,7 @@ pub are_merged : (whole : ℕ) (lane other : Lane) → IsFree lane → IsFree ot
     → AreAmong other.raised other.held → lane.room + other.room ≤ whole
     → ((i : ℕ) → bit_at lane.held i + bit_at other.held i ≤ 1) → AreShares (both_lanes whole lane other) lane other
 are_merged whole lane other free other_free within other_within fits apart = record {
-  whole_free = record { idle = refl; debt = refl };
+  whole_free = record { debt = refl };
   first_free = free;
   second_free = other_free;
   rooms = omega (arith, fits);

@@ -9,7 +9,9 @@ use Rattle.std.proofs.lemmas.Nat.{div-add-mod', pow_pos}
 use Rattle.std.proofs.lemmas.Nat.Bits.{bit_at_above, bit_at_cat_low, same_from_bits}
 use Rattle.ob_core.proofs.AccountsLemmas.{AccountsHold-step}
 use Rattle.ob_core.proofs.OpeningLemmas.{AccountsHold-one_lane}
-use Rattle.ob_lanes.specs.Run.{Move, steps, divides, merges, IsMove, Leads}
+use Rattle.ob_lanes.specs.Run.{IsMove, Leads}
+use Rattle.ob_lanes.specs.declared.facts.Move.{Move}
+use Rattle.ob_lanes.specs.declared.facts.Move.TheVariants.{Steps, Divides, Merges}
 use Rattle.ob_core.specs.Bits.{is_set}
 use Rattle.ob_core.proofs.LaneSums.{sum_by-le-each}
 use Rattle.ob_core.proofs.ShareLemmas.{AccountsHold-division, AccountsHold-merger}
@@ -43,11 +45,11 @@ accounts_after_merger opening old new index other both is holds =
 -- so each move keeps them, and a run
 accounts_after_move : (opening : Opening) (old new : CoreState) (move : Move) → IsMove old move new
     → AccountsHold opening old → AccountsHold opening new
-accounts_after_move opening old new (steps seat step found) is holds =
+accounts_after_move opening old new (Steps seat step found) is holds =
     accounts_after_step opening old new seat step is.0 holds
-accounts_after_move opening old new (divides seat kept given) is holds =
+accounts_after_move opening old new (Divides seat kept given name) is holds =
     accounts_after_division opening old new seat kept given is holds
-accounts_after_move opening old new (merges seat other both) is holds =
+accounts_after_move opening old new (Merges seat other both) is holds =
     accounts_after_merger opening old new seat other both is holds
 
 pub accounts_after_run : (opening : Opening) (moves : List Move) (core : CoreState) → is_set opening.bits 0 ≡ false

@@ -1,10 +1,14 @@
-mod Allowed
-mod KeptAccounts
-mod Ends
-mod Halves
+pub mod Allowed
+pub mod Ends
+pub mod Halves
 pub mod HeldBits
-mod Masks
-mod Seats
-mod Views
-mod Moves
-mod WorkedRuns
+pub mod KeptAccounts
+pub mod Masks
+pub mod Moves
+pub mod Packs
+pub mod Runs
+pub mod Seats
+pub mod Tries
+pub mod Turns
+pub mod Views
+pub mod WorkedRuns

@@ -1,175 +1,219 @@
 -- A step of one lane keeps what holds between any two steps.
-use Rattle.std.proofs.Common.{◌≡◌, ℕ, List, [], ◌∷◌, ◌++◌, length, map, set, get_or, cond, eqb}
-use Rattle.std.proofs.Common.{sym, refl, ap, ◌∙◌, subst, length-set}
+use Rattle.std.proofs.Common.{◌≡◌, ℕ, ◌<◌, ◌^◌, List, [], ◌∷◌, ◌++◌, length, map, set, get_or, cond, eqb}
+use Rattle.std.proofs.Common.{sym, refl, ap, ◌∙◌, subst, length-set, Some, true, false, arith}
 use mathlib.Core.Option.{some}
 use lib.ListN.{get_elem?}
-use Rattle.std.proofs.lemmas.List.{map-set}
-use Rattle.std.proofs.lemmas.List.Elements.{All-set}
+use Rattle.std.specs.List.{All, slice_get}
+use Rattle.std.proofs.lemmas.List.{map-set, get_or-set_same}
+use Rattle.std.proofs.lemmas.List.Elements.{All-set, All-weaker}
 use Rattle.std.proofs.lemmas.Option.{slice_get_within, get_or_from_slice_get}
 use Rattle.atomic_table.specs.Table.{State, Me, Act, keeps, Valid, stepped, carried_after}
-use Rattle.atomic_table.proofs.Lists.{set_here}
-use Rattle.ob_types.specs.WaterMark.{Marks}
+use Rattle.atomic_table.proofs.Lists.{set_here, set_else}
+use Rattle.ob_types.specs.Packed.{word_half, total_half}
+use Rattle.ob_core.specs.Accounts.{AccountsHold}
 use Rattle.ob_core.specs.CoreState.{CoreState}
-use Rattle.ob_core.specs.CoreStep.{IsCoreStep}
-use Rattle.ob_core.specs.LaneStep.{CanMake, total_after, word_after, lane_after}
+use Rattle.ob_core.specs.CoreStep.{IsCoreStep, core_after_step}
+use Rattle.ob_core.specs.LaneStep.{CanMake, total_after, word_after}
+use Rattle.ob_core.specs.Opening.{Opening}
 use Rattle.ob_core.specs.declared.lane.Lane.{Lane}
 use Rattle.ob_core.specs.declared.lane_step.LaneStep.{LaneStep}
-use Rattle.ob_core.specs.declared.lane_step.LaneStep.TheVariants.{Add, Subtract, Raise, Lower, SetBit, ClearBit}
-use Rattle.ob_core.specs.declared.lane_step.LaneStep.TheVariants.{LoadWord, LoadTotal}
+use Rattle.ob_core.proofs.AccountsLemmas.{AccountsHold-step, total-le-room}
+use Rattle.ob_core.proofs.FoundLemmas.{word_half-packed, total_half-packed}
+use Rattle.ob_lanes.specs.Begins.{BeginsWithAll}
 use Rattle.ob_lanes.specs.Facts.{facts_after}
-use Rattle.ob_lanes.specs.Ruled.{Ruled, HasRun, core_of}
-use Rattle.ob_lanes.specs.Run.{steps}
-use Rattle.ob_core.specs.Found.{value_found}
-use Rattle.ob_core.specs.Opening.{Opening}
 use Rattle.ob_lanes.specs.InRun.{IsInRun}
-use Rattle.ob_lanes.specs.Told.{Told, Tells, KnowsItsRun}
+use Rattle.ob_lanes.specs.Packed.{packed_after}
+use Rattle.ob_lanes.specs.Ruled.{Ruled, HasEnded, HasRun, core_of}
+use Rattle.ob_lanes.specs.Sees.{Sees}
+use Rattle.ob_lanes.specs.Told.{Told, PackedTold, FactsSee}
 use Rattle.ob_lanes.specs.declared.facts.Facts.{Facts}
 use Rattle.ob_lanes.specs.declared.facts.Made.{Made}
+use Rattle.ob_lanes.specs.declared.facts.Move.{Move}
+use Rattle.ob_lanes.specs.declared.facts.Move.TheVariants.{Steps}
 use Rattle.ob_lanes.proofs.KeptAccounts.{accounts_after_step}
-use Rattle.ob_lanes.proofs.Views.{slice_get_elem, slice_get_map, made_at-set, made_at-here}
+use Rattle.ob_lanes.proofs.Packs.{halves_packed}
+use Rattle.ob_lanes.proofs.Runs.{begins_itself, begins_one, begins_all_more}
+use Rattle.ob_lanes.proofs.Views.{slice_get_elem, slice_get_map, made_at-set, made_at-here, map-same}
+use Rattle.ob_lanes.proofs.Views.{spent-apart, ended-stays, all-ended-stay}
 
 abbrev pub St : Type 0
 St = State (Unit {0}) Facts
 
--- the core state that the words and facts are
+abbrev lane_of : Facts → Lane
+lane_of facts = facts.lane
+
+-- the core state that the word and the facts are
 abbrev pub core : Opening → St → CoreState
 core opening s = core_of opening s.words s.views
 
--- each seat knows what the words were opened with
+-- what holds of each seat holds of the one
+pub of_seat : (P : Facts → Type 0) (s : St) (id : ℕ) (facts : Facts) → All P s.views → get_elem? s.views id ≡ some facts
+    → P facts
+of_seat P s id facts all at =
+    let here = slice_get_elem s.views id facts at in
+    subst P (get_or_from_slice_get s.views id facts facts here) (all id facts (slice_get_within s.views id facts here))
+
+-- each seat knows what the word was opened with
 pub opening_known : (opening : Opening) (s : St) (id : ℕ) (facts : Facts) → Ruled opening s
     → get_elem? s.views id ≡ some facts → facts.opening ≡ opening
-opening_known opening s id facts ruled at =
-    let here = slice_get_elem s.views id facts at in
-    let P : Facts → Type 0 = λ f. f.opening ≡ opening in
-    subst P (get_or_from_slice_get s.views id facts facts here)
-    (ruled.one_opening id facts (slice_get_within s.views id facts here))
+opening_known opening s id facts ruled at = of_seat (λ f. f.opening ≡ opening) s id facts ruled.one_opening at
+
+-- the one run begins with all that a seat has seen
+pub begins_seen : (opening : Opening) (s : St) (id : ℕ) (facts : Facts) (ruled : Ruled opening s)
+    → get_elem? s.views id ≡ some facts → BeginsWithAll ruled.run.moves facts.seen
+begins_seen opening s id facts ruled at =
+    of_seat (λ f. BeginsWithAll ruled.run.moves f.seen) s id facts ruled.run.begins at
 
 -- each seat stands in the run that there is
-pub stands : (opening : Opening) (s : St) (id : ℕ) (facts : Facts) → Ruled opening s → get_elem? s.views id ≡ some facts
-    → IsInRun opening (core opening s) facts.lane facts.made
+pub stands : (opening : Opening) (s : St) (id : ℕ) (facts : Facts) (ruled : Ruled opening s)
+    → get_elem? s.views id ≡ some facts
+    → IsInRun opening ruled.run.moves (core opening s) id facts.name facts.lane facts.made
 stands opening s id facts ruled at = record {
-  moves = ruled.run.moves;
   leads = ruled.run.leads;
-  seat = id;
   is_lane = slice_get_map (λ (f : Facts). f.lane) s.views id facts at;
+  is_named = ap (λ names. slice_get names id) (sym ruled.run.named)
+      ∙ slice_get_map (λ (f : Facts). f.name) s.views id facts at;
   is_made = ruled.run.own id ∙ made_at-here s.views id facts at;
 }
 
--- so it knows
-knows : (opening : Opening) (s : St) (id : ℕ) (facts : Facts) → Ruled opening s → get_elem? s.views id ≡ some facts
-    → KnowsItsRun facts
-knows opening s id facts ruled at = (
-  core opening s,
-  subst (λ o. IsInRun o (core opening s) facts.lane facts.made)
-      (sym (opening_known opening s id facts ruled at)) (stands opening s id facts ruled at),
-)
+-- what a seat has seen that makes a step now
+abbrev pub sees_now : (opening : Opening) (s : St) → Ruled opening s → ℕ → LaneStep → ℕ → List (List Move)
+sees_now opening s ruled id step found = (Steps id step found ∷ ruled.run.moves) ∷ []
 
--- where a step leaves its lane is read off the value that it found
-lane_after_found : (step : LaneStep) (marks : Marks) (lane : Lane) (c : CoreState)
-    → lane_after step marks (total_after step (value_found step c)) lane
-    ≡ lane_after step marks (total_after step c.total) lane
-lane_after_found (Add amount) marks lane c = refl
-lane_after_found (Subtract amount) marks lane c = refl
-lane_after_found Raise marks lane c = refl
-lane_after_found Lower marks lane c = refl
-lane_after_found (SetBit index) marks lane c = refl
-lane_after_found (ClearBit index) marks lane c = refl
-lane_after_found LoadWord marks lane c = refl
-lane_after_found LoadTotal marks lane c = refl
-
-record Steps (opening : Opening) (s : St) (id : ℕ) (facts : Facts) (step : LaneStep) (found : ℕ)
-    (words : List ℕ) : Type 0 where
+-- the seat is there, its lane may make the step, and that makes this of the word
+record Makes (opening : Opening) (s : St) (id : ℕ) (facts : Facts) (step : LaneStep) (words : List ℕ) : Type 0 where
   at : get_elem? s.views id ≡ some facts
+  live : facts.spent ≡ false
   may : CanMake facts.lane step
-  nine : length words ≡ 9
-  finds : found ≡ value_found step (core opening s)
-  total : get_or words 0 0 ≡ total_after step (get_or s.words 0 0)
-  word : get_or words 8 0 ≡ word_after step (get_or s.words 8 0)
+  one : length words ≡ 1
+  room_fits : opening.room < 2 ^ 32
+  both : get_or words 0 0 ≡ packed_after step opening.marks (get_or s.words 0 0)
 
-module _ (opening : Opening) (s : St) (id : ℕ) (facts : Facts) (step : LaneStep) (found : ℕ) (words : List ℕ)
-    (ruled : Ruled opening s) (t : Steps opening s id facts step found words) where
+module _ (opening : Opening) (s : St) (id : ℕ) (facts : Facts) (step : LaneStep) (words : List ℕ)
+    (ruled : Ruled opening s) (t : Makes opening s id facts step words) where
+  abbrev found : ℕ
+  found = get_or s.words 0 0
+
   abbrev new : Facts
-  new = facts_after step found facts
+  new = facts_after step found (sees_now opening s ruled id step found) facts
 
-  lane_is : new.lane ≡ lane_after step opening.marks (total_after step (get_or s.words 0 0)) facts.lane
-  lane_is =
-      ap (λ (o : Opening). lane_after step o.marks (total_after step found) facts.lane)
-      (opening_known opening s id facts ruled t.at)
-      ∙ ap (λ n. lane_after step opening.marks (total_after step n) facts.lane) t.finds
-      ∙ lane_after_found step opening.marks facts.lane (core opening s)
+  at_lane : slice_get (map lane_of s.views) id ≡ Some facts.lane
+  at_lane = slice_get_map lane_of s.views id facts t.at
 
-  lanes_are : map (λ (f : Facts). f.lane) (set s.views id new)
-      ≡ set (map (λ (f : Facts). f.lane) s.views) id
-      (lane_after step opening.marks (total_after step (get_or s.words 0 0)) facts.lane)
-  lanes_are =
-      map-set (λ (f : Facts). f.lane) s.views id new
-      ∙ ap (λ lane. set (map (λ (f : Facts). f.lane) s.views) id lane) lane_is
+  -- the total stays within the whole room, so it never reaches the word
+  small : total_after step (total_half found) < 4294967296
+  small =
+      let accounts : AccountsHold opening (core_after_step (core opening s) id facts.lane step) =
+      AccountsHold-step opening (core opening s) id facts.lane step at_lane t.may ruled.accounts in
+      omega (arith, total-le-room opening (core_after_step (core opening s) id facts.lane step) accounts.bytes, t.room_fits)
+
+  total_is : total_half (get_or words 0 0) ≡ total_after step (total_half found)
+  total_is = ap total_half t.both ∙ total_half-packed _ _ small
+
+  word_is : word_half (get_or words 0 0) ≡ word_after step opening.marks (total_half found) (word_half found)
+  word_is = ap word_half t.both ∙ word_half-packed _ _ small
 
   is_step : IsCoreStep (core opening s) id step (core_of opening words (set s.views id new))
   is_step = record {
     lane = facts.lane;
-    is_lane = slice_get_map (λ (f : Facts). f.lane) s.views id facts t.at;
+    is_lane = at_lane;
     allowed = t.may;
-    after = λ i. record { total = t.total i; word = t.word i; marks = opening.marks; lanes = lanes_are i };
+    after = λ i. record {
+      total = total_is i;
+      word = word_is i;
+      marks = opening.marks;
+      lanes = map-set lane_of s.views id new i;
+    };
   }
 
   has_run : HasRun opening (core_of opening words (set s.views id new)) (set s.views id new)
   has_run =
       let run = ruled.run in
       let own = (record { step = step; found = found }) ∷ [] in
+      let move : Move = Steps id step found in
+      let Begun : Facts → Type 0 = λ f. BeginsWithAll (move ∷ run.moves) f.seen in
       record {
-        moves = steps id step found ∷ run.moves;
-        leads = (core opening s, run.leads, (is_step, t.finds));
+        moves = move ∷ run.moves;
+        leads = (core opening s, run.leads, (is_step, sym (halves_packed found)));
         own = λ seat. ap (λ (made : List Made). made ++ cond (eqb id seat) own []) (run.own seat)
             ∙ sym (made_at-set s.views id facts new own t.at refl seat);
+        named = map-same (λ (f : Facts). f.name) s.views id facts new t.at refl ∙ run.named;
+        begins = All-set Begun s.views id new (begins_one _ _ (begins_itself (move ∷ run.moves)))
+            (All-weaker (λ (f : Facts). BeginsWithAll run.moves f.seen) Begun
+            (λ f. begins_all_more move run.moves f.seen) s.views run.begins);
       }
+
+  -- seats that are spent stay
+  spent_stay : (seat : ℕ) (other : Facts) → get_elem? s.views seat ≡ some other → other.spent ≡ true
+      → get_elem? (set s.views id new) seat ≡ some other
+  spent_stay seat other their_at spent =
+      set_else s.views id seat new (spent-apart s.views id seat facts other t.at t.live their_at spent) ∙ their_at
+
+  all_taken : All (λ (f : Facts). All (HasEnded (set s.views id new)) f.taken) (set s.views id new)
+  all_taken =
+      let Taken : Facts → Type 0 = λ f. All (HasEnded (set s.views id new)) f.taken in
+      All-set Taken s.views id new
+      (ended-stays s.views (set s.views id new) spent_stay facts.taken
+      (of_seat (λ (f : Facts). All (HasEnded s.views) f.taken) s id facts ruled.taken t.at))
+      (all-ended-stay s.views (set s.views id new) spent_stay ruled.taken)
 
   Ruled-step : Ruled opening (record { words = words; homes = s.homes; views = set s.views id new })
   Ruled-step = record {
-    nine_words = t.nine;
+    one_word = t.one;
     one_opening =
         All-set (λ (f : Facts). f.opening ≡ opening) s.views id new
         (opening_known opening s id facts ruled t.at) ruled.one_opening;
     accounts = accounts_after_step opening (core opening s) _ id step is_step ruled.accounts;
     run = has_run;
+    taken = all_taken;
   }
 
--- a step tells the lane that makes it
-told_after : (opening : Opening) (s : St) (id : ℕ) (me : Me (Unit {0}) Facts) (step : LaneStep) (found : ℕ)
-    (words : List ℕ) → Ruled opening s → Steps opening s id me.0 step found words → Tells step me.0 found
-    → Told step me found (facts_after step found me.0, me.1)
-told_after opening s id me step found words ruled t tells =
-    let new = facts_after step found me.0 in
-    let there = slice_get_within s.views id me.0 (slice_get_elem s.views id me.0 t.at) in
-    record {
-      after = refl;
-      slots = refl;
-      tells = tells;
-      run = knows opening _ id new (Ruled-step opening s id me.0 step found words ruled t)
-          (set_here s.views id new there);
-    }
+  sees_step : Sees opening facts.seen step found new.name new.lane new.made new.seen
+  unfolding Ruled-step has_run
+  sees_step = record {
+    seat = id;
+    before = ruled.run.moves;
+    at = core opening s;
+    core = core_of opening words (set s.views id new);
+    leads = ruled.run.leads;
+    total_found = refl;
+    word_found = refl;
+    seen_is = refl;
+    begins = begins_seen opening s id facts ruled t.at;
+    in_run = stands opening (record { words = words; homes = s.homes; views = set s.views id new }) id new Ruled-step
+        (set_here s.views id new (slice_get_within s.views id facts (slice_get_elem s.views id facts t.at)));
+  }
 
--- so a table may let the lane make a step that writes this into the word with this number
-pub may_make : (opening : Opening) (s : St) (id cell value : ℕ) (me : Me (Unit {0}) Facts) (step : LaneStep) (found : ℕ)
-    → Ruled opening s → get_elem? s.views id ≡ some me.0 → CanMake me.0.lane step
-    → found ≡ value_found step (core opening s)
-    → get_or (set s.words cell value) 0 0 ≡ total_after step (get_or s.words 0 0)
-    → get_or (set s.words cell value) 8 0 ≡ word_after step (get_or s.words 8 0) → Tells step me.0 found
+  knows_step : FactsSee step found facts new
+  knows_step = subst (λ o. Sees o facts.seen step found new.name new.lane new.made new.seen)
+      (sym (opening_known opening s id facts ruled t.at)) sees_step
+
+-- so a table may let the lane make a step that writes this into the word
+pub may_make : (opening : Opening) (s : St) (id value : ℕ) (me : Me (Unit {0}) Facts) (step : LaneStep)
+    → opening.room < 2 ^ 32 → Ruled opening s → get_elem? s.views id ≡ some me.0 → me.0.spent ≡ false
+    → CanMake me.0.lane step
+    → value ≡ packed_after step opening.marks (get_or s.words 0 0) → PackedTold me.0 (get_or s.words 0 0)
     → (new : Facts) × (act : Act (Unit {0})) × Valid s.homes me.1 act
-    × Ruled opening (stepped s cell value id me.1 new act) × Told step me found (new, carried_after me.1 act)
-may_make opening s id cell value me step found ruled at may finds total word tells =
-    let nine = ruled.nine_words in
-    let made : Steps opening s id me.0 step found (set s.words cell value) = record {
+    × Ruled opening (stepped s 0 value id me.1 new act)
+    × Told step me (get_or s.words 0 0) (new, carried_after me.1 act)
+may_make opening s id value me step room ruled at live may both tells =
+    let one = ruled.one_word in
+    let made : Makes opening s id me.0 step (set s.words 0 value) = record {
       at = at;
+      live = live;
       may = may;
-      nine = length-set s.words cell value ∙ nine;
-      finds = finds;
-      total = total;
-      word = word;
+      one = length-set s.words 0 value ∙ one;
+      room_fits = room;
+      both = get_or-set_same s.words 0 value 0 (omega (arith, one)) ∙ both;
     } in (
-      facts_after step found me.0,
+      new opening s id me.0 step _ ruled made,
       keeps,
       tt,
-      Ruled-step opening s id me.0 step found _ ruled made,
-      told_after opening s id me step found _ ruled made tells,
+      Ruled-step opening s id me.0 step _ ruled made,
+      record {
+        after = refl;
+        slots = refl;
+        sees = knows_step opening s id me.0 step _ ruled made;
+        tells = tells;
+      },
     )

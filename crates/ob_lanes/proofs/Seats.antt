@@ -1,30 +1,37 @@
 -- A seat that is cut in two, and two that become one, keep what holds between any two steps.
 use Rattle.std.proofs.Common.{◌≡◌, ◌≢◌, ℕ, zero, suc, ◌+◌, ◌≤◌, ◌<◌, ◌^◌, List, [], ◌∷◌, ◌++◌, map, set, None, Some, sym, refl}
-use Rattle.std.proofs.Common.{ap, ◌∙◌, arith}
+use Rattle.std.proofs.Common.{ap, ◌∙◌, subst, true, false, arith}
 use mathlib.Core.Option.{some}
 use lib.ListN.{get_elem?}
 use Rattle.std.specs.Int.{bit_at}
 use Rattle.std.specs.List.{All, slice_get}
 use Rattle.std.proofs.lemmas.List.{map-set, map-append, append-nil}
-use Rattle.std.proofs.lemmas.List.Elements.{All-set, All-append}
+use Rattle.std.proofs.lemmas.List.Elements.{All-set, All-append, All-weaker, All-nil, All-cons}
 use Rattle.std.proofs.lemmas.Nat.Bits.{bit_at-lt}
 use Rattle.atomic_table.specs.Table.{Splits, Joins}
-use Rattle.atomic_table.proofs.Lists.{set_else}
+use Rattle.atomic_table.proofs.Lists.{set_here, set_else, at_longer}
 use Rattle.ob_core.specs.declared.lane.Lane.{Lane}
+use Rattle.ob_lanes.specs.Begins.{BeginsWith, BeginsWithAll}
 use Rattle.ob_lanes.specs.Facts.{made_at}
 use Rattle.ob_lanes.specs.Divided.{kept_facts, given_facts, both_facts, spent_facts}
-use Rattle.ob_lanes.specs.Ruled.{Ruled, core_of}
-use Rattle.ob_lanes.specs.Run.{divides, merges, own_steps}
+use Rattle.ob_lanes.specs.Ruled.{Ruled, HasEnded, core_of}
+use Rattle.ob_lanes.specs.Run.{own_steps}
 use Rattle.ob_lanes.specs.Split.{split_fault}
 use Rattle.ob_core.specs.Bits.{AreAmong}
 use Rattle.ob_core.specs.Opening.{Opening}
 use Rattle.ob_core.specs.Shares.{IsFree, AreShares, IsDivision, IsMerger, spent_lane}
+use Rattle.ob_lanes.specs.declared.facts.Ended.{Ended}
 use Rattle.ob_lanes.specs.declared.facts.Facts.{Facts}
+use Rattle.ob_lanes.specs.declared.facts.Move.{Move}
+use Rattle.ob_lanes.specs.declared.facts.Move.TheVariants.{Divides, Merges}
 use Rattle.ob_lanes.proofs.Halves.{are_shares, are_merged}
 use Rattle.ob_core.proofs.LaneSums.{all_at, two-le-sum_by}
 use Rattle.ob_lanes.proofs.KeptAccounts.{accounts_after_division, accounts_after_merger}
-use Rattle.ob_lanes.proofs.Moves.{St, core, opening_known}
-use Rattle.ob_lanes.proofs.Views.{slice_get_map, made_at-kept, made_at-new}
+use Rattle.ob_lanes.proofs.Moves.{St, core, opening_known, begins_seen, of_seat}
+use Rattle.ob_lanes.proofs.Runs.{begins_all_more}
+use Rattle.ob_lanes.proofs.Views.{slice_get_elem, slice_get_map, made_at-kept, made_at-new, map-same}
+use Rattle.ob_lanes.proofs.Views.{spent-apart, ended-stays, all-ended-stay}
+use Rattle.std.proofs.lemmas.Option.{slice_get_within}
 
 abbrev lane_of : Facts → Lane
 lane_of facts = facts.lane
@@ -41,9 +48,17 @@ All-one : {X : Type 0} (P : X → Type 0) (x : X) → P x → All P (x ∷ [])
 All-one P x holds zero d within = holds
 All-one P x holds (suc k) d within = absurd (omega arith)
 
+-- a move more leaves what all seats have seen
+begins_views : (opening : Opening) (s : St) (move : Move) (ruled : Ruled opening s)
+    → All (λ (f : Facts). BeginsWithAll (move ∷ ruled.run.moves) f.seen) s.views
+begins_views opening s move ruled =
+    All-weaker (λ (f : Facts). BeginsWithAll ruled.run.moves f.seen)
+    (λ (f : Facts). BeginsWithAll (move ∷ ruled.run.moves) f.seen)
+    (λ f. begins_all_more move ruled.run.moves f.seen) s.views ruled.run.begins
+
 module _ (opening : Opening) (s : St) (id : ℕ) (facts : Facts) (room bits : ℕ) (ruled : Ruled opening s)
     (at : get_elem? s.views id ≡ some facts)
-    (free : IsFree facts.lane) (small : bits < 2 ^ 32) (fine : split_fault facts.lane room bits ≡ None) where
+    (live : facts.spent ≡ false) (free : IsFree facts.lane) (small : bits < 2 ^ 32) (fine : split_fault facts.lane room bits ≡ None) where
   abbrev kept : Facts
   kept = kept_facts room bits facts
 
@@ -69,35 +84,59 @@ module _ (opening : Opening) (s : St) (id : ℕ) (facts : Facts) (room bits : �
         ∙ ap (λ l. l ++ given.lane ∷ []) (map-set lane_of s.views id kept));
   }
 
-  own_halves : (seat : ℕ) → own_steps seat (divides id kept.lane given.lane ∷ ruled.run.moves) ≡ made_at halves seat
+  spent_stay : (seat : ℕ) (other : Facts) → get_elem? s.views seat ≡ some other → other.spent ≡ true
+      → get_elem? halves seat ≡ some other
+  spent_stay seat other their_at spent =
+      at_longer (set s.views id kept) (given ∷ []) seat other
+      (set_else s.views id seat kept (spent-apart s.views id seat facts other at live their_at spent) ∙ their_at)
+
+  own_halves : (seat : ℕ) → own_steps seat (Divides id kept.lane given.lane given.name ∷ ruled.run.moves) ≡ made_at halves seat
   own_halves seat =
       append-nil _ ∙ ruled.run.own seat
       ∙ sym (made_at-new (set s.views id kept) given refl seat ∙ made_at-kept s.views id facts kept at refl seat)
 
   Ruled-division : Ruled opening (record { words = s.words; homes = s.homes; views = halves })
   Ruled-division = record {
-    nine_words = ruled.nine_words;
+    one_word = ruled.one_word;
     one_opening =
         All-append Knows (set s.views id kept) (given ∷ []) (All-set Knows s.views id kept known ruled.one_opening)
         (All-one Knows given known);
     accounts = accounts_after_division opening (core opening s) _ id kept.lane given.lane is_division ruled.accounts;
     run = record {
-      moves = divides id kept.lane given.lane ∷ ruled.run.moves;
+      moves = Divides id kept.lane given.lane given.name ∷ ruled.run.moves;
       leads = (core opening s, ruled.run.leads, is_division);
       own = own_halves;
+      named = map-append (λ (f : Facts). f.name) (set s.views id kept) (given ∷ [])
+          ∙ ap (λ names. names ++ given.name ∷ [])
+          (map-same (λ (f : Facts). f.name) s.views id facts kept at refl ∙ ruled.run.named);
+      begins =
+          let move : Move = Divides id kept.lane given.lane given.name in
+          let Begun : Facts → Type 0 = λ f. BeginsWithAll (move ∷ ruled.run.moves) f.seen in
+          let begun : Begun facts =
+          begins_all_more move ruled.run.moves facts.seen (begins_seen opening s id facts ruled at) in
+          All-append Begun (set s.views id kept) (given ∷ [])
+          (All-set Begun s.views id kept begun (begins_views opening s move ruled))
+          (All-one Begun given begun);
     };
+    taken =
+        let Taken : Facts → Type 0 = λ f. All (HasEnded halves) f.taken in
+        All-append Taken (set s.views id kept) (given ∷ [])
+        (All-set Taken s.views id kept (ended-stays s.views halves spent_stay facts.taken
+        (of_seat (λ (f : Facts). All (HasEnded s.views) f.taken) s id facts ruled.taken at))
+        (all-ended-stay s.views halves spent_stay ruled.taken))
+        (All-one Taken given (All-nil (HasEnded halves)));
   }
 
 -- a seat that is free may be cut in two, where it has the room and the bits
-pub division_allowed : (opening : Opening) (id : ℕ) (facts : Facts) (room bits : ℕ) → IsFree facts.lane → bits < 2 ^ 32
+pub division_allowed : (opening : Opening) (id : ℕ) (facts : Facts) (room bits : ℕ) → facts.spent ≡ false → IsFree facts.lane → bits < 2 ^ 32
     → split_fault facts.lane room bits ≡ None
     → Splits (Ruled opening) id facts (kept_facts room bits facts) (given_facts room bits facts)
-division_allowed opening id facts room bits free small fine s ruled at =
-    Ruled-division opening s id facts room bits ruled at free small fine
+division_allowed opening id facts room bits live free small fine s ruled at =
+    Ruled-division opening s id facts room bits ruled at live free small fine
 
 module _ (opening : Opening) (s : St) (id other : ℕ) (facts theirs : Facts) (ruled : Ruled opening s)
     (at : get_elem? s.views id ≡ some facts) (their_at : get_elem? s.views other ≡ some theirs)
-    (apart : other ≢ id) (free : IsFree facts.lane) (their_free : IsFree theirs.lane) where
+    (apart : other ≢ id) (live : facts.spent ≡ false) (their_live : theirs.spent ≡ false) (free : IsFree facts.lane) (their_free : IsFree theirs.lane) where
   abbrev lanes : List Lane
   lanes = map lane_of s.views
 
@@ -138,7 +177,8 @@ module _ (opening : Opening) (s : St) (id other : ℕ) (facts theirs : Facts) (r
 
   -- whatever is left behind, it has no lane to speak of
   module _ (spent : Facts) (spent_opening : spent.opening ≡ theirs.opening) (spent_is : spent.lane ≡ spent_lane)
-      (spent_made : spent.made ≡ theirs.made) where
+      (spent_made : spent.made ≡ theirs.made) (spent_seen : spent.seen ≡ []) (spent_name : spent.name ≡ theirs.name)
+      (spent_taken : spent.taken ≡ []) (spent_spent : spent.spent ≡ true) where
     abbrev views : List Facts
     views = set (set s.views id joined) other spent
 
@@ -159,9 +199,31 @@ module _ (opening : Opening) (s : St) (id other : ℕ) (facts theirs : Facts) (r
     still : get_elem? (set s.views id joined) other ≡ some theirs
     still = set_else s.views id other joined apart ∙ their_at
 
+    spent_still : (seat : ℕ) (one : Facts) → get_elem? s.views seat ≡ some one → one.spent ≡ true
+        → get_elem? views seat ≡ some one
+    spent_still seat one one_at is_spent =
+        set_else (set s.views id joined) other seat spent
+        (spent-apart s.views other seat theirs one their_at their_live one_at is_spent)
+        ∙ set_else s.views id seat joined (spent-apart s.views id seat facts one at live one_at is_spent) ∙ one_at
+
+    abbrev ended_one : Ended
+    ended_one = record { name = theirs.name; made = theirs.made }
+
+    has_ended : HasEnded views ended_one
+    has_ended = record {
+      seat = other;
+      facts = spent;
+      at = set_here (set s.views id joined) other spent
+          (slice_get_within (set s.views id joined) other theirs
+          (slice_get_elem (set s.views id joined) other theirs still));
+      spent = spent_spent;
+      name = spent_name;
+      made = spent_made;
+    }
+
     Ruled-merger : Ruled opening (record { words = s.words; homes = s.homes; views = views })
     Ruled-merger = record {
-      nine_words = ruled.nine_words;
+      one_word = ruled.one_word;
       one_opening =
           All-set (λ (f : Facts). f.opening ≡ opening) (set s.views id joined) other spent (spent_opening
           ∙ opening_known opening s other theirs ruled their_at)
@@ -169,19 +231,46 @@ module _ (opening : Opening) (s : St) (id other : ℕ) (facts theirs : Facts) (r
           (opening_known opening s id facts ruled at) ruled.one_opening);
       accounts = accounts_after_merger opening (core opening s) _ id other joined.lane is_merger ruled.accounts;
       run = record {
-        moves = merges id other joined.lane ∷ ruled.run.moves;
+        moves = Merges id other joined.lane ∷ ruled.run.moves;
         leads = (core opening s, ruled.run.leads, is_merger);
         own = λ seat. append-nil _ ∙ ruled.run.own seat
             ∙ sym (made_at-kept (set s.views id joined) other theirs spent still spent_made seat
             ∙ made_at-kept s.views id facts joined at refl seat);
+        named = map-same (λ (f : Facts). f.name) (set s.views id joined) other theirs spent still spent_name
+            ∙ map-same (λ (f : Facts). f.name) s.views id facts joined at refl ∙ ruled.run.named;
+        begins =
+            let move : Move = Merges id other joined.lane in
+            let Begun : Facts → Type 0 = λ f. BeginsWithAll (move ∷ ruled.run.moves) f.seen in
+            let Begins : List Move → Type 0 = BeginsWith (move ∷ ruled.run.moves) in
+            let mine : Begun facts =
+            begins_all_more move ruled.run.moves facts.seen (begins_seen opening s id facts ruled at) in
+            let theirs_too : Begun theirs =
+            begins_all_more move ruled.run.moves theirs.seen (begins_seen opening s other theirs ruled their_at) in
+            All-set Begun (set s.views id joined) other spent
+            (subst (BeginsWithAll (move ∷ ruled.run.moves)) (sym spent_seen) (All-nil Begins))
+            (All-set Begun s.views id joined (All-append Begins facts.seen theirs.seen mine theirs_too)
+            (begins_views opening s move ruled));
       };
+      taken =
+          let Taken : Facts → Type 0 = λ f. All (HasEnded views) f.taken in
+          let Seen : Facts → Type 0 = λ f. All (HasEnded s.views) f.taken in
+          let mine = ended-stays s.views views spent_still facts.taken (of_seat Seen s id facts ruled.taken at) in
+          let theirs_too =
+          ended-stays s.views views spent_still theirs.taken (of_seat Seen s other theirs ruled.taken their_at) in
+          let both : Taken joined =
+          All-append (HasEnded views) facts.taken (ended_one ∷ theirs.taken) mine
+          (All-cons (HasEnded views) ended_one theirs.taken has_ended theirs_too) in
+          All-set Taken (set s.views id joined) other spent
+          (subst (All (HasEnded views)) (sym spent_taken) (All-nil (HasEnded views)))
+          (All-set Taken s.views id joined both (all-ended-stay s.views views spent_still ruled.taken));
     }
 
 -- two seats that are free may become one
-pub merger_allowed : (opening : Opening) (id other : ℕ) (facts theirs spent : Facts) → IsFree facts.lane
-    → IsFree theirs.lane → spent.opening ≡ theirs.opening → spent.made ≡ theirs.made
+pub merger_allowed : (opening : Opening) (id other : ℕ) (facts theirs spent : Facts) → facts.spent ≡ false
+    → theirs.spent ≡ false → IsFree facts.lane → IsFree theirs.lane → spent.opening ≡ theirs.opening → spent.made ≡ theirs.made → spent.name ≡ theirs.name
     → Joins (Ruled opening) id facts other theirs (both_facts facts theirs) (spent_facts spent)
-merger_allowed opening id other facts theirs spent free their_free spent_opening spent_made s ruled at apart then_at =
+merger_allowed opening id other facts theirs spent live their_live free their_free spent_opening spent_made spent_name s
+    ruled at apart then_at =
     let their_at = sym (set_else s.views id other (both_facts facts theirs) apart) ∙ then_at in
-    Ruled-merger opening s id other facts theirs ruled at their_at apart free their_free
-    (spent_facts spent) spent_opening refl spent_made
+    Ruled-merger opening s id other facts theirs ruled at their_at apart live their_live free their_free
+    (spent_facts spent) spent_opening refl spent_made refl spent_name refl refl

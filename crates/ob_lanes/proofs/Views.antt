@@ -1,11 +1,14 @@
 -- Views, read by the table's way to index a list and by std's; and what each seat has made.
-use Rattle.std.proofs.Common.{◌≡◌, ℕ, zero, suc, List, [], ◌∷◌, ◌++◌, map, set, cond, eqb, sym, refl, ap, ◌∙◌, Some}
+use Rattle.std.proofs.Common.{◌≡◌, ◌≢◌, ℕ, zero, suc, true, false, List, [], ◌∷◌, ◌++◌, map, set, cond, eqb, sym, refl, ap, ◌∙◌, Some}
 use Rattle.std.proofs.Math.Dec.{eqb-suc-zero, eqb-zero-suc, eqb-suc-suc}
 use Rattle.std.proofs.lemmas.List.{append-nil}
 use mathlib.Core.Option.{some, some-injective, some-ne-none}
 use lib.ListN.{get_elem?}
-use Rattle.std.specs.List.{slice_get}
+use Rattle.std.specs.List.{All, slice_get}
+use Rattle.std.proofs.lemmas.List.Elements.{All-weaker}
 use Rattle.ob_lanes.specs.Facts.{made_at}
+use Rattle.ob_lanes.specs.Ruled.{HasEnded}
+use Rattle.ob_lanes.specs.declared.facts.Ended.{Ended}
 use Rattle.ob_lanes.specs.declared.facts.Facts.{Facts}
 use Rattle.ob_lanes.specs.declared.facts.Made.{Made}
 
@@ -58,3 +61,41 @@ made_at-new [] new none zero = none
 made_at-new [] new none (suc seat) = refl
 made_at-new (v ∷ views) new none zero = refl
 made_at-new (v ∷ views) new none (suc seat) = made_at-new views new none seat
+
+-- what a function makes of all elements, once another stands for one of which it makes the same
+pub map-same : {X Y : Type 0} (f : X → Y) (xs : List X) (i : ℕ) (old new : X) → get_elem? xs i ≡ some old → f new ≡ f old
+    → map f (set xs i new) ≡ map f xs
+map-same f [] i old new at same = refl
+map-same f (x ∷ xs) zero old new at same = ap (λ y. y ∷ map f xs) (same ∙ ap f (sym (some-injective x old at)))
+map-same f (x ∷ xs) (suc i) old new at same = ap (λ ys. f x ∷ ys) (map-same f xs i old new at same)
+
+-- a seat that is spent is not one that is not
+pub spent-apart : (views : List Facts) (id seat : ℕ) (facts other : Facts) → get_elem? views id ≡ some facts
+    → facts.spent ≡ false → get_elem? views seat ≡ some other → other.spent ≡ true → seat ≢ id
+spent-apart views id seat facts other at live their_at spent = λ same.
+    let is : other ≡ facts = some-injective other facts (sym their_at ∙ ap (get_elem? views) same ∙ at) in
+    let wrong : true ≡ false = sym spent ∙ ap (λ (f : Facts). f.spent) is ∙ live in
+    absurd (cc)
+
+-- the lanes that were taken in have ended still, where all seats that are spent stay
+pub ended-stays : (views after : List Facts)
+    → ((seat : ℕ) (facts : Facts) → get_elem? views seat ≡ some facts → facts.spent ≡ true
+    → get_elem? after seat ≡ some facts)
+    → (taken : List Ended) → All (HasEnded views) taken → All (HasEnded after) taken
+ended-stays views after stays taken ended =
+    All-weaker (HasEnded views) (HasEnded after) (λ one has. record {
+      seat = has.seat;
+      facts = has.facts;
+      at = stays has.seat has.facts has.at has.spent;
+      spent = has.spent;
+      name = has.name;
+      made = has.made;
+    }) taken ended
+
+pub all-ended-stay : (views after : List Facts)
+    → ((seat : ℕ) (facts : Facts) → get_elem? views seat ≡ some facts → facts.spent ≡ true
+    → get_elem? after seat ≡ some facts)
+    → All (λ (f : Facts). All (HasEnded views) f.taken) views → All (λ (f : Facts). All (HasEnded after) f.taken) views
+all-ended-stay views after stays ended =
+    All-weaker (λ (f : Facts). All (HasEnded views) f.taken) (λ (f : Facts). All (HasEnded after) f.taken)
+    (λ f. ended-stays views after stays f.taken) views ended

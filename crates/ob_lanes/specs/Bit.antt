@@ -1,11 +1,10 @@
 -- What a user bit set or cleared does: the step that it makes, and the change that it reports.
 use Rattle.std.specs.Prelude.{◌≡◌, ℕ, Bool, Option, if◌then◌else◌}
-use Rattle.ob_types.specs.Change.{change_between}
 use Rattle.ob_types.specs.declared.reply.Change.{Change}
-use Rattle.ob_core.specs.LaneStep.{lane_after, word_after}
+use Rattle.ob_core.specs.Found.{change_found}
+use Rattle.ob_core.specs.LaneStep.{lane_after}
 use Rattle.ob_core.specs.declared.lane_step.LaneStep.{LaneStep}
 use Rattle.ob_core.specs.declared.lane_step.LaneStep.TheVariants.{SetBit, ClearBit}
-use Rattle.ob_lanes.specs.Facts.{one_step}
 use Rattle.ob_lanes.specs.OwnSteps.{HasMade}
 use Rattle.ob_lanes.specs.RunningLane.{RunningLane}
 
@@ -13,10 +12,9 @@ use Rattle.ob_lanes.specs.RunningLane.{RunningLane}
 abbrev pub bit_step : ℕ → Bool → LaneStep
 bit_step index writable = if writable then ClearBit index else SetBit index
 
--- the lane has made this one step on the word, and is as the core says after it; the change is that between the word
--- found and the word left
+-- the lane has made this one step, and is as the core says after it; the change is that of the step by what it found
 pub record IsBit (step : LaneStep) (old new : RunningLane) (change : Option Change) : Type 0 where
-  pub word : ℕ
-  pub steps : HasMade old (one_step step word) new
-  pub lane : new.lane ≡ lane_after step old.words.opening.marks word old.lane
-  pub turn : change ≡ change_between word (word_after step word)
+  pub found : ℕ
+  pub steps : HasMade step found old new
+  pub lane : new.lane ≡ lane_after step old.lane
+  pub turn : change ≡ change_found step old.words.opening.marks found

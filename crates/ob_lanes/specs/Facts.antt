@@ -1,32 +1,39 @@
 -- The facts of a seat, and how its own steps change them.
-use Rattle.std.specs.Prelude.{ℕ, zero, suc, List, [], ◌∷◌, ◌++◌}
-use Rattle.ob_core.specs.LaneStep.{lane_after, total_after}
+use Rattle.std.specs.Prelude.{ℕ, zero, suc, false, List, [], ◌∷◌, ◌++◌}
+use Rattle.ob_core.specs.LaneStep.{lane_after}
 use Rattle.ob_core.specs.Opening.{new_lane}
 use Rattle.ob_core.specs.declared.lane.Lane.{Lane}
 use Rattle.ob_core.specs.declared.lane_step.LaneStep.{LaneStep}
 use Rattle.ob_core.specs.Opening.{Opening}
 use Rattle.ob_lanes.specs.declared.facts.Facts.{Facts}
 use Rattle.ob_lanes.specs.declared.facts.Made.{Made}
+use Rattle.ob_lanes.specs.declared.facts.Move.{Move}
 
--- the lane that words are opened with: it has the whole room and all bits
+-- the lane that the one word is opened with: it has the whole room and all bits
 abbrev pub first_lane : Opening → Lane
 first_lane opening = new_lane (record { room = opening.room; bits = opening.bits })
 
 -- what the first seat knows
 abbrev pub first_facts : Opening → Facts
-first_facts opening = record { opening = opening; lane = first_lane opening; made = [] }
+first_facts opening = record {
+  opening = opening;
+  lane = first_lane opening;
+  made = [];
+  seen = [];
+  name = [];
+  splits = 0;
+  taken = [];
+  spent = false;
+}
 
 -- one step that found this value
 abbrev pub one_step : LaneStep → ℕ → List Made
 one_step step found = (record { step = step; found = found }) ∷ []
 
--- what a seat knows after a step of its own that found this value
-abbrev pub facts_after : LaneStep → ℕ → Facts → Facts
-facts_after step found facts = record {
-  opening = facts.opening;
-  lane = lane_after step facts.opening.marks (total_after step found) facts.lane;
-  made = facts.made ++ one_step step found;
-}
+-- what a seat knows after a step of its own that found this value, once it has seen these runs
+abbrev pub facts_after : LaneStep → ℕ → List (List Move) → Facts → Facts
+facts_after step found seen facts =
+    record facts { lane = lane_after step facts.lane; made = facts.made ++ one_step step found; seen = seen }
 
 -- the own steps of the seat with this number, none where there is no such seat
 abbrev pub made_at : List Facts → ℕ → List Made

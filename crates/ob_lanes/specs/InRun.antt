@@ -1,28 +1,40 @@
 -- That a lane stands in a run: what it is and what it has made are no invention of its own.
-use Rattle.std.specs.Prelude.{◌≡◌, ℕ, List, Some, slice_get}
+use Rattle.std.specs.Prelude.{◌≡◌, ◌≢◌, ℕ, List, All, Some, slice_get}
 use Rattle.ob_core.specs.CoreState.{CoreState}
 use Rattle.ob_core.specs.Opening.{Opening, one_lane}
 use Rattle.ob_core.specs.declared.lane.Lane.{Lane}
-use Rattle.ob_lanes.specs.Run.{Move, Leads, own_steps}
+use Rattle.ob_lanes.specs.Begins.{BeginsWithAll}
+use Rattle.ob_lanes.specs.Names.{names_in}
+use Rattle.ob_lanes.specs.Run.{Leads, own_steps}
 use Rattle.ob_lanes.specs.RunningLane.{RunningLane}
+use Rattle.ob_lanes.specs.declared.facts.Ended.{Ended}
 use Rattle.ob_lanes.specs.declared.facts.Made.{Made}
+use Rattle.ob_lanes.specs.declared.facts.Move.{Move}
 
--- some moves lead from the opening to this core state, of which this is one of the lanes, and these are its own steps
--- among the moves
-pub record IsInRun (opening : Opening) (core : CoreState) (lane : Lane) (made : List Made) : Type 0 where
-  pub moves : List Move
+-- these moves lead from the opening to this core state, in which the lane stands at this place, under this name, and these
+-- are its own steps among the moves
+pub record IsInRun (opening : Opening) (moves : List Move) (core : CoreState) (seat : ℕ) (name : List ℕ) (lane : Lane)
+    (made : List Made) : Type 0 where
   pub leads : Leads (one_lane opening) moves core
-  pub seat : ℕ
   pub is_lane : slice_get core.lanes seat ≡ Some lane
+  pub is_named : slice_get (names_in moves) seat ≡ Some name
   pub is_made : own_steps seat moves ≡ made
 
--- a running lane is one of the lanes of a core state that some run leads to, and its own steps are those in that run
-abbrev pub StandsInRun : RunningLane → Type 0
-StandsInRun lane = (core : CoreState) × IsInRun lane.words.opening core lane.lane lane.made
+-- a lane that was taken in stands at another place than this, under its name, and its own steps are those among the moves
+pub record EndedIn (moves : List Move) (seat : ℕ) (one : Ended) : Type 0 where
+  pub place : ℕ
+  pub apart : place ≢ seat
+  pub is_named : slice_get (names_in moves) place ≡ Some one.name
+  pub is_made : own_steps place moves ≡ one.made
 
--- these are the total and the word of a core state that some run leads to, and of which the running lane is one
+-- these are the total and the word of a core state that some run leads to, and of which the running lane is one; the run
+-- begins with each that the lane has seen, and has the own steps of each lane that it has taken in
 pub record EndsRun (lane : RunningLane) (total word : ℕ) : Type 0 where
   pub core : CoreState
-  pub in_run : IsInRun lane.words.opening core lane.lane lane.made
+  pub moves : List Move
+  pub seat : ℕ
+  pub in_run : IsInRun lane.words.opening moves core seat lane.name lane.lane lane.made
+  pub begins : BeginsWithAll moves lane.seen
+  pub ended : All (EndedIn moves seat) lane.taken
   pub total_is : core.total ≡ total
   pub word_is : core.word ≡ word

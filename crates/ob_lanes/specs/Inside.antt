@@ -14,18 +14,18 @@ use Rattle.ob_lanes.specs.declared.words.Words.TheInside.{Inside as WordsInside}
 abbrev pub words_of : WordsInside → WordsValue
 words_of words = record { table_id = words.table.shared.table_id; opening = words.opening }
 
--- the table has nine words and no slot, and was told what the words were opened with, in 32 bits each
+-- the table has one word and no slot, and was told what it was opened with, in 32 bits each
 pub record AreWords (words : WordsInside) : Type 0 where
-  pub nine : words.table.shared.table_id.words ≡ 9
+  pub one : words.table.shared.table_id.words ≡ 1
   pub no_slots : words.table.shared.table_id.slots ≡ 0
   pub key : words.table.shared.key ≡ words.opening
   pub room_fits : words.table.shared.key.room < 2 ^ 32
   pub bits_fit : words.table.shared.key.bits < 2 ^ 32
 
--- the words ended in a state of which still holds what holds between any two steps, and in which the seat has its facts
-pub record IsEnd (opening : Opening) (seat : Seat (Unit {0}) Facts) (total word : ℕ) : Type 0 where
+-- the word ended as this, in a state of which still holds what holds between any two steps, and in which the seat has its
+-- facts
+pub record IsEnd (opening : Opening) (seat : Seat (Unit {0}) Facts) (both : ℕ) : Type 0 where
   pub state : State (Unit {0}) Facts
   pub ruled : Ruled opening state
   pub at : get_elem? state.views seat.id ≡ some seat.me.0
-  pub total_is : slice_index state.words 0 ≡ total
-  pub word_is : slice_index state.words 8 ≡ word
+  pub both_is : slice_index state.words 0 ≡ both

@@ -1,4 +1,6 @@
+pub mod Begins
 pub mod Bit
+pub mod Changes
 pub mod Charge
 pub mod Divided
 pub mod Facts
@@ -6,11 +8,15 @@ pub mod Fields
 pub mod InRun
 pub mod Inside
 pub mod Joined
+pub mod Names
 pub mod OwnSteps
+pub mod Packed
 pub mod Read
 pub mod RunningLane
 pub mod Run
 pub mod Ruled
+pub mod Sees
 pub mod Split
 pub mod Told
+pub mod Tried
 pub mod Worked

@@ -1,32 +1,52 @@
--- What holds of the two words and of the facts of all seats between any two steps.
-use Rattle.std.specs.Prelude.{◌≡◌, ℕ, List, All, length, map, slice_index}
+-- What holds of the one word and of the facts of all seats between any two steps.
+use Rattle.std.specs.Prelude.{◌≡◌, ℕ, true, List, All, length, map, slice_index}
+use mathlib.Core.Option.{some}
+use lib.ListN.{get_elem?}
 use Rattle.atomic_table.specs.Table.{State}
-use Rattle.ob_core.specs.CoreState.{CoreState}
-use Rattle.ob_lanes.specs.Facts.{made_at}
-use Rattle.ob_lanes.specs.Run.{Move, Leads, own_steps}
+use Rattle.ob_types.specs.Packed.{word_half, total_half}
 use Rattle.ob_core.specs.Accounts.{AccountsHold}
+use Rattle.ob_core.specs.CoreState.{CoreState}
 use Rattle.ob_core.specs.Opening.{Opening, one_lane}
+use Rattle.ob_lanes.specs.Begins.{BeginsWithAll}
+use Rattle.ob_lanes.specs.Facts.{made_at}
+use Rattle.ob_lanes.specs.Names.{names_in}
+use Rattle.ob_lanes.specs.Run.{Leads, own_steps}
+use Rattle.ob_lanes.specs.declared.facts.Ended.{Ended}
 use Rattle.ob_lanes.specs.declared.facts.Facts.{Facts}
+use Rattle.ob_lanes.specs.declared.facts.Move.{Move}
 
--- the core state that these words and these facts are
+-- the core state that the word and these facts are
 abbrev pub core_of : Opening → List ℕ → List Facts → CoreState
 core_of opening words views = record {
-  total = slice_index words 0;
-  word = slice_index words 8;
+  total = total_half (slice_index words 0);
+  word = word_half (slice_index words 0);
   marks = opening.marks;
   lanes = map (λ facts. facts.lane) views;
 }
 
--- some run leads from the opening to this core state, and the own steps of each seat in it are those that it has made
+-- one run leads from the opening to this core state; the own steps of each seat in it are those that it has made, it
+-- names each, and it begins with each run that any seat has seen
 pub record HasRun (opening : Opening) (core : CoreState) (views : List Facts) : Type 0 where
   pub moves : List Move
   pub leads : Leads (one_lane opening) moves core
   pub own : (seat : ℕ) → own_steps seat moves ≡ made_at views seat
+  pub named : map (λ facts. facts.name) views ≡ names_in moves
+  pub begins : All (λ facts. BeginsWithAll moves facts.seen) views
 
--- there are nine words; each seat knows what they were opened with; words and facts are a core state that the accounts
--- hold of and that some run leads to
+-- the lane that was taken in has its seat still, which is spent, with its name and what it made
+pub record HasEnded (views : List Facts) (one : Ended) : Type 0 where
+  pub seat : ℕ
+  pub facts : Facts
+  pub at : get_elem? views seat ≡ some facts
+  pub spent : facts.spent ≡ true
+  pub name : facts.name ≡ one.name
+  pub made : facts.made ≡ one.made
+
+-- there is one word; each seat knows what it was opened with; word and facts are a core state that the accounts hold of
+-- and that one run leads to; each lane that a seat has taken in has ended
 pub record Ruled (opening : Opening) (state : State (Unit {0}) Facts) : Type 0 where
-  pub nine_words : length state.words ≡ 9
+  pub one_word : length state.words ≡ 1
   pub one_opening : All (λ facts. facts.opening ≡ opening) state.views
   pub accounts : AccountsHold opening (core_of opening state.words state.views)
   pub run : HasRun opening (core_of opening state.words state.views) state.views
+  pub taken : All (λ facts. All (HasEnded state.views) facts.taken) state.views

@@ -1,72 +1,74 @@
 -- What a step tells the lane that makes it.
-use Rattle.std.specs.Prelude.{◌≡◌, ◌≤◌, ◌+◌, ◌<◌, ◌^◌, ℕ}
+use Rattle.std.specs.Prelude.{false, ◌≡◌, ◌≢◌, ◌≤◌, ◌+◌, ◌-◌, ◌<◌, ℕ}
 use Rattle.atomic_table.specs.Table.{Me, Step}
-use Rattle.ob_core.specs.CoreState.{CoreState}
+use Rattle.ob_types.specs.Packed.{word_half, total_half}
 use Rattle.ob_core.specs.LaneStep.{CanMake}
 use Rattle.ob_core.specs.Owed.{owed_by}
 use Rattle.ob_core.specs.declared.lane_step.LaneStep.{LaneStep}
-use Rattle.ob_core.specs.declared.lane_step.LaneStep.TheVariants.{Add, Subtract, Raise, Lower, SetBit, ClearBit}
-use Rattle.ob_core.specs.declared.lane_step.LaneStep.TheVariants.{LoadWord, LoadTotal}
+use Rattle.ob_core.specs.declared.lane_step.LaneStep.TheVariants.{Add, Subtract, Load}
 use Rattle.atomic_table.specs.declared.shared.Seat.{Seat}
 use Rattle.ob_lanes.specs.Facts.{facts_after}
-use Rattle.ob_lanes.specs.InRun.{IsInRun}
 use Rattle.ob_lanes.specs.RunningLane.{WordsValue, ShowsHeld}
+use Rattle.ob_lanes.specs.Sees.{Sees}
 use Rattle.ob_lanes.specs.declared.facts.Facts.{Facts}
 
 -- what a seat knows, and the slots that it has
 abbrev pub Knows : Type 0
 Knows = Me (Unit {0}) Facts
 
--- a total that a lane finds is at least its debt, and at most that and all room outside the lane
-pub record TotalTold (facts : Facts) (total : ℕ) : Type 0 where
-  pub no_less : owed_by facts.lane ≤ total
-  pub no_more : total + facts.lane.room ≤ owed_by facts.lane + facts.opening.room
+-- the total that a lane finds is at least its debt, and at most that and all room outside the lane; the word fits 32
+-- bits, and of the bits that the lane holds it shows exactly the raised ones
+pub record PackedTold (facts : Facts) (found : ℕ) : Type 0 where
+  pub no_less : owed_by facts.lane ≤ total_half found
+  pub no_more : total_half found + facts.lane.room ≤ owed_by facts.lane + facts.opening.room
+  pub fits : word_half found < 4294967296
+  pub shows : ShowsHeld facts.lane (word_half found)
 
--- a word that a lane finds fits 32 bits, and of the bits that the lane holds it shows exactly the raised ones
-pub record WordTold (facts : Facts) (word : ℕ) : Type 0 where
-  pub fits : word < 2 ^ 32
-  pub shows : ShowsHeld facts.lane word
+-- a seat has made this step, and sees the run up to it
+abbrev pub FactsSee : LaneStep → ℕ → Facts → Facts → Type 0
+FactsSee step found old new = Sees new.opening old.seen step found new.name new.lane new.made new.seen
 
--- what the value found tells
-abbrev pub Tells : LaneStep → Facts → ℕ → Type 0
-Tells (Add amount) facts found = TotalTold facts found
-Tells (Subtract amount) facts found = TotalTold facts found
-Tells Raise facts found = WordTold facts found
-Tells Lower facts found = WordTold facts found
-Tells (SetBit index) facts found = WordTold facts found
-Tells (ClearBit index) facts found = WordTold facts found
-Tells LoadWord facts found = WordTold facts found
-Tells LoadTotal facts found = TotalTold facts found
-
--- what a seat knows of its lane stands in a run
-abbrev pub KnowsItsRun : Facts → Type 0
-KnowsItsRun facts = (core : CoreState) × IsInRun facts.opening core facts.lane facts.made
-
--- the step leaves the lane as the core says, is one more of its own steps in some run, and tells what the
--- value found tells
+-- the step leaves the lane as the core says, is one more of its own steps, and the last of a run that it sees then; and
+-- it tells what the value found tells
 pub record Told (step : LaneStep) (old : Knows) (found : ℕ) (new : Knows) : Type 0 where
-  pub after : new.0 ≡ facts_after step found old.0
+  pub after : new.0 ≡ facts_after step found new.0.seen old.0
   pub slots : new.1 ≡ old.1
-  pub run : KnowsItsRun new.0
-  pub tells : Tells step old.0 found
+  pub sees : FactsSee step found old.0 new.0
+  pub tells : PackedTold old.0 found
+
+-- an exchange that finds what it expects is the step, and one that finds anything else is a read
+pub record ToldTry (step : LaneStep) (expected : ℕ) (old : Knows) (found : ℕ) (new : Knows) : Type 0 where
+  pub made : found ≡ expected → Told step old found new
+  pub read : found ≢ expected → Told Load old found new
+
+-- an exchange for a greater total adds what that is more
+abbrev pub ToldAdding : Step (Unit {0}) → Knows → ℕ → Knows → Type 0
+ToldAdding by old found new = ToldTry (Add (total_half by.second - total_half by.first)) by.first old found new
+
+-- an exchange for a lesser total subtracts what that is less
+abbrev pub ToldSubtracting : Step (Unit {0}) → Knows → ℕ → Knows → Type 0
+ToldSubtracting by old found new = ToldTry (Subtract (total_half by.first - total_half by.second)) by.first old found new
 
 -- a step of a bit tells so of the bit that its mask is of
-pub record ToldOfBit (bit_step : ℕ → LaneStep) (mask_of : ℕ → ℕ) (step : Step (Unit {0})) (old : Knows) (found : ℕ)
+pub record ToldOfBit (bit_step : ℕ → LaneStep) (mask_of : ℕ → ℕ) (by : Step (Unit {0})) (old : Knows) (found : ℕ)
     (new : Knows) : Type 0 where
   pub index : ℕ
-  pub within : index < 64
-  pub mask : step.first ≡ mask_of index
+  pub within : index < 32
+  pub mask : by.first ≡ mask_of index
   pub told : Told (bit_step index) old found new
 
--- the seat is of these words, and knows what they were opened with
+-- the seat is of this word, knows what it was opened with, and was not taken in
 abbrev pub IsSeatOf : WordsValue → Seat (Unit {0}) Facts → Type 0
-IsSeatOf words seat = (seat.table_id ≡ words.table_id) × (seat.me.0.opening ≡ words.opening)
+IsSeatOf words seat =
+    (seat.table_id ≡ words.table_id)
+    × (seat.me.0.opening ≡ words.opening)
+    × (seat.me.0.spent ≡ false)
 
 -- the seat is the same, whatever it knows
 abbrev pub IsSameSeat : Seat (Unit {0}) Facts → Seat (Unit {0}) Facts → Type 0
 IsSameSeat old new = (new.table_id ≡ old.table_id) × (new.id ≡ old.id)
 
--- the seat is of these words, and its lane may make the step
+-- the seat is of this word, and its lane may make the step
 pub record MayMake (words : WordsValue) (seat : Seat (Unit {0}) Facts) (step : LaneStep) : Type 0 where
   pub of : IsSeatOf words seat
   pub may : CanMake seat.me.0.lane step
@@ -76,3 +78,9 @@ pub record Makes (step : LaneStep) (old : Seat (Unit {0}) Facts) (found : ℕ) (
     : Type 0 where
   pub same : IsSameSeat old new
   pub told : Told step old.me found new.me
+
+-- the seat is the same, and its lane has made the step where the exchange found what it expected, and a read elsewhere
+pub record MakesOrReads (step : LaneStep) (expected : ℕ) (old : Seat (Unit {0}) Facts) (found : ℕ)
+    (new : Seat (Unit {0}) Facts) : Type 0 where
+  pub same : IsSameSeat old new
+  pub told : ToldTry step expected old.me found new.me

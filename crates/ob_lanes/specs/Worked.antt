@@ -1,5 +1,5 @@
 -- Small runs and calls, with what the definitions have to say of them.
-use Rattle.std.specs.Prelude.{◌≡◌, ◌^◌, ℕ, List, [], ◌∷◌, ◌++◌, Option, Some, None}
+use Rattle.std.specs.Prelude.{◌≡◌, ◌+◌, ◌^◌, ℕ, List, [], ◌∷◌, ◌++◌, false, Option, Some, None}
 use mathlib.Core.Option.{none}
 use Rattle.atomic_table.specs.Seated.{TableId}
 use Rattle.atomic_table.specs.Table.{step}
@@ -7,21 +7,23 @@ use Rattle.ob_types.specs.declared.reply.Change.TheVariants.{Unwritable, Writabl
 use Rattle.ob_core.specs.CoreState.{CoreState}
 use Rattle.ob_core.specs.Opening.{Opening, one_lane}
 use Rattle.ob_core.specs.declared.lane.Lane.{Lane}
-use Rattle.ob_core.specs.declared.lane.Phase.TheVariants.{Idle}
-use Rattle.ob_core.specs.declared.lane_step.LaneStep.TheVariants.{Add, Subtract, Raise, Lower, SetBit, LoadWord}
-use Rattle.ob_core.specs.declared.lane_step.LaneStep.TheVariants.{LoadTotal}
+use Rattle.ob_core.specs.declared.lane_step.LaneStep.TheVariants.{Add, SetBit, Load}
+use Rattle.ob_lanes.specs.Begins.{BeginsWith}
 use Rattle.ob_lanes.specs.Bit.{IsBit}
-use Rattle.ob_lanes.specs.Charge.{IsCharge, IsDischarge, ChangesDebt, debt_of}
+use Rattle.ob_lanes.specs.Changes.{changes_of, TakeTurns}
+use Rattle.ob_lanes.specs.Charge.{ChangesDebt, debt_of}
 use Rattle.ob_lanes.specs.Facts.{one_step}
 use Rattle.ob_lanes.specs.InRun.{IsInRun, EndsRun}
 use Rattle.ob_lanes.specs.Joined.{IsJoined}
 use Rattle.ob_lanes.specs.OwnSteps.{HasMade}
 use Rattle.ob_lanes.specs.Read.{IsTotalRead, IsWordRead}
-use Rattle.ob_lanes.specs.Run.{Move, steps, divides, Leads, own_steps}
+use Rattle.ob_lanes.specs.Run.{Leads, own_steps}
 use Rattle.ob_lanes.specs.RunningLane.{RunningLane, ShowsHeld}
 use Rattle.ob_lanes.specs.Split.{split_fault, IsSplit}
 use Rattle.ob_lanes.specs.Told.{Knows, ToldOfBit}
 use Rattle.ob_lanes.specs.declared.facts.Made.{Made}
+use Rattle.ob_lanes.specs.declared.facts.Move.{Move}
+use Rattle.ob_lanes.specs.declared.facts.Move.TheVariants.{Steps, Divides}
 use Rattle.ob_lanes.specs.declared.fault.SplitFault.TheVariants.{NoRoom, NotHeld}
 
 -- ---- two lanes that meet
@@ -32,7 +34,7 @@ opening = record { marks = record { low = 50; high = 100 }; room = 120; bits = 0
 
 -- a lane with half of the room
 abbrev pub half : Option ℕ → Lane
-half debt = record { room = 60; debt = debt; held = 0; raised = 0; phase = Idle }
+half debt = record { room = 60; debt = debt; held = 0; raised = 0 }
 
 -- two lanes that owe 60 each, with this word
 abbrev pub met : ℕ → CoreState
@@ -43,10 +45,13 @@ met word = record {
   lanes = half (Some 60) ∷ half (Some 60) ∷ [];
 }
 
--- the lane is divided, both halves add 60, and the second raises
+-- the lane is divided, and the first half adds 60
+abbrev pub first_run : List Move
+first_run = Steps 0 (Add 60) 0 ∷ Divides 0 (half None) (half None) (0 ∷ []) ∷ []
+
+-- the second half adds 60 too, which raises
 abbrev pub meeting : List Move
-meeting =
-    steps 1 Raise 0 ∷ steps 1 (Add 60) 60 ∷ steps 0 (Add 60) 0 ∷ divides 0 (half None) (half None) ∷ []
+meeting = Steps 1 (Add 60) 60 ∷ first_run
 
 -- this is a run, and the steps of each lane are its own
 abbrev pub Meets : Type 0
@@ -55,34 +60,34 @@ Meets = Leads (one_lane opening) meeting (met 1)
 abbrev pub OwnSteps : Type 0
 OwnSteps =
     (own_steps 0 meeting ≡ one_step (Add 60) 0)
-    × (own_steps 1 meeting ≡ one_step (Add 60) 60 ++ one_step Raise 0)
+    × (own_steps 1 meeting ≡ one_step (Add 60) 60)
     × (own_steps 2 meeting ≡ [])
 
--- no run has a raise that leaves the word as it was
+-- no run has an add to above the high mark that leaves bit 0 clear
 abbrev pub RaisedNothing : Type 0
 RaisedNothing = Leads (one_lane opening) meeting (met 0) → ⊥
 
--- a charge of 60 to above 100 raises, and stops the writers if no bit was set; one to 100 does not raise
-abbrev pub Charges : Type 0
-Charges =
-    IsCharge 100 60 [] (one_step (Add 60) 60 ++ one_step Raise 0) (Some Unwritable)
-    × IsCharge 100 60 [] (one_step (Add 60) 41 ++ one_step Raise 4) None
-    × IsCharge 100 60 [] (one_step (Add 60) 40) None
-    × (IsCharge 100 60 [] (one_step (Add 60) 41) None → ⊥)
-    × (IsCharge 100 60 [] (one_step (Add 60) 40 ++ one_step Raise 0) (Some Unwritable) → ⊥)
+-- in the run of both the second add alone has a change, and no run has two such changes one behind the other
+abbrev pub OneChange : Type 0
+OneChange =
+    (changes_of opening.marks meeting ≡ Unwritable ∷ [])
+    × (changes_of opening.marks first_run ≡ [])
+    × TakeTurns (Writable ∷ Unwritable ∷ [])
+    × (TakeTurns (Unwritable ∷ Unwritable ∷ []) → ⊥)
+    × (TakeTurns (Writable ∷ []) → ⊥)
 
--- a discharge of 60 to below 50 lowers, and lets the writers go on if no other bit was set; one to 50 does not lower
-abbrev pub Discharges : Type 0
-Discharges =
-    IsDischarge 50 60 [] (one_step (Subtract 60) 109 ++ one_step Lower 1) (Some Writable)
-    × IsDischarge 50 60 [] (one_step (Subtract 60) 60 ++ one_step Lower 5) None
-    × IsDischarge 50 60 [] (one_step (Subtract 60) 110) None
-    × (IsDischarge 50 60 [] (one_step (Subtract 60) 109) None → ⊥)
-    × (IsDischarge 50 60 [] (one_step (Subtract 60) 110 ++ one_step Lower 1) (Some Writable) → ⊥)
+-- the run of both begins with that of the first half, and with itself; not the other way round, and not with an add before
+-- the division
+abbrev pub Begins : Type 0
+Begins =
+    BeginsWith meeting first_run
+    × BeginsWith meeting meeting
+    × (BeginsWith first_run meeting → ⊥)
+    × (BeginsWith meeting (Divides 0 (half None) (half None) (0 ∷ []) ∷ Steps 0 (Add 60) 0 ∷ []) → ⊥)
 
 -- a free lane with this room, these bits, and these of them raised
 abbrev pub free_lane : ℕ → ℕ → ℕ → Lane
-free_lane room held raised = record { room = room; debt = None; held = held; raised = raised; phase = Idle }
+free_lane room held raised = record { room = room; debt = None; held = held; raised = raised }
 
 -- a lane with room 10 and bits 1 and 2 has no room of 11 and no bit 3, and refuses the room first; it has room 10, each
 -- of its bits alone, and all of both; bit 31 is a bit as the others
@@ -103,40 +108,71 @@ with_bits = record opening { bits = 6 }
 
 -- a lane that has all of it, raised or not, with a debt or without
 abbrev pub lone : ℕ → Option ℕ → Lane
-lone raised debt = record { room = 120; debt = debt; held = 6; raised = raised; phase = Idle }
+lone raised debt = record { room = 120; debt = debt; held = 6; raised = raised }
 
--- the same on words, whichever they are, with its own steps
-abbrev pub runs_alone : TableId → ℕ → Option ℕ → List Made → RunningLane
-runs_alone id raised debt made =
-    record { words = record { table_id = id; opening = with_bits }; lane = lone raised debt; made = made }
+-- the same on one word, whichever it is, with its own steps and what it has seen
+abbrev pub runs_alone : TableId → ℕ → Option ℕ → List Made → List (List Move) → RunningLane
+runs_alone id raised debt made seen = record {
+  words = record { table_id = id; opening = with_bits };
+  lane = lone raised debt;
+  made = made;
+  seen = seen;
+  name = [];
+  splits = 0;
+  taken = [];
+}
 
 -- it has set bit 2 in a word of 0
 abbrev pub bit_2_set : List Made
 bit_2_set = one_step (SetBit 2) 0
 
--- that stops the writers; it is no bit that was set with no change, without the step, or without being raised, and it
--- is not bit 1
+abbrev pub bit_2_run : List Move
+bit_2_run = Steps 0 (SetBit 2) 0 ∷ []
+
+-- a word of 4 beside a total of 0, and a word of 1 beside one of 120
+abbrev pub shows_bit_2 : ℕ
+shows_bit_2 = 17179869184
+
+abbrev pub shows_mark : ℕ
+shows_mark = 4294967416
+
+-- that stops the writers; it is no bit that was set with no change, without the step, without being raised, or without
+-- being seen, and it is not bit 1
 abbrev pub SetsBit2 : Type 0
 SetsBit2 =
     (id : TableId) →
-    IsBit (SetBit 2) (runs_alone id 0 None []) (runs_alone id 4 None bit_2_set) (Some Unwritable)
-    × (IsBit (SetBit 2) (runs_alone id 0 None []) (runs_alone id 4 None bit_2_set) None → ⊥)
-    × (IsBit (SetBit 2) (runs_alone id 0 None []) (runs_alone id 4 None []) (Some Unwritable) → ⊥)
-    × (IsBit (SetBit 2) (runs_alone id 0 None []) (runs_alone id 0 None bit_2_set) (Some Unwritable) → ⊥)
-    × (IsBit (SetBit 1) (runs_alone id 0 None []) (runs_alone id 4 None bit_2_set) (Some Unwritable) → ⊥)
+    IsBit (SetBit 2) (runs_alone id 0 None [] []) (runs_alone id 4 None bit_2_set (bit_2_run ∷ [])) (Some Unwritable)
+    × (IsBit (SetBit 2) (runs_alone id 0 None [] []) (runs_alone id 4 None bit_2_set (bit_2_run ∷ [])) None → ⊥)
+    × (IsBit (SetBit 2) (runs_alone id 0 None [] []) (runs_alone id 4 None [] (bit_2_run ∷ []))
+    (Some Unwritable) → ⊥)
+    × (IsBit (SetBit 2) (runs_alone id 0 None [] []) (runs_alone id 0 None bit_2_set (bit_2_run ∷ []))
+    (Some Unwritable) → ⊥)
+    × (IsBit (SetBit 2) (runs_alone id 0 None [] []) (runs_alone id 4 None bit_2_set []) (Some Unwritable) → ⊥)
+    × (IsBit (SetBit 1) (runs_alone id 0 None [] []) (runs_alone id 4 None bit_2_set (bit_2_run ∷ []))
+    (Some Unwritable) → ⊥)
 
--- behind that it reads the word; not in front of it, not in its place, and not on words that were opened without a bit
+-- a lane that has set bit 2 and seen that, and the same once it has read
+abbrev pub has_set : TableId → RunningLane
+has_set id = runs_alone id 4 None bit_2_set (bit_2_run ∷ [])
+
+abbrev pub reads_then : TableId → List Made → List Move → RunningLane
+reads_then id made run = runs_alone id 4 None made (run ∷ [])
+
+abbrev pub read_run : List Move
+read_run = Steps 0 Load shows_bit_2 ∷ bit_2_run
+
+-- it reads behind that; not in front of it, not in its place, not on a word that was opened without a bit, and not in a
+-- run that forgets what it has seen
 abbrev pub ReadsBehind : Type 0
 ReadsBehind =
     (id : TableId) →
-    HasMade (runs_alone id 4 None bit_2_set) (one_step LoadWord 4)
-    (runs_alone id 4 None (bit_2_set ++ one_step LoadWord 4))
-    × (HasMade (runs_alone id 4 None bit_2_set) (one_step LoadWord 4)
-    (runs_alone id 4 None (one_step LoadWord 4 ++ bit_2_set)) → ⊥)
-    × (HasMade (runs_alone id 4 None bit_2_set) (one_step LoadWord 4)
-    (runs_alone id 4 None (one_step LoadWord 4)) → ⊥)
-    × (HasMade (record (runs_alone id 4 None bit_2_set) { words = record { table_id = id; opening = opening } })
-    (one_step LoadWord 4) (runs_alone id 4 None (bit_2_set ++ one_step LoadWord 4)) → ⊥)
+    HasMade Load shows_bit_2 (has_set id) (reads_then id (bit_2_set ++ one_step Load shows_bit_2) read_run)
+    × (HasMade Load shows_bit_2 (has_set id) (reads_then id (one_step Load shows_bit_2 ++ bit_2_set) read_run) → ⊥)
+    × (HasMade Load shows_bit_2 (has_set id) (reads_then id (one_step Load shows_bit_2) read_run) → ⊥)
+    × (HasMade Load shows_bit_2 (record (has_set id) { words = record { table_id = id; opening = opening } })
+    (reads_then id (bit_2_set ++ one_step Load shows_bit_2) read_run) → ⊥)
+    × (HasMade Load shows_bit_2 (has_set id)
+    (reads_then id (bit_2_set ++ one_step Load shows_bit_2) (Steps 0 Load shows_bit_2 ∷ [])) → ⊥)
 
 -- of bits 1 and 2, of which it raised bit 2, a word shows bit 2 and not bit 1, whatever it shows of other bits
 abbrev pub ShowsBit2 : Type 0
@@ -146,70 +182,100 @@ ShowsBit2 =
     × (ShowsHeld (lone 4 None) 6 → ⊥)
     × (ShowsHeld (lone 4 None) 0 → ⊥)
 
--- a lane that raised bit 2 reads a word of 4; it is told no other word than it found, and none without its bit
+-- a lane that raised bit 2 reads a word of 4; it is told no other word than it found, none without its bit, and stays as
+-- it was
 abbrev pub ReadsWord : Type 0
 ReadsWord =
     (id : TableId) →
-    IsWordRead (runs_alone id 4 None bit_2_set) 4 (runs_alone id 4 None (bit_2_set ++ one_step LoadWord 4))
-    × (IsWordRead (runs_alone id 4 None bit_2_set) 5 (runs_alone id 4 None (bit_2_set ++ one_step LoadWord 4)) → ⊥)
-    × (IsWordRead (runs_alone id 4 None bit_2_set) 0 (runs_alone id 4 None (bit_2_set ++ one_step LoadWord 0)) → ⊥)
-    × (IsWordRead (runs_alone id 4 None bit_2_set) 4 (runs_alone id 0 None (bit_2_set ++ one_step LoadWord 4)) → ⊥)
+    IsWordRead (has_set id) 4 (reads_then id (bit_2_set ++ one_step Load shows_bit_2) read_run)
+    × (IsWordRead (has_set id) 5 (reads_then id (bit_2_set ++ one_step Load shows_bit_2) read_run) → ⊥)
+    × (IsWordRead (has_set id) 0 (reads_then id (bit_2_set ++ one_step Load 0) read_run) → ⊥)
+    × (IsWordRead (has_set id) 4 (runs_alone id 0 None (bit_2_set ++ one_step Load shows_bit_2) (read_run ∷ [])) → ⊥)
 
--- a charge of 60 is its add, and leaves the debt; it does not leave the debt out, nor the step, it has no change, and it
--- raises no bit
+-- it reads a total of 0, and adds 60
+abbrev pub adds_60 : List Made
+adds_60 = one_step Load 0 ++ one_step (Add 60) 0
+
+abbrev pub adding_run : List Move
+adding_run = Steps 0 (Add 60) 0 ∷ Steps 0 Load 0 ∷ []
+
+-- a charge of 60 is a read and its add, and leaves the debt; it does not leave the debt out, nor the step, it has no
+-- change, and it raises no bit
 abbrev pub Owes : Type 0
 Owes =
     (id : TableId) →
-    ChangesDebt (debt_of 60) 60 (IsCharge 100 60) (runs_alone id 0 None [])
-    (runs_alone id 0 (Some 60) (one_step (Add 60) 0)) None
-    × (ChangesDebt (debt_of 60) 60 (IsCharge 100 60) (runs_alone id 0 None [])
-    (runs_alone id 0 None (one_step (Add 60) 0)) None → ⊥)
-    × (ChangesDebt (debt_of 60) 60 (IsCharge 100 60) (runs_alone id 0 None [])
-    (runs_alone id 0 (Some 60) []) None → ⊥)
-    × (ChangesDebt (debt_of 60) 60 (IsCharge 100 60) (runs_alone id 0 None [])
-    (runs_alone id 0 (Some 60) (one_step (Add 60) 0)) (Some Unwritable) → ⊥)
-    × (ChangesDebt (debt_of 60) 60 (IsCharge 100 60) (runs_alone id 0 None [])
-    (runs_alone id 4 (Some 60) (one_step (Add 60) 0)) None → ⊥)
+    ChangesDebt (debt_of 60) 60 (Add 60) (runs_alone id 0 None [] [])
+    (runs_alone id 0 (Some 60) adds_60 (adding_run ∷ [])) None
+    × (ChangesDebt (debt_of 60) 60 (Add 60) (runs_alone id 0 None [] [])
+    (runs_alone id 0 None adds_60 (adding_run ∷ [])) None → ⊥)
+    × (ChangesDebt (debt_of 60) 60 (Add 60) (runs_alone id 0 None [] [])
+    (runs_alone id 0 (Some 60) [] (adding_run ∷ [])) None → ⊥)
+    × (ChangesDebt (debt_of 60) 60 (Add 60) (runs_alone id 0 None [] [])
+    (runs_alone id 0 (Some 60) adds_60 (adding_run ∷ [])) (Some Unwritable) → ⊥)
+    × (ChangesDebt (debt_of 60) 60 (Add 60) (runs_alone id 0 None [] [])
+    (runs_alone id 4 (Some 60) adds_60 (adding_run ∷ [])) None → ⊥)
 
 -- a charge of 0 makes no step, owes nothing, and has no change
 abbrev pub OwesNothing : Type 0
 OwesNothing =
     (id : TableId) →
-    ChangesDebt (debt_of 0) 0 (IsCharge 100 0) (runs_alone id 0 None []) (runs_alone id 0 None []) None
-    × (ChangesDebt (debt_of 0) 0 (IsCharge 100 0) (runs_alone id 0 None [])
-    (runs_alone id 0 None (one_step (Add 0) 0)) None → ⊥)
-    × (ChangesDebt (debt_of 0) 0 (IsCharge 100 0) (runs_alone id 0 None [])
-    (runs_alone id 0 None []) (Some Unwritable) → ⊥)
-    × (ChangesDebt (debt_of 0) 0 (IsCharge 100 0) (runs_alone id 0 None [])
-    (runs_alone id 0 (Some 0) []) None → ⊥)
+    ChangesDebt (debt_of 0) 0 (Add 0) (runs_alone id 0 None [] []) (runs_alone id 0 None [] []) None
+    × (ChangesDebt (debt_of 0) 0 (Add 0) (runs_alone id 0 None [] [])
+    (runs_alone id 0 None (one_step (Add 0) 0) []) None → ⊥)
+    × (ChangesDebt (debt_of 0) 0 (Add 0) (runs_alone id 0 None [] [])
+    (runs_alone id 0 None [] []) (Some Unwritable) → ⊥)
+    × (ChangesDebt (debt_of 0) 0 (Add 0) (runs_alone id 0 None [] [])
+    (runs_alone id 0 (Some 0) [] []) None → ⊥)
 
--- ---- reads of the total
+-- ---- one of two lanes
 
--- one of two lanes with half of the room each, which owes 60
-abbrev pub runs_beside : TableId → List Made → RunningLane
-runs_beside id made =
-    record { words = record { table_id = id; opening = opening }; lane = half (Some 60); made = made }
+-- one of two lanes with half of the room each
+abbrev pub runs_beside : List ℕ → ℕ → TableId → Option ℕ → List Made → List (List Move) → RunningLane
+runs_beside name splits id debt made seen = record {
+  words = record { table_id = id; opening = opening };
+  lane = half debt;
+  made = made;
+  seen = seen;
+  name = name;
+  splits = splits;
+  taken = [];
+}
 
--- the same after it has read this total
-abbrev pub has_read : TableId → ℕ → RunningLane
-has_read id total = runs_beside id (one_step (Add 60) 0 ++ one_step LoadTotal total)
+-- the second half adds 60 to 60, which stops the writers; it does not keep still of that
+abbrev pub Raises : Type 0
+Raises =
+    (id : TableId) →
+    ChangesDebt (debt_of 60) 60 (Add 60) (runs_beside (0 ∷ []) 0 id None [] [])
+    (runs_beside (0 ∷ []) 0 id (Some 60) (one_step (Add 60) 60) (meeting ∷ [])) (Some Unwritable)
+    × (ChangesDebt (debt_of 60) 60 (Add 60) (runs_beside (0 ∷ []) 0 id None [] [])
+    (runs_beside (0 ∷ []) 0 id (Some 60) (one_step (Add 60) 60) (meeting ∷ [])) None → ⊥)
+
+-- the first half has added 60, and the same after it has read this in this run
+abbrev pub has_added : TableId → RunningLane
+has_added id = runs_beside [] 1 id (Some 60) (one_step (Add 60) 0) (first_run ∷ [])
+
+abbrev pub has_read : TableId → ℕ → List Move → RunningLane
+has_read id found run =
+    runs_beside [] 1 id (Some 60) (one_step (Add 60) 0 ++ one_step Load found) ((Steps 0 Load found ∷ run) ∷ [])
 
 -- it reads at least the 60 that it owes, and at most the 60 of the other lane more, and is told what it found
 abbrev pub ReadsTotal : Type 0
 ReadsTotal =
     (id : TableId) →
-    IsTotalRead (runs_beside id (one_step (Add 60) 0)) 60 (has_read id 60)
-    × IsTotalRead (runs_beside id (one_step (Add 60) 0)) 120 (has_read id 120)
-    × (IsTotalRead (runs_beside id (one_step (Add 60) 0)) 59 (has_read id 59) → ⊥)
-    × (IsTotalRead (runs_beside id (one_step (Add 60) 0)) 121 (has_read id 121) → ⊥)
-    × (IsTotalRead (runs_beside id (one_step (Add 60) 0)) 119 (has_read id 120) → ⊥)
+    IsTotalRead (has_added id) 60 (has_read id 60 first_run)
+    × IsTotalRead (has_added id) 120 (has_read id shows_mark meeting)
+    × (IsTotalRead (has_added id) 59 (has_read id 59 first_run) → ⊥)
+    × (IsTotalRead (has_added id) 121 (has_read id 121 first_run) → ⊥)
+    × (IsTotalRead (has_added id) 119 (has_read id shows_mark meeting) → ⊥)
 
--- the lane that words are opened with reads a total of 0 first, and no other
+-- the lane that the one word is opened with reads a total of 0 first, and no other
 abbrev pub ReadsNothing : Type 0
 ReadsNothing =
     (id : TableId) →
-    IsTotalRead (runs_alone id 0 None []) 0 (runs_alone id 0 None (one_step LoadTotal 0))
-    × (IsTotalRead (runs_alone id 0 None []) 1 (runs_alone id 0 None (one_step LoadTotal 1)) → ⊥)
+    IsTotalRead (runs_alone id 0 None [] []) 0
+    (runs_alone id 0 None (one_step Load 0) ((Steps 0 Load 0 ∷ []) ∷ []))
+    × (IsTotalRead (runs_alone id 0 None [] []) 1
+    (runs_alone id 0 None (one_step Load 1) ((Steps 0 Load 1 ∷ []) ∷ [])) → ⊥)
 
 -- ---- lanes split and joined
 
@@ -239,36 +305,43 @@ JoinedInOne =
 
 -- ---- lanes in a run
 
--- the second half has added and raised in a run; there is no half in it that owes nothing, no run shows a bit that was
--- not opened, and no lane has read such a bit
+-- the second half has added in a run; there is no half in it that owes nothing, no run shows a bit that was not opened,
+-- and no lane has read such a bit
 abbrev pub SecondHalfInRun : Type 0
 SecondHalfInRun =
-    IsInRun opening (met 1) (half (Some 60)) (one_step (Add 60) 60 ++ one_step Raise 0)
-    × (IsInRun opening (met 1) (half None) (one_step (Add 60) 60 ++ one_step Raise 0) → ⊥)
-    × (IsInRun opening (met 3) (half (Some 60)) (one_step (Add 60) 60 ++ one_step Raise 0) → ⊥)
-    × (IsInRun opening (met 1) (half (Some 60)) (one_step LoadWord 4) → ⊥)
+    IsInRun opening meeting (met 1) 1 (0 ∷ []) (half (Some 60)) (one_step (Add 60) 60)
+    × ((moves : List Move) (seat : ℕ) (name : List ℕ) → IsInRun opening moves (met 1) seat name (half None) (one_step (Add 60) 60) → ⊥)
+    × ((moves : List Move) (seat : ℕ) (name : List ℕ) →
+    IsInRun opening moves (met 3) seat name (half (Some 60)) (one_step (Add 60) 60) → ⊥)
+    × ((moves : List Move) (seat : ℕ) (name : List ℕ) →
+    IsInRun opening moves (met 1) seat name (half (Some 60)) (one_step Load shows_bit_2) → ⊥)
 
 -- a lane with all of the room that raised bit 2 ends with a total of 0 and a word of 4: not the other way round, with
--- nothing owed, and without bit 1
+-- nothing owed, with bit 1 clear, and in a run that begins with what it has seen
 abbrev pub EndsWithBit2 : Type 0
 EndsWithBit2 =
     (id : TableId) →
-    EndsRun (runs_alone id 4 None bit_2_set) 0 4
-    × (EndsRun (runs_alone id 4 None bit_2_set) 4 0 → ⊥)
-    × (EndsRun (runs_alone id 4 None bit_2_set) 1 4 → ⊥)
-    × (EndsRun (runs_alone id 4 None bit_2_set) 0 6 → ⊥)
+    EndsRun (has_set id) 0 4
+    × (EndsRun (has_set id) 4 0 → ⊥)
+    × (EndsRun (has_set id) 1 4 → ⊥)
+    × (EndsRun (has_set id) 0 6 → ⊥)
+    × (EndsRun (runs_alone id 4 None bit_2_set (first_run ∷ [])) 0 4 → ⊥)
 
 -- ---- what a step tells its lane
 
 -- what a lane with all of the room knows
-abbrev pub knows : ℕ → List Made → Knows
-knows raised made = (record { opening = with_bits; lane = lone raised None; made = made }, [])
+abbrev pub knows : ℕ → List Made → List (List Move) → Knows
+knows raised made seen = (record { opening = with_bits; lane = lone raised None; made = made; seen = seen; name = []; splits = 0; taken = []; spent = false }, [])
 
--- to set the mask 4 in a word of 0 tells of bit 2; to set the mask 2 does not, nor to set it and keep no step, and no
--- word that is found shows bit 1, which the lane holds and has not raised
+-- to set bit 34 of both tells of bit 2 of the word; to set bit 33 does not, nor to set it and keep no step, and nothing
+-- that is found shows bit 1, which the lane holds and has not raised
 abbrev pub TellsOfBit2 : Type 0
 TellsOfBit2 =
-    ToldOfBit SetBit (λ index. 2 ^ index) (step 0 8 4 0 none) (knows 0 []) 0 (knows 4 bit_2_set)
-    × (ToldOfBit SetBit (λ index. 2 ^ index) (step 0 8 2 0 none) (knows 0 []) 0 (knows 4 bit_2_set) → ⊥)
-    × (ToldOfBit SetBit (λ index. 2 ^ index) (step 0 8 4 0 none) (knows 0 []) 0 (knows 4 []) → ⊥)
-    × (ToldOfBit SetBit (λ index. 2 ^ index) (step 0 8 4 0 none) (knows 0 []) 2 (knows 4 (one_step (SetBit 2) 2)) → ⊥)
+    ToldOfBit SetBit (λ index. 2 ^ (index + 32)) (step 0 0 17179869184 0 none) (knows 0 [] []) 0
+    (knows 4 bit_2_set (bit_2_run ∷ []))
+    × (ToldOfBit SetBit (λ index. 2 ^ (index + 32)) (step 0 0 8589934592 0 none) (knows 0 [] []) 0
+    (knows 4 bit_2_set (bit_2_run ∷ [])) → ⊥)
+    × (ToldOfBit SetBit (λ index. 2 ^ (index + 32)) (step 0 0 17179869184 0 none) (knows 0 [] []) 0
+    (knows 4 [] (bit_2_run ∷ [])) → ⊥)
+    × (ToldOfBit SetBit (λ index. 2 ^ (index + 32)) (step 0 0 17179869184 0 none) (knows 0 [] []) 8589934592
+    (knows 4 (one_step (SetBit 2) 8589934592) (bit_2_run ∷ [])) → ⊥)

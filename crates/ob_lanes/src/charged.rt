@@ -6,8 +6,6 @@ use std::marker::Model;
 
 /// A lane between a charge and its discharge. It may go to another thread, and be discharged there.
 ///
-/// Whoever has one has it between two calls: see `every_charged_lane_is_idle`.
-///
 /// One that is dropped keeps its charge in the total, and its room, for good: `finish` is refused from then on.
 #[derive(Drop)]
 pub struct Charged {
@@ -21,9 +19,9 @@ impl Model for Charged {
     ghost Value = { RunningLane };
 
     ghost use Rattle.ob_lanes.specs.Charge.{debt_of};
-    ghost use Rattle.ob_lanes.specs.Fields.{seen, IsBetweenCalls};
+    ghost use Rattle.ob_lanes.specs.Fields.{view_of, IsBetweenCalls};
 
-    ghost view = { λ lane. seen lane.running };
+    ghost view = { λ lane. view_of lane.running };
 
     ghost invariant = { λ lane. IsBetweenCalls lane.running (debt_of lane.owed) };
 }

@@ -10,7 +10,7 @@ use std::marker::Model;
 
 /// A lane that owes nothing. It may go to another thread.
 ///
-/// Whoever has one has it between two calls: see `every_lane_is_free`.
+/// Whoever has one has a free one: see `every_lane_is_free`.
 ///
 /// A lane that is dropped keeps its room and its bits for good: `finish` is refused from then on.
 #[derive(Drop)]
@@ -24,9 +24,9 @@ impl Model for Lane {
     ghost Value = { RunningLane };
 
     ghost use Rattle.std.specs.Prelude.{None};
-    ghost use Rattle.ob_lanes.specs.Fields.{seen, IsBetweenCalls};
+    ghost use Rattle.ob_lanes.specs.Fields.{view_of, IsBetweenCalls};
 
-    ghost view = { λ lane. seen lane.running };
+    ghost view = { λ lane. view_of lane.running };
 
     ghost invariant = { λ lane. IsBetweenCalls lane.running None };
 }

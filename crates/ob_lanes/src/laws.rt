@@ -1,14 +1,16 @@
 //! What holds of every run of the core that the calls on lanes speak of, and of every lane between two calls.
 
-ghost use Rattle.std.specs.Prelude.{◌≡◌, ◌<◌, ℕ, List, false, true, Some, slice_get};
+ghost use Rattle.std.specs.Prelude.{◌≡◌, ◌<◌, ◌≤◌, ◌^◌, ◌⊎◌, ℕ, List, true, false};
+ghost use Rattle.ob_types.specs.Change.{is_writable};
 ghost use Rattle.ob_core.specs.Accounts.{AccountsHold};
 ghost use Rattle.ob_core.specs.Bits.{is_set};
 ghost use Rattle.ob_core.specs.CoreState.{CoreState};
 ghost use Rattle.ob_core.specs.Opening.{Opening, one_lane};
 ghost use Rattle.ob_core.specs.Shares.{IsFree};
-ghost use Rattle.ob_core.specs.declared.lane.Lane.{Lane as CoreLane};
-ghost use Rattle.ob_core.specs.declared.lane.Phase.TheVariants.{Idle, ToLower};
-ghost use Rattle.ob_lanes.specs.Run.{Move, Leads};
+ghost use Rattle.ob_lanes.specs.Begins.{BeginsWith};
+ghost use Rattle.ob_lanes.specs.Changes.{changes_of, writable_after, TakeTurns};
+ghost use Rattle.ob_lanes.specs.Run.{Leads};
+ghost use Rattle.ob_lanes.specs.declared.facts.Move.{Move};
 
 use crate::charged::Charged;
 use crate::lane::Lane;
@@ -20,28 +22,48 @@ pub fn every_run_keeps_the_accounts()
         is_set opening.bits 0 ≡ false → Leads (one_lane opening) moves core → AccountsHold opening core }
 {}
 
-/// Where the low mark is positive and nothing is owed, bit 0 is set only while some lane is about to lower it.
-pub fn a_stuck_mark_waits_for_a_lower()
-    ensures waits { (opening : Opening) (moves : List Move) (core : CoreState) →
-        is_set opening.bits 0 ≡ false → Leads (one_lane opening) moves core →
-        0 < opening.marks.low → core.total ≡ 0 → is_set core.word 0 ≡ true →
-        (seat : ℕ) × (lane : CoreLane) × (slice_get core.lanes seat ≡ Some lane) × (lane.phase ≡ ToLower) }
+/// Wherever a run leads, bit 0 is set if the total is above the high mark, and clear if it is below the low mark.
+pub fn the_mark_stands()
+    ensures above { (opening : Opening) (moves : List Move) (core : CoreState) →
+        is_set opening.bits 0 ≡ false → opening.marks.low ≤ opening.marks.high →
+        Leads (one_lane opening) moves core → opening.marks.high < core.total → is_set core.word 0 ≡ true }
+    ensures below { (opening : Opening) (moves : List Move) (core : CoreState) →
+        is_set opening.bits 0 ≡ false → opening.marks.low ≤ opening.marks.high →
+        Leads (one_lane opening) moves core → core.total < opening.marks.low → is_set core.word 0 ≡ false }
 {}
 
-/// Whoever has a lane has a free one: it is in the middle of no call, and owes nothing. Bit 0 is none of the bits that
-/// its words were opened with, so the laws above speak of the run that it stands in.
+/// What all lanes report along a run goes to and fro, and begins with `Unwritable`; the writers may go on behind it just
+/// if no bit of the word is set. The room fits 32 bits, as every room that a word is opened with.
+pub fn the_changes_of_every_run_take_turns()
+    ensures turns { (opening : Opening) (moves : List Move) (core : CoreState) →
+        is_set opening.bits 0 ≡ false → opening.room < 2 ^ 32 → Leads (one_lane opening) moves core →
+        TakeTurns (changes_of opening.marks moves) }
+    ensures now { (opening : Opening) (moves : List Move) (core : CoreState) →
+        is_set opening.bits 0 ≡ false → opening.room < 2 ^ 32 → Leads (one_lane opening) moves core →
+        is_writable core.word ≡ writable_after (changes_of opening.marks moves) }
+{}
+
+/// Of two runs that one run begins with, one begins with the other: what lanes have seen is in line.
+pub fn runs_seen_by_one_are_in_line()
+    ensures in_line { (run first second : List Move) →
+        BeginsWith run first → BeginsWith run second → BeginsWith first second ⊎ BeginsWith second first }
+{}
+
+/// Whoever has a lane has a free one: it owes nothing. Bit 0 is none of the bits that its word was opened with, and the
+/// low mark is at most the high one, so the laws above speak of the run that it stands in.
 pub fn every_lane_is_free(lane: &Lane)
     ensures free { IsFree lane.now.lane }
     ensures mark { is_set lane.now.words.opening.bits 0 ≡ false }
+    ensures ordered { lane.now.words.opening.marks.low ≤ lane.now.words.opening.marks.high }
 {
     let _room = lane.running.room;
 }
 
-/// Whoever has a charged lane has one that is in the middle of no call. Bit 0 is none of the bits that its words were
-/// opened with either.
-pub fn every_charged_lane_is_idle(charged: &Charged)
-    ensures idle { charged.now.lane.phase ≡ Idle }
+/// Of a charged lane, bit 0 is none of the bits that its word was opened with either, and the low mark is at most the
+/// high one.
+pub fn every_charged_lane_is_marked(charged: &Charged)
     ensures mark { is_set charged.now.words.opening.bits 0 ≡ false }
+    ensures ordered { charged.now.words.opening.marks.low ≤ charged.now.words.opening.marks.high }
 {
     let _owed = charged.owed;
 }

@@ -1,12 +1,13 @@
-//! The two words of an outbound buffer on real threads: lanes charge and discharge bytes in flight by one or two atomic
-//! operations a call, take no lock, and never try again.
+//! The one word of an outbound buffer on real threads, which holds the total beside the bits: lanes charge and discharge
+//! bytes in flight by compare-exchange, take no lock, and set and clear bits in one atomic operation.
 //!
-//! Netty has these words in `totalPendingSize` and `unwritable`. Here each atomic operation is one step of the core of
-//! `ob_core`, whatever the schedule: between any two of them the words and the lanes are a core state that some run of
-//! the core leads to. What holds of every such run holds of these threads.
+//! Netty has two words, `totalPendingSize` and `unwritable`. Here each atomic operation is one step of the core of
+//! `ob_core`, whatever the schedule: between any two of them the word and the lanes are a core state that one run of the
+//! core leads to, and that run begins with every run that any lane has seen. What holds of every run holds of these
+//! threads.
 #![tactic(auto)]
 
-mod change;
+mod both;
 mod charged;
 mod facts;
 mod fault;
@@ -22,12 +23,12 @@ mod words;
 mod worked;
 
 pub use charged::Charged;
-pub use facts::Made;
+pub use facts::{Ended, Made, Move};
 pub use fault::{NoRoom, NotHeld, RoomOut, SplitFault};
 pub use lane::Lane;
 pub use laws::{
-    a_stuck_mark_waits_for_a_lower, every_charged_lane_is_idle, every_lane_is_free,
-    every_run_keeps_the_accounts,
+    every_charged_lane_is_marked, every_lane_is_free, every_run_keeps_the_accounts,
+    runs_seen_by_one_are_in_line, the_changes_of_every_run_take_turns, the_mark_stands,
 };
 pub use opened::lanes;
 pub use words::Words;

@@ -10,11 +10,11 @@ use atomic_table::Table;
 use ob_types::{Refusal, WaterMark};
 use std::alloc::Global;
 
-/// Two words, and the lane that has the whole room and all bits. It owes nothing and has set no bit, so what it reads
-/// first is a total of 0, and a word that shows none of its bits.
+/// The one word, and the lane that has the whole room and all bits. It owes nothing and has set no bit, so what it
+/// reads first is a total of 0, and a word that shows none of its bits.
 ///
 /// `room` is the most bytes that all lanes together may owe at a time, and `bits` the mask of the user bits, with an
-/// index of 1 to 31 each. `NoMemory` comes only where the allocator refuses; no later call takes memory.
+/// index of 1 to 31 each. `NoMemory` comes only if the allocator refuses; no later call takes memory.
 pub fn lanes(
     alloc: Global,
     marks: WaterMark,
@@ -24,10 +24,18 @@ pub fn lanes(
     requires { is_set bits 0 ≡ false }
     ensures no_memory { IsOkUnless result Refusal.NoMemory }
     ensures words { IfOk result (λ ok. ok.0.opening ≡ record { marks = marks; room = room; bits = bits }) }
-    ensures lane { IfOk result (λ ok. ok.1 ≡ record { words = ok.0; lane = first_lane ok.0.opening; made = [] }) }
+    ensures lane { IfOk result (λ ok. ok.1 ≡ record {
+      words = ok.0;
+      lane = first_lane ok.0.opening;
+      made = [];
+      seen = [];
+      name = [];
+      splits = 0;
+      taken = [];
+    }) }
 {
     let opening = Opening { marks, room, bits };
-    let (table, seat) = Table::of_words(alloc, &[0; 9], &opening)?;
+    let (table, seat) = Table::of_words(alloc, &[0], &opening)?;
     let words = Words { table, opening };
     let running = Running {
         seat,

@@ -1,7 +1,7 @@
 use ob_types::WaterMark;
 use std::marker::Model;
 
-/// What two words are opened with.
+/// What the one word is opened with.
 #[derive(Clone, Copy, Debug, PartialEq, Eq)]
 pub struct Opening {
     /// The marks that the total is held against.

@@ -2,11 +2,8 @@ use crate::facts::Facts;
 use crate::opening::Opening;
 use atomic_table::TableRule;
 
-/// The word with the total, and the word with the bits. They are eight words apart, so that they never share a line
-/// of 64 bytes.
-pub const TOTAL: usize = 0;
-
-pub const WORD: usize = 8;
+/// The one word, with the word of bits in its high half and the total in its low half, as `ob_types::pack` lays them out.
+pub const BOTH: usize = 0;
 
 /// What holds between any two steps.
 pub struct Rule;

@@ -3,6 +3,7 @@ ghost use Rattle.std.specs.Prelude.{◌≡◌, IfOk, IfErr};
 mod end;
 mod seats;
 mod steps;
+mod tries;
 
 use crate::facts::Facts;
 use crate::opening::Opening;
@@ -11,10 +12,10 @@ use atomic_table::Table;
 use std::alloc::Global;
 use std::marker::Model;
 
-/// The two words that lanes step on: the total, and the word with the bits, each in a cache line of its own.
+/// The one word that lanes step on, which holds the word of bits beside the total.
 ///
-/// Threads share them by reference. Which words they are is part of what a contract sees of them and of a lane: each
-/// call wants the words that its lane came from.
+/// Threads share it by reference. Which word it is is part of what a contract sees of it and of a lane: each call wants
+/// the one that its lane came from.
 #[derive(Drop)]
 pub struct Words {
     pub(crate) table: Table<(), Facts, Opening, Rule, Global>,

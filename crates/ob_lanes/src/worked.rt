@@ -1,20 +1,23 @@
 //! The definitions, computed on small runs.
 
-ghost use Rattle.ob_lanes.specs.Worked.{Meets, OwnSteps, RaisedNothing, Charges, Discharges, Splits};
+ghost use Rattle.ob_lanes.specs.Worked.{Meets, OwnSteps, RaisedNothing, OneChange, Begins, Splits};
 ghost use Rattle.ob_lanes.specs.Worked.{SetsBit2, ReadsBehind, ShowsBit2, ReadsWord, Owes, OwesNothing};
-ghost use Rattle.ob_lanes.specs.Worked.{ReadsTotal, ReadsNothing, SplitInTwo, JoinedInOne, SecondHalfInRun};
+ghost use Rattle.ob_lanes.specs.Worked.{Raises, ReadsTotal, ReadsNothing, SplitInTwo, JoinedInOne, SecondHalfInRun};
 ghost use Rattle.ob_lanes.specs.Worked.{EndsWithBit2, TellsOfBit2};
 
 fn worked_runs()
     ensures meets { Meets }
     ensures own_steps { OwnSteps }
     ensures raised_nothing { RaisedNothing }
+    ensures one_change { OneChange }
+    ensures begins { Begins }
 {}
 
 fn worked_calls()
-    ensures charges { Charges }
-    ensures discharges { Discharges }
     ensures splits { Splits }
+    ensures owes { Owes }
+    ensures owes_nothing { OwesNothing }
+    ensures raises { Raises }
 {}
 
 fn worked_steps()
@@ -22,8 +25,6 @@ fn worked_steps()
     ensures reads_behind { ReadsBehind }
     ensures shows_bit_2 { ShowsBit2 }
     ensures reads_word { ReadsWord }
-    ensures owes { Owes }
-    ensures owes_nothing { OwesNothing }
     ensures tells_of_bit_2 { TellsOfBit2 }
 {}
 

@@ -1,31 +1,31 @@
 ghost use Rattle.std.specs.Prelude.{◌≡◌, None};
 ghost use Rattle.ob_core.specs.Owed.{owed_by};
-ghost use Rattle.ob_lanes.specs.Charge.{IsDischarge, ChangesDebt};
+ghost use Rattle.ob_core.specs.declared.lane_step.LaneStep.TheVariants.{Subtract};
+ghost use Rattle.ob_lanes.specs.Charge.{ChangesDebt};
 
 use super::Charged;
-use crate::change::change_of_clearing;
+use crate::both::{after_subtract, change_of};
 use crate::lane::Lane;
 use crate::words::Words;
 use ob_types::Change;
+use std::sync::Wait;
 
 impl Charged {
-    /// Takes the bytes off the total and, where that comes below the low mark, clears bit 0 of the word.
+    /// Takes the bytes off the total and, if that comes below the low mark, clears bit 0 of the word, in one step. It
+    /// tries again for as long as other lanes come between its read and its step, so whether it returns is not promised.
     ///
-    /// The change is `Writable` where this call cleared bit 0 and found no other bit set, and else none. The discharge
-    /// of a charge of 0 touches no word. It never fails.
-    pub fn discharge(self, words: &Words) -> (Lane, Option<Change>)
+    /// The change is `Writable` if this call cleared bit 0 and found no other bit set, and else none. The discharge of a
+    /// charge of 0 does not touch the word. It never fails.
+    pub fn discharge<R: Wait>(self, rt: &R, words: &Words) -> (Lane, Option<Change>)
         requires { self.words ≡ words.now }
-        ensures { let owed = owed_by self.lane in
-            ChangesDebt None owed (IsDischarge self.words.opening.marks.low owed) self result.0 result.1 }
+        ensures { let owed = owed_by self.lane in ChangesDebt None owed (Subtract owed) self result.0 result.1 }
     {
         let Charged { mut running, owed } = self;
-        let mut change = None;
-        if owed > 0 {
-            let total = words.subtract(&mut running.seat, owed) - owed as u64;
-            if total < words.low() {
-                change = change_of_clearing(words.lower(&mut running.seat), 0);
-            }
+        if owed == 0 {
+            return (Lane { running }, None);
         }
+        let found = words.subtract(rt, &mut running.seat, owed);
+        let change = change_of(found, after_subtract(words.marks(), found, owed));
         (Lane { running }, change)
     }
 }

@@ -3,6 +3,7 @@ ghost use Rattle.ob_core.specs.Owed.{owed_by};
 ghost use Rattle.ob_lanes.specs.Read.{IsTotalRead, IsWordRead};
 
 use super::Charged;
+use crate::both::{total_of, word_of};
 use crate::words::Words;
 
 impl Charged {
@@ -11,7 +12,7 @@ impl Charged {
         requires { self.old.words ≡ words.now }
         ensures { IsTotalRead self.old result self.new }
     {
-        words.load_total(&mut self.running.seat)
+        u64::from(total_of(words.load(&mut self.running.seat)))
     }
 
     /// The word, read in one step as by `Lane::word`.
@@ -19,7 +20,7 @@ impl Charged {
         requires { self.old.words ≡ words.now }
         ensures { IsWordRead self.old result self.new }
     {
-        words.load_word(&mut self.running.seat) as u32
+        word_of(words.load(&mut self.running.seat))
     }
 
     /// The bytes that it charged and has not taken back.

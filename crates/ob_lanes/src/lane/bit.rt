@@ -4,15 +4,15 @@ ghost use Rattle.ob_core.specs.Bits.{is_set};
 ghost use Rattle.ob_lanes.specs.Bit.{IsBit, bit_step};
 
 use super::Lane;
-use crate::change::{change_of_clearing, change_of_setting};
+use crate::both::{after_clear, after_set, change_of};
 use crate::fault::NotHeld;
 use crate::words::Words;
 use ob_types::Change;
 
 impl Lane {
-    /// Sets the user bit with this index, or clears it where it is to be `writable` (Netty's user-defined writability).
+    /// Sets the user bit with this index, or clears it if it is to be `writable` (Netty's user-defined writability).
     ///
-    /// The change is that between the word that it found and the word that it left. `NotHeld` comes exactly where the
+    /// The change is that between the word that it found and the word that it left. `NotHeld` comes exactly if the
     /// lane does not hold the bit, so also for an index outside 1 to 31, and changes nothing.
     pub fn bit(
         &mut self,
@@ -30,9 +30,11 @@ impl Lane {
             return Err(NotHeld);
         }
         let change = if writable {
-            change_of_clearing(words.clear_bit(&mut self.running.seat, index), index)
+            let found = words.clear_bit(&mut self.running.seat, index);
+            change_of(found, after_clear(found, index))
         } else {
-            change_of_setting(words.set_bit(&mut self.running.seat, index))
+            let found = words.set_bit(&mut self.running.seat, index);
+            change_of(found, after_set(found, index))
         };
         Ok(change)
     }

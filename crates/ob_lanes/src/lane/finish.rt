@@ -5,14 +5,15 @@ ghost use Rattle.ob_lanes.specs.InRun.{EndsRun};
 ghost use Rattle.ob_lanes.specs.RunningLane.{ShowsHeld};
 
 use super::Lane;
+use crate::both::{total_of, word_of};
 use crate::fault::RoomOut;
 use crate::words::Words;
 
 impl Lane {
-    /// Ends the words, and tells the total, which is 0 then, and the word.
+    /// Ends the word, and tells the total, which is 0 then, and the word.
     ///
-    /// `RoomOut` comes exactly where the lane has less than the whole room, and hands back what came in. Bit 0 is clear
-    /// where the low mark is positive; at a low mark of 0 nothing ever clears it.
+    /// `RoomOut` comes just if the lane has less than the whole room, and hands back what came in. Bit 0 is clear
+    /// if the low mark is positive; at a low mark of 0 nothing ever clears it.
     pub fn finish(self, words: Words) -> Result<(u64, u32), (Words, Lane, RoomOut)>
         requires { self.words ≡ words }
         ensures room_out { self.lane.room < words.opening.room →
@@ -29,7 +30,7 @@ impl Lane {
             return Err((words, self, RoomOut));
         }
         let Lane { running } = self;
-        let (total, word) = words.end(running.seat);
-        Ok((total, word as u32))
+        let both = words.end(running.seat);
+        Ok((u64::from(total_of(both)), word_of(both)))
     }
 }

@@ -1,4 +1,4 @@
-ghost use Rattle.std.specs.Prelude.{◌≡◌, ◌≤◌, ◌+◌};
+ghost use Rattle.std.specs.Prelude.{◌≡◌, ◌++◌, ◌∷◌};
 ghost use Rattle.ob_lanes.specs.Joined.{IsJoined};
 
 use super::Lane;
@@ -8,13 +8,17 @@ use std::marker::Brand;
 impl Lane {
     /// One lane with the room and the bits of both, set as they were. Its own steps are those of the first lane.
     ///
-    /// The rooms of two lanes never add up to more than the whole room.
+    /// The rooms of two lanes never add up to more than the whole room. The next step of the lane is behind all that both
+    /// had seen.
     pub fn join(self, words: &Words, other: Lane) -> Lane
         requires words { self.words ≡ words.now }
         requires other { other.words ≡ words.now }
         ensures words { result.words ≡ self.words }
         ensures lane { IsJoined self.words.opening.room self.lane other.lane result.lane }
         ensures made { result.made ≡ self.made }
+        ensures name { (result.name ≡ self.name) × (result.splits ≡ self.splits) }
+        ensures taken { result.taken ≡ self.taken ++ (record { name = other.name; made = other.made }) ∷ other.taken }
+        ensures seen { result.seen ≡ self.seen ++ other.seen }
     {
         let Lane { mut running } = self;
         let Lane { running: other } = other;

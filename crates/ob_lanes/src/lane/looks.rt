@@ -2,16 +2,17 @@ ghost use Rattle.std.specs.Prelude.{◌≡◌};
 ghost use Rattle.ob_lanes.specs.Read.{IsTotalRead, IsWordRead};
 
 use super::Lane;
+use crate::both::{total_of, word_of};
 use crate::words::Words;
 
 impl Lane {
     /// The bytes that all lanes owe, read in one step: at least what this lane owes, and at most that and all room
-    /// outside the lane.
+    /// outside the lane. It is never older than what the lane has seen.
     pub fn total(&mut self, words: &Words) -> u64
         requires { self.old.words ≡ words.now }
         ensures { IsTotalRead self.old result self.new }
     {
-        words.load_total(&mut self.running.seat)
+        u64::from(total_of(words.load(&mut self.running.seat)))
     }
 
     /// The word, read in one step: writable is 0. Of the bits that the lane holds, it shows exactly those that it set.
@@ -19,7 +20,7 @@ impl Lane {
         requires { self.old.words ≡ words.now }
         ensures { IsWordRead self.old result self.new }
     {
-        words.load_word(&mut self.running.seat) as u32
+        word_of(words.load(&mut self.running.seat))
     }
 
     /// The most bytes that a charge of the lane may have.

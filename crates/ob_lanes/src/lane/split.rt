@@ -1,4 +1,4 @@
-ghost use Rattle.std.specs.Prelude.{◌≡◌, [], None, IfSome, IfOk, IfErr, IsOk, IsErrAnd};
+ghost use Rattle.std.specs.Prelude.{◌≡◌, ◌+◌, [], ◌∷◌, None, IfSome, IfOk, IfErr, IsOk, IsErrAnd};
 ghost use Rattle.ob_lanes.specs.Split.{split_fault, IsSplit};
 
 use super::Lane;
@@ -10,8 +10,8 @@ use std::marker::Brand;
 impl Lane {
     /// Gives this much of the room, and these bits, to a new lane. The bits go as they are, set or not.
     ///
-    /// `NoRoom` comes where the lane has less room, and then `NotHeld` where it does not hold one of the bits; both hand
-    /// the lane back as it was. The new lane has made no step.
+    /// `NoRoom` comes if the lane has less room, and then `NotHeld` if it does not hold one of the bits; both hand
+    /// the lane back as it was. The new lane has made no step, and has seen what this one had.
     pub fn split(
         self,
         words: &Words,
@@ -25,6 +25,10 @@ impl Lane {
         ensures words { IfOk result (λ lanes. (lanes.0.words ≡ self.words) × (lanes.1.words ≡ self.words)) }
         ensures shares { IfOk result (λ lanes. IsSplit room bits self.lane lanes.0.lane lanes.1.lane) }
         ensures made { IfOk result (λ lanes. (lanes.0.made ≡ self.made) × (lanes.1.made ≡ [])) }
+        ensures names { IfOk result (λ lanes. (lanes.0.name ≡ self.name) × (lanes.1.name ≡ self.splits ∷ self.name)) }
+        ensures splits { IfOk result (λ lanes. (lanes.0.splits ≡ self.splits + 1) × (lanes.1.splits ≡ 0)) }
+        ensures taken { IfOk result (λ lanes. (lanes.0.taken ≡ self.taken) × (lanes.1.taken ≡ [])) }
+        ensures seen { IfOk result (λ lanes. (lanes.0.seen ≡ self.seen) × (lanes.1.seen ≡ self.seen)) }
     {
         if room > self.running.room {
             return Err((self, SplitFault::NoRoom));

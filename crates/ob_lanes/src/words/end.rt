@@ -4,21 +4,20 @@ ghost use Rattle.std.specs.Prelude.{◌<◌, ◌^◌};
 
 use super::Words;
 use crate::facts::Facts;
-use crate::rule::{TOTAL, WORD};
+use crate::rule::BOTH;
 use atomic_table::Seat;
 
 impl Words {
-    /// Gives the memory back, and tells what the total and the word were.
-    pub(crate) fn end(self, seat: Seat<(), Facts>) -> (u64, u64)
+    /// Gives the memory back, and tells both as they were.
+    pub(crate) fn end(self, seat: Seat<(), Facts>) -> u64
         requires words { IsSeatOf self seat }
-        ensures end { IsEnd self.opening seat result.0 result.1 }
+        ensures end { IsEnd self.opening seat result }
         ensures bits { self.opening.bits < 2 ^ 32 }
     {
         let Words { table, opening: _ } = self;
         let closed = table.close_with(seat);
-        let total = closed.word(TOTAL);
-        let word = closed.word(WORD);
+        let both = closed.word(BOTH);
         closed.free();
-        (total, word)
+        both
     }
 }

@@ -1,91 +1,77 @@
 //! One atomic step each, made by the lane whose seat is passed.
-ghost use Rattle.std.specs.Prelude.{◌≡◌, ◌+◌, ◌<◌, ◌^◌};
-ghost use Rattle.ob_core.specs.declared.lane_step.LaneStep.TheVariants.{Add, Subtract, Raise, Lower};
-ghost use Rattle.ob_core.specs.declared.lane_step.LaneStep.TheVariants.{SetBit, ClearBit, LoadWord, LoadTotal};
-ghost use Rattle.ob_lanes.specs.Told.{MayMake, Makes};
+ghost use Rattle.std.specs.Prelude.{◌≡◌, ◌<◌, ◌+◌, ◌≤◌};
+ghost use Rattle.ob_types.specs.Packed.{total_half};
+ghost use Rattle.ob_core.specs.declared.lane_step.LaneStep.TheVariants.{Add, Subtract, SetBit, ClearBit, Load};
+ghost use Rattle.ob_lanes.specs.Told.{MayMake, Makes, MakesOrReads, PackedTold};
 
 use super::Words;
+use crate::both::{HALF, after_add, after_subtract};
 use crate::facts::Facts;
 use crate::plays;
-use crate::rule::{TOTAL, WORD};
+use crate::rule::BOTH;
 use atomic_table::Seat;
+use ob_types::WaterMark;
 
 impl Words {
-    pub(crate) fn high(&self) -> u64
-        ensures { result ≡ self.now.opening.marks.high }
+    pub(crate) fn marks(&self) -> WaterMark
+        ensures marks { result ≡ self.now.opening.marks }
+        ensures room { self.now.opening.room < 4294967296 }
     {
-        self.opening.marks.high() as u64
+        self.opening.marks
     }
 
-    pub(crate) fn low(&self) -> u64
-        ensures { result ≡ self.now.opening.marks.low }
+    /// Reads both.
+    pub(crate) fn load(&self, seat: &mut Seat<(), Facts>) -> u64
+        requires { MayMake self.now seat.old Load }
+        ensures { Makes Load seat.old result seat.new }
     {
-        self.opening.marks.low() as u64
+        self.table.shared.load::<plays::Load>(seat, BOTH)
     }
 
-    pub(crate) fn add(&self, seat: &mut Seat<(), Facts>, amount: u32) -> u64
-        requires { MayMake self.now seat.old (Add amount) }
-        ensures made { Makes (Add amount) seat.old result seat.new }
-        ensures fits { result + amount < 2 ^ 32 }
-    {
-        self.table
-            .shared
-            .fetch_add::<plays::Add>(seat, TOTAL, amount as u64)
-    }
-
-    pub(crate) fn subtract(&self, seat: &mut Seat<(), Facts>, amount: u32) -> u64
-        requires { MayMake self.now seat.old (Subtract amount) }
-        ensures { Makes (Subtract amount) seat.old result seat.new }
-    {
-        self.table
-            .shared
-            .fetch_sub::<plays::Subtract>(seat, TOTAL, amount as u64)
-    }
-
-    pub(crate) fn raise(&self, seat: &mut Seat<(), Facts>) -> u64
-        requires { MayMake self.now seat.old Raise }
-        ensures { Makes Raise seat.old result seat.new }
-    {
-        self.table.shared.fetch_or::<plays::Raise>(seat, WORD, 1)
-    }
-
-    pub(crate) fn lower(&self, seat: &mut Seat<(), Facts>) -> u64
-        requires { MayMake self.now seat.old Lower }
-        ensures { Makes Lower seat.old result seat.new }
-    {
-        self.table.shared.fetch_and::<plays::Lower>(seat, WORD, !1)
-    }
-
+    /// Sets a bit of the word.
     pub(crate) fn set_bit(&self, seat: &mut Seat<(), Facts>, index: u32) -> u64
         requires { MayMake self.now seat.old (SetBit index) }
         ensures { Makes (SetBit index) seat.old result seat.new }
     {
         self.table
             .shared
-            .fetch_or::<plays::SetBit>(seat, WORD, 1 << index)
+            .fetch_or::<plays::SetBit>(seat, BOTH, HALF << index)
     }
 
+    /// Clears a bit of the word.
     pub(crate) fn clear_bit(&self, seat: &mut Seat<(), Facts>, index: u32) -> u64
         requires { MayMake self.now seat.old (ClearBit index) }
         ensures { Makes (ClearBit index) seat.old result seat.new }
     {
-        let others = !(1 << index);
+        let others = !(HALF << index);
         self.table
             .shared
-            .fetch_and::<plays::ClearBit>(seat, WORD, others)
+            .fetch_and::<plays::ClearBit>(seat, BOTH, others)
     }
 
-    pub(crate) fn load_word(&self, seat: &mut Seat<(), Facts>) -> u64
-        requires { MayMake self.now seat.old LoadWord }
-        ensures { Makes LoadWord seat.old result seat.new }
+    /// Adds, if both still are as they were found; else it is a read.
+    pub(crate) fn try_add(&self, seat: &mut Seat<(), Facts>, found: u64, amount: u32) -> u64
+        requires may { MayMake self.now seat.old (Add amount) }
+        requires told { PackedTold seat.old.me.0 found }
+        ensures made { MakesOrReads (Add amount) found seat.old result seat.new }
+        ensures fits { total_half found + amount < 4294967296 }
     {
-        self.table.shared.load::<plays::LoadWord>(seat, WORD)
+        let next = after_add(self.marks(), found, amount);
+        self.table
+            .shared
+            .compare_exchange::<plays::Add>(seat, BOTH, found, next)
     }
 
-    pub(crate) fn load_total(&self, seat: &mut Seat<(), Facts>) -> u64
-        requires { MayMake self.now seat.old LoadTotal }
-        ensures { Makes LoadTotal seat.old result seat.new }
+    /// Subtracts, if both still are as they were found; else it is a read.
+    pub(crate) fn try_subtract(&self, seat: &mut Seat<(), Facts>, found: u64, amount: u32) -> u64
+        requires may { MayMake self.now seat.old (Subtract amount) }
+        requires told { PackedTold seat.old.me.0 found }
+        ensures made { MakesOrReads (Subtract amount) found seat.old result seat.new }
+        ensures fits { amount ≤ total_half found }
     {
-        self.table.shared.load::<plays::LoadTotal>(seat, TOTAL)
+        let next = after_subtract(self.marks(), found, amount);
+        self.table
+            .shared
+            .compare_exchange::<plays::Subtract>(seat, BOTH, found, next)
     }
 }

@@ -1,5 +1,5 @@
-use Rattle.std.proofs.Common.{◌≡◌, ℕ, zero, suc, Bool, true, false, eqb, List, [], ◌∷◌, ◌++◌, if◌then◌else◌}
-use Rattle.std.proofs.Common.{Option, None, Some, unwrap_or, refl, sym, ap, ◌∙◌, arith}
+use Rattle.std.proofs.Common.{◌≡◌, ◌≤◌, ℕ, zero, suc, Bool, true, false, eqb, List, [], ◌∷◌, ◌++◌, if◌then◌else◌}
+use Rattle.std.proofs.Common.{Option, None, Some, unwrap_or, refl, sym, ap, ◌∙◌, subst, arith}
 use Rattle.std.specs.Int.{bit_at}
 use Rattle.std.specs.List.{slice_get}
 use Rattle.std.proofs.lemmas.List.{append-nil, same_from_push}
@@ -8,14 +8,20 @@ use Rattle.ob_core.specs.Found.{value_found}
 use Rattle.ob_core.specs.Opening.{one_lane}
 use Rattle.ob_core.specs.Owed.{owed_by}
 use Rattle.ob_core.specs.declared.lane.Lane.{Lane}
-use Rattle.ob_core.specs.declared.lane_step.LaneStep.TheVariants.{LoadWord}
-use Rattle.ob_core.proofs.AccountsLemmas.{total-le-outside, shown-held}
+use Rattle.ob_core.specs.declared.lane_step.LaneStep.TheVariants.{Load}
+use Rattle.ob_core.proofs.AccountsLemmas.{total-le-room, total-le-outside, shown-held}
 use Rattle.ob_lanes.specs.Facts.{one_step}
-use Rattle.ob_lanes.specs.Run.{Move, steps, divides, merges, Leads, own_steps}
-use Rattle.ob_lanes.specs.Worked.{opening, half, met, with_bits, lone}
+use Rattle.ob_lanes.specs.Run.{Leads, own_steps}
+use Rattle.ob_lanes.specs.declared.facts.Move.{Move}
+use Rattle.ob_lanes.specs.declared.facts.Move.TheVariants.{Steps, Divides, Merges}
+use Rattle.ob_lanes.specs.Worked.{opening, half, met, with_bits, lone, bit_2_run, first_run, shows_bit_2}
 use Rattle.ob_lanes.specs.declared.facts.Made.{Made}
 use Rattle.ob_lanes.proofs.KeptAccounts.{accounts_after_run, not_opened}
 use Rattle.ob_lanes.proofs.WorkedRuns.{alone, set_in_run, met_in_run}
+use Rattle.ob_lanes.proofs.Runs.{begins_itself, begins_one}
+use Rattle.ob_lanes.specs.Begins.{BeginsWith}
+use Rattle.std.proofs.lemmas.List.Elements.{All-head, All-nil}
+use Rattle.ob_lanes.specs.InRun.{EndedIn}
 use Rattle.ob_lanes.proofs.worked.worked_places.Goals as goal
 
 -- both halves owe 60
@@ -30,25 +36,25 @@ all_owe (suc (suc seat)) is_lane = absurd (cc)
 
 -- no lane has read a bit that was not opened
 unread : (moves : List Move) (core : CoreState) (seat : ℕ) → Leads (one_lane opening) moves core
-    → own_steps seat moves ≡ one_step LoadWord 4 → ⊥
+    → own_steps seat moves ≡ one_step Load shows_bit_2 → ⊥
 unread [] core seat leads made = absurd (cc)
-unread (divides at kept given ∷ earlier) core seat leads made =
+unread (Divides at kept given name ∷ earlier) core seat leads made =
     unread earlier leads.0 seat leads.1 (sym (append-nil (own_steps seat earlier)) ∙ made)
-unread (merges first second both ∷ earlier) core seat leads made =
+unread (Merges first second both ∷ earlier) core seat leads made =
     unread earlier leads.0 seat leads.1 (sym (append-nil (own_steps seat earlier)) ∙ made)
-unread (steps other step found ∷ earlier) core seat leads made =
+unread (Steps other step found ∷ earlier) core seat leads made =
     by_seat (eqb other seat) (unread earlier leads.0 seat leads.1) made
   where
-    by_seat : (mine : Bool) → (own_steps seat earlier ≡ one_step LoadWord 4 → ⊥)
-        → own_steps seat earlier ++ (if mine then one_step step found else []) ≡ one_step LoadWord 4 → ⊥
+    by_seat : (mine : Bool) → (own_steps seat earlier ≡ one_step Load shows_bit_2 → ⊥)
+        → own_steps seat earlier ++ (if mine then one_step step found else []) ≡ one_step Load shows_bit_2 → ⊥
     by_seat false before made = before (sym (append-nil (own_steps seat earlier)) ∙ made)
     by_seat true before made =
         let read = (same_from_push (own_steps seat earlier) [] (record { step = step; found = found })
-        (record { step = LoadWord; found = 4 }) made).1 in
-        let word : 4 ≡ leads.0.word =
-        sym (ap (λ (m : Made). m.found) read) ∙ leads.2.1
-        ∙ ap (λ (m : Made). value_found m.step leads.0) read in
+        (record { step = Load; found = shows_bit_2 }) made).1 in
+        let both : shows_bit_2 ≡ value_found leads.0 = sym (ap (λ (m : Made). m.found) read) ∙ leads.2.1 in
         let holds = accounts_after_run opening earlier leads.0 refl leads.1 in
+        let fits : leads.0.total ≤ 120 = total-le-room opening leads.0 holds.bytes in
+        let word : 4 ≡ leads.0.word = omega (arith, both, fits) in
         let clear : bit_at leads.0.word 2 ≡ 0 = not_opened opening leads.0 2 holds (omega arith) refl in
         let wrong : ◌≡◌ {A = ℕ} 1 0 = ap (λ n. bit_at n 2) word ∙ clear in
         absurd (omega (arith, wrong))
@@ -56,38 +62,74 @@ unread (steps other step found ∷ earlier) core seat leads made =
 pub returns-clause-second_half_in_run : goal.returns-clause-second_half_in_run
 returns-clause-second_half_in_run c = (
   met_in_run,
-  (λ stands. all_owe stands.seat stands.is_lane),
-  (λ stands.
-      let holds = accounts_after_run opening stands.moves (met 3) refl stands.leads in
+  (λ moves seat name stands. all_owe seat stands.is_lane),
+  (λ moves seat name stands.
+      let holds = accounts_after_run opening moves (met 3) refl stands.leads in
       let wrong : ◌≡◌ {A = ℕ} 0 1 = holds.bits.shown 1 (omega arith) in
       absurd (omega (arith, wrong))),
-  (λ stands. unread stands.moves (met 1) stands.seat stands.leads stands.is_made),
+  (λ moves seat name stands. unread moves (met 1) seat stands.leads stands.is_made),
 )
+
+-- the lane that the word is opened with holds bit 2
+held_wrong : (lane : Lane) → Some lane ≡ Some (lone 0 None) → bit_at lane.held 2 ≡ 0 → ⊥
+held_wrong lane is none =
+    let one : bit_at (lone 0 None).held 2 ≡ 0 =
+    subst (λ (l : Lane). bit_at l.held 2 ≡ 0) (ap (λ (l : Option Lane). unwrap_or l lane) is) none in
+    let wrong : ◌≡◌ {A = ℕ} 1 0 = one in
+    absurd (omega (arith, wrong))
+
+-- a run whose first lane has set bit 2 does not begin with a division of it and an add
+only_set : (moves later : List Move) (core : CoreState) (seat : ℕ) → Leads (one_lane with_bits) moves core
+    → moves ≡ later ++ first_run → ⊥
+only_set moves later core seat leads same = no_bits_here later core (subst (λ ms. Leads (one_lane with_bits) ms core) same leads)
+  where
+    no_bits_here : (later : List Move) (core : CoreState) → Leads (one_lane with_bits) (later ++ first_run) core → ⊥
+    no_bits_here [] core leads =
+        let division = leads.1.2 in
+        let start = leads.1.1 in
+        let room : ◌≡◌ {A = ℕ} 120 120 = refl in
+        let lane_is = ap (λ (c : CoreState). slice_get c.lanes 0) start in
+        let rooms = division.shares.held 2 in
+        let is_lane = division.is_lane in
+        held_wrong division.lane (sym is_lane ∙ lane_is) (sym rooms)
+    no_bits_here (move ∷ later) core leads = no_bits_here later leads.0 leads.1
 
 pub returns-clause-ends_with_bit_2 : goal.returns-clause-ends_with_bit_2
 returns-clause-ends_with_bit_2 c id = (
-  record { core = alone 0 4 (lone 4 None); in_run = set_in_run; total_is = refl; word_is = refl },
+  record {
+    core = alone 0 4 (lone 4 None);
+    moves = bit_2_run;
+    seat = 0;
+    in_run = set_in_run;
+    begins = begins_one bit_2_run bit_2_run (begins_itself bit_2_run);
+    ended = All-nil (EndedIn bit_2_run 0);
+    total_is = refl;
+    word_is = refl;
+  },
   (λ end.
       let run = end.in_run in
-      let holds = accounts_after_run with_bits run.moves end.core refl run.leads in
+      let holds = accounts_after_run with_bits end.moves end.core refl run.leads in
       absurd (omega (
         arith,
-        total-le-outside with_bits end.core run.seat (lone 4 None) holds.bytes run.is_lane,
+        total-le-outside with_bits end.core end.seat (lone 4 None) holds.bytes run.is_lane,
         end.total_is,
       ))),
   (λ end.
       let run = end.in_run in
-      let holds = accounts_after_run with_bits run.moves end.core refl run.leads in
+      let holds = accounts_after_run with_bits end.moves end.core refl run.leads in
       absurd (omega (
         arith,
-        total-le-outside with_bits end.core run.seat (lone 4 None) holds.bytes run.is_lane,
+        total-le-outside with_bits end.core end.seat (lone 4 None) holds.bytes run.is_lane,
         end.total_is,
       ))),
   (λ end.
       let run = end.in_run in
-      let holds = accounts_after_run with_bits run.moves end.core refl run.leads in
+      let holds = accounts_after_run with_bits end.moves end.core refl run.leads in
       let wrong : ◌≡◌ {A = ℕ} 1 0 =
       sym (ap (λ n. bit_at n 1) end.word_is)
-      ∙ shown-held with_bits end.core run.seat (lone 4 None) 1 holds.bits run.is_lane refl in
+      ∙ shown-held with_bits end.core end.seat (lone 4 None) 1 holds.bits run.is_lane refl in
       absurd (omega (arith, wrong))),
+  (λ end.
+      let begins = All-head (BeginsWith end.moves) first_run [] end.begins in
+      only_set end.moves begins.later end.core end.seat end.in_run.leads begins.run_is),
 )

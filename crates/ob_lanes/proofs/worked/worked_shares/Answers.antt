@@ -18,8 +18,8 @@ returns-clause-split_in_two c = (
 
 pub returns-clause-joined_in_one : goal.returns-clause-joined_in_one
 returns-clause-joined_in_one c = (
-  record { free = record { idle = refl; debt = refl }; room = refl; held = bit_at_or 2 12; raised = bit_at_or 2 4 },
-  record { free = record { idle = refl; debt = refl }; room = refl; held = bit_at_or 2 12; raised = bit_at_or 2 4 },
+  record { free = record { debt = refl }; room = refl; held = bit_at_or 2 12; raised = bit_at_or 2 4 },
+  record { free = record { debt = refl }; room = refl; held = bit_at_or 2 12; raised = bit_at_or 2 4 },
   (λ joined. let wrong : ◌≡◌ {A = ℕ} 10 8 = joined.room in absurd (omega (arith, wrong))),
   (λ joined. let wrong : ◌≡◌ {A = ℕ} 7 10 = joined.room in absurd (omega (arith, wrong))),
   (λ joined. let wrong : ◌≡◌ {A = ℕ} 0 1 = joined.held 3 in absurd (omega (arith, wrong))),

@@ -7,7 +7,7 @@ split_seat-requires g c =
     let seat = c.args.seat.now in
     let small : g.S.Share.bits < 2 ^ 32 = omega (arith, c.requires.share.1, c.ranges._bits.fits) in (
       cc,
-      omega (arith, c.self.invariant.nine),
+      omega (arith, c.self.invariant.one),
       division_allowed c.self.inside.table.shared.key seat.id seat.me.0 _ _
-          c.requires.free small c.requires.fits,
+          c.requires.words.2 c.requires.free small c.requires.fits,
     )

@@ -1,6 +1,15 @@
-use Rattle.ob_lanes.proofs.Allowed.{may_subtract}
+use Rattle.std.proofs.Common.{◌∙◌}
+use Rattle.ob_core.specs.declared.lane_step.LaneStep.TheVariants.{Subtract}
+use Rattle.ob_lanes.proofs.Tries.{first_read, missed}
 use Rattle.ob_lanes.proofs.words.Words.subtract.Goals as goal
 
-pub fetch_sub-requires : goal.fetch_sub-requires
-fetch_sub-requires c =
-    may_subtract c.self.inside c.self.invariant _ c.self.view_is c.args.seat.now c.args.amount c.requires
+pub tries-init : goal.tries-init
+tries-init g c = (c.load-found.ensures.same, first_read _ _ _ c.load-found.ensures.told)
+
+pub tries-preserved : goal.tries-preserved
+tries-preserved g c =
+    let same = c.tries.invariant.0 in
+    let made = c.try_subtract-now.ensures.made in (
+      (made.same.0 ∙ same.0, made.same.1 ∙ same.1),
+      missed (Subtract c.args.amount) c.tries.found _ _ _ _ c.if-now-found.false c.tries.invariant.1 made.told,
+    )

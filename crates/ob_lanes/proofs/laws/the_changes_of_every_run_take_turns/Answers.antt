@@ -1,0 +1,8 @@
+use Rattle.ob_lanes.proofs.Turns.{turned}
+use Rattle.ob_lanes.proofs.laws.the_changes_of_every_run_take_turns.Goals as goal
+
+pub returns : goal.returns
+returns c = record {
+  turns = λ opening moves core mark fits leads. (turned opening mark fits moves core leads).turns;
+  now = λ opening moves core mark fits leads. (turned opening mark fits moves core leads).now;
+}
