@@ -3,6 +3,7 @@ pub mod BytesRemoved
 pub mod Cancelled
 pub mod Closing
 pub mod Failing
+pub mod MarksSet
 pub mod Removed
 pub mod Simulated
 pub mod Simulation

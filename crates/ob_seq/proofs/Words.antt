@@ -4,7 +4,7 @@ pub use Rattle.std.proofs.Common.{◌&&◌, ◌||◌, cond, refl, ℕ, zero, suc
 pub use Rattle.std.proofs.Common.{length, map, get_or, subst, max, take, leb, ltb, zero-add, ◌*◌, ◌^◌, ◌/◌, add-zero}
 pub use Rattle.std.proofs.Common.{length-append, not, reverse, min, ◌⊎◌}
 pub use Rattle.std.specs.Int.{bit_at}
-pub use Rattle.std.specs.List.{AllByRecursion, range_with_len, cons_option}
+pub use Rattle.std.specs.List.{AllByRecursion, range_with_len, cons_option, position_or_len}
 pub use Rattle.std.specs.Prelude.{fold, Some, None, is_ok, Option, slice_set, filter, if◌then◌else◌, sum_by, is_some}
 pub use Rattle.std.specs.Prelude.{◌↔◌, filter_map, slice_get, unwrap_or, count_by}
 pub use Rattle.std.specs.VecDeque.Iter.{deque_iter_rest}
@@ -25,7 +25,7 @@ pub use Rattle.ob_types.specs.WaterMark.{Marks}
 pub use Rattle.ob_types.specs.Write.{is_write}
 pub use Rattle.ob_types.specs.declared.command.Command.{Command}
 pub use Rattle.ob_types.specs.declared.command.Command.TheVariants.{Close, Write, RemoveBytes, Remove, RemoveWith}
-pub use Rattle.ob_types.specs.declared.command.Command.TheVariants.{Progress, UserBit, Flush, FailFlushed, Cancel}
+pub use Rattle.ob_types.specs.declared.command.Command.TheVariants.{Progress, UserBit, Flush, FailFlushed, Cancel, SetMarks}
 pub use Rattle.ob_types.specs.declared.estimate.Estimate.{Estimate}
 pub use Rattle.ob_types.specs.declared.message.Message.{Message}
 pub use Rattle.ob_types.specs.declared.message.Message.TheVariants.{Block}
@@ -52,8 +52,9 @@ pub use Rattle.ob_seq.specs.Entry.{entry_of, PendingEntry, blocks_left, messages
 pub use Rattle.ob_seq.specs.Gathering.{with_bytes, first_blocks}
 pub use Rattle.ob_seq.specs.Inside.{pending_entry, pending_entries, IsSound, pending_of}
 pub use Rattle.ob_seq.specs.Line.{is_in_line, line, unflushed, front}
-pub use Rattle.ob_seq.specs.Looks.{promise_after}
+pub use Rattle.ob_seq.specs.Looks.{promise_after, front_promise_after}
 pub use Rattle.ob_seq.specs.Mark.{mark_after}
+pub use Rattle.ob_seq.specs.MarksInForce.{marks_after, marks_set_by}
 pub use Rattle.ob_seq.specs.Moment.{Moment, moments_of, moment_of, moments_along}
 pub use Rattle.ob_seq.specs.Order.{gone, is_gone}
 pub use Rattle.ob_seq.specs.Pending.{Pending, StandsFor}
@@ -74,6 +75,7 @@ pub use Rattle.ob_seq.specs.Steps.Close.{failures, closed_pending, closing_reply
 pub use Rattle.ob_seq.specs.Steps.FailFlushed.{failing_step}
 pub use Rattle.ob_seq.specs.Steps.Step.{settled_by_step}
 pub use Rattle.ob_seq.specs.Steps.UserBit.{bit_step}
+pub use Rattle.ob_seq.specs.Steps.SetMarks.{marks_step}
 pub use Rattle.ob_seq.specs.Steps.OfCommand.{step_of}
 pub use Rattle.ob_seq.specs.Total.{counted_size, total}
 pub use Rattle.ob_seq.specs.UserBit.{bit_request, user_bit}

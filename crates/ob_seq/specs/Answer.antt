@@ -9,7 +9,7 @@ use Rattle.ob_types.specs.Waiting.{is_waiting}
 use Rattle.ob_types.specs.declared.estimate.Estimate.{Estimate}
 use Rattle.ob_types.specs.declared.command.Command.{Command}
 use Rattle.ob_types.specs.declared.command.Command.TheVariants.{Write, Flush, Remove, RemoveWith, RemoveBytes, Progress}
-use Rattle.ob_types.specs.declared.command.Command.TheVariants.{Cancel, FailFlushed, Close, UserBit}
+use Rattle.ob_types.specs.declared.command.Command.TheVariants.{Cancel, FailFlushed, Close, UserBit, SetMarks}
 use Rattle.ob_types.specs.declared.promise.PromiseId.{PromiseId}
 use Rattle.ob_types.specs.declared.promise.Outcome.{Outcome}
 use Rattle.ob_types.specs.declared.promise.PromiseState.{PromiseState}
@@ -54,6 +54,7 @@ refusal_of estimate rows (Cancel id) = if nat_lt id.0 (length rows) then None el
 refusal_of estimate rows (FailFlushed cause notify) = None
 refusal_of estimate rows (Close cause) = if is_some (front rows) then Some FlushedLeft else None
 refusal_of estimate rows (UserBit index writable) = if is_user_index index then None else Some BadIndex
+refusal_of estimate rows (SetMarks marks) = None
 
 -- the first refusal of a command after a history, or none: once the buffer is closed, each command is refused as that
 abbrev pub first_refusal : Estimate → List Command → Command → Option Refusal
@@ -83,6 +84,7 @@ answer_of rows (Cancel id) = Yes (still_waits (promise_at rows id.0))
 answer_of rows (FailFlushed cause notify) = Count (length (line rows))
 answer_of rows (Close cause) = Count (length (unflushed rows))
 answer_of rows (UserBit index writable) = Done
+answer_of rows (SetMarks marks) = Done
 
 -- how a promise is settled, if it is
 abbrev pub outcome_of : PromiseState → Option Outcome

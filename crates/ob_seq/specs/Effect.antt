@@ -5,7 +5,7 @@ use Rattle.ob_types.specs.Limits.{greatest_progress}
 use Rattle.ob_types.specs.declared.estimate.Estimate.{Estimate}
 use Rattle.ob_types.specs.declared.command.Command.{Command}
 use Rattle.ob_types.specs.declared.command.Command.TheVariants.{Write, Flush, Remove, RemoveWith, RemoveBytes, Progress}
-use Rattle.ob_types.specs.declared.command.Command.TheVariants.{Cancel, FailFlushed, Close, UserBit}
+use Rattle.ob_types.specs.declared.command.Command.TheVariants.{Cancel, FailFlushed, Close, UserBit, SetMarks}
 use Rattle.ob_types.specs.declared.promise.Cause.{Cause}
 use Rattle.ob_types.specs.declared.promise.Outcome.{Outcome}
 use Rattle.ob_types.specs.declared.promise.Outcome.TheVariants.{Success, Failed, Cancelled}
@@ -103,6 +103,7 @@ effect estimate rows (Cancel id) = with_cancelled id.0 rows
 effect estimate rows (FailFlushed cause notify) = map (failed_row cause) rows
 effect estimate rows (Close cause) = map (closed_row cause) rows
 effect estimate rows (UserBit index writable) = rows
+effect estimate rows (SetMarks marks) = rows
 
 -- the rows after a list of accepted commands, oldest first
 abbrev pub rows_after : Estimate → List Command → List Row

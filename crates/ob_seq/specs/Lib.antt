@@ -29,5 +29,6 @@ pub mod WorkedEndings
 pub mod WorkedHistories
 pub mod WorkedLimits
 pub mod WorkedLooks
+pub mod WorkedMarks
 pub mod WorkedState
 pub mod Writes

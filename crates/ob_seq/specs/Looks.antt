@@ -1,6 +1,6 @@
 -- What a look at a buffer shows.
 use Rattle.std.specs.Prelude.{ℕ, ◌+◌, ◌-◌, ◌&&◌, not, List, length, map, filter, min, nat_le, if◌then◌else◌, Option}
-use Rattle.std.specs.Prelude.{Some, None, option_map}
+use Rattle.std.specs.Prelude.{Some, None, option_map, position}
 use Rattle.ob_types.specs.Change.{is_writable}
 use Rattle.ob_types.specs.Limits.{greatest_total}
 use Rattle.ob_types.specs.WaterMark.{Marks}
@@ -9,7 +9,7 @@ use Rattle.ob_seq.specs.declared.look.Look.{Look}
 use Rattle.ob_seq.specs.Settings.{Settings}
 use Rattle.ob_seq.specs.MarksInForce.{marks_after}
 use Rattle.ob_seq.specs.Row.{Row, is_flushed, unread_part}
-use Rattle.ob_seq.specs.Line.{line, front}
+use Rattle.ob_seq.specs.Line.{is_in_line, line, front}
 use Rattle.ob_seq.specs.Total.{total}
 use Rattle.ob_seq.specs.Effect.{rows_after}
 use Rattle.ob_seq.specs.Word.{word_after}
@@ -55,6 +55,12 @@ promise_after settings commands id = promise_at (rows_after settings.estimate co
 -- the unread part of the front after a history, or nothing where nothing stands in line (Netty's `current`)
 abbrev pub current_after : Settings → List Command → Option Message
 current_after settings commands = option_map unread_part (front (rows_after settings.estimate commands))
+
+-- the promise of the front after a history, or nothing if nothing stands in line: its id is the index of the first row
+-- in line among all rows (in Netty the promise in the entry of `current`)
+abbrev pub front_promise_after : Settings → List Command → Option PromiseId
+front_promise_after settings commands =
+    option_map (λ index. record { 0 = index }) (position is_in_line (rows_after settings.estimate commands))
 
 -- the unread part of each flushed message after a history, but of those that were voided, oldest first (Netty's
 -- `forEachFlushedMessage`)

@@ -18,7 +18,7 @@ use Rattle.ob_seq.specs.Closed.{is_closed}
 use Rattle.ob_seq.specs.Word.{word_after}
 use Rattle.ob_seq.specs.Answer.{answer_to, commands_with, is_accepted, are_accepted}
 use Rattle.ob_seq.specs.declared.look.Look.{Look}
-use Rattle.ob_seq.specs.Looks.{look_after, promise_after, current_after, flushed_after}
+use Rattle.ob_seq.specs.Looks.{look_after, promise_after, current_after, front_promise_after, flushed_after}
 use Rattle.ob_seq.specs.Gathering.{gathered_after}
 
 -- what a buffer holds: what it was opened with, the marks in force, the entries in line and those that no flush has
@@ -82,6 +82,10 @@ Tells buffer id state = Gives buffer (λ settings commands. promise_after settin
 -- whatever history the buffer stands for, this is the unread part of the front after it
 abbrev pub IsCurrent : Pending → Option Message → Type 0
 IsCurrent buffer message = Gives buffer current_after message
+
+-- whatever history the buffer stands for, this is the promise of the front after it
+abbrev pub IsFrontPromise : Pending → Option PromiseId → Type 0
+IsFrontPromise buffer id = Gives buffer front_promise_after id
 
 -- whatever history the buffer stands for, these are the unread parts of the flushed messages after it
 abbrev pub AreFlushed : Pending → List Message → Type 0

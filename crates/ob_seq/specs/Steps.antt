@@ -11,4 +11,5 @@ pub mod Cancel
 pub mod FailFlushed
 pub mod Close
 pub mod UserBit
+pub mod SetMarks
 pub mod OfCommand

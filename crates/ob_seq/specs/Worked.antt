@@ -2,7 +2,7 @@
 use Rattle.std.specs.Prelude.{◌≡◌, ℕ, true, false, List, [], ◌∷◌, ◌++◌, replicate, Option, Some, None, Result, Ok, Err}
 use Rattle.ob_types.specs.declared.command.Command.{Command}
 use Rattle.ob_types.specs.declared.command.Command.TheVariants.{Write, Flush, Remove, RemoveWith, RemoveBytes, Progress}
-use Rattle.ob_types.specs.declared.command.Command.TheVariants.{Cancel, FailFlushed, Close, UserBit}
+use Rattle.ob_types.specs.declared.command.Command.TheVariants.{Cancel, FailFlushed, Close, UserBit, SetMarks}
 use Rattle.ob_types.specs.declared.message.Message.TheVariants.{Block, Region, Other}
 use Rattle.ob_types.specs.declared.promise.PromiseId.{PromiseId}
 use Rattle.ob_types.specs.declared.promise.Outcome.{Outcome}
@@ -242,9 +242,9 @@ FailedVoided =
 abbrev pub ClosedOnce : Type 0
 ClosedOnce =
     (shown (marked 200 400) [] (block 4 ∷ Cancel (record { 0 = 0 }) ∷ Close (record { 0 = 3 })
-    ∷ Close (record { 0 = 3 }) ∷ UserBit 0 false ∷ [])
+    ∷ Close (record { 0 = 3 }) ∷ UserBit 0 false ∷ SetMarks (record { low = 1; high = 2 }) ∷ [])
     ≡ replied (Id (record { 0 = 0 })) [] None 100 0 ∷ replied (Yes true) (settles 0 Cancelled) None 100 0
     ∷ replied (Count 1) [] None 0 0
-    ∷ refused Closed 0 0 ∷ refused Closed 0 0 ∷ [])
+    ∷ refused Closed 0 0 ∷ refused Closed 0 0 ∷ refused Closed 0 0 ∷ [])
     × (look_after (marked 200 400) (block 4 ∷ Cancel (record { 0 = 0 }) ∷ Close (record { 0 = 3 }) ∷ [])
     ≡ record { total = 0; word = 0; size = 0; before_unwritable = 401; before_writable = 0; current_progress = 0 })

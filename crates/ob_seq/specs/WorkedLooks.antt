@@ -1,7 +1,9 @@
--- The two numbers of a look where the pending bytes equal a mark, computed by hand beforehand.
-use Rattle.std.specs.Prelude.{◌≡◌, false, [], ◌∷◌}
-use Rattle.ob_types.specs.declared.command.Command.TheVariants.{Flush, Remove, FailFlushed, UserBit}
-use Rattle.ob_seq.specs.Looks.{before_writable, look_after}
+-- The two numbers of a look where the pending bytes equal a mark, and the promise of the front, computed by hand
+-- beforehand.
+use Rattle.std.specs.Prelude.{◌≡◌, true, false, [], ◌∷◌, Some, None}
+use Rattle.ob_types.specs.declared.command.Command.TheVariants.{Flush, Remove, RemoveBytes, Progress, Cancel}
+use Rattle.ob_types.specs.declared.command.Command.TheVariants.{FailFlushed, Close, UserBit}
+use Rattle.ob_seq.specs.Looks.{before_writable, front_promise_after, look_after}
 use Rattle.ob_seq.specs.Worked.{block, marked}
 
 -- a writable buffer at the low mark and at the high mark: the next byte above high makes it unwritable
@@ -45,3 +47,39 @@ UnderALowMarkOfZero =
     ≡ record { total = 496; word = 1; size = 0; before_unwritable = 0; before_writable = 497; current_progress = 0 })
     × (before_writable (record { low = 0; high = 400 }) 1 4294967294 ≡ 4294967295)
     × (before_writable (record { low = 0; high = 400 }) 1 4294967295 ≡ 4294967295)
+
+-- with nothing in line no promise is in front; once messages are flushed it is the oldest of theirs, and the next one
+-- once that is removed
+abbrev pub OldestInFront : Type 0
+OldestInFront =
+    (front_promise_after (marked 200 400) [] ≡ None)
+    × (front_promise_after (marked 200 400) (block 1 ∷ block 2 ∷ []) ≡ None)
+    × (front_promise_after (marked 200 400) (block 1 ∷ block 2 ∷ Flush ∷ block 3 ∷ []) ≡ Some (record { 0 = 0 }))
+    × (front_promise_after (marked 200 400) (block 1 ∷ block 2 ∷ Flush ∷ block 3 ∷ Remove ∷ [])
+    ≡ Some (record { 0 = 1 }))
+    × (front_promise_after (marked 200 400) (block 1 ∷ block 2 ∷ Flush ∷ block 3 ∷ Remove ∷ Remove ∷ []) ≡ None)
+
+-- a message whose promise was taken back keeps its place in line, and so in front
+abbrev pub VoidedInFront : Type 0
+VoidedInFront =
+    (front_promise_after (marked 200 400) (block 1 ∷ block 2 ∷ Cancel (record { 0 = 0 }) ∷ Flush ∷ [])
+    ≡ Some (record { 0 = 0 }))
+    × (front_promise_after (marked 200 400) (block 1 ∷ block 2 ∷ Cancel (record { 0 = 0 }) ∷ Flush ∷ Remove ∷ [])
+    ≡ Some (record { 0 = 1 }))
+
+-- a message stays in front while a part of it is sent and its progress told
+abbrev pub PartlySentInFront : Type 0
+PartlySentInFront =
+    (front_promise_after (marked 200 400) (block 1 ∷ block 2 ∷ Flush ∷ RemoveBytes 2 ∷ []) ≡ Some (record { 0 = 1 }))
+    × (front_promise_after (marked 200 400) (block 1 ∷ block 2 ∷ Flush ∷ RemoveBytes 2 ∷ Progress 5 ∷ [])
+    ≡ Some (record { 0 = 1 }))
+
+-- a failing of the line leaves nothing in front until the next flush, and a close leaves nothing for good
+abbrev pub NoneInFrontAtAnEnd : Type 0
+NoneInFrontAtAnEnd =
+    (front_promise_after (marked 200 400) (block 1 ∷ Flush ∷ block 2 ∷ FailFlushed (record { 0 = 7 }) true ∷ [])
+    ≡ None)
+    × (front_promise_after (marked 200 400)
+    (block 1 ∷ Flush ∷ block 2 ∷ FailFlushed (record { 0 = 7 }) true ∷ Flush ∷ []) ≡ Some (record { 0 = 1 }))
+    × (front_promise_after (marked 200 400)
+    (block 1 ∷ Flush ∷ block 2 ∷ FailFlushed (record { 0 = 7 }) true ∷ Close (record { 0 = 3 }) ∷ []) ≡ None)

@@ -3,7 +3,7 @@
 use Rattle.std.specs.Prelude.{◌≡◌, true, false, List, [], ◌∷◌, map}
 use Rattle.ob_types.specs.declared.command.Command.{Command}
 use Rattle.ob_types.specs.declared.command.Command.TheVariants.{Write, Flush, Remove, RemoveWith, RemoveBytes, Progress}
-use Rattle.ob_types.specs.declared.command.Command.TheVariants.{Cancel, FailFlushed, Close, UserBit}
+use Rattle.ob_types.specs.declared.command.Command.TheVariants.{Cancel, FailFlushed, Close, UserBit, SetMarks}
 use Rattle.ob_types.specs.declared.message.Message.TheVariants.{Region}
 use Rattle.ob_seq.specs.Pending.{takes_no_memory}
 use Rattle.ob_seq.specs.State.{writable_after, empty_after, closed_after, user_writable_after, writes_left_after}
@@ -56,10 +56,11 @@ WritesLeft =
 abbrev pub one_of_each : List Command
 one_of_each =
     Write (Region 1) ∷ Flush ∷ Remove ∷ RemoveWith (record { 0 = 1 }) ∷ RemoveBytes 1 ∷ Progress 1
-    ∷ Cancel (record { 0 = 0 }) ∷ FailFlushed (record { 0 = 1 }) true ∷ Close (record { 0 = 1 }) ∷ UserBit 1 true ∷ []
+    ∷ Cancel (record { 0 = 0 }) ∷ FailFlushed (record { 0 = 1 }) true ∷ Close (record { 0 = 1 }) ∷ UserBit 1 true
+    ∷ SetMarks (record { low = 1; high = 2 }) ∷ []
 
 -- a write, a removal of bytes, a failing and a close may want memory, and no other command
 abbrev pub WantsOfMemory : Type 0
 WantsOfMemory =
     map takes_no_memory one_of_each
-    ≡ false ∷ true ∷ true ∷ true ∷ false ∷ true ∷ true ∷ false ∷ false ∷ true ∷ []
+    ≡ false ∷ true ∷ true ∷ true ∷ false ∷ true ∷ true ∷ false ∷ false ∷ true ∷ true ∷ []

@@ -80,6 +80,7 @@ impl Buffer {
             Command::FailFlushed(cause, notify) => self.fail_flushed(cause, notify),
             Command::Close(cause) => self.close(cause),
             Command::UserBit(index, writable) => self.user_bit(index, writable),
+            Command::SetMarks(marks) => self.set_marks(marks),
         }
     }
 }

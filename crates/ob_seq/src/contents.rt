@@ -1,8 +1,8 @@
 ghost use Rattle.std.specs.Prelude.{◌≡◌, ◌<◌, ◌≤◌, [], length};
 ghost use Rattle.ob_types.specs.Change.{change_between};
-ghost use Rattle.ob_types.specs.Limits.{greatest_overhead, greatest_unknown};
+ghost use Rattle.ob_types.specs.Limits.{greatest_overhead, greatest_unknown, most_writes};
 ghost use Rattle.ob_seq.specs.Pending.{StandsFor};
-ghost use Rattle.ob_seq.specs.Steps.Held.{pending_total, state_at};
+ghost use Rattle.ob_seq.specs.Steps.Held.{front_id, pending_total, state_at};
 
 mod cancel;
 mod close;
@@ -12,6 +12,7 @@ mod flush;
 mod progress;
 mod remove;
 mod remove_bytes;
+mod set_marks;
 mod settles;
 mod taking;
 mod user_bit;
@@ -33,6 +34,9 @@ use std::marker::Model;
 /// the first of them off the ring.
 #[derive(Debug, Drop)]
 pub struct Contents {
+    /// The marks of the opening. No call reads them: contracts judge a history by what its buffer was opened with.
+    opened: WaterMark,
+    /// The marks in force, by which the next moment and each look go.
     pub(crate) marks: WaterMark,
     estimate: Estimate,
     /// What stands in line, and behind it what no flush has reached, each oldest first.
@@ -68,6 +72,7 @@ impl Contents {
         ensures stands { StandsFor result [] }
     {
         Contents {
+            opened: marks,
             marks,
             estimate,
             entries: VecDeque::new(alloc),
@@ -91,6 +96,14 @@ impl Contents {
         ensures { result ≡ length self.now.unflushed }
     {
         self.entries.len() - self.flushed
+    }
+
+    /// The id of the front: the entries have the last promises.
+    pub(crate) fn front_id(&self) -> usize
+        ensures id { result ≡ front_id self.now }
+        ensures few { result ≤ most_writes }
+    {
+        self.promises.len() - self.entries.len()
     }
 
     /// The bytes that are pending.

@@ -3,11 +3,11 @@
 
 ghost use Rattle.std.specs.Int.{bit_at};
 ghost use Rattle.std.specs.List.{All, Contains};
-ghost use Rattle.std.specs.Prelude.{◌≡◌, None, Some, ◌+◌, ◌-◌, ◌<◌, ◌≤◌, ◌↔◌, ℕ, List, [], length, true};
+ghost use Rattle.std.specs.Prelude.{◌≡◌, None, Some, ◌+◌, ◌-◌, ◌<◌, ◌≤◌, ◌↔◌, ℕ, List, [], ◌∷◌, ◌++◌, length, true};
 ghost use Rattle.ob_types.specs.Limits.{greatest_total, most_writes};
 ghost use Rattle.ob_types.specs.WaterMark.{Marks};
 ghost use Rattle.ob_types.specs.declared.command.Command.{Command};
-ghost use Rattle.ob_types.specs.declared.command.Command.TheVariants.{RemoveBytes};
+ghost use Rattle.ob_types.specs.declared.command.Command.TheVariants.{RemoveBytes, SetMarks};
 ghost use Rattle.ob_types.specs.declared.estimate.Estimate.{Estimate};
 ghost use Rattle.ob_types.specs.declared.promise.Outcome.{Outcome};
 ghost use Rattle.ob_types.specs.declared.promise.PromiseId.{PromiseId};
@@ -17,8 +17,9 @@ ghost use Rattle.ob_seq.specs.Answer.{is_accepted, are_accepted, commands_after}
 ghost use Rattle.ob_seq.specs.Closed.{is_closed};
 ghost use Rattle.ob_seq.specs.Effect.{rows_after};
 ghost use Rattle.ob_seq.specs.Fitting.{FitsItsPlace};
-ghost use Rattle.ob_seq.specs.Looks.{before_unwritable, before_writable, promise_after};
+ghost use Rattle.ob_seq.specs.Looks.{before_unwritable, before_writable, look_after, promise_after};
 ghost use Rattle.ob_seq.specs.Mark.{mark_after};
+ghost use Rattle.ob_seq.specs.MarksInForce.{marks_after, marks_set_by};
 ghost use Rattle.ob_seq.specs.Order.{StandInOrder};
 ghost use Rattle.ob_seq.specs.Settings.{Settings};
 ghost use Rattle.ob_seq.specs.Settles.{settled_along, times_settled};
@@ -106,16 +107,40 @@ pub fn accepted_commands_keep_to_the_limits()
         → n ≤ greatest_total }
 {}
 
+/// Marks that are set leave the rows and the word as they are, and are in force then; every command that sets none
+/// leaves those in force.
+pub fn marks_that_are_set_leave_the_word()
+    ensures rows { (estimate : Estimate) (commands : List Command) (marks : Marks) →
+        rows_after estimate (commands ++ SetMarks marks ∷ []) ≡ rows_after estimate commands }
+    ensures word { (settings : Settings) (commands : List Command) (marks : Marks) →
+        word_after settings (commands ++ SetMarks marks ∷ []) ≡ word_after settings commands }
+    ensures in_force { (settings : Settings) (commands : List Command) (marks : Marks) →
+        marks_after settings (commands ++ SetMarks marks ∷ []) ≡ marks }
+    ensures others { (settings : Settings) (commands : List Command) (command : Command) →
+        marks_set_by command ≡ None
+        → marks_after settings (commands ++ command ∷ []) ≡ marks_after settings commands }
+{}
+
 /// The look's `before_unwritable`, where it is not 0, is the least rise that brings the pending bytes above the high
-/// mark.
+/// mark. The second clause says so of the look after a history, of which the high mark is the one in force at it.
 pub fn before_unwritable_is_the_least_rise()
     ensures least { (marks : Marks) (word sum rise : ℕ) → 0 < before_unwritable marks word sum →
         before_unwritable marks word sum ≤ rise ↔ marks.high < sum + rise }
+    ensures at_a_look { (settings : Settings) (commands : List Command) (rise : ℕ) →
+        0 < (look_after settings commands).before_unwritable
+        → (look_after settings commands).before_unwritable ≤ rise
+        ↔ (marks_after settings commands).high < (look_after settings commands).total + rise }
 {}
 
 /// Under a positive low mark the look's `before_writable`, where it is not 0, is the least fall that brings the pending
-/// bytes below the low mark. No buffer has more than 4294967295 of them.
+/// bytes below the low mark. No buffer has more than 4294967295 of them, so the second clause says the same of the look
+/// after accepted commands, of which the low mark is the one in force at it.
 pub fn before_writable_is_the_least_fall()
     ensures least { (marks : Marks) (word sum fall : ℕ) → 0 < marks.low → sum ≤ greatest_total
         → 0 < before_writable marks word sum → before_writable marks word sum ≤ fall ↔ sum - fall < marks.low }
+    ensures at_a_look { (settings : Settings) (commands : List Command) (fall : ℕ) →
+        are_accepted settings [] commands ≡ true → 0 < (marks_after settings commands).low
+        → 0 < (look_after settings commands).before_writable
+        → (look_after settings commands).before_writable ≤ fall
+        ↔ (look_after settings commands).total - fall < (marks_after settings commands).low }
 {}

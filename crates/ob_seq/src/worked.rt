@@ -12,7 +12,11 @@ ghost use Rattle.ob_seq.specs.WorkedHistories.{AcceptedOfThem, FourWrites, Settl
 ghost use Rattle.ob_seq.specs.WorkedHistories.{OutOfOrder, TheFirstTwo, WaitsUnflushedAlone, SentOnlyWhenGone};
 ghost use Rattle.ob_seq.specs.WorkedLimits.{TotalAtItsLimit, LookAtTheLimit, SizesAtTheirLimits, ProgressAtItsTop};
 ghost use Rattle.ob_seq.specs.WorkedLooks.{WritableAtTheMarks, UnwritableAtTheMarks, UnwritableBelowLow};
-ghost use Rattle.ob_seq.specs.WorkedLooks.{UnderAUserBit, UnderALowMarkOfZero};
+ghost use Rattle.ob_seq.specs.WorkedLooks.{UnderAUserBit, UnderALowMarkOfZero, OldestInFront, VoidedInFront};
+ghost use Rattle.ob_seq.specs.WorkedLooks.{PartlySentInFront, NoneInFrontAtAnEnd};
+ghost use Rattle.ob_seq.specs.WorkedMarks.{MarksRaised, MarksLowered, MarksSetTwice, MarksSetBetweenFalls};
+ghost use Rattle.ob_seq.specs.WorkedMarks.{MarksSetBetweenRises, EqualMarksSet, MarksSetUnderAUserBit};
+ghost use Rattle.ob_seq.specs.WorkedMarks.{MarksSetAsTheyAre, MarksSetAtAnEnd, LooksUnderNewMarks, LastMarks};
 ghost use Rattle.ob_seq.specs.WorkedState.{UnwritableByEither, EmptyWithoutALine, ClosedByAClose};
 ghost use Rattle.ob_seq.specs.WorkedState.{UserBitsTold, WritesLeft, WantsOfMemory};
 
@@ -75,6 +79,25 @@ fn worked_looks()
     ensures unwritable_below_low { UnwritableBelowLow }
     ensures under_a_user_bit { UnderAUserBit }
     ensures under_a_low_mark_of_zero { UnderALowMarkOfZero }
+    ensures oldest_in_front { OldestInFront }
+    ensures voided_in_front { VoidedInFront }
+    ensures partly_sent_in_front { PartlySentInFront }
+    ensures none_in_front_at_an_end { NoneInFrontAtAnEnd }
+{}
+
+#[tactic(auto, unfolding(crate::specs::Word::user_bits))]
+fn worked_marks()
+    ensures marks_raised { MarksRaised }
+    ensures marks_lowered { MarksLowered }
+    ensures marks_set_twice { MarksSetTwice }
+    ensures marks_set_between_falls { MarksSetBetweenFalls }
+    ensures marks_set_between_rises { MarksSetBetweenRises }
+    ensures equal_marks_set { EqualMarksSet }
+    ensures marks_set_under_a_user_bit { MarksSetUnderAUserBit }
+    ensures marks_set_as_they_are { MarksSetAsTheyAre }
+    ensures marks_set_at_an_end { MarksSetAtAnEnd }
+    ensures looks_under_new_marks { LooksUnderNewMarks }
+    ensures last_marks { LastMarks }
 {}
 
 #[tactic(auto, unfolding(crate::specs::Word::user_bits))]

@@ -18,8 +18,14 @@ sum_seen f (entry ∷ items) =
     rw (sum_by-cons f (pending_entry entry) (pending_entries items), sum_seen f items)
     (sym (sum_by-cons (λ e. f (pending_entry e)) entry items))
 
-pub sum_of_entries : (items : List Entry) → sum_of (pending_entries items) ≡ sum_by (λ entry. entry.size) items
+sum_of_entries : (items : List Entry) → sum_of (pending_entries items) ≡ sum_by (λ entry. entry.size) items
 sum_of_entries items = sum_seen (λ entry. entry.size) items
+
+-- both runs count together what the entries count as the code keeps them
+pub both_runs : (n : ℕ) (items : List Entry) →
+    sum_of (take n (pending_entries items)) + sum_of (drop n (pending_entries items))
+    ≡ sum_by (λ entry. entry.size) items
+both_runs n items = sum_of_parts n (pending_entries items) ∙ sum_of_entries items
 
 -- the entry at a place
 pub entry_at : (items : List Entry) (i : ℕ) (entry : Entry) (d : PendingEntry) → i < length items →

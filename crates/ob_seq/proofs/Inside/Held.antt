@@ -1,11 +1,12 @@
 -- What a buffer holds, by the rows and by their parts.
 use Rattle.ob_seq.proofs.Words.{[], ◌≡◌, true, false, List, ◌∷◌, ◌++◌, length, map, sym, ap, ◌∙◌, refl, arith}
 use Rattle.ob_seq.proofs.Words.{AllByRecursion, length-append, length-map, Marks, Command, PromiseState, Settings, Row}
-use Rattle.ob_seq.proofs.Words.{line, unflushed, total, effect, rows_after, is_close, is_closed, Moment, moments_of}
+use Rattle.ob_seq.proofs.Words.{line, unflushed, total, effect, rows_after, is_close, is_closed, marks_after, Moment, moments_of}
 use Rattle.ob_seq.proofs.Words.{word_after, are_accepted, refusal_of, None, entry_of, Pending, StandsFor, pending_total}
 use Rattle.ob_seq.proofs.Words.{unflushed_id, front_id, ℕ, ◌+◌, sum_by-cons, counted_size, sum_of, PendingEntry}
-use Rattle.ob_seq.proofs.Rows.History.{accepted_more, closed_more, moments_after, rows_after_more}
-use Rattle.ob_seq.proofs.Word.Marks.{IsQuiet, half_after, word_from, word_is_from, word_is_from_more}
+use Rattle.ob_seq.proofs.Rows.History.{accepted_more, closed_more, rows_after_more}
+use Rattle.ob_seq.proofs.Word.Marks.{IsQuiet, marks_more, marks_with, past_after, word_from, word_is_from}
+use Rattle.ob_seq.proofs.Word.Marks.{word_is_from_more}
 use Rattle.ob_seq.proofs.Rows.Order.{IsGone, IsStanding, IsFresh, layout_of}
 use Rattle.ob_seq.proofs.Rows.Parts.{line_of_parts, unflushed_of_parts}
 
@@ -88,14 +89,19 @@ module _ (buffer : Pending) (gone standing fresh : List Row) (held : Held buffer
 abbrev pub opening : Pending → Settings × Marks
 opening buffer = (buffer.settings, buffer.marks)
 
--- the marks in force are those of the opening
-pub opening_of : (buffer : Pending) (commands : List Command) → StandsFor buffer commands →
-    opening buffer ≡ (buffer.settings, buffer.settings.marks)
-opening_of buffer commands stands = rw stands.marks
+-- what it was opened with, and the marks in force after one more command
+abbrev pub opening_with : Command → Pending → Settings × Marks
+opening_with command old = (old.settings, marks_with command old.marks)
+
+-- these are the marks in force after the history with the command
+opening_more : (buffer : Pending) (commands : List Command) (command : Command) → StandsFor buffer commands →
+    opening_with command buffer
+    ≡ (buffer.settings, marks_after buffer.settings (commands ++ command ∷ []))
+opening_more buffer commands command stands = rw (stands.marks, marks_more buffer.settings commands command)
 
 -- a buffer that holds the rows of a history, and has their word, stands for it
 stands_by_rows : (buffer : Pending) (settings : Settings) (commands : List Command) →
-    opening buffer ≡ (settings, settings.marks) → buffer.closed ≡ is_closed commands →
+    opening buffer ≡ (settings, marks_after settings commands) → buffer.closed ≡ is_closed commands →
     are_accepted settings [] commands ≡ true → Holds buffer (rows_after settings.estimate commands) →
     buffer.word ≡ word_after settings commands → StandsFor buffer commands
 stands_by_rows buffer settings commands opened closed accepted holds word =
@@ -113,18 +119,18 @@ module _ (old new : Pending) (commands : List Command) (command : Command) (stan
     (unclosed : old.closed ≡ false)
     (accepted : refusal_of old.settings.estimate (rows_after old.settings.estimate commands) command ≡ None) where
   -- a buffer stands for the history with one more accepted command that holds the rows after it, and has their word
-  pub stands_more : opening new ≡ opening old → new.closed ≡ is_close command →
+  pub stands_more : opening new ≡ opening_with command old → new.closed ≡ is_close command →
       Holds new (effect old.settings.estimate (rows_after old.settings.estimate commands) command) →
       new.word ≡ word_after old.settings (commands ++ command ∷ []) → StandsFor new (commands ++ command ∷ [])
   stands_more opened closed holds =
       let before = sym stands.closed ∙ unclosed in
-      stands_by_rows new old.settings (commands ++ command ∷ []) (opened ∙ opening_of old commands stands)
+      stands_by_rows new old.settings (commands ++ command ∷ []) (opened ∙ opening_more old commands command stands)
       (closed ∙ sym (closed_more commands command before))
       (accepted_more old.settings commands command before stands.accepted accepted)
       (rw (rows_after_more old.settings.estimate commands command) holds)
 
   -- the same, by the parts of those rows
-  pub stands_after : (gone standing fresh : List Row) → opening new ≡ opening old → new.closed ≡ is_close command →
+  pub stands_after : (gone standing fresh : List Row) → opening new ≡ opening_with command old → new.closed ≡ is_close command →
       Held new gone standing fresh →
       effect old.settings.estimate (rows_after old.settings.estimate commands) command ≡ gone ++ (standing ++ fresh) →
       new.word ≡ word_after old.settings (commands ++ command ∷ []) → StandsFor new (commands ++ command ∷ [])
@@ -132,15 +138,14 @@ module _ (old new : Pending) (commands : List Command) (command : Command) (stan
       stands_more opened closed (rw are (held_rows new gone standing fresh held))
 
 module _ (buffer : Pending) (commands : List Command) (stands : StandsFor buffer commands) where
-  -- the word of a buffer that stands for a history, by its moments
-  pub word_by_moments : buffer.word
-      ≡ word_from buffer.marks (half_after commands) (moments_after buffer.settings.estimate commands)
-  word_by_moments = rw (stands.word, stands.marks) (word_is_from buffer.settings commands)
+  -- the word of a buffer that stands for a history, by what that leaves
+  pub word_by_past : buffer.word ≡ word_from buffer.marks (past_after buffer.settings commands) []
+  word_by_past = stands.word ∙ word_is_from buffer.settings commands buffer.marks
 
   -- and its word after one more command, by the moments of that
   pub word_at_end : (command : Command) (moments : List Moment) → IsQuiet command →
       moments_of buffer.settings.estimate (rows_after buffer.settings.estimate commands) command ≡ moments →
-      word_from buffer.marks (half_after commands) (moments_after buffer.settings.estimate commands ++ moments)
+      word_from buffer.marks (past_after buffer.settings commands) moments
       ≡ word_after buffer.settings (commands ++ command ∷ [])
   word_at_end command moments quiet same =
       rw (stands.marks, ← same) (sym (word_is_from_more buffer.settings commands command quiet))

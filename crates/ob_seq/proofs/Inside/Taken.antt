@@ -1,11 +1,11 @@
 -- A buffer whose front is taken away.
-use Rattle.ob_seq.proofs.Words.{◌≡◌, ℕ, ◌-◌, Bool, List, [], ◌∷◌, ◌++◌, length, map, drop, refl, sym, ap, ◌∙◌, cond}
+use Rattle.ob_seq.proofs.Words.{◌≡◌, ◌-◌, Bool, List, [], ◌∷◌, ◌++◌, length, map, drop, refl, sym, ap, ◌∙◌, cond}
 use Rattle.ob_seq.proofs.Words.{append_assoc, arith, slice_set, nat_tests, map-append, length-map, sum_by-append}
 use Rattle.ob_seq.proofs.Words.{sum_by-cons, set-append_seam, Settled, Outcome, PromiseState, Row, is_voided}
 use Rattle.ob_seq.proofs.Words.{counted_size, total, taken_row, Moment, moment_of, Pending, first_size, front_taken}
 use Rattle.ob_seq.specs.Steps.Held.{is_first_voided}
 use Rattle.ob_seq.proofs.Inside.Held.{Held, promise_of, front_id_is, pending_total_is}
-use Rattle.ob_seq.proofs.Word.Marks.{word_from, word_from_more}
+use Rattle.ob_seq.proofs.Word.Marks.{Past, word_from, word_from_more}
 use Rattle.ob_seq.proofs.Rows.Order.{IsStanding, IsGone, each_append}
 
 -- the bytes pending without one row
@@ -46,10 +46,10 @@ module _ (notice : Bool) (outcome : Outcome) (buffer : Pending) (gone : List Row
       assumption (held, line, promises, all_gone)
 
   -- its word, after the moment of the removal
-  pub taken_word : (half : ℕ) (moments : List Moment) → buffer.word ≡ word_from buffer.marks half moments →
-      (front_taken notice outcome buffer).word ≡ word_from buffer.marks half
+  pub taken_word : (past : Past) (moments : List Moment) → buffer.word ≡ word_from buffer.marks past moments →
+      (front_taken notice outcome buffer).word ≡ word_from buffer.marks past
       (moments ++ moment_of notice (counted_size row) 0 (total (gone ++ taken ∷ (standing ++ fresh))))
-  taken_word half moments was =
+  taken_word past moments was =
       let without = total_without gone row taken (standing ++ fresh) refl in
       rw (pending_total_is buffer gone (row ∷ standing) fresh held, ap first_size held.line, ← without, was)
-      (rw (word_from_more notice buffer.marks half moments) (grind (arith, nat_tests)))
+      (rw (word_from_more notice buffer.marks past moments) (grind (arith, nat_tests)))

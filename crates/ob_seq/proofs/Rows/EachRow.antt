@@ -2,7 +2,7 @@
 use Rattle.ob_seq.proofs.Words.{◌≡◌, ◌≤◌, ◌+◌, ℕ, zero, suc, Bool, true, false, List, [], ◌∷◌, ◌++◌, length, map, refl}
 use Rattle.ob_seq.proofs.Words.{arith, cond, ltb, ◌⊎◌, inl, inr, None, is_some, Option, Some, fold, is_write, Command}
 use Rattle.ob_seq.proofs.Words.{Write, Flush, Remove, RemoveWith, RemoveBytes, Progress, Cancel, FailFlushed, Close}
-use Rattle.ob_seq.proofs.Words.{UserBit, Estimate, Cause, Outcome, Success, Failed, refusal_of, outcome_of, promise_at}
+use Rattle.ob_seq.proofs.Words.{UserBit, SetMarks, Estimate, Cause, Outcome, Success, Failed, refusal_of, outcome_of, promise_at}
 use Rattle.ob_seq.proofs.Words.{bytes_left_over, whole_rows, closed_row, effect, failed_row, flushed_row}
 use Rattle.ob_seq.proofs.Words.{progressed_row, skipped_row, taken_row, with_cancelled, with_first, with_front}
 use Rattle.ob_seq.proofs.Words.{with_skipped, front, counted_size, total, is_in_line, Row, Gone, new_row}
@@ -123,6 +123,7 @@ module _ (Accepted : Type 0) where
   effect_turns estimate rows (Close cause) fits other =
       closed_rows cause rows (λ accepted. grind (arith, fits accepted))
   effect_turns estimate rows (UserBit index writable) fits other = same_rows rows
+  effect_turns estimate rows (SetMarks marks) fits other = same_rows rows
 
   -- what each turn makes of a row, it makes of all
   pub each_turns : (P Q : Row → Type 0) → ((was row : Row) → Turns Accepted was row → P was → Q row) →

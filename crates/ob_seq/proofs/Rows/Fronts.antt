@@ -2,16 +2,16 @@
 use Rattle.ob_seq.proofs.Words.{◌≡◌, ◌<◌, Bool, false, List, [], ◌∷◌, ◌++◌, length, ltb, refl, sym, ◌∙◌, cond, arith}
 use Rattle.ob_seq.proofs.Words.{Option, Some, None, is_some, nat_tests, length-map, change_between, Command, Reply, Row}
 use Rattle.ob_seq.proofs.Words.{is_in_line, front, line, effect, rows_after, moments_along, is_close, refusal_of}
-use Rattle.ob_seq.proofs.Words.{settlements_from, reply_of, entry_of, Pending, StandsFor}
+use Rattle.ob_seq.proofs.Words.{settlements_from, reply_of, entry_of, Pending, StandsFor, true, length-append, front_id}
+use Rattle.ob_seq.proofs.Words.{front_promise_after, position_or_len}
 use Rattle.ob_seq.specs.Answer.{answer_of}
 use Rattle.ob_seq.specs.Moment.{gives_notice}
 use Rattle.ob_seq.proofs.Rows.Acceptance.{same_reply}
 use Rattle.ob_seq.proofs.Rows.Along.{moments_past, settlements_past}
-use Rattle.ob_seq.proofs.Inside.Held.{Held, held_of, line_count, opening, stands_after, word_at_end}
-use Rattle.ob_seq.proofs.Rows.History.{moments_after}
-use Rattle.ob_seq.proofs.Word.Marks.{IsQuiet, half_after, word_from}
+use Rattle.ob_seq.proofs.Inside.Held.{Held, front_id_is, held_of, line_count, opening, opening_with, stands_after, word_at_end}
+use Rattle.ob_seq.proofs.Word.Marks.{IsQuiet, past_after, word_from}
 use Rattle.ob_seq.proofs.Rows.Order.{layout_of}
-use Rattle.ob_seq.proofs.Rows.Parts.{front_of_parts}
+use Rattle.ob_seq.proofs.Rows.Parts.{front_of_parts, index_of_parts}
 
 -- the rows of a history
 abbrev pub rows_of : Pending → List Command → List Row
@@ -47,6 +47,16 @@ pub front_is : (buffer : Pending) (commands : List Command) (f : Fronted buffer 
 front_is buffer commands f =
     rw f.rows_are (front_of_parts f.gone f.row (f.standing ++ f.fresh) f.held.all_gone f.held.all_standing.0)
 
+-- and its promise is that behind the promises of the rows that are gone
+pub front_promise_is : (buffer : Pending) (commands : List Command) (f : Fronted buffer commands) →
+    front_promise_after buffer.settings commands ≡ Some (record { 0 = front_id buffer })
+front_promise_is buffer commands f =
+    let behind = f.standing ++ f.fresh in
+    let index = index_of_parts f.gone f.row behind f.held.all_gone f.held.all_standing.0 in
+    let within = length-append f.gone (f.row ∷ behind) in
+    let some : ltb (length f.gone) (length (f.gone ++ f.row ∷ behind)) ≡ true = grind (arith, nat_tests) in
+    rw (f.rows_are, index, some, front_id_is buffer f.gone (f.row ∷ f.standing) f.fresh f.held)
+
 front_step : (here : Bool) (row : Row) (found : Option Row) (rest : List Row) → is_some found ≡ ltb 0 (length rest) →
     is_some (cond here (Some row) found) ≡ ltb 0 (length (cond here (row ∷ rest) rest))
 front_step here row found rest is = grind (arith, nat_tests)
@@ -67,6 +77,20 @@ pub no_front : (buffer : Pending) (commands : List Command) → StandsFor buffer
 no_front buffer commands stands none =
     let fails = rw none at (some_front buffer commands stands) in grind arith
 
+-- rows without a front are all passed
+none_in_line : (rows : List Row) → front rows ≡ None → position_or_len is_in_line rows ≡ length rows
+none_in_line [] none = refl
+none_in_line (row ∷ rows) none = let rest = none_in_line rows in grind arith
+
+-- and so there is no promise of it
+pub no_front_promise : (buffer : Pending) (commands : List Command) → StandsFor buffer commands →
+    length buffer.line ≡ 0 → front_promise_after buffer.settings commands ≡ None
+no_front_promise buffer commands stands none =
+    let rows = rows_of buffer commands in
+    let past = none_in_line rows (no_front buffer commands stands none) in
+    let fails : ltb (length rows) (length rows) ≡ false = grind (arith, nat_tests) in
+    rw (past, fails)
+
 -- a buffer stands for the history with one more command, and the reply is the one to it
 abbrev pub Carries : Pending → List Command → Command → Pending → Reply → Type 0
 Carries old commands command new reply =
@@ -77,10 +101,10 @@ pub carried : (old new : Pending) (commands : List Command) (command : Command) 
     old.closed ≡ false → (same was now : List Row) → rows_of old commands ≡ same ++ was →
     effect old.settings.estimate (rows_of old commands) command ≡ same ++ now →
     refusal_of old.settings.estimate (rows_of old commands) command ≡ None → IsQuiet command →
-    opening new ≡ opening old → new.closed ≡ is_close command →
+    opening new ≡ opening_with command old → new.closed ≡ is_close command →
     (gone standing fresh : List Row) → same ++ now ≡ gone ++ (standing ++ fresh) → Held new gone standing fresh →
-    new.word ≡ word_from old.marks (half_after commands)
-    (moments_after old.settings.estimate commands ++ moments_along (gives_notice command) same was now) →
+    new.word ≡ word_from old.marks (past_after old.settings commands)
+    (moments_along (gives_notice command) same was now) →
     {reply : Reply} → reply.answer ≡ answer_of (rows_of old commands) command →
     reply.settled ≡ settlements_from (length same) was now → reply.change ≡ change_between old.word new.word →
     Carries old commands command new reply

@@ -1,6 +1,6 @@
 -- One more command at the end of a history.
-use Rattle.ob_seq.proofs.Words.{[], ◌≡◌, List, ◌∷◌, ◌++◌, append_assoc, append-nil, true, false, arith, fold, None}
-use Rattle.ob_seq.proofs.Words.{Estimate, Command, Settings, Row, effect, rows_after, Moment, moments_of, first_refusal}
+use Rattle.ob_seq.proofs.Words.{[], ◌≡◌, List, ◌∷◌, ◌++◌, append_assoc, append-nil, true, false, arith, None}
+use Rattle.ob_seq.proofs.Words.{Estimate, Command, Settings, effect, rows_after, first_refusal}
 use Rattle.ob_seq.proofs.Words.{refusal_of, is_accepted, are_accepted, is_close, is_closed}
 use Rattle.std.proofs.lemmas.Bool.{and_parts}
 use Rattle.std.proofs.lemmas.List.Folds.{list_any-append}
@@ -10,29 +10,6 @@ use Rattle.std.proofs.lemmas.List.Sums.{fold-append}
 pub rows_after_more : (estimate : Estimate) (commands : List Command) (command : Command) →
     rows_after estimate (commands ++ command ∷ []) ≡ effect estimate (rows_after estimate commands) command
 rows_after_more estimate commands command = fold-append (effect estimate) [] commands (command ∷ [])
-
--- the moments of accepted commands that find these rows, oldest first
-abbrev pub moments_from : Estimate → List Row → List Command → List Moment
-moments_from estimate rows [] = []
-moments_from estimate rows (command ∷ commands) =
-    moments_of estimate rows command ++ moments_from estimate (effect estimate rows command) commands
-
--- the moments of a whole history of accepted commands, oldest first
-abbrev pub moments_after : Estimate → List Command → List Moment
-moments_after estimate commands = moments_from estimate [] commands
-
-moments_from_more : (estimate : Estimate) (rows : List Row) (commands : List Command) (command : Command) →
-    moments_from estimate rows (commands ++ command ∷ [])
-    ≡ moments_from estimate rows commands ++ moments_of estimate (fold (effect estimate) rows commands) command
-moments_from_more estimate rows [] command = append-nil (moments_of estimate rows command)
-moments_from_more estimate rows (first ∷ commands) command =
-    rw (moments_from_more estimate (effect estimate rows first) commands command, append_assoc)
-
--- the moments of one more command come behind the others
-pub moments_after_more : (estimate : Estimate) (commands : List Command) (command : Command) →
-    moments_after estimate (commands ++ command ∷ [])
-    ≡ moments_after estimate commands ++ moments_of estimate (rows_after estimate commands) command
-moments_after_more estimate commands command = moments_from_more estimate [] commands command
 
 -- a command after a history closes it where it is a close
 pub closed_more : (commands : List Command) (command : Command) → is_closed commands ≡ false →

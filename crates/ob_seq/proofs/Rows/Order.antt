@@ -2,7 +2,7 @@
 use Rattle.ob_seq.proofs.Words.{◌≡◌, ◌+◌, ◌-◌, ℕ, zero, suc, Bool, true, false, List, [], ◌∷◌, ◌++◌, map, length, refl}
 use Rattle.ob_seq.proofs.Words.{cond, ltb, arith, nat_tests, ◌⊎◌, inl, inr, fold, AllByRecursion, map-append}
 use Rattle.ob_seq.proofs.Words.{append_assoc, append-nil, length-append, filter-append, Estimate, Cause, Command, Write}
-use Rattle.ob_seq.proofs.Words.{Flush, Remove, RemoveWith, RemoveBytes, Progress, Cancel, FailFlushed, Close, UserBit}
+use Rattle.ob_seq.proofs.Words.{Flush, Remove, RemoveWith, RemoveBytes, Progress, Cancel, FailFlushed, Close, UserBit, SetMarks}
 use Rattle.ob_seq.proofs.Words.{Outcome, Success, Failed, Cancelled, Waiting, Fixed, Settled, cancelled, effect}
 use Rattle.ob_seq.proofs.Words.{closed_row, failed_row, flushed_row, progressed_row, reached_row, rows_after}
 use Rattle.ob_seq.proofs.Words.{skipped_row, taken_row, with_cancelled, with_first, with_first_behind, with_front}
@@ -283,6 +283,7 @@ effect_layout estimate rows (FailFlushed cause notify) l =
 effect_layout estimate rows (Close cause) l =
     laid (map (closed_row cause) rows) [] [] (rw append-nil) (all_now_gone (closed_row cause) (λ row. refl) rows) tt tt
 effect_layout estimate rows (UserBit index writable) l = l
+effect_layout estimate rows (SetMarks marks) l = l
 
 layout_along : (estimate : Estimate) (rows : List Row) (commands : List Command) → Layout rows →
     Layout (fold (effect estimate) rows commands)

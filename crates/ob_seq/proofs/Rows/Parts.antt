@@ -1,7 +1,7 @@
 -- What the parts of the rows are: the line, what is unflushed, the front.
 use Rattle.ob_seq.proofs.Words.{◌≡◌, cond, Bool, true, false, List, [], ◌∷◌, ◌++◌, refl, append-nil, arith}
 use Rattle.ob_seq.proofs.Words.{AllByRecursion, filter, Some, filter-append, Row, is_unflushed, is_in_line, line, front}
-use Rattle.ob_seq.proofs.Words.{unflushed}
+use Rattle.ob_seq.proofs.Words.{unflushed, length, position_or_len}
 use Rattle.ob_seq.proofs.Rows.Order.{IsGone, IsStanding, IsFresh, gone_not_in_line, standing_in_line, fresh_not_in_line}
 
 -- a filter that each row passes, or none
@@ -38,3 +38,12 @@ pub front_of_parts : (gone : List Row) (row : Row) (rows : List Row) → AllByRe
 front_of_parts [] row rows all standing = rw (standing_in_line row standing)
 front_of_parts (first ∷ gone) row rows all standing =
     rw (gone_not_in_line first all.0) (front_of_parts gone row rows all.1 standing)
+
+-- and its index is how many are gone
+pub index_of_parts : (gone : List Row) (row : Row) (rows : List Row) → AllByRecursion IsGone gone → IsStanding row →
+    position_or_len is_in_line (gone ++ row ∷ rows) ≡ length gone
+index_of_parts [] row rows all standing = rw (standing_in_line row standing)
+index_of_parts (first ∷ gone) row rows all standing =
+    let none = gone_not_in_line first all.0 in
+    let rest = index_of_parts gone row rows all.1 standing in
+    grind arith

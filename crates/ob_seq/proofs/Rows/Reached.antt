@@ -7,7 +7,7 @@ use Rattle.ob_seq.proofs.Words.{moments_along, outcome_of, settlement, settlemen
 use Rattle.ob_seq.proofs.Words.{first_size, reached_entry, unflushed_id, next_flushed, times, word_after_fall}
 use Rattle.ob_seq.specs.Steps.Flush.{is_next_cancelled}
 use Rattle.ob_seq.proofs.Inside.Held.{opening, Held, promise_of, unflushed_id_is, pending_total_is}
-use Rattle.ob_seq.proofs.Word.Marks.{word_from, word_from_more, word_step}
+use Rattle.ob_seq.proofs.Word.Marks.{Past, word_from, word_from_more, word_step}
 use Rattle.ob_seq.proofs.Rows.Order.{IsFresh, IsStanding, each_append, reached_stands}
 use Rattle.ob_seq.proofs.Inside.Taken.{total_without}
 use Rattle.ob_seq.proofs.Inside.Times.{times_first}
@@ -67,11 +67,11 @@ module _ (buffer : Pending) (gone standing : List Row) (row : Row) (fresh : List
   }
 
   -- its word, after the moment of the row
-  pub next_word : (half : ℕ) (moments : List Moment) → buffer.word ≡ word_from buffer.marks half moments →
-      (next_flushed buffer).word ≡ word_from buffer.marks half (moments
+  pub next_word : (past : Past) (moments : List Moment) → buffer.word ≡ word_from buffer.marks past moments →
+      (next_flushed buffer).word ≡ word_from buffer.marks past (moments
       ++ moment_of true (counted_size row) (counted_size (reached_row row))
       (total ((gone ++ standing) ++ reached_row row ∷ fresh)))
-  next_word half moments was =
+  next_word past moments was =
       let size = counted_size row in
       let after = counted_size (reached_row row) in
       let sum = total ((gone ++ standing) ++ reached_row row ∷ fresh) in
@@ -82,26 +82,26 @@ module _ (buffer : Pending) (gone standing : List Row) (row : Row) (fresh : List
       rw (back_is, pending, ap first_size held.unflushed)
       (word_by row held.all_fresh.0 buffer.marks buffer.word all sum (λ back.
       total_without (gone ++ standing) row (reached_row row) fresh (grind (arith, back)))
-      ∙ rw was (sym (word_from_more true buffer.marks half moments size after sum)))
+      ∙ rw was (sym (word_from_more true buffer.marks past moments size after sum)))
 
 -- a flush of all fresh rows, one after another
-pub all_reached : (fresh : List Row) (buffer : Pending) (gone standing : List Row) (half : ℕ) (moments : List Moment) →
-    Held buffer gone standing fresh → buffer.word ≡ word_from buffer.marks half moments →
+pub all_reached : (fresh : List Row) (buffer : Pending) (gone standing : List Row) (past : Past) (moments : List Moment) →
+    Held buffer gone standing fresh → buffer.word ≡ word_from buffer.marks past moments →
     (let after = times (length fresh) next_flushed buffer in
     Held after gone (standing ++ map reached_row fresh) []
-    × (after.word ≡ word_from buffer.marks half
+    × (after.word ≡ word_from buffer.marks past
     (moments ++ moments_along true (gone ++ standing) fresh (map reached_row fresh)))
     × (opening after ≡ opening buffer) × (after.closed ≡ buffer.closed))
-all_reached [] buffer gone standing half moments held word = (rw append-nil held, rw append-nil word, refl, refl)
-all_reached (row ∷ fresh) buffer gone standing half moments held word =
+all_reached [] buffer gone standing past moments held word = (rw append-nil held, rw append-nil word, refl, refl)
+all_reached (row ∷ fresh) buffer gone standing past moments held word =
     let reached = reached_row row in
     let sum = total ((gone ++ standing) ++ reached ∷ fresh) in
     let one = moment_of true (counted_size row) (counted_size reached) sum in
     let next = standing ++ reached ∷ [] in
     let rest = rw (times_first next_flushed (length fresh) buffer) at
-    (all_reached fresh (next_flushed buffer) gone next half (moments ++ one)
+    (all_reached fresh (next_flushed buffer) gone next past (moments ++ one)
     (next_held buffer gone standing row fresh held)
-    (next_word buffer gone standing row fresh held half moments word)) in
+    (next_word buffer gone standing row fresh held past moments word)) in
     let more = moments_along true (gone ++ next) fresh (map reached_row fresh) in (
       rw append_assoc at rest.0,
       rest.1 ∙ rw (append_assoc moments one more, append_assoc gone standing (reached ∷ [])) refl,

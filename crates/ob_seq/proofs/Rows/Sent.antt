@@ -6,7 +6,7 @@ use Rattle.ob_seq.proofs.Words.{settlements_from, entry_of, Pending, front_taken
 use Rattle.ob_seq.proofs.Words.{times}
 use Rattle.ob_seq.proofs.Rows.Along.{moments_behind}
 use Rattle.ob_seq.proofs.Inside.Held.{opening, Held}
-use Rattle.ob_seq.proofs.Word.Marks.{word_from}
+use Rattle.ob_seq.proofs.Word.Marks.{Past, word_from}
 use Rattle.ob_seq.proofs.Rows.Order.{IsGone, IsStanding, all_now_gone, each_append, first_more, first_none, sent}
 use Rattle.ob_seq.proofs.Rows.Order.{with_front_gone, with_front_standing}
 use Rattle.ob_seq.proofs.Inside.Taken.{taken_held, taken_word}
@@ -32,24 +32,24 @@ all_taken_gone outcome rows = all_now_gone (taken_row outcome) (λ row. refl) ro
 
 -- what the buffer holds without them, and its word after their moments
 pub all_taken : (notice : Bool) (outcome : Outcome) (first : List Row) (buffer : Pending) (gone rest fresh : List Row)
-    (half : ℕ) (moments : List Moment) →
-    Held buffer gone (first ++ rest) fresh → buffer.word ≡ word_from buffer.marks half moments →
+    (past : Past) (moments : List Moment) →
+    Held buffer gone (first ++ rest) fresh → buffer.word ≡ word_from buffer.marks past moments →
     (let after = times (length first) (front_taken notice outcome) buffer in
     let now = map (taken_row outcome) first in
     Held after (gone ++ now) rest fresh
-    × (after.word ≡ word_from buffer.marks half
+    × (after.word ≡ word_from buffer.marks past
     (moments ++ moments_along notice gone (first ++ (rest ++ fresh)) (now ++ (rest ++ fresh))))
     × (opening after ≡ opening buffer) × (after.closed ≡ buffer.closed))
-all_taken notice outcome [] buffer gone rest fresh half moments held word =
+all_taken notice outcome [] buffer gone rest fresh past moments held word =
     (rw append-nil held, rw (moments_behind notice gone (rest ++ fresh), append-nil) word, refl, refl)
-all_taken notice outcome (row ∷ first) buffer gone rest fresh half moments held word =
+all_taken notice outcome (row ∷ first) buffer gone rest fresh past moments held word =
     let taken = taken_row outcome row in
     let now = map (taken_row outcome) first in
     let one = moment_of notice (counted_size row) 0 (total (gone ++ taken ∷ ((first ++ rest) ++ fresh))) in
     let next_held = taken_held notice outcome buffer gone row (first ++ rest) fresh held in
-    let next_word = taken_word notice outcome buffer gone row (first ++ rest) fresh held half moments word in
+    let next_word = taken_word notice outcome buffer gone row (first ++ rest) fresh held past moments word in
     let all = rw (times_first (front_taken notice outcome) (length first) buffer) at
-    (all_taken notice outcome first (front_taken notice outcome buffer) (gone ++ taken ∷ []) rest fresh half
+    (all_taken notice outcome first (front_taken notice outcome buffer) (gone ++ taken ∷ []) rest fresh past
     (moments ++ one) next_held next_word) in
     let behind = first ++ (rest ++ fresh) in
     let more = moments_along notice (gone ++ taken ∷ []) behind (now ++ (rest ++ fresh)) in (

@@ -10,9 +10,8 @@ use Rattle.ob_seq.specs.Steps.Close.{closing_step}
 use Rattle.ob_seq.proofs.Inside.Failures.{failure}
 use Rattle.ob_seq.proofs.Rows.Fronts.{Carries, carried, rows_of, some_front}
 use Rattle.ob_seq.proofs.Simulating.Simulation.{Simulates}
-use Rattle.ob_seq.proofs.Inside.Held.{held_of, line_count, promise_of, unflushed_id_is, word_by_moments}
-use Rattle.ob_seq.proofs.Rows.History.{moments_after}
-use Rattle.ob_seq.proofs.Word.Marks.{half_after, word_from, word_from_more}
+use Rattle.ob_seq.proofs.Inside.Held.{held_of, line_count, promise_of, unflushed_id_is, word_by_past}
+use Rattle.ob_seq.proofs.Word.Marks.{Past, past_after, word_from, word_from_more}
 use Rattle.ob_seq.proofs.Rows.Order.{IsGone, IsFresh, all_now_gone, each_append, layout_of, stay_by}
 
 -- a close leaves rows alone that are gone
@@ -39,21 +38,21 @@ settlements_of_closed cause id (row ∷ fresh) all =
     rw (settled_by_one cause id row all.0, settlements_of_closed cause (suc id) fresh all.1)
 
 -- a fall without notice leaves the word alone
-silent_more : (marks : Marks) (half size sum : ℕ) (moments : List Moment) →
-    word_from marks half (moments ++ moment_of false size 0 sum) ≡ word_from marks half moments
-silent_more marks half size sum moments =
-    rw (word_from_more false marks half moments size 0 sum) (grind (arith, nat_tests))
+silent_more : (marks : Marks) (past : Past) (size sum : ℕ) (moments : List Moment) →
+    word_from marks past (moments ++ moment_of false size 0 sum) ≡ word_from marks past moments
+silent_more marks past size sum moments =
+    rw (word_from_more false marks past moments size 0 sum) (grind (arith, nat_tests))
 
-silent_word : (cause : Cause) (marks : Marks) (half : ℕ) (fresh passed : List Row) (moments : List Moment) →
-    word_from marks half (moments ++ moments_along false passed fresh (map (closed_row cause) fresh))
-    ≡ word_from marks half moments
-silent_word cause marks half [] passed moments = ap (word_from marks half) (append-nil moments)
-silent_word cause marks half (row ∷ fresh) passed moments =
+silent_word : (cause : Cause) (marks : Marks) (past : Past) (fresh passed : List Row) (moments : List Moment) →
+    word_from marks past (moments ++ moments_along false passed fresh (map (closed_row cause) fresh))
+    ≡ word_from marks past moments
+silent_word cause marks past [] passed moments = ap (word_from marks past) (append-nil moments)
+silent_word cause marks past (row ∷ fresh) passed moments =
     let next = closed_row cause row in
     let sum = total (passed ++ next ∷ fresh) in
     let one = moment_of false (counted_size row) 0 sum in
-    (rw append_assoc at (silent_word cause marks half fresh (passed ++ next ∷ []) (moments ++ one)))
-    ∙ silent_more marks half (counted_size row) sum moments
+    (rw append_assoc at (silent_word cause marks past fresh (passed ++ next ∷ []) (moments ++ one)))
+    ∙ silent_more marks past (counted_size row) sum moments
 
 module _ (cause : Cause) (old : Pending) (commands : List Command) (stands : StandsFor old commands) where
   -- a close is refused where something is in line
@@ -88,12 +87,11 @@ module _ (cause : Cause) (old : Pending) (commands : List Command) (stands : Sta
       let all_closed = all_now_gone (closed_row cause) (λ row. refl) fresh in
       let all_gone = each_append IsGone gone closed held.all_gone all_closed in
       let stay = stay_by (closed_row cause) IsGone (closed_gone cause) gone held.all_gone in
-      let moments = moments_after old.settings.estimate commands in
-      let silent = silent_word cause old.marks (half_after commands) fresh gone moments in
+      let silent = silent_word cause old.marks (past_after old.settings commands) fresh gone [] in
       carried old (closed_pending cause old) commands (Close cause) stands unclosed gone fresh closed rows_are
       (rw (rows_are, map-append (closed_row cause) gone fresh, stay)) (sym refusal_is ∙ accepted) (λ index. refl) refl
       refl (gone ++ closed) [] [] (sym (append-nil (gone ++ closed))) (assumption (held.line, promised, all_gone))
-      (word_by_moments old commands stands ∙ sym silent)
+      (word_by_past old commands stands ∙ sym silent)
       (ap Count (ap length stands.unflushed ∙ length-map (unflushed (rows_of old commands)) entry_of))
       (rw (left, id_is) (sym (settlements_of_closed cause (length gone) fresh held.all_fresh))) refl
 

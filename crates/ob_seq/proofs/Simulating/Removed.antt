@@ -4,25 +4,25 @@ use Rattle.ob_seq.proofs.Words.{◌+◌, append_assoc, append-nil, arith, None, 
 use Rattle.ob_seq.proofs.Words.{change_between, Estimate, Command, Remove, RemoveWith, Outcome, Success, Failed, Cause}
 use Rattle.ob_seq.proofs.Words.{Reply, Yes, Row, front, effect, taken_row, with_front, moments_along, is_close}
 use Rattle.ob_seq.proofs.Words.{refusal_of, entry_of, Pending, StandsFor, front_taken, front_id, entry_settlements}
-use Rattle.ob_seq.proofs.Words.{times}
+use Rattle.ob_seq.proofs.Words.{marks_set_by, times}
 use Rattle.ob_seq.specs.Answer.{answer_of}
 use Rattle.ob_seq.specs.Moment.{gives_notice}
 use Rattle.ob_seq.specs.Steps.Remove.{front_removed, removal_reply, removal_step}
 use Rattle.ob_seq.specs.Steps.RemoveBytes.{front_skipped}
 use Rattle.ob_seq.specs.Steps.Held.{is_first_voided}
 use Rattle.ob_seq.proofs.Rows.Fronts.{Carries, carried, rows_of, some_front}
-use Rattle.ob_seq.proofs.Inside.Held.{Held, front_id_is, held_of, word_by_moments}
-use Rattle.ob_seq.proofs.Rows.History.{moments_after}
-use Rattle.ob_seq.proofs.Word.Marks.{IsQuiet, half_after}
+use Rattle.ob_seq.proofs.Inside.Held.{Held, front_id_is, held_of, word_by_past}
+use Rattle.ob_seq.proofs.Word.Marks.{IsQuiet, past_after}
 use Rattle.ob_seq.proofs.Rows.Order.{IsStanding, with_front_gone, with_front_fresh, with_front_standing, layout_of}
 use Rattle.ob_seq.proofs.Rows.Sent.{all_taken, settlements_of_taken}
 use Rattle.ob_seq.proofs.Simulating.Simulation.{Simulates}
 use Rattle.ob_seq.proofs.Inside.Skipped.{rows_skipped, settlements_of_skipped, skipped_held, skipped_opening}
 use Rattle.ob_seq.proofs.Inside.Skipped.{skipped_same}
 
--- the command asks nothing of a user bit and does not close, and its falls are with or without notice
+-- the command asks nothing of a user bit, sets no marks and does not close, and its falls are with or without notice
 pub record IsPlain (command : Command) (notice : Bool) : Type 0 where
   pub quiet : IsQuiet command
+  pub no_marks : marks_set_by command ≡ None
   pub no_close : is_close command ≡ false
   pub notice_is : gives_notice command ≡ notice
 
@@ -52,12 +52,12 @@ module _ (old : Pending) (commands : List Command) (command : Command) (stands :
       let shorter = times count (front_taken notice outcome) old in
       let nothing = settlements_of_skipped skipped (length gone + length first) rest fresh in
       let settled = settlements_of_taken outcome (length gone) first behind (now ++ fresh) each nothing in
-      let all = rw size at (all_taken notice outcome first old gone rest fresh (half_after commands)
-      (moments_after old.settings.estimate commands) held (word_by_moments old commands stands)) in
+      let all = rw size at (all_taken notice outcome first old gone rest fresh
+      (past_after old.settings commands) [] held (word_by_past old commands stands)) in
       let same = skipped_same skipped shorter in
       carried old after commands command stands unclosed gone (first ++ behind) left
       (rw (append_assoc first rest fresh) at rows_are) effect_is accepted plain.quiet
-      (skipped_opening skipped shorter ∙ all.2) (same.1 ∙ all.3 ∙ unclosed ∙ sym plain.no_close) (gone ++ taken) now
+      (rw plain.no_marks (skipped_opening skipped shorter ∙ all.2)) (same.1 ∙ all.3 ∙ unclosed ∙ sym plain.no_close) (gone ++ taken) now
       fresh (sym (append_assoc gone taken (now ++ fresh)))
       (skipped_held skipped shorter (gone ++ taken) rest fresh all.0)
       (same.0 ∙ all.1 ∙ rw (plain.notice_is, alike) refl) answers

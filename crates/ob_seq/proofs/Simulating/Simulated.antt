@@ -1,6 +1,6 @@
 -- Each command is simulated by its step.
 use Rattle.ob_seq.proofs.Words.{◌≡◌, ℕ, Bool, true, refl, ap, ◌∙◌, arith, None, nat_tests, Marks, Command, Write, Flush}
-use Rattle.ob_seq.proofs.Words.{Remove, RemoveWith, RemoveBytes, Progress, Cancel, FailFlushed, Close, UserBit, Success}
+use Rattle.ob_seq.proofs.Words.{Remove, RemoveWith, RemoveBytes, Progress, Cancel, FailFlushed, Close, UserBit, SetMarks, Success}
 use Rattle.ob_seq.proofs.Words.{Failed, Refusal, Cut, blocks_left, Pending, Settings, bit_step, front_taken, step_of}
 use Rattle.ob_seq.proofs.Words.{times, whole_cut, false, List, ◌<◌, length, Reply, answer_to}
 use Rattle.ob_seq.proofs.Words.{StandsFor, SparesMemory, settled_by_step, ◌++◌, map, sym, append_assoc, append-nil}
@@ -21,6 +21,7 @@ use Rattle.ob_seq.proofs.Simulating.BytesRemoved.{bytes_removed_stand, run_is}
 use Rattle.ob_seq.proofs.Simulating.Cancelled.{cancel_simulates}
 use Rattle.ob_seq.proofs.Simulating.Closing.{closing_simulates}
 use Rattle.ob_seq.proofs.Simulating.Failing.{failing_simulates}
+use Rattle.ob_seq.proofs.Simulating.MarksSet.{marks_simulate}
 use Rattle.ob_seq.proofs.Simulating.Removed.{removal, removal_simulates, removal_with}
 use Rattle.ob_seq.proofs.Simulating.Simulation.{Simulates, simulates_by}
 use Rattle.ob_seq.proofs.Inside.Skipped.{skipped_opening}
@@ -29,9 +30,8 @@ use Rattle.ob_seq.proofs.Word.UserBits.{bit_changed_stands, reply_of_bit}
 use Rattle.ob_seq.proofs.Simulating.Written.{write_simulates}
 use Rattle.ob_seq.proofs.Rows.Along.{moments_past, settlements_past, moment_of_same, moments_in_one, settlement_same}
 use Rattle.ob_seq.proofs.Rows.Along.{settlements_in_one}
-use Rattle.ob_seq.proofs.Inside.Held.{word_at_end, held_of, held_rows, fresh_count, word_by_moments}
-use Rattle.ob_seq.proofs.Rows.History.{moments_after}
-use Rattle.ob_seq.proofs.Word.Marks.{half_after, word_after_same}
+use Rattle.ob_seq.proofs.Inside.Held.{word_at_end, held_of, held_rows, fresh_count, word_by_past}
+use Rattle.ob_seq.proofs.Word.Marks.{past_after, word_after_same}
 use Rattle.ob_seq.proofs.Rows.Order.{Layout, layout_of, flush_parts, with_front_gone, with_front_standing}
 use Rattle.ob_seq.proofs.Rows.Order.{progressed_stands}
 use Rattle.ob_seq.proofs.Rows.Reached.{all_reached, settlements_of_reached}
@@ -54,8 +54,7 @@ flush_simulates old =
     layout.all_standing layout.all_fresh in
     let behind : map flushed_row rows ≡ passed ++ reached = rw append_assoc effect_is in
     let moments = moments_past rows (map flushed_row rows) passed layout.fresh reached rows_are behind true in
-    let all = all_reached layout.fresh old layout.gone layout.standing (half_after commands)
-    (moments_after old.settings.estimate commands) held (word_by_moments old commands stands) in
+    let all = all_reached layout.fresh old layout.gone layout.standing (past_after old.settings commands) [] held (word_by_past old commands stands) in
     rw count record {
       opened = all.2;
       closed = all.3 ∙ unclosed;
@@ -152,6 +151,7 @@ simulated (Cancel id) old = cancel_simulates id old
 simulated (FailFlushed cause notice) old = failing_simulates cause notice old
 simulated (Close cause) old = closing_simulates cause old
 simulated (UserBit index writable) old = bit_simulates index writable old
+simulated (SetMarks marks) old = marks_simulate marks old
 
 module _ (command : Command) (old : Pending) where
   abbrev step : Step

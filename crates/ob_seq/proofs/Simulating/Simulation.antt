@@ -5,7 +5,7 @@ use Rattle.ob_seq.proofs.Words.{StandsFor, settled_by_step}
 use Rattle.ob_seq.specs.Answer.{answer_of}
 use Rattle.ob_seq.specs.Steps.Step.{Step, settled_open}
 use Rattle.ob_seq.proofs.Rows.Acceptance.{same_reply}
-use Rattle.ob_seq.proofs.Inside.Held.{Holds, opening, stands_more}
+use Rattle.ob_seq.proofs.Inside.Held.{Holds, opening, opening_with, stands_more}
 
 -- whatever history a buffer stands for, its step is refused as the definition says, and else replies as it says and
 -- leaves what stands for the history with the command
@@ -20,7 +20,7 @@ pub record Simulates (command : Command) (old : Pending) (step : Step) : Type 0 
 
 -- a step of a buffer that is not closed does what the definition says of the command after this history
 pub record Does (command : Command) (old : Pending) (step : Step) (commands : List Command) : Type 0 where
-  pub opened : opening step.after ≡ opening old
+  pub opened : opening step.after ≡ opening_with command old
   pub closed : step.after.closed ≡ is_close command
   pub holds : Holds step.after (effect old.settings.estimate (rows_after old.settings.estimate commands) command)
   pub word : step.after.word ≡ word_after old.settings (commands ++ command ∷ [])

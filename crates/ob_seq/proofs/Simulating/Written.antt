@@ -6,9 +6,8 @@ use Rattle.ob_seq.proofs.Words.{is_in_line, unflushed, total, rows_after, moment
 use Rattle.ob_seq.proofs.Words.{pending_total, word_after_rise, write_step}
 use Rattle.ob_seq.proofs.Simulating.Simulation.{Simulates, simulates_by}
 use Rattle.ob_seq.proofs.Rows.Along.{moments_past, settlements_past}
-use Rattle.ob_seq.proofs.Inside.Held.{promise_of, sum_of_rows, word_at_end, word_by_moments}
-use Rattle.ob_seq.proofs.Rows.History.{moments_after}
-use Rattle.ob_seq.proofs.Word.Marks.{half_after, word_from_more, word_step}
+use Rattle.ob_seq.proofs.Inside.Held.{promise_of, sum_of_rows, word_at_end, word_by_past}
+use Rattle.ob_seq.proofs.Word.Marks.{past_after, word_from_more, word_step}
 
 -- the bytes pending in a buffer are those of the rows
 pub pending_total_stands : (buffer : Pending) (commands : List Command) → StandsFor buffer commands →
@@ -53,8 +52,8 @@ write_simulates message old =
         );
         promises = rw (map-append promise_of rows (row ∷ []), stands.promises);
       };
-      word = rw (pending_total_stands old commands stands, rise_step, word_by_moments old commands stands)
-          (sym (word_from_more true old.marks (half_after commands) (moments_after old.settings.estimate commands)
+      word = rw (pending_total_stands old commands stands, rise_step, word_by_past old commands stands)
+          (sym (word_from_more true old.marks (past_after old.settings commands) []
           0 size (total rows + size)))
           ∙ word_at_end old commands stands (Write message) _ (λ index. refl) now;
       answer = rw (stands.promises, length-map);

@@ -3,15 +3,15 @@ use Rattle.ob_seq.proofs.Words.{bit_step, [], ◌≡◌, ℕ, zero, suc, ◌^◌
 use Rattle.ob_seq.proofs.Words.{reverse, sym, ◌∙◌, cond, eqb, append-nil, arith, Option, Some, None, filter_map}
 use Rattle.ob_seq.proofs.Words.{slice_get, unwrap_or, cons_option, nat_tests, reverse-append, filter_map-append}
 use Rattle.ob_seq.proofs.Words.{bit_at_or, same_from_bits, pow-lt, Command, UserBit, Settings, rows_after, bit_request}
-use Rattle.ob_seq.proofs.Words.{user_bit, word_after, reply_of, Pending, StandsFor}
+use Rattle.ob_seq.proofs.Words.{mark_after, user_bit, word_after, reply_of, Pending, StandsFor}
 use Rattle.std.specs.Int.{bit_not, w32}
 use Rattle.std.proofs.lemmas.Nat.Bits.{bit_at_and, bit_at_not, bit_at-pow_same, bit_at-pow_other}
 use Rattle.ob_seq.specs.Steps.UserBit.{bit_changed, with_user_bit}
 use Rattle.ob_seq.proofs.Rows.Acceptance.{open_history}
 use Rattle.ob_seq.proofs.Rows.Along.{moments_of_same, settlements_of_same}
-use Rattle.ob_seq.proofs.Word.Digits.{digit_of, word_digits, word_of, word_of_digits}
-use Rattle.ob_seq.proofs.Rows.History.{moments_after, moments_after_more, rows_after_more, accepted_more, closed_more}
-use Rattle.ob_seq.proofs.Word.Marks.{mark_of, word_is_from}
+use Rattle.ob_seq.proofs.Word.Digits.{digit_of, user_bits_even, word_digits, word_of, word_of_digits}
+use Rattle.ob_seq.proofs.Rows.History.{rows_after_more, accepted_more, closed_more}
+use Rattle.ob_seq.proofs.Word.Marks.{mark_after_same, marks_more}
 
 -- the user bits after one more command
 bit_by : (requests : List Bool) (here now : Bool) →
@@ -33,14 +33,12 @@ changed_number false bit after at within changes = same_from_bits _ _ (λ i.
 
 -- the word of a history, by its 32 digits
 abbrev digits_after : Settings → List Command → ℕ → Bool
-digits_after settings commands =
-    word_digits (mark_of settings.marks (moments_after settings.estimate commands)) (user_bit commands)
+digits_after settings commands = word_digits (mark_after settings commands) (user_bit commands)
 
 word_is : (settings : Settings) (commands : List Command) →
     word_after settings commands ≡ word_of (digits_after settings commands)
 word_is settings commands =
-    word_is_from settings commands
-    ∙ word_of_digits (mark_of settings.marks (moments_after settings.estimate commands)) (user_bit commands)
+    rw (user_bits_even (user_bit commands)) (word_of_digits (mark_after settings commands) (user_bit commands))
 
 digits_change : (settings : Settings) (commands : List Command) (at : ℕ) (writable : Bool) → 1 ≤ at → (i : ℕ) →
     digits_after settings (commands ++ UserBit at writable ∷ []) i
@@ -48,7 +46,7 @@ digits_change : (settings : Settings) (commands : List Command) (at : ℕ) (writ
 digits_change settings commands at writable some zero =
     let same = moments_of_same true (rows_after settings.estimate commands) in
     let other : eqb at 0 ≡ false = grind (arith, nat_tests) in
-    rw (other, moments_after_more settings.estimate commands (UserBit at writable), same, append-nil)
+    rw other (mark_after_same settings commands (UserBit at writable) same)
 digits_change settings commands at writable some (suc i) =
     rw (filter_map-append (bit_request (suc i)) commands (UserBit at writable ∷ []))
     (bit_by (filter_map (bit_request (suc i)) commands) (eqb at (suc i)) (not writable))
@@ -69,7 +67,7 @@ module _ (buffer : Pending) (commands : List Command) (at : ℕ) (writable : Boo
       let stay = rows_after_more buffer.settings.estimate commands command in record {
         accepted = accepted_more buffer.settings commands command there stands.accepted (grind (arith, nat_tests));
         closed = unclosed ∙ sym (closed_more commands command there);
-        marks = stands.marks;
+        marks = stands.marks ∙ sym (marks_more buffer.settings commands command);
         line = rw stay stands.line;
         unflushed = rw stay stands.unflushed;
         promises = rw stay stands.promises;

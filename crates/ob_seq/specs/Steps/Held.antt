@@ -10,7 +10,7 @@ use Rattle.ob_seq.specs.Pending.{Pending}
 abbrev pub sum_of : List PendingEntry → ℕ
 sum_of entries = sum_by (λ entry. entry.size) entries
 
--- the bytes that all entries count together
+-- the sum of the pending sizes of both runs: of the entries in line, and of those that no flush has reached
 abbrev pub pending_total : Pending → ℕ
 pending_total old = sum_of old.line + sum_of old.unflushed
 

@@ -1,5 +1,5 @@
 -- Each command as a step. No public clause cites this module.
-use Rattle.ob_types.specs.declared.command.Command.TheVariants.{Cancel, FailFlushed, Close, UserBit}
+use Rattle.ob_types.specs.declared.command.Command.TheVariants.{Cancel, FailFlushed, Close, UserBit, SetMarks}
 use Rattle.ob_types.specs.declared.command.Command.TheVariants.{Write, Flush, Remove, RemoveWith, RemoveBytes, Progress}
 use Rattle.ob_types.specs.declared.command.Command.{Command}
 use Rattle.ob_types.specs.declared.promise.Outcome.TheVariants.{Success, Failed}
@@ -14,6 +14,7 @@ use Rattle.ob_seq.specs.Steps.Cancel.{cancel_step}
 use Rattle.ob_seq.specs.Steps.FailFlushed.{failing_step}
 use Rattle.ob_seq.specs.Steps.Close.{closing_step}
 use Rattle.ob_seq.specs.Steps.UserBit.{bit_step}
+use Rattle.ob_seq.specs.Steps.SetMarks.{marks_step}
 
 -- the step that a command is
 abbrev pub step_of : Command → Pending → Step
@@ -27,3 +28,4 @@ step_of (Cancel id) old = cancel_step id.0 old
 step_of (FailFlushed cause notice) old = failing_step cause notice old
 step_of (Close cause) old = closing_step cause old
 step_of (UserBit index writable) old = bit_step index writable old
+step_of (SetMarks marks) old = marks_step marks old

@@ -3,11 +3,12 @@
 ghost use Rattle.std.specs.Prelude.{IsErrOf};
 ghost use Rattle.ob_types.specs.declared.command.Command.TheVariants.{Write, Flush, Remove, RemoveWith, RemoveBytes};
 ghost use Rattle.ob_types.specs.declared.command.Command.TheVariants.{Progress, Cancel, FailFlushed, Close, UserBit};
+ghost use Rattle.ob_types.specs.declared.command.Command.TheVariants.{SetMarks};
 ghost use Rattle.ob_seq.specs.Pending.{Obeys};
 ghost use Rattle.ob_seq.specs.Settles.{SparesMemory};
 
 use crate::buffer::Buffer;
-use ob_types::{Cause, Message, PromiseId, Refusal, Reply};
+use ob_types::{Cause, Message, PromiseId, Refusal, Reply, WaterMark};
 
 impl Buffer {
     /// Adds a message behind all others (Netty's `addMessage`), and answers its promise. It takes the same few steps
@@ -141,5 +142,18 @@ impl Buffer {
         ensures frugal { ¬ IsErrOf result Refusal.NoMemory }
     {
         self.contents.user_bit(index, writable)
+    }
+
+    /// Sets the marks that are in force from now on (Netty's `setWriteBufferWaterMark` on an open channel, for which
+    /// Netty states no rule). It moves no bit, settles nothing and tells of no change, even if what is pending is above
+    /// the new high mark or below the new low mark: only the next rise or fall goes by the new marks, and each look
+    /// from now on. It takes the same few steps whatever is pending, and no memory.
+    ///
+    /// `Closed` comes where the buffer is closed.
+    pub fn set_marks(&mut self, marks: WaterMark) -> Result<Reply, Refusal>
+        ensures obeys { Obeys self.old (SetMarks marks) result self.new }
+        ensures frugal { ¬ IsErrOf result Refusal.NoMemory }
+    {
+        self.contents.set_marks(marks)
     }
 }

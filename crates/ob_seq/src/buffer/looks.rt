@@ -1,7 +1,7 @@
 //! The looks at the messages and the promises of a buffer.
 
 ghost use Rattle.std.specs.Option.{option_copied};
-ghost use Rattle.ob_seq.specs.Pending.{AreFlushed, IsCurrent, Tells};
+ghost use Rattle.ob_seq.specs.Pending.{AreFlushed, IsCurrent, IsFrontPromise, Tells};
 ghost use Rattle.ob_seq.specs.Settles.{Settles};
 
 use crate::buffer::Buffer;
@@ -33,6 +33,19 @@ impl Buffer {
             return None;
         }
         Some(&contents.entries[0].message)
+    }
+
+    /// The promise of the first flushed message, which is the one that `current` shows; none exactly if `current` is none.
+    /// A removal settles it next, unless the message was voided. Netty keeps it in the entry of `current()`. It takes the
+    /// same few steps whatever is pending, and no memory.
+    pub fn front(&self) -> Option<PromiseId>
+        ensures { IsFrontPromise self.now result }
+    {
+        let contents = &self.contents;
+        if contents.flushed == 0 {
+            return None;
+        }
+        Some(PromiseId(contents.front_id() as u32))
     }
 
     /// What is left of each flushed message that was not voided, oldest first (Netty's `forEachFlushedMessage`). It

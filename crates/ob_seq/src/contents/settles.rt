@@ -35,6 +35,7 @@ impl Contents {
             Command::FailFlushed(_, _) => self.unvoided(self.line_count()),
             Command::Close(_) => self.closing_settles(),
             Command::UserBit(_, _) => 0,
+            Command::SetMarks(_) => 0,
         }
     }
 

@@ -24,7 +24,7 @@ impl Contents {
         ensures frugal { length (entry_settlements outcome (front_id self.now) (take count self.now.line))
             ≤ inline_settlements → IsOk result }
     {
-        let first = self.promises.len() - self.entries.len();
+        let first = self.front_id();
         let mut settled = self.no_settlements();
         for place in 0..count {
             if !self.entries[place].voided {
@@ -51,7 +51,7 @@ impl Contents {
         ensures settled { option_to_list (option_map (λ id. (id, outcome)) result) ≡ front_settlement self.old outcome }
         ensures taken { self.new ≡ front_taken notice outcome self.old }
     {
-        let id = self.promises.len() - self.entries.len();
+        let id = self.front_id();
         let entry = self.entries.pop_front()?;
         self.flushed -= 1;
         self.total -= entry.size;

@@ -1,7 +1,6 @@
-use Rattle.ob_seq.proofs.Words.{◌≤◌, [], ◌∷◌, List, length, sym, ◌∙◌, map-append, PendingEntry, false, arith}
+use Rattle.ob_seq.proofs.Words.{◌≤◌, [], ◌∷◌, List, length, map-append, PendingEntry, false, arith}
 use Rattle.ob_seq.proofs.Words.{length-map, Entry, pending_entry, pending_entries}
 use Rattle.std.proofs.lemmas.List.{take-append-le, drop-append-le}
-use Rattle.ob_seq.proofs.Inside.Entries.{sum_of_entries, sum_of_parts}
 use Rattle.ob_seq.proofs.Inside.Fields.{total_is}
 use Rattle.ob_seq.proofs.contents.Contents.add.Goals as goal
 
@@ -20,8 +19,7 @@ returns-clause-ok c =
     let more : List PendingEntry = pending_entry entry ∷ [] in
     let front = take-append-le inside.flushed entries more within in
     let behind = drop-append-le inside.flushed entries more within in
-    let total = c.self.invariant.total ∙ sym (sum_of_entries items) ∙ sym (sum_of_parts inside.flushed entries) in
     let pushed = map-append pending_entry items (entry ∷ []) in
     rw (c.push_back_reserved.ensures.items, c.in_ok-reserve.ensures.items, pushed, front, behind)
-    (rw (c.push_reserved.ensures.items, c.in_ok-reserve-2.ensures.items, c.after_rise-self-inside.ensures, total)
+    (rw (c.push_reserved.ensures.items, c.in_ok-reserve-2.ensures.items, c.after_rise-self-inside.ensures, c.self.invariant.total)
     (rw (← c.self.view_is)))

@@ -13,7 +13,7 @@ returns c =
     let nothing : inside.flushed ≡ 0 = omega (arith, c.requires) in
     let failed = with_items_is inside.promises c.fail_waiting.new.promises (search (rules, places)) in
     let first = c.first_unflushed-first.ensures ∙ sym (ap unflushed_id c.self.view_is) in
-    let settings : Settings = record { marks = inside.marks; estimate = inside.estimate } in
-    same_pending settings true (rw nothing) (rw nothing (ap pending_entries c.clear.ensures.items))
+    let settings : Settings = record { marks = inside.opened; estimate = inside.estimate } in
+    same_pending settings inside.marks true (rw nothing) (rw nothing (ap pending_entries c.clear.ensures.items))
     (failed ∙ c.fail_waiting.ensures ∙ rw (first, c.deref_mut.ensures.value) refl) refl
     ∙ ap (closed_pending c.args.cause) c.self.view_is

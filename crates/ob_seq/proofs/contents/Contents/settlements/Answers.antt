@@ -1,7 +1,7 @@
-use Rattle.ob_seq.proofs.Words.{◌≡◌, ◌-◌, ◌<◌, true, false, length, sym, ap, ◌∙◌, append-nil, arith, pending_entry}
+use Rattle.ob_seq.proofs.Words.{◌≡◌, ◌<◌, true, false, length, sym, ap, ◌∙◌, append-nil, arith, pending_entry}
 use Rattle.ob_seq.proofs.Words.{front_id}
 use Rattle.ob_seq.proofs.Inside.EntrySettlements.{entries_settle, settled_more, settled_room}
-use Rattle.ob_seq.proofs.Inside.Fields.{in_line, line_count, promise_count, unflushed_count}
+use Rattle.ob_seq.proofs.Inside.Fields.{in_line, line_count}
 use Rattle.ob_seq.proofs.contents.Contents.settlements.Goals.{then-not-index+in_ok-push, else-not-index}
 use Rattle.ob_seq.proofs.contents.Contents.settlements.Goals as goal
 
@@ -30,14 +30,10 @@ loop-place-preserved c =
     let read = in_line now c.self.inside c.self.view_is c.self.invariant place c.index.result.now (omega arith)
     c.index.ensures in
     let more = settled_more (entries_settle c.args.outcome) (front_id now) now.line place entry entry inside read in
-    let unflushed = unflushed_count now c.self.inside c.self.view_is c.self.invariant in
-    let promises = promise_count now c.self.inside c.self.view_is c.self.invariant in
-    let id : front_id now ≡ c.len.result - c.len-2.result =
-    omega (arith, c.len.ensures, c.len-2.ensures, c.self.invariant.line_within) in
     elim c.if-not-index.branch [
       | then-not-index+in_ok-push w ↦
           w.settled-is ∙ w.in_ok-push.ensures.ok
-          ∙ rw (c.loop-place.invariant, ← id) (sym (rw w.if-not-index.true at more))
+          ∙ rw (c.loop-place.invariant, c.front_id-first.ensures.id) (sym (rw w.if-not-index.true at more))
       | else-not-index w ↦
           w.settled-is ∙ c.loop-place.invariant ∙ sym (rw (w.if-not-index.false, append-nil) at more)
     ]

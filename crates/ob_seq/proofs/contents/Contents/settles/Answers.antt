@@ -16,6 +16,10 @@ returns-in-Progress c =
 pub returns-in-UserBit : goal.returns-in-UserBit
 returns-in-UserBit c = settled_nothing c.args.self.now (step_of c.args.command.now c.args.self.now) (rw c.in-UserBit.is)
 
+pub returns-in-SetMarks : goal.returns-in-SetMarks
+returns-in-SetMarks c =
+    settled_nothing c.args.self.now (step_of c.args.command.now c.args.self.now) (rw c.in-SetMarks.is)
+
 pub returns-in-FailFlushed : goal.returns-in-FailFlushed
 returns-in-FailFlushed c =
     let now = c.args.self.now in
