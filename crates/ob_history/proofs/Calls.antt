@@ -1,18 +1,20 @@
 -- A call of a history, full or not.
 use Rattle.std.proofs.Common.{◌≡◌, ℕ, Bool, true, false, [], ◌∷◌, ◌++◌, Result, Ok, Err, get_or, length, ◌<◌, refl, sym}
-use Rattle.std.proofs.Common.{ap, ◌∙◌, arith}
+use Rattle.std.proofs.Common.{ap, ◌∙◌, subst, arith, rules}
 use Rattle.std.specs.Prelude.{◌≢◌, if◌then◌else◌}
 use Rattle.std.proofs.lemmas.Bool.{eqb-false}
 use Rattle.std.proofs.lemmas.List.{get_or_push, length_push}
 use Rattle.ob_types.specs.declared.command.Command.{Command}
 use Rattle.ob_types.specs.declared.refusal.Refusal.{Refusal}
 use Rattle.ob_types.specs.declared.refusal.Refusal.TheVariants.{HistoryFull}
-use Rattle.ob_history.specs.Call.{call_answer, history_after, is_full, next_record, with_record}
+use Rattle.ob_history.specs.Beginning.{IsBeginning}
+use Rattle.ob_history.specs.Call.{IsCall, call_answer, history_after, is_full, next_record, with_record}
 use Rattle.ob_history.specs.History.{History, IsBounded}
 use Rattle.ob_history.specs.Legal.{IsLegal}
 use Rattle.ob_history.specs.Receipt.{receipt_of}
 use Rattle.ob_history.specs.declared.receipt.Receipt.{Receipt}
 use Rattle.ob_history.specs.declared.record.Record.{Record}
+use Rattle.ob_history.proofs.Beginnings.{begins_itself}
 use Rattle.ob_history.proofs.Histories.{legal_with_next}
 
 -- a history that is not full answers a call with the receipt of its record
@@ -74,6 +76,13 @@ module _ (history : History) (caller : ℕ) (command : Command) where
             limit = bounded.limit;
           }
 
+  pub begins_after : IsBeginning history.records (history_after history caller command).records
+  begins_after = by_full (is_full history)
+    where
+      by_full : (full : Bool) → IsBeginning history.records (after_by full).records
+      by_full true = begins_itself history.records
+      by_full false = record { rest = next_record history caller command ∷ []; whole = refl }
+
   -- what a record leaves alone a call does
   kept_after : {A : Type 0} (of : History → A) →
       of (with_record history (next_record history caller command)) ≡ of history →
@@ -89,3 +98,32 @@ module _ (history : History) (caller : ℕ) (command : Command) where
 
   pub limit_after : (history_after history caller command).limit ≡ history.limit
   limit_after = kept_after (λ held. held.limit) refl
+
+-- a call that gave a receipt was of a history that is not full, and its record is the last one
+pub called_with_place : (old : History) (caller : ℕ) (command : Command) (receipt : Receipt) (new : History) →
+    IsCall old caller command (Ok receipt) new →
+    (is_full old ≡ false) × (receipt ≡ receipt_of (next_record old caller command))
+    × (new ≡ with_record old (next_record old caller command))
+called_with_place old caller command receipt new call =
+    let answer = call.answer (search rules) in
+    let free = not_full (is_full old) refl answer in (
+      free,
+      cc (answer ∙ answer_with_place old caller command free),
+      call.after (search rules) ∙ after_with_place old caller command free,
+    )
+  where
+    not_full : (full : Bool) → is_full old ≡ full → Ok receipt ≡ call_answer old caller command → is_full old ≡ false
+    not_full false is answer = is
+    not_full true is answer =
+        let by : Bool → Result Receipt Refusal =
+        λ full. if full then Err HistoryFull else Ok (receipt_of (next_record old caller command)) in
+        absurd (cc (answer ∙ ap by is))
+
+-- whatever a call answers, the records before it begin those after it
+pub called_begins : (old : History) (caller : ℕ) (command : Command) (result : Result Receipt Refusal) (new : History) →
+    IsCall old caller command result new → IsBeginning old.records new.records
+called_begins old caller command (Ok receipt) new call =
+    subst (λ (history : History). IsBeginning old.records history.records) (sym (call.after (search rules)))
+    (begins_after old caller command)
+called_begins old caller command (Err refusal) new call =
+    subst (λ (history : History). IsBeginning old.records history.records) (sym call.refused) (begins_itself old.records)

@@ -65,7 +65,7 @@ abbrev pub command_of : Record → Command
 command_of one = one.command
 
 -- one more record adds its command to the accepted ones, if it was accepted
-accepted_with_one : (records : List Record) (one : Record) →
+pub accepted_with_one : (records : List Record) (one : Record) →
     accepted_commands (records ++ one ∷ []) ≡ cond (is_ok one.reply) (accepted_commands records ++ one.command ∷ [])
     (accepted_commands records)
 accepted_with_one records one =

@@ -1,3 +1,4 @@
+pub mod Beginnings
 pub mod Calls
 pub mod Counts
 pub mod First

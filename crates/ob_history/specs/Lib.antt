@@ -1,4 +1,5 @@
 pub mod Accepted
+pub mod Beginning
 pub mod Call
 pub mod Copies
 pub mod First

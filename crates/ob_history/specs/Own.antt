@@ -1,6 +1,9 @@
 -- The records of one caller, and its own receipts of them.
-use Rattle.std.specs.Prelude.{◌≡◌, ◌≢◌, ℕ, ◌<◌, ◌==◌, List, drop, filter, length, map, sum_by}
+use Rattle.std.specs.Prelude.{◌≡◌, ◌≢◌, ℕ, ◌<◌, ◌==◌, List, drop, filter, length, map, sum_by, Result, IfOk}
+use Rattle.std.specs.Prelude.{IsOkUnless}
 use Rattle.std.specs.List.{All, AllPairs}
+use Rattle.ob_types.specs.declared.refusal.Refusal.{Refusal}
+use Rattle.ob_types.specs.declared.refusal.Refusal.TheVariants.{NoMemory}
 use Rattle.ob_history.specs.Receipt.{IsReceiptIn, receipt_of}
 use Rattle.ob_history.specs.declared.record.Record.{Record}
 use Rattle.ob_history.specs.declared.receipt.Receipt.{Receipt}
@@ -12,6 +15,13 @@ records_of caller records = filter (λ one. one.caller == caller) records
 -- the receipts of the records of a caller from a place on, in order
 abbrev pub receipts_since : ℕ → ℕ → List Record → List Receipt
 receipts_since caller place records = map receipt_of (records_of caller (drop place records))
+
+-- what is given are the receipts of the records of a caller from a place on, and they are refused for want of memory
+-- alone
+pub record AreGivenSince {V : Type 0} (items : V → List Receipt) (records : List Record) (caller place : ℕ)
+    (result : Result V Refusal) : Type 0 where
+  pub receipts : IfOk result (λ given. items given ≡ receipts_since caller place records)
+  pub no_memory : IsOkUnless result NoMemory
 
 -- receipts are a caller's own where each is the record at its place and names the caller, and their places rise
 pub record AreOwn (caller : ℕ) (records : List Record) (receipts : List Receipt) : Type 0 where

@@ -1,6 +1,6 @@
 -- The definitions on a small history, worked out by hand beforehand.
-use Rattle.std.specs.Prelude.{◌≡◌, ℕ, true, false, List, [], ◌∷◌, replicate, take, None, Result, Ok, Err}
-use Rattle.ob_types.specs.declared.command.Command.TheVariants.{Write, Flush, Remove, Cancel}
+use Rattle.std.specs.Prelude.{◌≡◌, ℕ, true, false, List, [], ◌∷◌, replicate, take, Some, None, Result, Ok, Err}
+use Rattle.ob_types.specs.declared.command.Command.TheVariants.{Write, Flush, Remove, Cancel, SetMarks}
 use Rattle.ob_types.specs.declared.message.Message.TheVariants.{Block, Region}
 use Rattle.ob_types.specs.declared.promise.PromiseId.{PromiseId}
 use Rattle.ob_types.specs.declared.promise.Outcome.{Outcome}
@@ -9,7 +9,8 @@ use Rattle.ob_types.specs.declared.refusal.Refusal.{Refusal}
 use Rattle.ob_types.specs.declared.refusal.Refusal.TheVariants.{HistoryFull, UnknownPromise}
 use Rattle.ob_types.specs.declared.reply.Reply.{Reply}
 use Rattle.ob_types.specs.declared.reply.Answer.{Answer}
-use Rattle.ob_types.specs.declared.reply.Answer.TheVariants.{Id, Count, Yes}
+use Rattle.ob_types.specs.declared.reply.Answer.TheVariants.{Id, Count, Yes, Done}
+use Rattle.ob_types.specs.declared.reply.Change.TheVariants.{Unwritable}
 use Rattle.ob_seq.specs.Settings.{Settings}
 use Rattle.ob_history.specs.Accepted.{accepted_commands}
 use Rattle.ob_history.specs.Call.{IsCovered, call_answer, history_after}
@@ -116,6 +117,46 @@ abbrev pub Glances : Type 0
 Glances =
     (glance_after settings (take 3 worked_records) ≡ record { word = 0; total = 100 })
     × (glance_after settings worked_records ≡ record { word = 0; total = 0 })
+
+-- caller 2 sets marks below what is pending
+abbrev pub marks_lowered : Record
+marks_lowered = record {
+  place = 1;
+  caller = 2;
+  command = SetMarks (record { low = 0; high = 50 });
+  reply = quiet_reply Done [];
+}
+
+-- the next write of caller 7 goes by them
+abbrev pub write_under_new_marks : Record
+write_under_new_marks = record {
+  place = 2;
+  caller = 7;
+  command = Write (Block (replicate 4 0));
+  reply = Ok (record { answer = Id (record { 0 = 1 }); settled = []; change = Some Unwritable });
+}
+
+-- a call that sets marks is one of a legal history, and the calls behind it go by the new marks
+abbrev pub LegalUnderNewMarks : Type 0
+LegalUnderNewMarks = IsLegal settings (write_at 0 ∷ marks_lowered ∷ write_under_new_marks ∷ [])
+
+-- and so do a look at the place behind it, and a glance at the end
+abbrev pub SeenUnderNewMarks : Type 0
+SeenUnderNewMarks =
+    (seen_now (record { settings = settings; limit = 4; records = write_at 0 ∷ marks_lowered ∷ []; reserved = 0 })
+    ≡ record {
+      place = 2;
+      look = record {
+        total = 100;
+        word = 0;
+        size = 0;
+        before_unwritable = 0;
+        before_writable = 0;
+        current_progress = 0;
+      };
+    })
+    × (glance_after settings (write_at 0 ∷ marks_lowered ∷ write_under_new_marks ∷ [])
+    ≡ record { word = 1; total = 200 })
 
 -- the removal alone settles the promise, and no other one
 abbrev pub SettledByOneRecord : Type 0

@@ -14,6 +14,7 @@ ghost use Rattle.ob_seq.specs.Settings.{Settings};
 ghost use Rattle.ob_seq.specs.Settles.{times_settled};
 ghost use Rattle.ob_seq.specs.Writes.{writes_in};
 ghost use Rattle.ob_history.specs.Accepted.{accepted_commands, is_accepted};
+ghost use Rattle.ob_history.specs.Beginning.{IsBeginning};
 ghost use Rattle.ob_history.specs.Call.{history_after, next_record};
 ghost use Rattle.ob_history.specs.Glance.{glance_after};
 ghost use Rattle.ob_history.specs.History.{History, IsBounded};
@@ -57,8 +58,8 @@ pub fn a_beginning_of_a_history_is_legal()
         IsLegal settings records → IsLegal settings (take count records) }
 {}
 
-/// A call keeps a history legal and bounded, and leaves its settings and its limit. The record of one more call adds
-/// its command to the accepted ones, if it is accepted.
+/// A call keeps a history legal and bounded, and leaves its settings, its limit and its records. The record of one more
+/// call adds its command to the accepted ones, if it is accepted.
 pub fn a_call_keeps_a_history_legal()
     ensures legal { (history : History) (caller : ℕ) (command : Command) → IsLegal history.settings history.records
         → IsLegal history.settings (history_after history caller command).records }
@@ -68,6 +69,8 @@ pub fn a_call_keeps_a_history_legal()
         (history_after history caller command).settings ≡ history.settings }
     ensures limit { (history : History) (caller : ℕ) (command : Command) →
         (history_after history caller command).limit ≡ history.limit }
+    ensures begins { (history : History) (caller : ℕ) (command : Command) →
+        IsBeginning history.records (history_after history caller command).records }
     ensures accepted { (history : History) (caller : ℕ) (command : Command) →
         accepted_commands (history.records ++ next_record history caller command ∷ [])
         ≡ commands_after history.settings (accepted_commands history.records) command }

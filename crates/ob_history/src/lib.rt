@@ -3,6 +3,7 @@
 
 mod answer;
 mod booked;
+mod glance;
 mod laws;
 mod receipt;
 mod record;
@@ -11,6 +12,7 @@ mod seen;
 mod worked;
 
 pub use booked::{As, Booked};
+pub use glance::Glance;
 pub use laws::{
     a_beginning_of_a_history_is_legal, a_call_keeps_a_history_legal, a_history_keeps_to_the_limits,
     a_history_settles_each_promise_once, a_history_tells_each_settled_promise,

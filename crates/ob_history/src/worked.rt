@@ -4,7 +4,7 @@ ghost use Rattle.ob_history.specs.Worked.{IsLegalWithARefusal, AcceptedWithoutTh
 ghost use Rattle.ob_history.specs.Worked.{IllegalAtAnotherPlace, IllegalWithAnotherReply, LastPlace, FullHistory};
 ghost use Rattle.ob_history.specs.Worked.{SeenBeforeTheRemoval, Glances, SettledByOneRecord, RecordsOfTwoCallers};
 ghost use Rattle.ob_history.specs.Worked.{OwnReceipts, ExchangedReceipts, ForeignReceipts, AllHeld, OneHeldBack};
-ghost use Rattle.ob_history.specs.Worked.{CoveredCalls};
+ghost use Rattle.ob_history.specs.Worked.{CoveredCalls, LegalUnderNewMarks, SeenUnderNewMarks};
 
 #[tactic(auto, unfolding(ob_seq::specs::Word::user_bits))]
 fn worked_history()
@@ -23,6 +23,12 @@ fn worked_calls()
     ensures glances { Glances }
     ensures settled { SettledByOneRecord }
     ensures covered { CoveredCalls }
+{}
+
+#[tactic(auto, unfolding(ob_seq::specs::Word::user_bits))]
+fn worked_marks()
+    ensures legal { LegalUnderNewMarks }
+    ensures seen { SeenUnderNewMarks }
 {}
 
 fn worked_receipts()

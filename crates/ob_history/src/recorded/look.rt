@@ -1,5 +1,8 @@
+ghost use Rattle.std.specs.Prelude.{◌≡◌};
+ghost use Rattle.ob_history.specs.Glance.{glance_after};
 ghost use Rattle.ob_history.specs.Seen.{IsLookAt};
 
+use crate::glance::Glance;
 use crate::recorded::Recorded;
 use crate::seen::Seen;
 
@@ -11,6 +14,17 @@ impl Recorded {
         Seen {
             place: self.records.len() as u32,
             look: self.buffer.look(),
+        }
+    }
+
+    /// The word and the pending bytes now. It changes nothing and takes no memory. Our own.
+    pub fn glance(&self) -> Glance
+        ensures { result ≡ glance_after self.now.settings self.now.records }
+    {
+        let look = self.buffer.look();
+        Glance {
+            word: look.word,
+            total: look.total,
         }
     }
 }

@@ -1,5 +1,5 @@
-ghost use Rattle.std.specs.Prelude.{◌≡◌, map, IfOk, IsOkUnless};
-ghost use Rattle.ob_history.specs.Own.{receipts_since, records_of};
+ghost use Rattle.std.specs.Prelude.{◌≡◌, map, IfOk};
+ghost use Rattle.ob_history.specs.Own.{AreGivenSince, records_of};
 ghost use Rattle.ob_history.specs.Receipt.{receipt_of};
 
 use crate::receipt::Receipt;
@@ -13,8 +13,7 @@ impl Recorded {
     /// these records once, and changes nothing. `NoMemory` comes if the allocator refused, or a block has more owners
     /// than can be counted. Our own.
     pub fn receipts_since(&self, caller: u32, place: u32) -> Result<Vec<Receipt>, Refusal>
-        ensures receipts { IfOk result (λ receipts. receipts.items ≡ receipts_since caller place self.now.records) }
-        ensures no_memory { IsOkUnless result Refusal.NoMemory }
+        ensures { AreGivenSince (λ receipts. receipts.items) self.now.records caller place result }
     {
         let from = self.records.len().min(place as usize);
         let later = &self.records[from..];
