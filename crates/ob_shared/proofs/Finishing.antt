@@ -1,10 +1,11 @@
 -- What stands in a history and what is foreign to it, of all that callers hand in.
-use Rattle.std.proofs.Common.{◌≡◌, ◌≢◌, ℕ, ◌+◌, ◌≤◌, ◌==◌, Bool, true, false, List, [], ◌∷◌, length, map, take, refl}
-use Rattle.std.proofs.Common.{sym, ap, ◌∙◌, subst, arith, length-take}
+use Rattle.std.proofs.Common.{◌≡◌, ◌≢◌, ℕ, ◌+◌, ◌<◌, ◌≤◌, ◌==◌, Bool, true, false, List, [], ◌∷◌, length, map, take, refl}
+use Rattle.std.proofs.Common.{get_or, sym, ap, ◌∙◌, subst, arith, length-take}
 use Rattle.std.specs.Prelude.{Option, Some, None, not, option_map, sum_by}
 use Rattle.std.specs.List.{All, AllPairs}
 use Rattle.std.proofs.lemmas.Bool.{eqb-true}
 use Rattle.std.proofs.lemmas.List.{get_or-take, get_or-map, length-map}
+use Rattle.std.proofs.lemmas.Option.{slice_get_read}
 use Rattle.std.proofs.lemmas.List.Elements.{All-take, All-map, All-head, All-tail}
 use Rattle.std.proofs.lemmas.List.Sums.{sum_by-cons}
 use Rattle.ob_seq.specs.Settings.{Settings}
@@ -14,10 +15,12 @@ use Rattle.ob_history.specs.Receipt.{IsReceiptIn}
 use Rattle.ob_history.specs.Seen.{IsSeenIn}
 use Rattle.ob_history.specs.declared.record.Record.{Record}
 use Rattle.ob_history.specs.declared.receipt.Receipt.{Receipt}
+use Rattle.ob_history.proofs.First.{first_against}
 use Rattle.ob_history.proofs.Own.{HoldsIts, all_are_held}
 use Rattle.ob_history.proofs.Told.{none_found}
 use Rattle.ob_shared.specs.Handed.{Handed, LacksShare, made_by}
 use Rattle.ob_shared.specs.Finished.{HandsInAll, StandsIn, first_short, is_short}
+use Rattle.ob_shared.specs.Foreign.{IsFirstForeign, IsForeign}
 use Rattle.ob_shared.proofs.HandedIn.{each_handed_in_once}
 
 module _ (settings : Settings) (records : List Record) where
@@ -54,6 +57,21 @@ module _ (settings : Settings) (records : List Record) where
       ¬ StandsIn settings records one
   foreign_seen one index break = λ stands. break.broken
       (All-take (IsSeenIn settings records) (index + 1) one.seen stands.seen)
+
+  -- where what one hands in does not stand, and all before it does, its first foreign item is the first of all
+  pub foreign_of_all : (handed : List Handed) (index : ℕ) (one : Handed) (place : ℕ) → index < length handed →
+      one ≡ get_or handed index one → All (StandsIn settings records) (take index handed) →
+      ¬ StandsIn settings records one → IsFirstForeign settings records one place →
+      IsForeign settings records handed one.maker.caller place
+  foreign_of_all handed index one place within is before against item = record {
+    index = index;
+    one = one;
+    first = first_against (StandsIn settings records) handed index one within before
+        (subst (λ it. ¬ StandsIn settings records it) is against);
+    found = slice_get_read handed (length handed) index one refl within is;
+    who = refl;
+    item = item;
+  }
 
   abbrev holding_of : Handed → Holding
   holding_of one = record { caller = one.maker.caller; receipts = one.receipts }

@@ -1,3 +1,6 @@
+pub mod Calling
 pub mod Finishing
 pub mod HandedIn
 pub mod Promises
+pub mod Publishing
+pub mod Seats

@@ -1,6 +1,6 @@
 -- What the end of a shared buffer compares.
-use Rattle.std.specs.Prelude.{◌≡◌, ℕ, ◌==◌, Bool, not, List, length, map, Option, option_map, ◌⊎◌}
-use Rattle.std.specs.List.{All, Any, find}
+use Rattle.std.specs.Prelude.{◌≡◌, ℕ, ◌==◌, Bool, not, List, length, map, Option, option_map}
+use Rattle.std.specs.List.{All, find}
 use Rattle.ob_seq.specs.Settings.{Settings}
 use Rattle.ob_history.specs.Own.{AreOwn, records_of}
 use Rattle.ob_history.specs.Receipt.{IsReceiptIn, record_of}
@@ -22,18 +22,6 @@ pub record StandsIn (settings : Settings) (records : List Record) (one : Handed)
   pub own : AreOwn one.maker.caller records one.receipts
   pub told : All (IsReceiptIn records) one.told
   pub seen : All (IsSeenIn settings records) one.seen
-
--- a place is named by what a caller hands in where a receipt of it, one that it was told of, or a look names it
-abbrev pub NamesPlace : Handed → ℕ → Type 0
-NamesPlace one place = Any (λ receipt. receipt.place ≡ place) one.receipts
-    ⊎ Any (λ receipt. receipt.place ≡ place) one.told
-    ⊎ Any (λ look. look.place ≡ place) one.seen
-
--- a caller and a place name a foreign item where what that caller hands in names the place, and does not stand in the
--- history
-abbrev pub IsForeign : Settings → List Record → List Handed → ℕ → ℕ → Type 0
-IsForeign settings records handed caller place =
-    Any (λ one. (one.maker.caller ≡ caller) × NamesPlace one place × ¬ StandsIn settings records one) handed
 
 -- a caller hands in the receipts of all its records, in the order of its calls
 abbrev pub HandsInAll : List Record → Handed → Type 0

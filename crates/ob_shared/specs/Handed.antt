@@ -1,14 +1,16 @@
 -- What callers hand in at the end.
-use Rattle.std.specs.Prelude.{◌≡◌, ℕ, ◌<◌, ◌==◌, Bool, false, List, sum_by}
-use Rattle.std.specs.List.{list_any}
+use Rattle.std.specs.Prelude.{◌≡◌, ℕ, ◌<◌, ◌==◌, Bool, false, List, [], sum_by}
+use Rattle.std.specs.List.{All, list_any}
 use Rattle.ob_history.specs.declared.receipt.Receipt.{Receipt}
 use Rattle.ob_history.specs.declared.seen.Seen.{Seen}
 use Rattle.ob_shared.specs.Maker.{Maker}
+use Rattle.ob_shared.specs.Sight.{Sight}
 
--- what a caller hands in: who it is and how many records it made, the receipts of its calls, those that it was told of,
--- and what it saw
+-- what a caller hands in: who it is and how many records it made, what its share has seen, the receipts of its calls,
+-- those that it was told of, and its looks
 pub record Handed : Type 0 where
   pub maker : Maker
+  pub sight : Sight
   pub receipts : List Receipt
   pub told : List Receipt
   pub seen : List Seen
@@ -24,3 +26,7 @@ LacksShare callers handed = (caller : ℕ) × (caller < callers) × (has_handed_
 -- how many records all who handed in have made together
 abbrev pub made_by : List Handed → ℕ
 made_by handed = sum_by (λ one. one.maker.made) handed
+
+-- no caller hands in a look
+abbrev pub HasNoLooks : List Handed → Type 0
+HasNoLooks handed = All (λ one. one.seen ≡ []) handed

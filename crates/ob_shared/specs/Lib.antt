@@ -1,8 +1,16 @@
 pub mod Called
 pub mod FinishFault
 pub mod Finished
+pub mod Foreign
 pub mod Handed
 pub mod Held
 pub mod Maker
+pub mod NewTable
 pub mod Opened
+pub mod Reads
+pub mod Ruled
+pub mod Seats
+pub mod Share
+pub mod Sight
 pub mod Told
+pub mod Worked

@@ -1,6 +1,5 @@
 -- Who makes calls, and how many were made.
-use Rattle.std.specs.Prelude.{ℕ, ◌+◌, List, map}
-use Rattle.std.specs.List.{range_with_len}
+use Rattle.std.specs.Prelude.{ℕ, ◌+◌}
 
 -- a caller, by its number, and how many records it has made
 pub record Maker : Type 0 where
@@ -10,10 +9,6 @@ pub record Maker : Type 0 where
 -- a caller that has made no record
 abbrev pub new_maker : ℕ → Maker
 new_maker caller = record { caller = caller; made = 0 }
-
--- the callers of a new buffer, numbered from 0, none of whom has made a record
-abbrev pub new_makers : ℕ → List Maker
-new_makers count = map new_maker (range_with_len 0 count)
 
 -- a caller that has made one record more
 abbrev pub one_more : Maker → Maker

@@ -1,16 +1,22 @@
 -- What a shared buffer is opened with.
-use Rattle.std.specs.Prelude.{◌≡◌, ℕ}
+use Rattle.std.specs.Prelude.{◌≡◌, ℕ, []}
+use Rattle.atomic_table.specs.Seated.{TableId}
 use Rattle.ob_seq.specs.Settings.{Settings}
 use Rattle.ob_history.specs.History.{History}
 use Rattle.ob_history.specs.Legal.{IsLegal}
 
 -- what was opened: the number of the ledger that counts the calls, how many callers there are, the settings of the
--- buffer, and the most records that its history may hold
+-- buffer, the most records that its history may hold, and which table has the published word
 pub record Opened : Type 0 where
   pub ledger : ℕ
   pub callers : ℕ
   pub settings : Settings
   pub limit : ℕ
+  pub table : TableId
+
+-- a table that is none
+abbrev no_table : TableId
+no_table = record { words = 0; slots = 0; views_name = 0; atom = 0; block = 0; offset = 0; slot_names = [] }
 
 -- what the marker stands for that nobody picked a name for
 abbrev pub nothing_opened : Opened
@@ -19,6 +25,7 @@ nothing_opened = record {
   callers = 0;
   settings = record { marks = record { low = 0; high = 0 }; estimate = record { overhead = 0; unknown = 0 } };
   limit = 0;
+  table = no_table;
 }
 
 -- a name is that of an opening where it stands for what was opened, and its ledger is the one that was opened, with a

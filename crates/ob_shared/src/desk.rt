@@ -1,13 +1,15 @@
-ghost use Rattle.std.specs.Prelude.{◌≡◌, ◌↔◌, [], IfOk, IsOkUnless, IsTrue, OnOk, OnErr};
+ghost use Rattle.std.specs.Prelude.{◌≡◌, ◌↔◌, [], IsTrue, OnOk, OnErr};
 ghost use Rattle.std.specs.Sync.Mutex.{mutex_guard_value};
 ghost use Rattle.ob_seq.specs.Settles.{settled_by};
+ghost use Rattle.ob_history.specs.Beginning.{IsBeginning};
 ghost use Rattle.ob_history.specs.Call.{IsCall};
 ghost use Rattle.ob_history.specs.History.{IsReservation};
 ghost use Rattle.ob_history.specs.Legal.{IsBufferOf};
-ghost use Rattle.ob_history.specs.Own.{receipts_since};
+ghost use Rattle.ob_history.specs.Own.{AreGivenSince};
 ghost use Rattle.ob_history.specs.Seen.{IsLookAt};
 ghost use Rattle.ob_shared.specs.Maker.{one_more};
 ghost use Rattle.ob_shared.specs.Opened.{IsAsOpened};
+ghost use Rattle.ob_shared.specs.Share.{share_after};
 
 use crate::locked::Locked;
 use crate::named::Named;
@@ -38,24 +40,31 @@ impl<'b, L: Named> Model for Desk<'b, L> {
 
     ghost Value = { Held };
 
-    ghost view = { λ desk. record { history = mutex_guard_value desk.locked; maker = desk.share } };
+    ghost view = { λ desk. record {
+      history = mutex_guard_value desk.locked;
+      maker = desk.share.maker;
+    } };
 }
 
 impl<'b, L: Named> Desk<'b, L> {
-    /// A desk with the lock that was just taken.
+    /// A desk with the lock that was just taken. Its share meets the history.
     pub(crate) fn new(
         shared: &'b SharedBuffer<L>,
-        locked: MutexGuard<'b, Locked<L>>,
+        guard: MutexGuard<'b, Locked<L>>,
         share: Share<L>,
     ) -> Desk<'b, L>
-        ensures history { result.history ≡ mutex_guard_value locked.entry }
-        ensures maker { result.maker ≡ share }
+        ensures history { result.history ≡ mutex_guard_value guard.entry }
+        ensures maker { result.maker ≡ share.maker }
+        ensures part { IsBeginning share.sight.seen result.history.records }
         ensures opened { IsAsOpened L.opened result.history }
     {
-        locked.is_as_opened();
+        let mut guard = guard;
+        let mut share = share;
+        guard.is_as_opened();
+        guard.meet(shared.words(), &mut share);
         Desk {
             shared,
-            locked,
+            locked: guard,
             share,
             settled: false,
         }
@@ -74,17 +83,17 @@ impl<'b, L: Named> Desk<'b, L> {
     /// It goes over the records from that place on once, with the lock in hand. `NoMemory` comes if the allocator
     /// refused, or a block has more owners than can be counted. Our own.
     pub fn receipts_since(&self, place: u32) -> Result<Vec<Receipt>, Refusal>
-        ensures receipts { IfOk result (λ receipts.
-            receipts.items ≡ receipts_since self.now.maker.caller place self.now.history.records) }
-        ensures no_memory { IsOkUnless result Refusal.NoMemory }
+        ensures { AreGivenSince (λ receipts. receipts.items)
+            self.now.history.records self.now.maker.caller place result }
     {
         self.locked.receipts_since(self.share.caller(), place)
     }
 
-    /// Lets the lock go, and gives the share back. If a call at this desk settled something, it wakes all who wait for
-    /// a promise. It takes no memory.
+    /// Lets the lock go, and gives the share back, which has seen the whole history then. If a call at this desk settled
+    /// something, it wakes all who wait for a promise. It takes no memory.
     pub fn leave(self) -> Share<L>
-        ensures { result ≡ self.entry.maker }
+        ensures share { result ≡ share_after self.entry.maker self.entry.history.records }
+        ensures opened { IsAsOpened L.opened self.entry.history }
     {
         let Desk {
             shared,
@@ -92,6 +101,10 @@ impl<'b, L: Named> Desk<'b, L> {
             share,
             settled,
         } = self;
+        let mut locked = locked;
+        let mut share = share;
+        locked.is_as_opened();
+        locked.meet(shared.words(), &mut share);
         drop(locked);
         if settled {
             shared.wake();
@@ -118,13 +131,13 @@ impl<'b, L: Named> Booked for Desk<'b, L> {
         ensures none_made { OnErr result (self.new.maker ≡ self.old.maker) }
     {
         let Desk {
-            shared: _,
+            shared,
             locked,
             share,
             settled,
         } = self;
         let locked = &mut **locked;
-        let receipt = locked.call(share, command)?;
+        let receipt = locked.call(shared.words(), share, command)?;
         *settled |= settles(&receipt.reply);
         Ok(receipt)
     }

@@ -28,7 +28,8 @@ impl<L: Named> Model for Done<L> {
     ghost Value = { Handed };
 
     ghost view = { λ done. record {
-      maker = done.share;
+      maker = done.share.maker;
+      sight = done.share.sight;
       receipts = done.receipts.items;
       told = done.told.items;
       seen = done.seen.items;

@@ -1,9 +1,10 @@
 //! What the end of a shared buffer compares.
 
-ghost use Rattle.std.specs.Prelude.{◌≡◌, ◌↔◌, IfOk, IfSome, IsNone, IsOk, IsOkUnless, IsTrue};
+ghost use Rattle.std.specs.Prelude.{◌≡◌, ◌↔◌, [], IfOk, IfSome, IsNone, IsOk, IsOkUnless, IsTrue};
 ghost use Rattle.std.specs.List.{All};
-ghost use Rattle.ob_shared.specs.Finished.{IsForeign, NamesPlace, StandsIn, first_short, is_short};
-ghost use Rattle.ob_shared.specs.Handed.{LacksShare, has_handed_in};
+ghost use Rattle.ob_shared.specs.Finished.{StandsIn, first_short, is_short};
+ghost use Rattle.ob_shared.specs.Foreign.{IsFirstForeign, IsForeign};
+ghost use Rattle.ob_shared.specs.Handed.{HasNoLooks, LacksShare, has_handed_in};
 
 use crate::done::Done;
 use crate::named::Named;
@@ -44,7 +45,7 @@ fn is_short<L: Named>(done: &Done<L>) -> bool
 }
 
 /// The caller and the place of the first item that is not of the history: Done by Done, in each first the receipts,
-/// then what was told, then what was seen. It fails for want of memory alone.
+/// then what was told, then what was seen. It fails for want of memory alone, and not without a look.
 pub fn first_foreign<L: Named>(
     recorded: &Recorded,
     dones: &[Done<L>],
@@ -54,6 +55,7 @@ pub fn first_foreign<L: Named>(
     ensures foreign { IfOk result (λ found. IfSome found (λ item.
         IsForeign recorded.now.settings recorded.now.records dones.now item.0 item.1)) }
     ensures no_memory { IsOkUnless result Refusal.NoMemory }
+    ensures frugal { HasNoLooks dones.now → IsOk result }
 {
     for done in dones {
         if let Some(place) = foreign_place(recorded, done)? {
@@ -67,10 +69,12 @@ pub fn first_foreign<L: Named>(
 fn foreign_place<L: Named>(recorded: &Recorded, done: &Done<L>) -> Result<Option<u32>, Refusal>
     ensures stands { IfOk result (λ found. IsNone found
         → StandsIn recorded.now.settings recorded.now.records done.now) }
-    ensures foreign { IfOk result (λ found. IfSome found (λ place. NamesPlace done.now place)) }
+    ensures foreign { IfOk result (λ found. IfSome found (λ place.
+        IsFirstForeign recorded.now.settings recorded.now.records done.now place)) }
     ensures broken { IfOk result (λ found. IfSome found (λ _.
         ¬ StandsIn recorded.now.settings recorded.now.records done.now)) }
     ensures no_memory { IsOkUnless result Refusal.NoMemory }
+    ensures frugal { done.now.seen ≡ [] → IsOk result }
 {
     let Done {
         share,

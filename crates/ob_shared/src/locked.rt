@@ -1,22 +1,26 @@
-ghost use Rattle.std.specs.Prelude.{◌≡◌, ℕ, None, ◌+◌, ◌≤◌, ◌↔◌, length, Some, IfSome, IsNone, IfOk};
+ghost use Rattle.std.specs.Prelude.{◌≡◌, ℕ, None, ◌+◌, ◌≤◌, ◌↔◌, [], length, Some, IfSome, IsNone, IfOk};
 ghost use Rattle.std.specs.Prelude.{IsErrOf, IsOk, IsOkUnless, OnOk, OnErr};
 ghost use Rattle.std.specs.List.{All, Contains};
 ghost use Rattle.ob_types.specs.declared.promise.Outcome.{Outcome};
 ghost use Rattle.ob_types.specs.declared.promise.PromiseState.TheVariants.{Settled};
 ghost use Rattle.ob_seq.specs.Looks.{promise_after};
 ghost use Rattle.ob_history.specs.Accepted.{accepted_commands};
+ghost use Rattle.ob_history.specs.Beginning.{IsBeginning};
 ghost use Rattle.ob_history.specs.Call.{IsCall};
 ghost use Rattle.ob_history.specs.History.{IsReservation, new_history};
 ghost use Rattle.ob_history.specs.Legal.{IsBufferOf};
-ghost use Rattle.ob_history.specs.Own.{receipts_since};
+ghost use Rattle.ob_history.specs.Own.{AreGivenSince};
 ghost use Rattle.ob_history.specs.Receipt.{receipt_of};
 ghost use Rattle.ob_history.specs.Seen.{IsLookAt};
 ghost use Rattle.ob_history.specs.Settlements.{settlements_in};
-ghost use Rattle.ob_shared.specs.Finished.{HandsInAll, IsForeign, StandsIn, first_short};
-ghost use Rattle.ob_shared.specs.Handed.{LacksShare, made_by};
+ghost use Rattle.ob_shared.specs.Finished.{HandsInAll, StandsIn, first_short};
+ghost use Rattle.ob_shared.specs.Foreign.{IsForeign};
+ghost use Rattle.ob_shared.specs.Handed.{HasNoLooks, LacksShare, made_by};
 ghost use Rattle.ob_shared.specs.declared.finish_fault.FinishFault.TheVariants.{ForeignReceipt, ReceiptsMissing};
 ghost use Rattle.ob_shared.specs.Maker.{one_more};
 ghost use Rattle.ob_shared.specs.Opened.{IsAsOpened};
+ghost use Rattle.ob_shared.specs.Share.{share_after};
+ghost use Rattle.ob_shared.specs.Sight.{IsCheckIn};
 ghost use Rattle.ob_shared.specs.Told.{IsCopiedFreely, IsToldFreely, IsUnknown, IsUnsettled, TellsOf};
 
 use crate::callers::Callers;
@@ -24,7 +28,10 @@ use crate::done::Done;
 use crate::finish::{first_foreign, first_short, lacks_share};
 use crate::finish_fault::FinishFault;
 use crate::named::Named;
+use crate::publisher::Publisher;
+use crate::reader::Reader;
 use crate::share::Share;
+use crate::words::Words;
 use ob_history::{Receipt, Record, Recorded, Seen, a_history_tells_each_settled_promise};
 use ob_seq::Buffer;
 use ob_types::{Command, PromiseId, PromiseState, Refusal};
@@ -40,6 +47,8 @@ pub struct Locked<L: Named> {
     book: Book<L>,
     /// What is left of the ledger when each caller has its share.
     rest: ledger::Share<L>,
+    /// The seat that publishes the glance after the last record.
+    publisher: Publisher<L>,
 }
 
 impl<L: Named> Model for Locked<L> {
@@ -53,21 +62,29 @@ impl<L: Named> Model for Locked<L> {
     ghost invariant = { λ locked. (length locked.recorded.records ≡ locked.book.total)
         × (locked.recorded.settings ≡ L.opened.settings)
         × (locked.recorded.limit ≡ L.opened.limit)
-        × (locked.rest.parts ≡ 0) × (locked.rest.amount ≡ 0) };
+        × (locked.rest.parts ≡ 0) × (locked.rest.amount ≡ 0)
+        × (locked.publisher ≡ locked.recorded.records) };
 }
 
 impl<L: Named> Locked<L> {
     /// A history without a record.
-    pub fn new(recorded: Recorded, book: Book<L>, rest: ledger::Share<L>) -> Locked<L>
+    pub fn new(
+        recorded: Recorded,
+        book: Book<L>,
+        rest: ledger::Share<L>,
+        publisher: Publisher<L>,
+    ) -> Locked<L>
         requires opened { recorded ≡ new_history L.opened.settings L.opened.limit }
         requires book { book.total ≡ 0 }
         requires rest { (rest.parts ≡ 0) × (rest.amount ≡ 0) }
+        requires published { publisher ≡ [] }
         ensures { result ≡ new_history L.opened.settings L.opened.limit }
     {
         Locked {
             recorded,
             book,
             rest,
+            publisher,
         }
     }
 
@@ -78,16 +95,44 @@ impl<L: Named> Locked<L> {
         let _records = self.recorded.records();
     }
 
-    /// One call in the name of the caller of a share.
-    pub fn call(&mut self, share: &mut Share<L>, command: Command) -> Result<Receipt, Refusal>
-        ensures is_call { IsCall self.old share.old.caller command result self.new }
-        ensures made { OnOk result (share.new ≡ one_more share.old) }
-        ensures none_made { OnErr result (share.new ≡ share.old) }
+    /// One call in the name of the caller of a share. Its record is made, and then published, before the lock goes.
+    pub fn call(
+        &mut self,
+        words: &Words<L>,
+        share: &mut Share<L>,
+        command: Command,
+    ) -> Result<Receipt, Refusal>
+        ensures is_call { IsCall self.old share.old.maker.caller command result self.new }
+        ensures made { OnOk result (share.new.maker ≡ one_more share.old.maker) }
+        ensures none_made { OnErr result (share.new.maker ≡ share.old.maker) }
+        ensures sight { share.new.sight ≡ share.old.sight }
     {
         let _records = self.recorded.records();
         let receipt = self.recorded.call(share.caller(), command)?;
+        self.publisher.publish(words, &self.recorded);
         share.count(&mut self.book);
         Ok(receipt)
+    }
+
+    /// The share meets the history: it has seen all of it, and had seen a beginning of it.
+    pub fn meet(&mut self, words: &Words<L>, share: &mut Share<L>)
+        ensures met { share.new ≡ share_after share.old.maker self.old.records }
+        ensures part { IsBeginning share.old.sight.seen self.old.records }
+        ensures same { self.new ≡ self.old }
+    {
+        self.publisher.meet(words, &mut share.reader);
+    }
+
+    /// A look that a reader takes, which meets the history.
+    pub fn check_in(&mut self, words: &Words<L>, reader: &mut Reader<L>) -> Seen
+        ensures checked_in { IsCheckIn L.opened.settings reader.old result reader.new }
+        ensures met { reader.new.seen ≡ self.old.records }
+        ensures same { self.new ≡ self.old }
+    {
+        self.publisher.meet(words, reader);
+        // for the proof alone: the records are legal
+        let _records = self.recorded.records();
+        self.recorded.look()
     }
 
     /// Reserves so many calls.
@@ -113,8 +158,7 @@ impl<L: Named> Locked<L> {
 
     /// The receipts of the records of a caller from a place on.
     pub fn receipts_since(&self, caller: u32, place: u32) -> Result<Vec<Receipt>, Refusal>
-        ensures receipts { IfOk result (λ receipts. receipts.items ≡ receipts_since caller place self.now.records) }
-        ensures no_memory { IsOkUnless result Refusal.NoMemory }
+        ensures { AreGivenSince (λ receipts. receipts.items) self.now.records caller place result }
     {
         self.recorded.receipts_since(caller, place)
     }
@@ -160,6 +204,7 @@ impl<L: Named> Locked<L> {
             result ≡ Some (ReceiptsMissing caller) ↔ first_short dones.now ≡ Some caller }
         ensures foreign { (caller place : ℕ) → result ≡ Some (ForeignReceipt caller place)
             → IsForeign self.now.settings self.now.records dones.now caller place }
+        ensures frugal { HasNoLooks dones.now → ¬ (result ≡ Some FinishFault.NoMemory) }
         ensures as_many { IsNone result → first_short dones.now ≡ None }
         ensures stands { IsNone result → All (StandsIn self.now.settings self.now.records) dones.now }
     {
@@ -177,35 +222,51 @@ impl<L: Named> Locked<L> {
     }
 
     /// The recorded buffer, for the callers who handed in, each with its share and the receipts of all its calls.
-    pub fn into_recorded(self, callers: &Callers<L>, dones: Vec<Done<L>>) -> Recorded
+    pub fn into_recorded(
+        self,
+        words: &Words<L>,
+        callers: &Callers<L>,
+        dones: Vec<Done<L>>,
+    ) -> Recorded
         requires all { ¬ LacksShare callers.now.count dones.items }
         requires as_many { first_short dones.items ≡ None }
         requires stands { All (StandsIn self.settings self.records) dones.items }
         ensures recorded { result ≡ self }
         ensures counted { length result.records ≡ made_by dones.items }
         ensures own { All (HandsInAll result.records) dones.items }
+        ensures saw { All (λ one. IsBeginning one.sight.seen result.records) dones.items }
     {
         let Locked {
             recorded,
             mut book,
             rest,
+            mut publisher,
         } = self;
-        let mut all = merged(rest, dones);
+        let mut all = merged(words, &mut publisher, rest, dones);
         book.audit(&mut all);
         recorded
     }
 }
 
-/// All parts of the ledger that callers handed in, with those that a share has.
-fn merged<L: Named>(rest: ledger::Share<L>, dones: Vec<Done<L>>) -> ledger::Share<L>
+/// All parts of the ledger that callers handed in, with those that a share has. Their readers are taken in: each had seen
+/// a beginning of what was published.
+fn merged<L: Named>(
+    words: &Words<L>,
+    publisher: &mut Publisher<L>,
+    rest: ledger::Share<L>,
+    dones: Vec<Done<L>>,
+) -> ledger::Share<L>
     requires { rest.parts ≤ L.parts }
     ensures parts { result.parts ≡ rest.parts + length dones.items }
     ensures amount { result.amount ≡ rest.amount + made_by dones.items }
     ensures within { result.parts ≤ L.parts }
+    ensures saw { All (λ one. IsBeginning one.sight.seen publisher.old) dones.items }
 {
     let mut all = rest;
     for done in dones {
-        all.merge(done.share.into_part());
+        let (part, reader) = done.share.into_parts();
+        all.merge(part);
+        publisher.take(words, reader);
     }
     all
 }

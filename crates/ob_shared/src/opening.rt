@@ -1,14 +1,19 @@
-ghost use Rattle.std.specs.Prelude.{◌≡◌, ◌<◌, ◌≤◌, IfOk, IsOkUnless, OnOk};
-ghost use Rattle.ob_shared.specs.Maker.{new_makers};
+ghost use Rattle.std.specs.Prelude.{◌≡◌, ◌<◌, ◌≤◌, [], IfOk, IsOkUnless, OnOk};
 ghost use Rattle.ob_shared.specs.Opened.{IsNameOf};
+ghost use Rattle.ob_shared.specs.Share.{new_shares};
 
 use crate::callers::Callers;
 use crate::locked::Locked;
 use crate::named::Named;
+use crate::publisher::Publisher;
+use crate::rule::{PUBLISHED, Rule, WORDS};
 use crate::share::Share;
 use crate::shared_buffer::SharedBuffer;
+use crate::view::View;
+use crate::words::Words;
+use atomic_table::{Seat, Table};
 use ob_history::Recorded;
-use ob_types::{Estimate, Refusal, WaterMark};
+use ob_types::{Estimate, Refusal, WaterMark, pack};
 use std::alloc::{AllocError, Global};
 use std::marker::Model;
 use std::sync::ledger;
@@ -23,10 +28,13 @@ pub struct Opening {
     limit: u32,
     callers: u32,
     ledger: Blank,
+    table: Table<(), View, (WaterMark, Estimate), Rule, Global>,
+    seat: Seat<(), View>,
 }
 
 impl Model for Opening {
     ghost use Rattle.std.specs.Prelude.{◌≡◌, ◌<◌, ◌≤◌};
+    ghost use Rattle.ob_shared.specs.NewTable.{IsNewTable};
     ghost use Rattle.ob_shared.specs.Opened.{Opened};
 
     ghost Value = { Opened };
@@ -36,12 +44,15 @@ impl Model for Opening {
       callers = opening.callers;
       settings = record { marks = opening.marks; estimate = opening.estimate };
       limit = opening.limit;
+      table = opening.table.shared.table_id;
     } };
 
     ghost invariant = { λ opening. (opening.ledger.parts ≡ opening.callers)
         × (0 < opening.callers) × (opening.callers ≤ 65)
         × (0 < opening.limit) × (opening.limit ≤ 1048576)
-        × (opening.estimate.overhead ≤ 65535) × (opening.estimate.unknown ≤ 65535) };
+        × (opening.estimate.overhead ≤ 65535) × (opening.estimate.unknown ≤ 65535)
+        × IsNewTable opening.marks opening.estimate opening.table.shared.key opening.table.shared.table_id
+        opening.seat };
 }
 
 impl Opening {
@@ -67,6 +78,10 @@ impl Opening {
         ensures callers { IfOk result (λ opening. opening.callers ≡ callers) }
         ensures no_memory { IsOkUnless result Refusal.NoMemory }
     {
+        let nothing = Recorded::new(alloc, marks, estimate, limit).glance();
+        let mut words = [0; WORDS];
+        words[PUBLISHED] = pack(nothing.word, nothing.total);
+        let (table, seat) = Table::of_words(alloc, &words, &(marks, estimate))?;
         Ok(Opening {
             alloc,
             marks,
@@ -74,13 +89,16 @@ impl Opening {
             limit,
             callers,
             ledger: Blank::new(u64::from(callers)),
+            table,
+            seat,
         })
     }
+
     /// The buffer under its lock, with an empty history, and a share for each caller, numbered from 0. `NoMemory` comes
     /// where the allocator refused, and then the opening is given up.
     pub fn begin<L: Named>(self) -> Result<(SharedBuffer<L>, Vec<Share<L>>), Refusal>
         requires { IsNameOf self L.opened L.name L.parts }
-        ensures shares { IfOk result (λ begun. begun.1.items ≡ new_makers self.callers) }
+        ensures shares { IfOk result (λ begun. begun.1.items ≡ new_shares self.callers) }
         ensures no_memory { IsOkUnless result Refusal.NoMemory }
     {
         let Opening {
@@ -90,31 +108,42 @@ impl Opening {
             limit,
             callers,
             ledger,
+            table,
+            seat,
         } = self;
         let (book, mut whole) = ledger.open::<L>();
-        let shares = shares(alloc, &mut whole, callers)?;
+        let words = Words::new(table);
+        let mut publisher = Publisher::new(seat);
+        let shares = shares(alloc, &words, &mut publisher, &mut whole, callers)?;
         let recorded = Recorded::new(alloc, marks, estimate, limit);
-        let locked = Locked::new(recorded, book, whole);
-        Ok((SharedBuffer::new(locked, Callers::new(callers)), shares))
+        let locked = Locked::new(recorded, book, whole, publisher);
+        let buffer = SharedBuffer::new(locked, Callers::new(callers), words);
+        Ok((buffer, shares))
     }
 }
 
-/// A share for each caller, cut from a whole ledger in which nothing is counted. It fails for want of memory alone.
+/// A share for each caller, cut from a whole ledger in which nothing is counted, with a reader of what is published. It
+/// fails for want of memory alone.
 fn shares<L: Named>(
     alloc: Global,
+    words: &Words<L>,
+    publisher: &mut Publisher<L>,
     whole: &mut ledger::Share<L>,
     callers: u32,
 ) -> Result<Vec<Share<L>>, AllocError>
     requires parts { whole.old.parts ≡ callers }
     requires none_made { whole.old.amount ≡ 0 }
-    ensures shares { IfOk result (λ shares. shares.items ≡ new_makers callers) }
+    requires none_seen { publisher.old ≡ [] }
+    ensures shares { IfOk result (λ shares. shares.items ≡ new_shares callers) }
     ensures no_part { OnOk result (whole.new.parts ≡ 0) }
     ensures none_made { OnOk result (whole.new.amount ≡ 0) }
+    ensures published { publisher.new ≡ publisher.old }
 {
     let mut shares = Vec::new(alloc);
     shares.reserve(callers as usize)?;
     for caller in 0..callers {
-        shares.push_reserved(Share::new(caller, whole.split_off(1, 0)));
+        let part = whole.split_off(1, 0);
+        shares.push_reserved(Share::new(caller, part, publisher.reader(words)));
     }
     Ok(shares)
 }

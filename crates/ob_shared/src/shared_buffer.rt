@@ -1,13 +1,17 @@
 ghost use Rattle.std.specs.Prelude.{◌≡◌, ℕ, ◌≤◌, ◌↔◌, length, Some, IsErrAnd, IsErrOf, IsOk, IsOkUnless, IfOk, IfErr};
-ghost use Rattle.std.specs.List.{All, Any};
+ghost use Rattle.std.specs.List.{All};
 ghost use Rattle.ob_types.specs.declared.promise.PromiseId.{PromiseId};
 ghost use Rattle.ob_seq.specs.Settles.{times_settled};
+ghost use Rattle.ob_history.specs.Beginning.{IsBeginning};
+ghost use Rattle.ob_history.specs.History.{History};
 ghost use Rattle.ob_history.specs.Settlements.{settlements_in};
 ghost use Rattle.ob_shared.specs.Called.{IsKept};
-ghost use Rattle.ob_shared.specs.Finished.{HandsInAll, NamesPlace, StandsIn, first_short};
-ghost use Rattle.ob_shared.specs.Handed.{LacksShare, made_by};
+ghost use Rattle.ob_shared.specs.Finished.{HandsInAll, StandsIn, first_short};
+ghost use Rattle.ob_shared.specs.Foreign.{IsForeign};
+ghost use Rattle.ob_shared.specs.Handed.{HasNoLooks, LacksShare, made_by};
 ghost use Rattle.ob_shared.specs.declared.finish_fault.FinishFault.TheVariants.{ForeignReceipt, ReceiptsMissing};
 ghost use Rattle.ob_shared.specs.Opened.{IsAsOpened};
+ghost use Rattle.ob_shared.specs.Sight.{IsCheckIn};
 ghost use Rattle.ob_shared.specs.Told.{IsToldFreely, IsUnknown, IsUnsettled, TellsOf};
 
 use crate::callers::Callers;
@@ -16,37 +20,49 @@ use crate::done::{Done, Final, Unfinished};
 use crate::finish_fault::FinishFault;
 use crate::locked::Locked;
 use crate::named::Named;
+use crate::reader::Reader;
 use crate::share::Share;
-use ob_history::{Booked, Receipt, a_history_settles_each_promise_once};
+use crate::words::Words;
+use ob_history::{Booked, Receipt, Seen, a_history_settles_each_promise_once};
 use ob_types::{Command, PromiseId, Refusal};
 use std::sync::{Condvar, Mutex, Wait};
 
-/// A buffer with its whole history under a lock. Callers give it commands from a desk, each with its share.
+/// A buffer with its whole history under a lock. Callers give it commands from a desk, each with its share. The word and
+/// the total after the last record are published beside the lock, for whoever reads them without it.
 ///
-/// Whenever a caller has the lock, the records are a legal history, their number is what all shares made together, and
-/// the settings and the limit are those of the opening.
+/// Whenever a caller has the lock, the records are a legal history, their number is what all shares made together, the
+/// settings and the limit are those of the opening, and what is published is the glance after them.
 #[derive(Drop)]
 pub struct SharedBuffer<L: Named> {
     locked: Mutex<Locked<L>>,
     /// Where those wait whose promise is not settled.
     settled: Condvar,
     callers: Callers<L>,
+    words: Words<L>,
 }
 
 impl<L: Named> SharedBuffer<L> {
     /// A buffer with this history, under a lock that nobody holds.
-    pub(crate) fn new(locked: Locked<L>, callers: Callers<L>) -> SharedBuffer<L> {
+    pub(crate) fn new(locked: Locked<L>, callers: Callers<L>, words: Words<L>) -> SharedBuffer<L> {
         SharedBuffer {
             locked: Mutex::new(locked),
             settled: Condvar::new(),
             callers,
+            words,
         }
     }
 
-    /// A desk for the caller of a share. It waits while another caller has one, and takes no memory. The lock is never
-    /// poisoned, and no desk is refused; that it is given in any order, or ever, is not promised.
+    /// What is published beside the lock.
+    pub(crate) fn words(&self) -> &Words<L> {
+        &self.words
+    }
+
+    /// A desk for the caller of a share, whose history begins with all that the share has seen. It waits while another
+    /// caller has one, and takes no memory. The lock is never poisoned, and no desk is refused; that it is given in any
+    /// order, or ever, is not promised.
     pub fn desk<R: Wait>(&self, rt: &R, share: Share<L>) -> Desk<'_, L>
-        ensures maker { result.maker ≡ share }
+        ensures maker { result.maker ≡ share.maker }
+        ensures part { IsBeginning share.sight.seen result.history.records }
         ensures opened { IsAsOpened L.opened result.history }
     {
         Desk::new(self, self.locked.lock(rt), share)
@@ -116,7 +132,8 @@ impl<L: Named> SharedBuffer<L> {
         share: Share<L>,
         id: PromiseId,
     ) -> (Desk<'_, L>, Result<Receipt, Refusal>)
-        ensures maker { result.0.maker ≡ share }
+        ensures maker { result.0.maker ≡ share.maker }
+        ensures part { IsBeginning share.sight.seen result.0.history.records }
         ensures opened { IsAsOpened L.opened result.0.history }
         ensures told { IfOk result.1 (TellsOf result.0.history.records id) }
 
@@ -135,10 +152,19 @@ impl<L: Named> SharedBuffer<L> {
         unreachable!()
     }
 
+    /// Looks under the lock, for a reader that has no share: what is pending after all records, and how many they are. The
+    /// reader has seen all of them then, and what it had seen begins them. It waits while a caller has a desk, and takes
+    /// no memory. Our own.
+    pub fn check_in<R: Wait>(&self, rt: &R, reader: &mut Reader<L>) -> Seen
+        ensures { IsCheckIn L.opened.settings reader.old result reader.new }
+    {
+        self.locked.lock(rt).check_in(&self.words, reader)
+    }
+
     /// Ends the buffer, where each caller has handed in, and gives the whole history. Its records are a legal history,
     /// as many as were made with all shares together. The records of each caller are the receipts that it handed in, in
     /// the order of its calls; each receipt that a caller was told of is the record at its place, and each look is of
-    /// the history. No promise is settled twice.
+    /// the history. What each share had seen begins the records. No promise is settled twice.
     ///
     /// So whatever the schedule was, the history kept under the lock is one of one thread: each reply and each change
     /// of writability is what a buffer of one thread answers there.
@@ -147,8 +173,8 @@ impl<L: Named> SharedBuffer<L> {
     /// caller hands in another number of receipts than were made with its share; it names the first. Then all is
     /// compared, Done by Done, in each first its receipts, then those that it was told of, then its looks:
     /// `ForeignReceipt` names the first that is not of the history, and `NoMemory` comes where a look was to be
-    /// compared and the allocator refused. With each fault all that was handed in is given back, and the buffer stays
-    /// as it was.
+    /// compared and the allocator refused, and so not without a look. With each fault all that was handed in is given
+    /// back, and the buffer stays as it was.
     pub fn finish(self, dones: Vec<Done<L>>) -> Result<Final, Unfinished<L>>
         ensures missing { IsErrAnd result (λ unfinished. unfinished.fault ≡ FinishFault.SharesMissing)
             ↔ LacksShare L.opened.callers dones.items }
@@ -157,7 +183,10 @@ impl<L: Named> SharedBuffer<L> {
             ↔ first_short dones.items ≡ Some caller }
         ensures foreign { (caller place : ℕ) →
             IsErrAnd result (λ unfinished. unfinished.fault ≡ ForeignReceipt caller place)
-            → Any (λ one. (one.maker.caller ≡ caller) × NamesPlace one place) dones.items }
+            → (history : History) × IsAsOpened L.opened history
+            × IsForeign history.settings history.records dones.items caller place }
+        ensures frugal { HasNoLooks dones.items
+            → ¬ IsErrAnd result (λ unfinished. unfinished.fault ≡ FinishFault.NoMemory) }
         ensures back { IfErr result (λ unfinished. unfinished.dones ≡ dones) }
 
         ensures opened { IfOk result (λ finished. IsAsOpened L.opened finished.recorded) }
@@ -165,6 +194,8 @@ impl<L: Named> SharedBuffer<L> {
         ensures own { IfOk result (λ finished. All (HandsInAll finished.recorded.records) dones.items) }
         ensures stands { IfOk result (λ finished.
             All (StandsIn finished.recorded.settings finished.recorded.records) dones.items) }
+        ensures saw { IfOk result (λ finished.
+            All (λ one. IsBeginning one.sight.seen finished.recorded.records) dones.items) }
         ensures once { IfOk result (λ finished. (id : PromiseId) →
             times_settled id (settlements_in finished.recorded.records) ≤ 1) }
     {
@@ -172,19 +203,20 @@ impl<L: Named> SharedBuffer<L> {
             locked,
             settled: _,
             callers,
+            words,
         } = self;
         let locked = locked.into_inner();
+        locked.is_as_opened();
         match locked.fault(&callers, &dones) {
             Some(fault) => Err(Unfinished {
-                buffer: SharedBuffer::new(locked, callers),
+                buffer: SharedBuffer::new(locked, callers, words),
                 dones,
                 fault,
             }),
             None => {
-                locked.is_as_opened();
                 a_history_settles_each_promise_once();
                 Ok(Final {
-                    recorded: locked.into_recorded(&callers, dones),
+                    recorded: locked.into_recorded(&words, &callers, dones),
                 })
             }
         }

@@ -1,5 +1,7 @@
 use Rattle.std.proofs.Common.{◌≡◌, ◌+◌, ◌≤◌, length}
-use Rattle.ob_shared.specs.Handed.{made_by}
+use Rattle.std.specs.List.{All}
+use Rattle.ob_history.specs.Beginning.{IsBeginning}
+use Rattle.ob_shared.specs.Handed.{Handed, made_by}
 use Rattle.ob_shared.proofs.locked.merged.Given as goal
 
 abbrev pub invariant-loop-done : goal.invariant-loop-done
@@ -8,4 +10,7 @@ invariant-loop-done g l =
       parts : l.all.parts + length l.done-iterator.rest.items ≡ l.fn.rest.parts + length l.fn.dones.items;
       amount : l.all.amount + made_by l.done-iterator.rest.items ≡ l.fn.rest.amount + made_by l.fn.dones.items;
       within : l.all.parts ≤ g.L.Ledger.parts;
+      same : l.publisher ≡ l.fn.publisher;
+      saw : All (λ (one : Handed). IsBeginning one.sight.seen l.fn.publisher) l.done-iterator.rest.items
+          → All (λ (one : Handed). IsBeginning one.sight.seen l.fn.publisher) l.fn.dones.items;
     }

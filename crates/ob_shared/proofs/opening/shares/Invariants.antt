@@ -1,5 +1,6 @@
 use Rattle.std.proofs.Common.{◌≡◌, ◌+◌, ◌≤◌, vec_capacity}
-use Rattle.ob_shared.specs.Maker.{new_makers}
+use Rattle.std.proofs.Common.{[]}
+use Rattle.ob_shared.specs.Share.{new_shares}
 use Rattle.ob_shared.proofs.opening.shares.Given as goal
 
 abbrev pub invariant-loop-caller : goal.invariant-loop-caller
@@ -7,7 +8,8 @@ invariant-loop-caller g l =
     record {
       parts : l.whole.parts + l.caller ≡ l.callers;
       none_made : l.whole.amount ≡ 0;
-      shares : l.shares.items ≡ new_makers l.caller;
+      shares : l.shares.items ≡ new_shares l.caller;
+      published : l.publisher ≡ [];
       memory : l.callers ≤ vec_capacity l.shares;
       length : l.shares.len ≡ l.caller;
     }

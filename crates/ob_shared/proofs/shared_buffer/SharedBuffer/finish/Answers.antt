@@ -4,6 +4,7 @@ use Rattle.ob_history.specs.History.{History}
 use Rattle.ob_history.specs.Settlements.{settlements_in}
 use Rattle.ob_seq.specs.Settles.{times_settled}
 use Rattle.ob_shared.specs.Finished.{StandsIn, first_short}
+use Rattle.ob_shared.specs.Foreign.{IsForeign}
 use Rattle.ob_shared.specs.Handed.{Handed}
 use Rattle.ob_shared.proofs.shared_buffer.SharedBuffer.finish.Goals as goal
 
@@ -11,6 +12,15 @@ pub returns-in-Some-clause-short : goal.returns-in-Some-clause-short
 returns-in-Some-clause-short g c = rw (← c.args.self.callers.opened, ← c.deref.ensures.value) (λ complete caller.
     let short = c.in-Some.ensures.short complete caller in
     (λ is. short.0 (ap Some is), λ first. cc (short.1 first)))
+
+pub returns-in-Some-clause-foreign : goal.returns-in-Some-clause-foreign
+returns-in-Some-clause-foreign g c = λ caller place is.
+    let stored = c.into_inner-locked.result in (
+      stored,
+      c.is_as_opened.ensures,
+      subst (λ (handed : List Handed). IsForeign stored.settings stored.records handed caller place)
+          c.deref.ensures.value (c.in-Some.ensures.foreign caller place (ap Some is)),
+    )
 
 pub into_recorded-requires-clause-as_many : goal.into_recorded-requires-clause-as_many
 into_recorded-requires-clause-as_many g c = subst

@@ -1,0 +1,5 @@
+use Rattle.ob_shared.proofs.publisher.Publisher.publish.Given as goal
+
+-- the records that are published
+abbrev pub ghosts-publish : goal.ghosts-publish
+ghosts-publish g a = record { records = a.recorded.now.records }

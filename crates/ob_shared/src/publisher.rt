@@ -1,0 +1,82 @@
+ghost use Rattle.std.specs.Prelude.{◌≡◌, []};
+ghost use Rattle.ob_history.specs.Beginning.{IsBeginning};
+ghost use Rattle.ob_shared.specs.Ruled.{publishing};
+ghost use Rattle.ob_shared.specs.Sight.{sight_of};
+
+use crate::named::Named;
+use crate::reader::Reader;
+use crate::view::View;
+use crate::words::Words;
+use atomic_table::Seat;
+use ob_history::Recorded;
+use std::marker::{Brand, Model, PhantomData};
+use std::mem;
+
+/// The one seat that publishes, which lies under the lock. Contracts see the records after which it published last.
+#[derive(Drop)]
+pub struct Publisher<L: Named> {
+    seat: Seat<(), View>,
+    of: PhantomData<L>,
+}
+
+impl<L: Named> Model for Publisher<L> {
+    ghost use Rattle.std.specs.Prelude.{List};
+    ghost use Rattle.ob_history.specs.declared.record.Record.{Record};
+    ghost use Rattle.ob_shared.specs.Seats.{IsPublisher};
+
+    ghost Value = { List Record };
+
+    ghost view = { λ publisher. publisher.seat.me.0.seen };
+
+    ghost invariant = { λ publisher. IsPublisher L.opened publisher.seat };
+}
+
+impl<L: Named> Publisher<L> {
+    /// The first seat of the words that were opened.
+    pub fn new(seat: Seat<(), View>) -> Publisher<L>
+        requires table { seat.table_id ≡ L.opened.table }
+        requires me { seat.me ≡ (publishing [] [], []) }
+        ensures { result ≡ [] }
+    {
+        Publisher {
+            seat,
+            of: PhantomData,
+        }
+    }
+
+    /// Publishes the glance after the last record of a history that begins with what was published before.
+    pub fn publish(&mut self, words: &Words<L>, recorded: &Recorded)
+        requires longer { IsBeginning self.old recorded.now.records }
+        requires settings { recorded.now.settings ≡ L.opened.settings }
+        ensures { self.new ≡ recorded.now.records }
+    {
+        words.publish::<Brand>(&mut self.seat, recorded);
+    }
+
+    /// A reader that has seen all that was published.
+    pub fn reader(&mut self, words: &Words<L>) -> Reader<L>
+        ensures reader { result ≡ sight_of self.old }
+        ensures same { self.new ≡ self.old }
+    {
+        Reader::new(words.cut(&mut self.seat))
+    }
+
+    /// Takes in a reader, which had seen a beginning of what was published.
+    pub fn take(&mut self, words: &Words<L>, reader: Reader<L>)
+        ensures part { IsBeginning reader.seen self.old }
+        ensures same { self.new ≡ self.old }
+    {
+        words.take(&mut self.seat, reader.into_seat());
+    }
+
+    /// A meeting under the lock: the reader has seen all that was published, and had seen a beginning of it.
+    pub fn meet(&mut self, words: &Words<L>, reader: &mut Reader<L>)
+        ensures met { reader.new ≡ sight_of self.old }
+        ensures part { IsBeginning reader.old.seen self.old }
+        ensures same { self.new ≡ self.old }
+    {
+        let fresh = self.reader(words);
+        let old = mem::replace(reader, fresh);
+        self.take(words, old);
+    }
+}

@@ -1,0 +1,99 @@
+ghost use Rattle.std.specs.Prelude.{◌≡◌, true, false, []};
+ghost use Rattle.ob_history.specs.Beginning.{IsBeginning};
+ghost use Rattle.ob_history.specs.Legal.{IsLegal};
+ghost use Rattle.ob_shared.specs.Reads.{Reads};
+ghost use Rattle.ob_shared.specs.Ruled.{publishing, reading};
+
+use crate::named::Named;
+use crate::plays::{Cut, Learn, Publish, Read, Records, Take};
+use crate::rule::{PUBLISHED, Rule};
+use crate::view::View;
+use atomic_table::{Seat, Table};
+use ob_history::Recorded;
+use ob_types::{Estimate, WaterMark, pack};
+use std::alloc::Global;
+use std::marker::PhantomData;
+
+/// The published word, beside the lock: the word and the total after the last record, in one number. Threads share it
+/// by reference.
+#[derive(Drop)]
+pub struct Words<L: Named> {
+    table: Table<(), View, (WaterMark, Estimate), Rule, Global>,
+    of: PhantomData<L>,
+    ghost table_is: { table.shared.table_id ≡ L.opened.table },
+    ghost marks_are: { table.shared.key.0 ≡ L.opened.settings.marks },
+    ghost estimate_is: { table.shared.key.1 ≡ L.opened.settings.estimate },
+    ghost words: { table.shared.table_id.words ≡ 16 },
+}
+
+impl<L: Named> Words<L> {
+    /// The words that were opened under the name.
+    pub fn new(table: Table<(), View, (WaterMark, Estimate), Rule, Global>) -> Words<L>
+        requires table { table.shared.table_id ≡ L.opened.table }
+        requires marks { table.shared.key.0 ≡ L.opened.settings.marks }
+        requires estimate { table.shared.key.1 ≡ L.opened.settings.estimate }
+        requires words { table.shared.table_id.words ≡ 16 }
+    {
+        Words {
+            table,
+            of: PhantomData,
+        }
+    }
+
+    /// Publishes the glance after the last record, of a history that begins with all that this seat has seen. One store.
+    pub fn publish<E: Records>(&self, seat: &mut Seat<(), View>, recorded: &Recorded)
+        requires table { seat.old.table_id ≡ L.opened.table }
+        requires publishes { seat.old.me.0.publishes ≡ true }
+        requires longer { IsBeginning seat.old.me.0.seen recorded.now.records }
+        requires settings { recorded.now.settings ≡ L.opened.settings }
+        requires records { E.records ≡ recorded.now.records }
+        ensures table { seat.new.table_id ≡ seat.old.table_id }
+        ensures me { seat.new.me ≡ (publishing recorded.now.records [], seat.old.me.1) }
+        ensures legal { IsLegal L.opened.settings recorded.now.records }
+    {
+        // for the proof alone: the records are legal
+        let _records = recorded.records();
+        let glance = recorded.glance();
+        self.table
+            .shared
+            .store::<Publish<E>>(seat, PUBLISHED, pack(glance.word, glance.total))
+    }
+
+    /// Reads what is published. One load.
+    pub fn read(&self, seat: &mut Seat<(), View>) -> u64
+        requires table { seat.old.table_id ≡ L.opened.table }
+        requires reads { seat.old.me.0.publishes ≡ false }
+        ensures table { seat.new.table_id ≡ seat.old.table_id }
+        ensures told { Reads L.opened.settings seat.old.me result seat.new.me }
+    {
+        self.table.shared.load::<Read<L>>(seat, PUBLISHED)
+    }
+
+    /// A new seat that reads, and has seen what this one has. It costs a load.
+    pub fn cut(&self, seat: &mut Seat<(), View>) -> Seat<(), View>
+        requires table { seat.old.table_id ≡ L.opened.table }
+        ensures table { seat.new.table_id ≡ seat.old.table_id }
+        ensures me { seat.new.me ≡ seat.old.me }
+        ensures other { result.table_id ≡ seat.old.table_id }
+        ensures given { result.me ≡ (reading seat.old.me.0.seen [], []) }
+    {
+        self.table.shared.split_seat::<Cut>(seat)
+    }
+
+    /// Joins a seat to the one that publishes, which learns that what the other had seen is a beginning of what it has
+    /// seen itself. The join costs a load, and so does the learning.
+    pub fn take(&self, seat: &mut Seat<(), View>, other: Seat<(), View>)
+        requires table { seat.old.table_id ≡ L.opened.table }
+        requires publishes { seat.old.me.0.publishes ≡ true }
+        requires other { other.table_id ≡ L.opened.table }
+        requires reads { other.me.0.publishes ≡ false }
+        requires slots { other.me.1 ≡ [] }
+        ensures table { seat.new.table_id ≡ seat.old.table_id }
+        ensures publishes { seat.new.me.0.publishes ≡ true }
+        ensures seen { seat.new.me.0.seen ≡ seat.old.me.0.seen }
+        ensures part { IsBeginning other.me.0.seen seat.old.me.0.seen }
+    {
+        self.table.shared.join_seat::<Take>(seat, other);
+        self.table.shared.load::<Learn>(seat, PUBLISHED);
+    }
+}
