@@ -1,9 +1,11 @@
+pub mod Asked
 pub mod Beginnings
 pub mod Booked
 pub mod Covered
 pub mod Turns
 pub mod Offers
 pub mod Open
+pub mod Records
 pub mod Sent
 pub mod Standings
 pub mod Passes

@@ -7,7 +7,7 @@ use Rattle.std.proofs.lemmas.Bool.Decides.{nat_tests}
 use Rattle.ob_types.specs.PendingSize.{counted_bytes, is_oversize}
 use Rattle.ob_types.specs.declared.command.Command.{Command}
 use Rattle.ob_types.specs.declared.command.Command.TheVariants.{Write, Flush, Remove, RemoveWith, RemoveBytes, Progress}
-use Rattle.ob_types.specs.declared.command.Command.TheVariants.{Cancel, FailFlushed, Close, UserBit}
+use Rattle.ob_types.specs.declared.command.Command.TheVariants.{Cancel, FailFlushed, Close, UserBit, SetMarks}
 use Rattle.ob_types.specs.declared.estimate.Estimate.{Estimate}
 use Rattle.ob_types.specs.declared.message.Message.{Message}
 use Rattle.ob_types.specs.declared.message.Message.TheVariants.{Block, Region, Other}
@@ -54,6 +54,7 @@ module _ (settings : Settings) where
   after_close rows (FailFlushed cause notify) is = absurd (cc)
   after_close rows (Close cause) is = none_in_line cause rows
   after_close rows (UserBit index writable) is = absurd (cc)
+  after_close rows (SetMarks marks) is = absurd (cc)
 
   ClosedIsEmpty : List Command → Type 0
   ClosedIsEmpty commands = is_closed commands ≡ true → front (rows_after estimate commands) ≡ None

@@ -25,10 +25,10 @@ use Rattle.ob_transport.specs.SentBytes.{bytes_sent_by, sent_bytes}
 use Rattle.ob_transport.specs.SentUnits.{sent_units, units_sent_by}
 use Rattle.ob_transport.specs.Step.{Step, steps_from}
 
-abbrev bytes_in_step : Step → List ℕ
+abbrev pub bytes_in_step : Step → List ℕ
 bytes_in_step step = bytes_sent_by step.rows step.command
 
-abbrev units_in_step : Step → ℕ
+abbrev pub units_in_step : Step → ℕ
 units_in_step step = units_sent_by step.rows step.command
 
 -- the step of one more command comes behind the others
@@ -43,13 +43,13 @@ steps_more estimate rows (first ∷ commands) command =
 
 module _ (settings : Settings) where
   -- what accepted commands send
-  abbrev bytes_of : List Command → List ℕ
+  abbrev pub bytes_of : List Command → List ℕ
   bytes_of commands = flat_map bytes_in_step (steps_from settings.estimate [] commands)
 
-  abbrev units_of : List Command → ℕ
+  abbrev pub units_of : List Command → ℕ
   units_of commands = sum_by units_in_step (steps_from settings.estimate [] commands)
 
-  bytes_more : (commands : List Command) (command : Command) →
+  pub bytes_more : (commands : List Command) (command : Command) →
       bytes_of (commands ++ command ∷ []) ≡ bytes_of commands
       ++ bytes_sent_by (rows_after settings.estimate commands) command
   bytes_more commands command =
@@ -58,7 +58,7 @@ module _ (settings : Settings) where
       ∙ flat_map-append bytes_in_step (steps_from settings.estimate [] commands) (one ∷ [])
       ∙ ap (λ more. bytes_of commands ++ more) (append-nil (bytes_in_step one))
 
-  units_more : (commands : List Command) (command : Command) →
+  pub units_more : (commands : List Command) (command : Command) →
       units_of (commands ++ command ∷ [])
       ≡ units_of commands + units_sent_by (rows_after settings.estimate commands) command
   units_more commands command =

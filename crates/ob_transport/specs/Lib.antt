@@ -1,3 +1,4 @@
+pub mod Asking
 pub mod Content
 pub mod Drains
 pub mod Failures
@@ -14,7 +15,9 @@ pub mod InsideScript
 pub mod Script
 pub mod SentBy
 pub mod SentBytes
+pub mod SentIn
 pub mod SentUnits
 pub mod Standing
 pub mod Step
+pub mod Taken
 pub mod Worked

@@ -10,6 +10,7 @@ use Rattle.ob_seq.specs.Line.{front}
 use Rattle.ob_seq.specs.Looks.{current_after, progress_of}
 use Rattle.ob_seq.specs.Effect.{rows_after}
 use Rattle.ob_seq.specs.Gathering.{gathered_after}
+use Rattle.ob_transport.specs.Asking.{Asked, OfBytes, OfUnits}
 use Rattle.ob_transport.specs.Outcome.{Clears, SendsBytes, SendsUnits}
 use Rattle.ob_transport.specs.InFront.{current_in, gathered_in, progress_in}
 use Rattle.ob_transport.specs.Standing.{Standing}
@@ -63,3 +64,10 @@ Ends caller (Units rest) before result after = SendsUnits caller rest before res
 -- there are bytes to be offered
 abbrev pub HasBytes : Offer → Type 0
 HasBytes offer = (bytes : List ℕ) × (offer ≡ Bytes bytes)
+
+-- what a sink is asked is what there is to be offered
+abbrev pub IsOffered : Offer → Asked → Type 0
+IsOffered Nothing asked = ⊥
+IsOffered (Clearing command) asked = ⊥
+IsOffered (Bytes bytes) asked = asked ≡ OfBytes bytes
+IsOffered (Units rest) asked = asked ≡ OfUnits rest

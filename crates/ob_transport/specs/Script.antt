@@ -1,5 +1,6 @@
 -- What a contract sees of a sink of a script.
-use Rattle.std.specs.Prelude.{ℕ, List, [], ◌∷◌, drop, min, Result, Ok, Err}
+use Rattle.std.specs.Prelude.{◌≡◌, ◌+◌, ◌<◌, ◌-◌, ◌^◌, ℕ, List, [], ◌∷◌, drop, length, min, Result, Ok, Err, IsErrOf}
+use Rattle.ob_transport.specs.Asking.{Asked, OfBytes, OfUnits}
 use Rattle.ob_transport.specs.Content.{Content}
 use Rattle.ob_transport.specs.declared.script.SinkStep.{SinkStep}
 use Rattle.ob_transport.specs.declared.script.SinkStep.TheVariants.{Take, Fail}
@@ -41,3 +42,18 @@ answer_by (Fail number) offered = Err (record { 0 = number })
 -- the fault of a script's sink where memory was refused
 abbrev pub wants_memory : SinkFault
 wants_memory = record { 0 = 12 }
+
+-- a call answers as the step says; but where a failure can't be counted any more, where the units can't, or where memory
+-- is refused for bytes
+abbrev pub AnswersBy : Script → Asked → Result ℕ SinkFault → Type 0
+AnswersBy script (OfBytes bytes) answer = script.content.failures < 2 ^ 64 - 1 → ¬ IsErrOf answer wants_memory
+    → answer ≡ answer_by (next_step script) (length bytes)
+AnswersBy script (OfUnits units) answer = script.content.failures < 2 ^ 64 - 1
+    → script.content.units + units < 2 ^ 128
+    → answer ≡ answer_by (next_step script) units
+
+-- a call uses the next step, and answers as it says
+pub record Plays (before : Script) (asked : Asked) (answer : Result ℕ SinkFault) (after : Script) : Type 0 where
+  pub answers : AnswersBy before asked answer
+  pub used : after.steps ≡ drop 1 before.steps
+  pub most_after : after.most_after ≡ before.most_after

@@ -3,7 +3,7 @@ use Rattle.std.specs.Prelude.{ℕ, List, [], take, Option, Some, None, option_ma
 use Rattle.std.specs.List.{concat}
 use Rattle.ob_types.specs.declared.command.Command.{Command}
 use Rattle.ob_types.specs.declared.command.Command.TheVariants.{Write, Flush, Remove, RemoveWith, RemoveBytes, Progress}
-use Rattle.ob_types.specs.declared.command.Command.TheVariants.{Cancel, FailFlushed, Close, UserBit}
+use Rattle.ob_types.specs.declared.command.Command.TheVariants.{Cancel, FailFlushed, Close, UserBit, SetMarks}
 use Rattle.ob_types.specs.declared.message.Message.{Message}
 use Rattle.ob_types.specs.declared.message.Message.TheVariants.{Block, Region, Other}
 use Rattle.ob_seq.specs.Row.{Row, unread_part}
@@ -48,3 +48,4 @@ sent_by rows (Cancel id) = nothing
 sent_by rows (FailFlushed cause notify) = nothing
 sent_by rows (Close cause) = nothing
 sent_by rows (UserBit index writable) = nothing
+sent_by rows (SetMarks marks) = nothing

@@ -1,10 +1,17 @@
 //! What holds of every pass.
 
-ghost use Rattle.std.specs.Prelude.{◌≡◌, ℕ, true, [], Result, Err};
+ghost use Rattle.std.specs.List.{flat_map};
+ghost use Rattle.std.specs.Prelude.{◌≡◌, ℕ, true, List, [], Result, Err, sum_by};
 ghost use Rattle.ob_seq.specs.Answer.{are_accepted};
+ghost use Rattle.ob_seq.specs.Settings.{Settings};
 ghost use Rattle.ob_history.specs.Accepted.{accepted_commands};
+ghost use Rattle.ob_history.specs.Legal.{IsLegal};
+ghost use Rattle.ob_history.specs.declared.record.Record.{Record};
 ghost use Rattle.ob_transport.specs.GrowAlike.{GrowAlike, GrowAlikeBut, IsBooked};
 ghost use Rattle.ob_transport.specs.IsPass.{IsPass};
+ghost use Rattle.ob_transport.specs.SentBytes.{sent_bytes};
+ghost use Rattle.ob_transport.specs.SentIn.{sent_in};
+ghost use Rattle.ob_transport.specs.SentUnits.{sent_units};
 ghost use Rattle.ob_transport.specs.Standing.{Standing};
 ghost use Rattle.ob_transport.specs.declared.fault.Pass.{Pass};
 ghost use Rattle.ob_transport.specs.declared.fault.PassFault.{PassFault};
@@ -20,4 +27,13 @@ pub fn what_a_pass_takes_is_sent()
     ensures unbooked { (limits : Limits) (caller : ℕ) (before after : Standing) (taken : ℕ) →
         are_accepted before.history.settings [] (accepted_commands before.history.records) ≡ true
         → IsPass limits caller before (Err (Unbooked taken)) after → GrowAlikeBut taken before after }
+{}
+
+/// What a legal history sends is what its records send, one behind another: so it can be told by the receipts of those
+/// who send, each with its place.
+pub fn a_history_sends_what_its_records_send()
+    ensures bytes { (settings : Settings) (records : List Record) → IsLegal settings records
+        → sent_bytes settings records ≡ flat_map (λ one. (sent_in settings records one).bytes) records }
+    ensures units { (settings : Settings) (records : List Record) → IsLegal settings records
+        → sent_units settings records ≡ sum_by (λ one. (sent_in settings records one).units) records }
 {}

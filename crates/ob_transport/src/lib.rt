@@ -15,7 +15,7 @@ mod worked;
 pub use booking::book;
 pub use draining::{Drained, Stop, drain};
 pub use fault::{Pass, PassFault};
-pub use laws::what_a_pass_takes_is_sent;
+pub use laws::{a_history_sends_what_its_records_send, what_a_pass_takes_is_sent};
 pub use limits::Limits;
 pub use script::{ScriptSink, SinkStep};
 pub use sending::pass;

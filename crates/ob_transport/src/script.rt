@@ -2,7 +2,8 @@ ghost use Rattle.std.specs.List.{concat};
 ghost use Rattle.std.specs.Prelude.{◌≡◌, ◌<◌, ◌≤◌, ◌+◌, ◌-◌, ◌^◌, drop, length, min, take, IfErr, IfOk, IsErrOf, OnErr};
 ghost use Rattle.std.specs.Prelude.{OnOk};
 ghost use Rattle.ob_transport.specs.Content.{with_failure, with_more_bytes, with_more_units};
-ghost use Rattle.ob_transport.specs.Script.{answer_by, new_script, next_step, wants_memory, with_step_used};
+ghost use Rattle.ob_transport.specs.Asking.{OfBytes, OfUnits};
+ghost use Rattle.ob_transport.specs.Script.{Plays, new_script, next_step, with_step_used};
 
 use crate::sink::{Sink, SinkFault};
 use bytes::Bytes;
@@ -140,6 +141,8 @@ fn beginning(alloc: Global, blocks: &[Bytes], most: u64) -> Result<Vec<u8>, Allo
 impl Sink for ScriptSink {
     ghost content = { λ sink. sink.content };
 
+    ghost does = { Plays };
+
     /// Does what the next step says of all bytes of the blocks. `SinkFault(12)` comes where memory was refused too. A
     /// failure that can no longer be counted takes nothing, and tells no fault.
     fn take(&mut self, blocks: &[Bytes]) -> Result<usize, SinkFault>
@@ -148,10 +151,7 @@ impl Sink for ScriptSink {
             ≡ with_more_bytes (take count (concat blocks.now)) self.old.content) }
         ensures failed { OnErr result (self.new.content ≡ with_failure self.old.content) }
 
-        ensures plays { self.old.content.failures < 2 ^ 64 - 1 → ¬ IsErrOf result wants_memory
-            → result ≡ answer_by (next_step self.old) (length (concat blocks.now)) }
-        ensures used { self.new.steps ≡ drop 1 self.old.steps }
-        ensures most_after { self.new.most_after ≡ self.old.most_after }
+        ensures plays { Plays self.old (OfBytes (concat blocks.now)) result self.new }
     {
         match self.next_step() {
             SinkStep::Take(most) => match self.keep(blocks, most) {
@@ -175,10 +175,7 @@ impl Sink for ScriptSink {
         ensures taken { IfOk result (λ count. self.new.content ≡ with_more_units count self.old.content) }
         ensures failed { OnErr result (self.new.content ≡ with_failure self.old.content) }
 
-        ensures plays { self.old.content.failures < 2 ^ 64 - 1 → self.old.content.units + units < 2 ^ 128
-            → result ≡ answer_by (next_step self.old) units }
-        ensures used { self.new.steps ≡ drop 1 self.old.steps }
-        ensures most_after { self.new.most_after ≡ self.old.most_after }
+        ensures plays { Plays self.old (OfUnits units) result self.new }
     {
         match self.next_step() {
             SinkStep::Take(most) => {

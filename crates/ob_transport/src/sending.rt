@@ -1,10 +1,11 @@
 ghost use Rattle.std.specs.List.{concat};
 ghost use Rattle.std.specs.Prelude.{◌≡◌, ◌≤◌, None, Ok};
+ghost use Rattle.ob_transport.specs.Asking.{IsAskedOnce, OfBytes, OfUnits, StandsInFront, answer_told};
 ghost use Rattle.ob_transport.specs.Content.{Content};
 ghost use Rattle.ob_transport.specs.InFront.{current_in};
 ghost use Rattle.ob_transport.specs.IsAccounted.{IsAccounted};
 ghost use Rattle.ob_transport.specs.IsPass.{IsPass};
-ghost use Rattle.ob_transport.specs.Offer.{Ends, offer_of};
+ghost use Rattle.ob_transport.specs.Offer.{Ends, IsOffered, offer_of};
 ghost use Rattle.ob_transport.specs.Outcome.{Clears, SendsBytes, SendsUnits};
 ghost use Rattle.ob_transport.specs.Standing.{standing};
 ghost use Rattle.ob_transport.specs.declared.fault.Pass.TheVariants.{Idle};
@@ -43,6 +44,8 @@ pub fn pass<B: Booked, S: Sink>(
         (standing (B.history booked.old) (S.content sink.old)) result
         (standing (B.history booked.new) (S.content sink.new)) }
     ensures caller { B.caller booked.new ≡ B.caller booked.old }
+    ensures asks { IsAskedOnce S.does (StandsInFront limits (B.history booked.old))
+        sink.old (answer_told result) sink.new }
     ensures idle { result ≡ Ok Idle → current_in (B.history booked.new) ≡ None }
     ensures accounted { IsAccounted
         (standing (B.history booked.old) (S.content sink.old)) result
@@ -71,6 +74,8 @@ fn send_blocks<B: Booked, S: Sink>(
     ensures sends { SendsBytes (B.caller booked.old) (concat blocks.now)
         (standing (B.history booked.old) (S.content sink.old)) result
         (standing (B.history booked.new) (S.content sink.new)) }
+    ensures asks { IsAskedOnce S.does (λ asked. asked ≡ OfBytes (concat blocks.now))
+        sink.old (answer_told result) sink.new }
     ensures caller { B.caller booked.new ≡ B.caller booked.old }
 {
     make_ready(booked)?;
@@ -93,6 +98,7 @@ fn send_region<B: Booked, S: Sink>(
     ensures sends { SendsUnits (B.caller booked.old) rest
         (standing (B.history booked.old) (S.content sink.old)) result
         (standing (B.history booked.new) (S.content sink.new)) }
+    ensures asks { IsAskedOnce S.does (λ asked. asked ≡ OfUnits rest) sink.old (answer_told result) sink.new }
     ensures caller { B.caller booked.new ≡ B.caller booked.old }
 {
     make_ready(booked)?;
@@ -112,6 +118,7 @@ fn act<B: Booked, S: Sink>(booked: &mut B, sink: &mut S, next: Next) -> Result<P
     ensures ends { Ends (B.caller booked.old) (offer_of next)
         (standing (B.history booked.old) (S.content sink.old)) result
         (standing (B.history booked.new) (S.content sink.new)) }
+    ensures asks { IsAskedOnce S.does (IsOffered (offer_of next)) sink.old (answer_told result) sink.new }
     ensures caller { B.caller booked.new ≡ B.caller booked.old }
 {
     match next {

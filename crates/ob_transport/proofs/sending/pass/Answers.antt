@@ -3,6 +3,7 @@ use Rattle.std.specs.Prelude.{Err}
 use Rattle.ob_transport.specs.Offer.{offer_of}
 use Rattle.ob_transport.specs.Standing.{standing}
 use Rattle.ob_transport.specs.declared.fault.PassFault.TheVariants.{Unbooked}
+use Rattle.ob_transport.proofs.Asked.{asked_also, offered_stands}
 use Rattle.ob_transport.proofs.Offers.{accepted_there, ends_there, full_of_offer, idle_of_offer, offer_there}
 use Rattle.ob_transport.proofs.Passes.{alike_of, pass_grows}
 use Rattle.ob_transport.proofs.sending.pass.Goals as goal
@@ -35,3 +36,11 @@ returns-clause-accounted g c =
       full = λ is. full_of_offer (g.B.Booked.caller c.args.booked.now) (offer_of c.in_ok-next.next) before _
           (rw is at c.act.ensures.ends);
     }
+
+pub returns-clause-asks : goal.returns-clause-asks
+returns-clause-asks g c =
+    let before = standing (g.B.Booked.history c.args.booked.now) (g.S.Sink.content c.args.sink.now) in
+    let there = offer_there c.args.limits before c.buffer.result.now (offer_of c.in_ok-next.next)
+    c.buffer.ensures.stands c.buffer.ensures.settings c.in_ok-next.ensures.offer in
+    asked_also g.S.Sink.does _ _ c.args.sink.now _ _
+    (offered_stands c.args.limits before (offer_of c.in_ok-next.next) there) c.act.ensures.asks

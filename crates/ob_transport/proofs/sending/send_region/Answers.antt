@@ -58,3 +58,21 @@ returns-else-taken-rest-clause-sends g c =
         left = same_standing booked c.in_ok-taken.ensures.taken;
       },
     )
+
+pub returns-in_err-give-clause-asks : goal.returns-in_err-give-clause-asks
+returns-in_err-give-clause-asks g c =
+    let readied = c.in_ok-make_ready.ensures.readied in
+    absurd (first_never_refused (g.B.Booked.history c.args.booked.now) (g.B.Booked.caller c.args.booked.now) readied.0
+    (g.B.Booked.caller c.make_ready.new.booked) c.in_ok-taken.taken (g.B.Booked.history c.make_ready.new.booked)
+    (g.B.Booked.history c.give.new.booked) c.in_err-give.field-0.0 readied.1 c.in_err-give.ensures.given)
+
+pub returns-in_err-give-2-clause-asks : goal.returns-in_err-give-2-clause-asks
+returns-in_err-give-2-clause-asks g c =
+    let first = c.in_ok-give.ensures.given.1
+    ∙ same_after (Progress c.in_ok-taken.taken) c.in_ok-make_ready.ensures.readied.1 c.in_ok-make_ready.ensures.caller
+    in
+    absurd (second_never_refused (g.B.Booked.history c.args.booked.now) (g.B.Booked.caller c.args.booked.now)
+    c.in_ok-make_ready.ensures.readied.0
+    (g.B.Booked.caller c.give.new.booked) c.in_ok-taken.taken (g.B.Booked.history c.give.new.booked)
+    (g.B.Booked.history c.give-then-taken-rest.new.booked) c.in_err-give-2.field-0.0
+    first c.in_err-give-2.ensures.given)
