@@ -9,7 +9,7 @@ use Rattle.std.proofs.lemmas.List.Sums.{sum_by-append, sum_by-cons, sum_by-le, l
 use Rattle.ob_types.specs.Limits.{greatest_total}
 use Rattle.ob_types.specs.declared.command.Command.{Command}
 use Rattle.ob_types.specs.declared.command.Command.TheVariants.{Write, Flush, Remove, RemoveWith, RemoveBytes, Progress}
-use Rattle.ob_types.specs.declared.command.Command.TheVariants.{Cancel, FailFlushed, Close, UserBit}
+use Rattle.ob_types.specs.declared.command.Command.TheVariants.{Cancel, FailFlushed, Close, UserBit, SetMarks}
 use Rattle.ob_history.specs.Accepted.{accepted_commands, is_accepted}
 use Rattle.ob_history.specs.History.{most_records}
 use Rattle.ob_history.specs.declared.record.Record.{Record}
@@ -110,6 +110,7 @@ removal_within most (Cancel id) law = omega arith
 removal_within most (FailFlushed cause notify) law = omega arith
 removal_within most (Close cause) law = omega arith
 removal_within most (UserBit index writable) law = omega arith
+removal_within most (SetMarks marks) law = omega arith
 
 -- where each accepted removal keeps to the greatest total, all of them fit 64 bits
 pub taken_fits_word : (records : List Record) →

@@ -1,5 +1,5 @@
 -- What two lists of writers do is what their list does.
-use Rattle.std.proofs.Common.{◌≡◌, ℕ, ◌+◌, ◌≤◌, true, false, List, ◌++◌, map, take, drop, refl, sym, ap, ◌∙◌, ap₂}
+use Rattle.std.proofs.Common.{◌≡◌, ℕ, ◌+◌, ◌≤◌, false, List, ◌++◌, map, take, drop, refl, sym, ap, ◌∙◌, ap₂}
 use Rattle.std.proofs.Common.{subst, arith}
 use Rattle.std.specs.Prelude.{nat_lt, IfOk, IsOkAnd, None, Result, Ok, Err}
 use Rattle.std.proofs.lemmas.Bool.Decides.{nat_tests}
@@ -9,10 +9,9 @@ use Rattle.ob_lanes.proofs.HeldBits.{none_held}
 use Rattle.std.proofs.lemmas.List.{map-append, take-append-drop}
 use Rattle.std.proofs.lemmas.List.Elements.{All-drop, All-take}
 use Rattle.std.specs.List.{All}
-use Rattle.ob_types.specs.declared.estimate.Estimate.{Estimate}
 use Rattle.ob_shared.specs.Handed.{Handed}
 use Rattle.std.proofs.lemmas.List.Sums.{sum_by-take-drop}
-use Rattle.ob_pool.specs.Errand.{AreDone, Errand, IsRoomy, asked, done_by, room_for}
+use Rattle.ob_pool.specs.Errand.{AreDone, Errand, asked, done_by, room_for}
 
 -- two lists of errands that are done one behind the other
 pub both_done : (errands others : List Errand) (dones more all : List Handed) → AreDone errands dones →
@@ -51,11 +50,10 @@ rooms_of_parts at errands first second front back =
     ap₂ (λ one other. room_for one + room_for other) front back
     ∙ sum_by-take-drop (λ (errand : Errand). errand.room) errands at
 
--- each of two parts of a list of errands has room for its plans where all have
-pub parts_roomy : (estimate : Estimate) (task at : ℕ) (errands first second : List Errand) → first ≡ take at errands →
-    second ≡ drop at errands → All (IsRoomy estimate task) errands →
-    All (IsRoomy estimate task) first × All (IsRoomy estimate task) second
-parts_roomy estimate task at errands first second front back roomy = (
-  subst (All (IsRoomy estimate task)) (sym front) (All-take (IsRoomy estimate task) at errands roomy),
-  subst (All (IsRoomy estimate task)) (sym back) (All-drop (IsRoomy estimate task) at errands roomy),
+-- what holds of all errands of a list holds of those of its two parts
+pub parts_alike : (Holds : Errand → Type 0) (at : ℕ) (errands first second : List Errand) → first ≡ take at errands →
+    second ≡ drop at errands → All Holds errands → All Holds first × All Holds second
+parts_alike Holds at errands first second front back all = (
+  subst (All Holds) (sym front) (All-take Holds at errands all),
+  subst (All Holds) (sym back) (All-drop Holds at errands all),
 )

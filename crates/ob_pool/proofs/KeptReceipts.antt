@@ -1,8 +1,8 @@
 -- One more call whose receipt is kept.
 use Rattle.std.proofs.Common.{◌≡◌, ℕ, ◌+◌, Bool, true, false, List, [], ◌∷◌, ◌++◌, map, cond, refl, sym}
-use Rattle.std.proofs.Common.{ap, ◌∙◌, append_assoc, arith}
-use Rattle.std.specs.Prelude.{count_by, if◌then◌else◌, Ok, Err}
-use Rattle.std.proofs.lemmas.List.{length_push, map-append}
+use Rattle.std.proofs.Common.{ap, ◌∙◌, subst, append_assoc, arith, length-append}
+use Rattle.std.specs.Prelude.{count_by, if◌then◌else◌, length, Ok, Err, Option, Some, None, IfSome}
+use Rattle.std.proofs.lemmas.List.{length_push, length-map, map-append}
 use Rattle.std.proofs.lemmas.List.Sums.{sum_by-append, sum_by-cons}
 use Rattle.ob_types.specs.declared.command.Command.{Command}
 use Rattle.ob_types.specs.declared.refusal.Refusal.TheVariants.{HistoryFull}
@@ -68,3 +68,27 @@ receipt_given history caller command receipt given = by_full (is_full history) r
         × (history_after history caller command ≡ with_record history (next_record history caller command))
     by_full true is got = absurd (cc)
     by_full false is got = (cc, after_with_place history caller command is)
+
+-- what holds of a value holds of what is weaker
+pub if_some_weaker : {X : Type 0} (found : Option X) (Strong Weak : X → Type 0) → ((x : X) → Strong x → Weak x) →
+    IfSome found Strong → IfSome found Weak
+if_some_weaker None Strong Weak weaker holds = holds
+if_some_weaker (Some x) Strong Weak weaker holds = weaker x holds
+
+-- as many records were made since the beginning as receipts were kept
+pub made_since : (beginning : Beginning) (held : Held) (receipts : List Receipt) → KeptSince beginning held receipts →
+    held.maker.made + length beginning.receipts ≡ beginning.made + length receipts
+made_since beginning held receipts kept =
+    omega (
+      arith,
+      kept.made,
+      ap (λ (all : List Receipt). length all) kept.kept,
+      length-append beginning.receipts (map receipt_of kept.more),
+      length-map kept.more receipt_of,
+    )
+
+-- and it holds of the value that there is
+pub if_some_at : {X : Type 0} (Holds : X → Type 0) {found : Option X} {x : X} → found ≡ Some x → IfSome found Holds →
+    Holds x
+if_some_at Holds {found = None} is holds = absurd (cc is)
+if_some_at Holds {found = Some y} {x = x} is holds = let same : y ≡ x = cc is in subst Holds same holds

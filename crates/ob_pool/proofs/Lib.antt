@@ -1,10 +1,13 @@
 pub mod AcceptedCounts
 pub mod BadSteps
 pub mod Ending
+pub mod Faults
 pub mod Halves
 pub mod KeptReceipts
 pub mod Passing
 pub mod PlannedSteps
+pub mod Quiet
 pub mod Rooms
 pub mod Settled
 pub mod Shares
+pub mod Taking

@@ -6,14 +6,16 @@ use Rattle.std.specs.List.{concat}
 use Rattle.std.proofs.lemmas.Bool.{cases_lt}
 use Rattle.std.proofs.lemmas.List.Sums.{sum_by_push}
 use Rattle.ob_types.specs.declared.command.Command.{Command}
-use Rattle.ob_types.specs.declared.command.Command.TheVariants.{Remove, RemoveWith, RemoveBytes, Progress}
+use Rattle.ob_types.specs.declared.command.Command.TheVariants.{Remove, RemoveWith, RemoveBytes, Progress, FailFlushed}
+use Rattle.ob_types.specs.declared.promise.Cause.{Cause}
 use Rattle.ob_types.specs.declared.message.Message.{Message}
 use Rattle.ob_types.specs.declared.message.Message.TheVariants.{Block, Region, Other}
 use Rattle.ob_types.specs.declared.refusal.Refusal.{Refusal}
 use Rattle.ob_types.specs.declared.refusal.Refusal.TheVariants as refusal
 use Rattle.ob_history.specs.Call.{history_after, is_full, next_record, with_record}
 use Rattle.ob_history.specs.History.{History}
-use Rattle.ob_transport.specs.InFront.{current_in, gathered_in, progress_in}
+use Rattle.ob_transport.specs.GrowAlike.{GrowAlike}
+use Rattle.ob_transport.specs.InFront.{current_in, gathered_in, progress_in, sent_bytes_in, sent_units_in}
 use Rattle.ob_transport.specs.IsPass.{IsPass}
 use Rattle.ob_transport.specs.Outcome.{Clears, SendsBytes, SendsUnits, ready}
 use Rattle.ob_transport.specs.Content.{Content}
@@ -24,6 +26,7 @@ use Rattle.ob_transport.specs.declared.fault.Pass.TheVariants.{Idle, Stalled, Cl
 use Rattle.ob_transport.specs.declared.fault.PassFault.{PassFault}
 use Rattle.ob_transport.specs.declared.fault.PassFault.TheVariants.{Sink, HistoryFull, NoMemory, Unbooked}
 use Rattle.ob_transport.specs.declared.limits.Limits.{Limits}
+use Rattle.ob_transport.proofs.Sent.{no_bytes_sent, no_units_sent}
 use Rattle.ob_pool.specs.Counts.{failings_of, is_failing}
 
 -- one more call of a command that is no failing
@@ -155,3 +158,21 @@ called (Ok given) before after caller command goes stays =
     (failing_once before caller command)
 called (Err fault) before after caller command goes stays =
     subst (λ (other : History). failings_of other.records ≤ failings_of before.records + 1) (sym stays) (omega arith)
+
+-- a call that fails what is flushed sends nothing
+pub failing_alike : (before between after : History) (sink now : Content) (caller : ℕ) (cause : Cause) (notify : Bool) →
+    GrowAlike (standing before sink) (standing between now) →
+    after ≡ history_after between caller (FailFlushed cause notify) →
+    GrowAlike (standing before sink) (standing after now)
+failing_alike before between after sink now caller cause notify alike is = record {
+  bytes = (
+    alike.bytes.0,
+    alike.bytes.1,
+    ap sent_bytes_in is ∙ no_bytes_sent between caller (FailFlushed cause notify) refl ∙ alike.bytes.2,
+  );
+  units = (
+    alike.units.0,
+    alike.units.1,
+    ap sent_units_in is ∙ no_units_sent between caller (FailFlushed cause notify) refl ∙ alike.units.2,
+  );
+}

@@ -8,35 +8,36 @@ use Rattle.std.proofs.lemmas.List.FromFn.{map-range_with_len_more}
 use Rattle.std.proofs.lemmas.List.Sums.{sum_by-cons, sum_by_push}
 use Rattle.ob_types.specs.declared.command.Command.{Command}
 use Rattle.ob_types.specs.declared.estimate.Estimate.{Estimate}
-use Rattle.ob_pool.specs.Errand.{Deed, Errand, IsRoomy, asked, deeds_from, room_for}
+use Rattle.ob_pool.specs.Errand.{Deed, Errand, IsNumbered, IsRoomy, asked, deeds_from, room_for}
 use Rattle.ob_pool.specs.HandOff.{room_of, rooms_of}
-use Rattle.ob_shared.specs.Maker.{Maker, new_maker, new_makers}
+use Rattle.ob_shared.specs.Maker.{Maker, new_maker}
+use Rattle.ob_shared.specs.Share.{ShareValue, new_share, new_shares}
 
 -- new shares without the last are those of the writers, and the last is the next caller's
-pub last_maker : (writers callers : ℕ) (shares first : List Maker) (last : Maker) → shares ≡ new_makers callers →
-    callers ≡ writers + 1 → shares ≡ first ++ last ∷ [] → (first ≡ new_makers writers) × (last ≡ new_maker writers)
-last_maker writers callers shares first last new one_more split =
+pub last_share : (writers callers : ℕ) (shares first : List ShareValue) (last : ShareValue) → shares ≡ new_shares callers →
+    callers ≡ writers + 1 → shares ≡ first ++ last ∷ [] → (first ≡ new_shares writers) × (last ≡ new_share writers)
+last_share writers callers shares first last new one_more split =
     let same : 0 + writers ≡ writers = omega arith in
-    same_from_push first (new_makers writers) last (new_maker writers)
-    (sym split ∙ new ∙ ap new_makers one_more ∙ map-range_with_len_more new_maker 0 writers writers same)
+    same_from_push first (new_shares writers) last (new_share writers)
+    (sym split ∙ new ∙ ap new_shares one_more ∙ map-range_with_len_more new_share 0 writers writers same)
 
 -- the next share is the next caller's, and those behind it are of the callers behind that
-pub next_share : (next after : ℕ) (shares rest : List Maker) (share : Maker) (plan : List Command)
+pub next_share : (next after : ℕ) (shares rest : List ShareValue) (share : ShareValue) (plan : List Command)
     (plans more : List (List Command)) →
-    shares ≡ map new_maker (range_with_len next (length plans)) → plans ≡ plan ∷ more → shares ≡ share ∷ rest →
+    shares ≡ map new_share (range_with_len next (length plans)) → plans ≡ plan ∷ more → shares ≡ share ∷ rest →
     after ≡ next + 1 →
-    (share ≡ new_maker next) × (rest ≡ map new_maker (range_with_len after (length more)))
+    (share ≡ new_share next) × (rest ≡ map new_share (range_with_len after (length more)))
 next_share next after shares rest share plan plans more are begin split one_more =
-    let whole = sym split ∙ are ∙ ap (λ others. map new_maker (range_with_len next (length others))) begin in (
-      first_of share (new_maker next) rest _ whole,
-      rest_of share (new_maker next) rest _ whole
-          ∙ ap (λ caller. map new_maker (range_with_len caller (length more))) (sym one_more),
+    let whole = sym split ∙ are ∙ ap (λ others. map new_share (range_with_len next (length others))) begin in (
+      first_of share (new_share next) rest _ whole,
+      rest_of share (new_share next) rest _ whole
+          ∙ ap (λ caller. map new_share (range_with_len caller (length more))) (sym one_more),
     )
   where
-    first_of : (x y : Maker) (xs ys : List Maker) → x ∷ xs ≡ y ∷ ys → x ≡ y
+    first_of : (x y : ShareValue) (xs ys : List ShareValue) → x ∷ xs ≡ y ∷ ys → x ≡ y
     first_of x y xs ys same = cc
 
-    rest_of : (x y : Maker) (xs ys : List Maker) → x ∷ xs ≡ y ∷ ys → xs ≡ ys
+    rest_of : (x y : ShareValue) (xs ys : List ShareValue) → x ∷ xs ≡ y ∷ ys → xs ≡ ys
     rest_of x y xs ys same = cc
 
 -- a caller, how many records it has made, and commands
@@ -84,3 +85,32 @@ roomy_more estimate task errands all errand roomy room pushed =
     subst (All (IsRoomy estimate task)) (sym pushed)
     (All-append (IsRoomy estimate task) errands (errand ∷ []) roomy
     (All-cons (IsRoomy estimate task) errand [] (omega (arith, room)) (All-nil (IsRoomy estimate task))))
+
+-- errands whose deeds are numbered from 0 on are each of one of as many writers as there are plans
+pub all_numbered : (errands : List Errand) (plans : List (List Command)) → map asked errands ≡ deeds_from 0 plans →
+    All (IsNumbered (length plans)) errands
+all_numbered errands plans same =
+    let many : 0 + length plans ≡ length plans = omega arith in
+    subst (λ count. All (IsNumbered count) errands) many (numbered_from 0 errands plans same)
+  where
+    its_caller : (errand : Errand) (errands : List Errand) (one : Deed) (deeds : List Deed) →
+        map asked (errand ∷ errands) ≡ one ∷ deeds → errand.maker.caller ≡ one.caller
+    its_caller errand errands one deeds same =
+        let first : asked errand ≡ one = cc in ap (λ (deed : Deed). deed.caller) first
+
+    others_asked : (errand : Errand) (errands : List Errand) (one : Deed) (deeds : List Deed) →
+        map asked (errand ∷ errands) ≡ one ∷ deeds → map asked errands ≡ deeds
+    others_asked errand errands one deeds same = cc
+
+    numbered_from : (caller : ℕ) (errands : List Errand) (plans : List (List Command)) →
+        map asked errands ≡ deeds_from caller plans → All (IsNumbered (caller + length plans)) errands
+    numbered_from caller [] plans same = All-nil (IsNumbered (caller + length plans))
+    numbered_from caller (errand ∷ errands) [] same = absurd (cc)
+    numbered_from caller (errand ∷ errands) (plan ∷ plans) same =
+        let first = deed caller (length plan) plan in
+        let its : errand.maker.caller ≡ caller = its_caller errand errands first (deeds_from (suc caller) plans) same in
+        let later = numbered_from (suc caller) errands plans
+        (others_asked errand errands first (deeds_from (suc caller) plans) same) in
+        let many : suc caller + length plans ≡ caller + length (plan ∷ plans) = omega arith in
+        All-cons (IsNumbered (caller + length (plan ∷ plans))) errand errands (omega (arith, its))
+        (subst (λ count. All (IsNumbered count) errands) many later)

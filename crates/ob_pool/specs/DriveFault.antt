@@ -1,5 +1,5 @@
 -- The faults of a drive by their numbers.
-use Rattle.std.specs.Prelude.{◌≡◌, ℕ}
+use Rattle.std.specs.Prelude.{◌≡◌, ◌<◌, ℕ}
 use Rattle.ob_types.specs.declared.refusal.Refusal.TheVariants.{HistoryFull}
 use Rattle.ob_pool.specs.declared.fault.DriveFault.{DriveFault}
 use Rattle.ob_pool.specs.declared.fault.DriveFault.TheVariants.{BadCount, BadPlan, TooMuchRoom, NoMemory, Stuck}
@@ -16,13 +16,25 @@ number_of (Refused writer refusal) = 6
 number_of (Transport fault) = 7
 number_of (Finish fault) = 8
 
--- a fault comes of the work of a drive, and not of its plans; where a writer was refused, the history was full
-abbrev pub ComesOfWork : DriveFault → Type 0
-ComesOfWork BadCount = ⊥
-ComesOfWork (BadPlan writer step) = ⊥
-ComesOfWork TooMuchRoom = ⊥
-ComesOfWork NoMemory = Unit {0}
-ComesOfWork (Stuck writer) = Unit {0}
-ComesOfWork (Refused writer refusal) = refusal ≡ HistoryFull
-ComesOfWork (Transport fault) = Unit {0}
-ComesOfWork (Finish fault) = Unit {0}
+-- if a fault names a writer, it names one of so many, who are numbered from 0 on
+abbrev pub NamesOneOf : ℕ → DriveFault → Type 0
+NamesOneOf writers BadCount = Unit {0}
+NamesOneOf writers (BadPlan writer step) = writer < writers
+NamesOneOf writers TooMuchRoom = Unit {0}
+NamesOneOf writers NoMemory = Unit {0}
+NamesOneOf writers (Stuck writer) = writer < writers
+NamesOneOf writers (Refused writer refusal) = writer < writers
+NamesOneOf writers (Transport fault) = Unit {0}
+NamesOneOf writers (Finish fault) = Unit {0}
+
+-- a fault comes of the work of so many writers, and not of their plans: it names none but one of them, and if a writer
+-- was refused, the history was full
+abbrev pub ComesOfWork : ℕ → DriveFault → Type 0
+ComesOfWork writers BadCount = ⊥
+ComesOfWork writers (BadPlan writer step) = ⊥
+ComesOfWork writers TooMuchRoom = ⊥
+ComesOfWork writers NoMemory = Unit {0}
+ComesOfWork writers (Stuck writer) = writer < writers
+ComesOfWork writers (Refused writer refusal) = (refusal ≡ HistoryFull) × (writer < writers)
+ComesOfWork writers (Transport fault) = Unit {0}
+ComesOfWork writers (Finish fault) = Unit {0}

@@ -1,5 +1,5 @@
 -- What one writer is to do, and what it has done. No public clause cites this module.
-use Rattle.std.specs.Prelude.{◌≡◌, ◌+◌, ◌≤◌, ℕ, suc, List, [], ◌∷◌, length, map, sum_by, Result, IfErr, IfOk, Vec}
+use Rattle.std.specs.Prelude.{◌≡◌, ◌+◌, ◌<◌, ◌≤◌, ℕ, suc, List, [], ◌∷◌, length, map, sum_by, Result, IfErr, IfOk, Vec}
 use Rattle.std.specs.List.{All}
 use Rattle.ob_types.specs.declared.command.Command.{Command}
 use Rattle.ob_types.specs.declared.estimate.Estimate.{Estimate}
@@ -7,6 +7,7 @@ use Rattle.ob_history.specs.declared.receipt.Receipt.{Receipt}
 use Rattle.ob_lanes.specs.RunningLane.{RunningLane, WordsValue}
 use Rattle.ob_shared.specs.Handed.{Handed}
 use Rattle.ob_shared.specs.Maker.{Maker, one_more}
+use Rattle.ob_shared.specs.Share.{ShareValue}
 use Rattle.ob_pool.specs.DriveFault.{ComesOfWork}
 use Rattle.ob_pool.specs.HandOff.{room_of}
 use Rattle.ob_pool.specs.declared.fault.DriveFault.{DriveFault}
@@ -53,6 +54,10 @@ room_for errands = sum_by (λ errand. errand.room) errands
 abbrev pub IsRoomy : Estimate → ℕ → Errand → Type 0
 IsRoomy estimate task errand = room_of estimate task errand.plan ≤ errand.room
 
+-- an errand is that of one of so many writers, who are numbered from 0 on
+abbrev pub IsNumbered : ℕ → Errand → Type 0
+IsNumbered writers errand = errand.maker.caller < writers
+
 -- those who hand in have done what was asked of these errands, in order
 abbrev pub AreDone : List Errand → List Handed → Type 0
 AreDone errands handed = map done_by handed ≡ map asked errands
@@ -62,23 +67,26 @@ pub record IsBack (lane back : RunningLane) : Type 0 where
   pub words : back.words ≡ lane.words
   pub room : back.lane.room ≡ lane.lane.room
 
--- one call of a maker answers with the maker of one record more, and with a receipt of its command
-pub record IsOneCall (maker : Maker) (asked : Command) (answer : Maker × Receipt) : Type 0 where
-  pub made : answer.0 ≡ one_more maker
+-- one call with a share answers with a share of which one record more was made, and with a receipt of its command
+pub record IsOneCall (share : ShareValue) (asked : Command) (answer : ShareValue × Receipt) : Type 0 where
+  pub made : answer.0.maker ≡ one_more share.maker
   pub command : answer.1.command ≡ asked
 
--- errands may begin: their lane steps on these words and has room for all of them together, and each has room for its
--- plan
-pub record MayBegin (used : WordsValue) (estimate : Estimate) (task : ℕ) (lane : RunningLane) (errands : List Errand)
+-- errands of so many writers may begin: their lane steps on these words and has room for all of them together, and
+-- each has room for its plan
+pub record MayBegin (used : WordsValue) (estimate : Estimate) (task writers : ℕ) (lane : RunningLane)
+    (errands : List Errand)
     : Type 0 where
   pub words : lane.words ≡ used
   pub roomy : All (IsRoomy estimate task) errands
+  pub numbered : All (IsNumbered writers) errands
   pub room : room_for errands ≤ lane.lane.room
   pub whole : lane.lane.room ≤ lane.words.opening.room
 
--- errands have been worked on: their lane is back, and they are done, or a fault of the work ended them
-pub record HaveWorked {Z : Type 0} (errands : List Errand) (lane back : RunningLane)
+-- errands of so many writers have been worked on: their lane is back, and they are done, or a fault of the work ended
+-- them
+pub record HaveWorked {Z : Type 0} (writers : ℕ) (errands : List Errand) (lane back : RunningLane)
     (handed : Result (Vec Handed Z) DriveFault) : Type 0 where
   pub lane_back : IsBack lane back
   pub done : IfOk handed (λ dones. AreDone errands dones.items)
-  pub fault : IfErr handed ComesOfWork
+  pub fault : IfErr handed (ComesOfWork writers)

@@ -1,5 +1,6 @@
 -- What a transport keeps of its calls. No public clause cites this module.
 use Rattle.std.specs.Prelude.{◌≡◌, ◌+◌, ◌≤◌, ℕ, Bool, List, [], ◌++◌, count_by, length, map}
+use Rattle.ob_seq.specs.Settings.{Settings}
 use Rattle.ob_history.specs.History.{History}
 use Rattle.ob_history.specs.Receipt.{receipt_of}
 use Rattle.ob_history.specs.declared.receipt.Receipt.{Receipt}
@@ -10,6 +11,7 @@ use Rattle.ob_shared.specs.Maker.{Maker}
 use Rattle.ob_transport.specs.Content.{Content}
 use Rattle.ob_pool.specs.Counts.{is_failing}
 use Rattle.ob_pool.specs.Errand.{commands_in}
+use Rattle.ob_pool.specs.Sending.{HasTakenOf}
 
 -- the records, the number of its own records and the receipts with which a keeper began
 pub record Beginning : Type 0 where
@@ -44,8 +46,9 @@ abbrev pub failings_in : List Receipt → ℕ
 failings_in receipts = count_by is_failing (commands_in receipts)
 
 -- a transport hands in that it has carried on from a maker: a receipt of each record that it made since, which fail
--- what is flushed no more often than the sink failed meanwhile
-pub record IsCarried (maker : Maker) (before after : Content) (done : Handed) : Type 0 where
+-- what is flushed no more often than the sink failed meanwhile, and send just what the sink took
+pub record IsCarried (settings : Settings) (maker : Maker) (before after : Content) (done : Handed) : Type 0 where
   pub caller : done.maker.caller ≡ maker.caller
   pub made : done.maker.made ≡ maker.made + length done.receipts
   pub failings : failings_in done.receipts + before.failures ≤ after.failures
+  pub taken : HasTakenOf settings done.sight.seen done.receipts before after

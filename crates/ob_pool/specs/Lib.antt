@@ -11,3 +11,4 @@ pub mod Keeping
 pub mod Kind
 pub mod Plan
 pub mod PlansFault
+pub mod Sending

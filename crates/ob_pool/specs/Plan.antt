@@ -3,7 +3,7 @@ use Rattle.std.specs.Prelude.{ℕ, Bool, not, List, position, Option}
 use Rattle.ob_types.specs.Traits.{traits_of}
 use Rattle.ob_types.specs.declared.command.Command.{Command}
 
--- whether a command may stand in a plan: a write, a flush, a cancellation or a user bit
+-- whether a command may stand in a plan: a write, a flush, a cancellation, a user bit, or marks that are set
 abbrev pub is_planned : Command → Bool
 is_planned command = (traits_of command).planned
 

@@ -13,6 +13,8 @@ pub struct Bench<L: Named> {
     pub estimate: Estimate,
     /// The bytes that a hand-off adds to the estimate of a message.
     pub task: u32,
+    /// How many writers there are.
+    pub writers: u32,
     /// Whether all writers have ended.
     pub ended: AtomicBool,
 }

@@ -8,7 +8,8 @@ pub const TASK_OVERHEAD: u32 = 32;
 /// What a drive is given beside its plans and its sink.
 #[derive(Clone, Copy, Debug, PartialEq, Eq)]
 pub struct Config {
-    /// The water marks, in bytes: of the buffer, and of the bytes that are handed off.
+    /// The water marks, in bytes: those that the buffer is opened with, and those of the bytes that are handed off. A
+    /// plan that sets marks sets the buffer's alone: what is handed off goes by these for the whole drive.
     pub marks: WaterMark,
     /// How messages are counted. Each of its two numbers is at most 65535 bytes.
     pub estimate: Estimate,

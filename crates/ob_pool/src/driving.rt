@@ -7,13 +7,15 @@ ghost use Rattle.std.specs.Thread.{IsSync};
 ghost use Rattle.ob_core.specs.Limits.{greatest_room};
 ghost use Rattle.ob_types.specs.declared.refusal.Refusal.{Refusal};
 ghost use Rattle.ob_types.specs.declared.refusal.Refusal.TheVariants.{HistoryFull};
+ghost use Rattle.ob_history.specs.Beginning.{IsBeginning};
 ghost use Rattle.ob_shared.specs.Finished.{HandsInAll};
 ghost use Rattle.ob_shared.specs.Handed.{made_by};
-ghost use Rattle.ob_shared.specs.Maker.{new_maker, new_makers};
+ghost use Rattle.ob_shared.specs.Share.{new_share, new_shares};
 ghost use Rattle.ob_shared.specs.Opened.{IsAsOpened, IsNameOf};
+ghost use Rattle.ob_transport.specs.Taken.{HasTaken};
 ghost use Rattle.ob_pool.specs.Config.{AreWithin, first_history};
 ghost use Rattle.ob_pool.specs.Counts.{failings_of};
-ghost use Rattle.ob_pool.specs.DriveFault.{ComesOfWork, number_of};
+ghost use Rattle.ob_pool.specs.DriveFault.{ComesOfWork, NamesOneOf, number_of};
 ghost use Rattle.ob_pool.specs.Driven.{TellsOf};
 ghost use Rattle.ob_pool.specs.Errand.{HaveWorked, IsRoomy, MayBegin, asked, deeds_from, room_for};
 ghost use Rattle.ob_pool.specs.HandOff.{rooms_of};
@@ -54,12 +56,12 @@ use std::time::Clock;
 /// that is flushed, for the fault's number, and goes on. It ends when all writers have ended and nothing is flushed or
 /// the sink takes nothing, or after `turns` passes. With nothing to do while a writer runs it sleeps a millisecond.
 ///
-/// `BadCount` comes where there is no plan, or more than 64; then `BadPlan` names the first step that is no write,
-/// flush, cancellation or user bit; then `TooMuchRoom` comes where the greatest charges of all plans add up to more
-/// than 4294967295 bytes. These three come before a thread starts. `NoMemory` comes where the allocator refused, or a
-/// block has more owners than can be counted; `Stuck` where the gate held a writer too long; `Refused` where the
-/// history was full; `Transport` where a pass came to no end; `Finish` where the buffer could not be finished. The
-/// least writer's fault comes first, and writers' before the transport's. What the sink took before a fault stands.
+/// `BadCount` comes if there is no plan, or more than 64; then `BadPlan` names the first step that is no write, flush,
+/// cancellation, user bit or change of the marks; then `TooMuchRoom` comes if the greatest charges of all plans add up
+/// to more than 4294967295 bytes. These three come before a thread starts. `NoMemory` comes if the allocator refused, or
+/// a block has more owners than can be counted; `Stuck` if the gate held a writer too long; `Refused` if the history
+/// was full; `Transport` if a pass came to no end; `Finish` if the buffer could not be finished. The least writer's
+/// fault comes first, and writers' before the transport's. What the sink took before a fault stands.
 pub fn drive<R: Threads + Wait + Clock + Sync, G: Gate + Sync, S: Sink + Send>(
     rt: &R,
     alloc: Global,
@@ -74,11 +76,15 @@ pub fn drive<R: Threads + Wait + Clock + Sync, G: Gate + Sync, S: Sink + Send>(
         → IfErr result (λ fault. 3 < number_of fault) }
     ensures full { (writer : ℕ) (refusal : Refusal) → IsErrOf result (Refused writer refusal)
         → refusal ≡ HistoryFull }
+    ensures writers { IfErr result (NamesOneOf (length plans.items)) }
 
     // The report tells of the plans, and no record fails what is flushed unless the sink failed.
     ensures report { IfOk result (TellsOf (first_history config) plans.items) }
     ensures failings { IfOk result (λ report.
         failings_of report.recorded.records + (S.content sink.old).failures ≤ (S.content sink.new).failures) }
+    // What the sink took is what the history sends.
+    ensures taken { IfOk result (λ report.
+        HasTaken report.recorded (S.content sink.old) (S.content sink.new)) }
 {
     if let Some(fault) = plans_fault(config.estimate, config.task, &plans) {
         return Err(fault);
@@ -106,10 +112,12 @@ fn driven<L: Named + Send + Sync, R: Threads + Wait + Clock + Sync, G: Gate + Sy
     requires settings { opening.settings ≡ (first_history config).settings }
     requires limit { opening.limit ≡ config.limit }
     requires callers { opening.callers ≡ length plans.items + 1 }
-    ensures planned { IfErr result ComesOfWork }
+    ensures planned { IfErr result (ComesOfWork (length plans.items)) }
     ensures report { IfOk result (TellsOf (first_history config) plans.items) }
     ensures failings { IfOk result (λ report.
         failings_of report.recorded.records + (S.content sink.old).failures ≤ (S.content sink.new).failures) }
+    ensures taken { IfOk result (λ report.
+        HasTaken report.recorded (S.content sink.old) (S.content sink.new)) }
 {
     let count = plans.len() as u32;
     let Some(room) = rooms_of(config.estimate, config.task, &plans) else {
@@ -125,10 +133,11 @@ fn driven<L: Named + Send + Sync, R: Threads + Wait + Clock + Sync, G: Gate + Sy
         words,
         estimate: config.estimate,
         task: config.task,
+        writers: count,
         ended: AtomicBool::new(false),
     };
     let ((lane, dones), carried) = run(rt, gate, &bench, lane, writers, share, sink, config);
-    reported(bench, lane, dones?, carried?, count)
+    reported(bench, lane, dones?, carried?)
 }
 
 /// The shared buffer of an opening, each plan with a share of it, and the share that is left for the transport.
@@ -146,7 +155,7 @@ fn begun<L: Named>(
     ensures asked { IfOk result (λ begun. map asked begun.1.items ≡ deeds_from 0 plans.items) }
     ensures roomy { IfOk result (λ begun. All (IsRoomy estimate task) begun.1.items) }
     ensures room { IfOk result (λ begun. room_for begun.1.items ≡ rooms_of estimate task plans.items) }
-    ensures share { IfOk result (λ begun. begun.2 ≡ new_maker (length plans.items)) }
+    ensures share { IfOk result (λ begun. begun.2 ≡ new_share (length plans.items)) }
 {
     let Ok((shared, mut shares)) = opening.begin::<L>() else {
         return Err(DriveFault::NoMemory);
@@ -166,7 +175,7 @@ fn writers_of<L: Named>(
     plans: Vec<Plan>,
     shares: Vec<Share<L>>,
 ) -> Result<Vec<Writer<L>>, DriveFault>
-    requires shares { shares.items ≡ new_makers (length plans.items) }
+    requires shares { shares.items ≡ new_shares (length plans.items) }
     requires fits { rooms_of estimate task plans.items ≤ greatest_room }
     ensures no_memory { IsOkUnless result DriveFault.NoMemory }
     ensures asked { IfOk result (λ writers. map asked writers.items ≡ deeds_from 0 plans.items) }
@@ -199,12 +208,12 @@ fn run<L: Named + Send + Sync, R: Threads + Wait + Clock + Sync, G: Gate + Sync,
     sink: &mut S,
     config: Config,
 ) -> (Worked<L>, Result<Done<L>, DriveFault>)
-    requires ready { MayBegin bench.now.words bench.now.estimate bench.now.task lane writers.items }
+    requires ready { MayBegin bench.now.words bench.now.estimate bench.now.task bench.now.writers lane writers.items }
     requires some_block { 1 ≤ config.limits.max_count }
     requires some_byte { 1 ≤ config.limits.max_bytes }
-    ensures writers { HaveWorked writers.items lane result.0.0 result.0.1 }
-    ensures carried { IfOk result.1 (IsCarried share (S.content sink.old) (S.content sink.new)) }
-    ensures transport { IfErr result.1 ComesOfWork }
+    ensures writers { HaveWorked bench.now.writers writers.items lane result.0.0 result.0.1 }
+    ensures carried { IfOk result.1 (IsCarried L.opened.settings share.maker (S.content sink.old) (S.content sink.new)) }
+    ensures transport { IfErr result.1 (ComesOfWork 0) }
 {
     let mut start = Some((lane, writers));
     let mut side = Side {
@@ -214,8 +223,8 @@ fn run<L: Named + Send + Sync, R: Threads + Wait + Clock + Sync, G: Gate + Sync,
     let mut work = move || -> Worked<L>
         requires row { IsSync R.row }
         requires ready { IsSomeAnd start (λ s.
-            MayBegin bench.now.words bench.now.estimate bench.now.task s.0 s.1.items) }
-        ensures { IfSome start.entry (λ s. HaveWorked s.1.items s.0 result.0 result.1) }
+            MayBegin bench.now.words bench.now.estimate bench.now.task bench.now.writers s.0 s.1.items) }
+        ensures { IfSome start.entry (λ s. HaveWorked bench.entry.now.writers s.1.items s.0 result.0 result.1) }
     { work(rt, gate, bench, start.take()) };
     let mut carry = || carry(rt, config, &mut side, sink);
     let (carried, worked) = join_mut(rt, &mut carry, &mut work);
@@ -240,8 +249,8 @@ fn carry<L: Named, R: Wait + Clock, S: Sink>(
     requires some_block { 1 ≤ config.limits.max_count }
     requires some_byte { 1 ≤ config.limits.max_bytes }
     ensures carried { IfSome side.old.share (λ share.
-        IfOk result (IsCarried share (S.content sink.old) (S.content sink.new))) }
-    ensures fault { IfErr result ComesOfWork }
+        IfOk result (IsCarried L.opened.settings share.maker (S.content sink.old) (S.content sink.new))) }
+    ensures fault { IfErr result (ComesOfWork 0) }
 {
     let Some(share) = side.share.take() else {
         unreachable!()
@@ -266,8 +275,8 @@ fn work<L: Named + Send + Sync, R: Threads + Wait + Clock + Sync, G: Gate + Sync
     start: Option<(Lane, Vec<Writer<L>>)>,
 ) -> Worked<L>
     requires { IsSomeAnd start (λ s.
-        MayBegin bench.now.words bench.now.estimate bench.now.task s.0 s.1.items) }
-    ensures { IfSome start (λ s. HaveWorked s.1.items s.0 result.0 result.1) }
+        MayBegin bench.now.words bench.now.estimate bench.now.task bench.now.writers s.0 s.1.items) }
+    ensures { IfSome start (λ s. HaveWorked bench.now.writers s.1.items s.0 result.0 result.1) }
 {
     let Some((lane, writers)) = start else {
         unreachable!()
@@ -277,22 +286,26 @@ fn work<L: Named + Send + Sync, R: Threads + Wait + Clock + Sync, G: Gate + Sync
     worked
 }
 
-/// The report of a drive whose threads have ended: so many writers, with what they and the transport hand in.
+/// The report of a drive whose threads have ended, with what its writers and its transport hand in.
 fn reported<L: Named>(
     bench: Bench<L>,
     lane: Lane,
     dones: Vec<Done<L>>,
     done: Done<L>,
-    writers: u32,
 ) -> Result<Report, DriveFault>
     requires words { lane.words ≡ bench.words }
     requires whole { bench.words.opening.room ≤ lane.lane.room }
     requires no_bit { bench.words.opening.bits ≡ 0 }
-    ensures fault { IfErr result ComesOfWork }
+    ensures fault { IfErr result (ComesOfWork 0) }
     ensures ended { IfOk result
-        (TellsEnd L.opened bench.words.opening.marks writers (dones.items ++ done ∷ [])) }
+        (TellsEnd L.opened bench.words.opening.marks bench.writers (dones.items ++ done ∷ [])) }
 {
-    let Bench { shared, words, .. } = bench;
+    let Bench {
+        shared,
+        words,
+        writers,
+        ..
+    } = bench;
     let recorded = finished(shared, dones, done)?;
     let Ok(hand) = lane.finish(words) else {
         unreachable!()
@@ -306,10 +319,12 @@ fn finished<L: Named>(
     mut dones: Vec<Done<L>>,
     done: Done<L>,
 ) -> Result<Recorded, DriveFault>
-    ensures fault { IfErr result ComesOfWork }
+    ensures fault { IfErr result (ComesOfWork 0) }
     ensures opened { IfOk result (λ recorded. IsAsOpened L.opened recorded) }
     ensures own { IfOk result (λ recorded. All (HandsInAll recorded.records) (dones.items ++ done ∷ [])) }
     ensures counted { IfOk result (λ recorded. length recorded.records ≡ made_by (dones.items ++ done ∷ [])) }
+    ensures saw { IfOk result (λ recorded.
+        All (λ one. IsBeginning one.sight.seen recorded.records) (dones.items ++ done ∷ [])) }
 {
     if dones.push(done).is_err() {
         return Err(DriveFault::NoMemory);

@@ -12,7 +12,7 @@ pub enum DriveFault {
     /// There is no plan, or there are more than 64.
     #[error("a drive has 1 to 64 plans")]
     BadCount,
-    /// The first step of a plan whose command is no write, flush, cancellation or user bit.
+    /// The first step of a plan whose command is no write, flush, cancellation or user bit, and sets no marks.
     #[error("step {step} of writer {writer} may not stand in a plan")]
     BadPlan { writer: u32, step: usize },
     /// The greatest charges of all plans add up to more than 4294967295 bytes.

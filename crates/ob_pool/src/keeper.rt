@@ -6,6 +6,8 @@ ghost use Rattle.ob_history.specs.Accepted.{accepted_commands};
 ghost use Rattle.ob_history.specs.Call.{IsCovered, call_answer, history_after, is_full};
 ghost use Rattle.ob_history.specs.History.{IsBounded, LacksPlaces, with_reserved};
 ghost use Rattle.ob_history.specs.Legal.{IsLegal};
+ghost use Rattle.ob_shared.specs.Opened.{IsAsOpened};
+ghost use Rattle.ob_shared.specs.Share.{share_after};
 ghost use Rattle.ob_pool.specs.Keeping.{KeptSince, history_kept};
 
 use ob_history::{Booked, Receipt};
@@ -75,7 +77,8 @@ impl<'b, L: Named, K: Begun> Keeper<'b, L, K> {
 
     /// Leaves the desk, and gives the receipts back, or nothing where one was lost.
     pub fn leave(self) -> (Share<L>, Option<Vec<Receipt>>)
-        ensures share { result.0 ≡ self.entry.held.maker }
+        ensures share { result.0 ≡ share_after self.entry.held.maker self.entry.held.history.records }
+        ensures opened { IsAsOpened L.opened self.entry.held.history }
         ensures kept { IfSome result.1 (λ receipts. KeptSince K.beginning self.entry.held receipts.items) }
     {
         let Keeper {

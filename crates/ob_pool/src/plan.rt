@@ -1,8 +1,8 @@
 use ob_types::Command;
 use std::marker::Model;
 
-/// What one writer is to do: writes, flushes, cancellations and user bits, in this order. Contracts see it as the list
-/// of its commands.
+/// What one writer is to do, in this order: writes, flushes, cancellations, user bits, and marks that are set. Contracts
+/// see it as the list of its commands.
 #[derive(Debug, Drop)]
 pub struct Plan {
     /// The commands, each of them a step.

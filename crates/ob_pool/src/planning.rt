@@ -2,7 +2,7 @@
 
 ghost use Rattle.std.specs.Prelude.{◌≡◌, ◌<◌, ◌≤◌, length, IfSome, IsNone};
 ghost use Rattle.ob_core.specs.Limits.{greatest_room, most_lanes};
-ghost use Rattle.ob_pool.specs.DriveFault.{number_of};
+ghost use Rattle.ob_pool.specs.DriveFault.{NamesOneOf, number_of};
 ghost use Rattle.ob_pool.specs.HandOff.{charge_for, charge_of, room_of, rooms_of};
 ghost use Rattle.ob_pool.specs.Plan.{bad_step, is_planned};
 ghost use Rattle.ob_pool.specs.PlansFault.{bad_plan_from, plans_fault};
@@ -54,7 +54,11 @@ fn is_planned(command: &Command) -> bool
 {
     matches!(
         command,
-        Command::Write(_) | Command::Flush | Command::Cancel(_) | Command::UserBit(..)
+        Command::Write(_)
+            | Command::Flush
+            | Command::Cancel(_)
+            | Command::UserBit(..)
+            | Command::SetMarks(_)
     )
 }
 
@@ -72,6 +76,7 @@ fn bad_plan(plans: &[Plan]) -> Option<DriveFault>
     requires { length plans.now ≤ most_lanes }
     ensures value { result ≡ bad_plan_from 0 plans.now }
     ensures early { IfSome result (λ fault. number_of fault ≤ 3) }
+    ensures named { IfSome result (NamesOneOf (length plans.now)) }
 {
     let mut writer = 0;
     for plan in plans {
@@ -100,6 +105,7 @@ pub fn rooms_of(estimate: Estimate, task: u32, plans: &[Plan]) -> Option<u32>
 pub fn plans_fault(estimate: Estimate, task: u32, plans: &[Plan]) -> Option<DriveFault>
     ensures value { result ≡ plans_fault estimate task plans.now }
     ensures early { IfSome result (λ fault. number_of fault ≤ 3) }
+    ensures named { IfSome result (NamesOneOf (length plans.now)) }
 {
     if plans.is_empty() || plans.len() > MOST_WRITERS {
         return Some(DriveFault::BadCount);

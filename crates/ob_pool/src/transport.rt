@@ -1,9 +1,14 @@
 //! The transport, which takes the desk for one pass at a time.
 
 ghost use Rattle.std.specs.Prelude.{◌≡◌, ◌+◌, ◌≤◌, length, IfErr, IfOk, IfSome};
+ghost use Rattle.ob_shared.specs.Opened.{IsAsOpened};
+ghost use Rattle.ob_transport.specs.Content.{Content};
+ghost use Rattle.ob_transport.specs.GrowAlike.{GrowAlike};
+ghost use Rattle.ob_transport.specs.Standing.{standing};
 ghost use Rattle.ob_pool.specs.Counts.{failings_of};
 ghost use Rattle.ob_pool.specs.DriveFault.{ComesOfWork};
 ghost use Rattle.ob_pool.specs.Keeping.{IsCarried, failings_in};
+ghost use Rattle.ob_pool.specs.Sending.{HasTakenOf};
 
 use crate::config::Config;
 use crate::fault::DriveFault;
@@ -44,8 +49,9 @@ pub fn transport<L: Named, S: Sink, R: Wait + Clock>(
 ) -> Result<Done<L>, DriveFault>
     requires some_block { 1 ≤ config.limits.max_count }
     requires some_byte { 1 ≤ config.limits.max_bytes }
-    ensures carried { IfOk result (IsCarried share (S.content sink.old) (S.content sink.new)) }
-    ensures fault { IfErr result ComesOfWork }
+    ensures carried { IfOk result
+        (IsCarried L.opened.settings share.maker (S.content sink.old) (S.content sink.new)) }
+    ensures fault { IfErr result (ComesOfWork 0) }
 {
     let mut share = share;
     let mut receipts = Vec::new(alloc);
@@ -83,14 +89,18 @@ fn one_pass<L: Named, K: Begun, S: Sink>(
     requires records { K.beginning.records ≡ desk.history.records }
     requires begun_made { K.beginning.made ≡ desk.maker.made }
     requires begun_receipts { K.beginning.receipts ≡ receipts.items }
+    requires opened { IsAsOpened L.opened desk.history }
     requires some_block { 1 ≤ limits.max_count }
     requires some_byte { 1 ≤ limits.max_bytes }
-    ensures caller { result.0.caller ≡ desk.entry.maker.caller }
+    ensures caller { result.0.maker.caller ≡ desk.entry.maker.caller }
     ensures made { IfSome result.1 (λ kept.
-        result.0.made + length receipts.items ≡ desk.entry.maker.made + length kept.items) }
+        result.0.maker.made + length receipts.items ≡ desk.entry.maker.made + length kept.items) }
+    ensures taken { IfOk result.2 (λ next. IfSome result.1 (λ kept. (start : Content) →
+        HasTakenOf L.opened.settings desk.entry.history.records receipts.items start (S.content sink.old)
+        → HasTakenOf L.opened.settings result.0.sight.seen kept.items start (S.content sink.new))) }
     ensures failings { IfSome result.1 (λ kept. failings_in kept.items + (S.content sink.old).failures
         ≤ failings_in receipts.items + (S.content sink.new).failures) }
-    ensures fault { IfErr result.2 ComesOfWork }
+    ensures fault { IfErr result.2 (ComesOfWork 0) }
 {
     let mut keeper = Keeper::<L, K>::new(desk, receipts);
     let end = pass_or_fail(&mut keeper, sink, limits);
@@ -107,9 +117,12 @@ fn pass_or_fail<B: Booked, S: Sink>(
     requires some_block { 1 ≤ limits.max_count }
     requires some_byte { 1 ≤ limits.max_bytes }
     ensures caller { B.caller booked.new ≡ B.caller booked.old }
+    ensures alike { IfOk result (λ next. GrowAlike
+        (standing (B.history booked.old) (S.content sink.old))
+        (standing (B.history booked.new) (S.content sink.new))) }
     ensures failings { failings_of (B.history booked.new).records + (S.content sink.old).failures
         ≤ failings_of (B.history booked.old).records + (S.content sink.new).failures }
-    ensures fault { IfErr result ComesOfWork }
+    ensures fault { IfErr result (ComesOfWork 0) }
 {
     match pass(booked, sink, limits) {
         Ok(Pass::Idle | Pass::Stalled) => Ok(Next::Rest),

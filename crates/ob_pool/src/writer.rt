@@ -1,8 +1,8 @@
 //! One writer, who carries its plan out, command by command.
 
-ghost use Rattle.std.specs.Prelude.{◌≡◌, ◌≤◌, IfOk, IfErr};
+ghost use Rattle.std.specs.Prelude.{◌≡◌, ◌<◌, ◌≤◌, ℕ, IfOk, IfErr};
 ghost use Rattle.ob_pool.specs.DriveFault.{ComesOfWork};
-ghost use Rattle.ob_pool.specs.Errand.{IsBack, IsOneCall, IsRoomy, asked, done_by};
+ghost use Rattle.ob_pool.specs.Errand.{IsBack, IsNumbered, IsOneCall, IsRoomy, asked, done_by};
 ghost use Rattle.ob_pool.specs.HandOff.{charge_for, charge_of};
 ghost use Rattle.ob_types.specs.declared.command.Command.TheVariants.{Write};
 
@@ -32,7 +32,7 @@ impl<L: Named> Model for Writer<L> {
 
     ghost Value = { Errand };
 
-    ghost view = { λ writer. record { maker = writer.share; plan = writer.plan; room = writer.room } };
+    ghost view = { λ writer. record { maker = writer.share.maker; plan = writer.plan; room = writer.room } };
 }
 
 /// Why a writer ended before its plan did.
@@ -58,10 +58,11 @@ impl<L: Named> Writer<L> {
     ) -> (Lane, Result<Done<L>, DriveFault>)
         requires words { lane.words ≡ bench.now.words }
         requires roomy { IsRoomy bench.now.estimate bench.now.task self }
+        requires numbered { IsNumbered bench.now.writers self }
         requires room { self.room ≤ lane.lane.room }
         ensures lane { IsBack lane result.0 }
         ensures done { IfOk result.1 (λ done. done_by done ≡ asked self) }
-        ensures fault { IfErr result.1 ComesOfWork }
+        ensures fault { IfErr result.1 (ComesOfWork bench.now.writers) }
     {
         let Writer {
             share,
@@ -98,7 +99,8 @@ impl<L: Named> Writer<L> {
     }
 }
 
-/// One step of a writer, with its gate before and after it.
+/// One step of a writer, with its gate before and after it. It reads whether the buffer is writable before it asks its
+/// gate.
 fn one_step<L: Named, R: Wait + Clock, G: Gate>(
     rt: &R,
     gate: &G,
@@ -114,6 +116,9 @@ fn one_step<L: Named, R: Wait + Clock, G: Gate>(
     ensures call { IfOk result.1 (IsOneCall share command) }
 {
     let writer = share.caller();
+    let mut share = share;
+    // what a writer of a server would ask first; a plan is carried out whatever it is
+    let _glance = share.read(&bench.shared);
     if gate.before(rt, writer, step).is_err() {
         return (lane, Err(Halt::Stuck));
     }
@@ -144,7 +149,7 @@ fn write<L: Named, R: Wait + Clock, G: Gate>(
 {
     let writer = share.caller();
     let charge = charge_of(bench.estimate, bench.task, &message) as u32;
-    let Ok((mut charged, _change)) = lane.charge(&bench.words, charge) else {
+    let Ok((mut charged, _change)) = lane.charge(rt, &bench.words, charge) else {
         unreachable!()
     };
     let total = charged.total(&bench.words);
@@ -152,7 +157,7 @@ fn write<L: Named, R: Wait + Clock, G: Gate>(
         Ok(()) => one_call(rt, &bench.shared, share, Command::Write(message)),
         Err(Stuck) => Err(Halt::Stuck),
     };
-    let (lane, _change) = charged.discharge(&bench.words);
+    let (lane, _change) = charged.discharge(rt, &bench.words);
     (lane, end)
 }
 
@@ -178,7 +183,7 @@ fn one_call<L: Named, R: Wait>(
 
 /// The fault of a drive whose writer ended so.
 fn fault_of(writer: u32, halt: Halt) -> DriveFault
-    ensures { ComesOfWork result }
+    ensures { (writers : ℕ) → writer < writers → ComesOfWork writers result }
 {
     match halt {
         Halt::Stuck => DriveFault::Stuck { writer },

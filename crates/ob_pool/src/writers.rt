@@ -1,6 +1,6 @@
 //! All writers, in threads of their own.
 
-ghost use Rattle.std.specs.Prelude.{◌≡◌, ◌+◌, ◌<◌, ◌≤◌, ◌^◌, ◌++◌, IfErr, IfOk, IsOkAnd, vec_len};
+ghost use Rattle.std.specs.Prelude.{◌≡◌, ◌+◌, ◌<◌, ◌≤◌, ◌^◌, ◌++◌, ℕ, IfErr, IfOk, IsOkAnd, vec_len};
 ghost use Rattle.std.specs.Thread.{IsSync};
 ghost use Rattle.ob_pool.specs.DriveFault.{ComesOfWork};
 ghost use Rattle.ob_pool.specs.Errand.{AreDone, HaveWorked, MayBegin, room_for};
@@ -28,8 +28,8 @@ pub fn work_all<L: Named + Send + Sync, R: Threads + Wait + Clock + Sync, G: Gat
     lane: Lane,
     mut writers: Vec<Writer<L>>,
 ) -> Worked<L>
-    requires { MayBegin bench.now.words bench.now.estimate bench.now.task lane writers.items }
-    ensures { HaveWorked writers.items lane result.0 result.1 }
+    requires { MayBegin bench.now.words bench.now.estimate bench.now.task bench.now.writers lane writers.items }
+    ensures { HaveWorked bench.now.writers writers.items lane result.0 result.1 }
 {
     if writers.len() < 2 {
         return at_most_one(rt, gate, bench, lane, writers);
@@ -58,23 +58,23 @@ fn both_halves<L: Named + Send + Sync, R: Threads + Wait + Clock + Sync, G: Gate
 ) -> Worked<L>
     requires some { 0 < vec_len writers }
     requires some_other { 0 < vec_len others }
-    requires ready { MayBegin bench.now.words bench.now.estimate bench.now.task lane writers.items }
-    requires other_ready { MayBegin bench.now.words bench.now.estimate bench.now.task other others.items }
+    requires ready { MayBegin bench.now.words bench.now.estimate bench.now.task bench.now.writers lane writers.items }
+    requires other_ready { MayBegin bench.now.words bench.now.estimate bench.now.task bench.now.writers other others.items }
     requires whole { lane.lane.room + other.lane.room ≤ lane.words.opening.room }
     ensures words { result.0.words ≡ lane.words }
     ensures room { result.0.lane.room ≡ lane.lane.room + other.lane.room }
     ensures done { IfOk result.1 (λ dones. AreDone (writers.items ++ others.items) dones.items) }
-    ensures fault { IfErr result.1 ComesOfWork }
+    ensures fault { IfErr result.1 (ComesOfWork bench.now.writers) }
 {
     let first = move || -> Worked<L>
         requires row { IsSync R.row }
-        requires ready { MayBegin bench.now.words bench.now.estimate bench.now.task lane writers.items }
-        ensures { HaveWorked writers.items lane result.0 result.1 }
+        requires ready { MayBegin bench.now.words bench.now.estimate bench.now.task bench.now.writers lane writers.items }
+        ensures { HaveWorked bench.entry.now.writers writers.items lane result.0 result.1 }
     { work_all(rt, gate, bench, lane, writers) };
     let second = move || -> Worked<L>
         requires row { IsSync R.row }
-        requires ready { MayBegin bench.now.words bench.now.estimate bench.now.task other others.items }
-        ensures { HaveWorked others.items other result.0 result.1 }
+        requires ready { MayBegin bench.now.words bench.now.estimate bench.now.task bench.now.writers other others.items }
+        ensures { HaveWorked bench.entry.now.writers others.items other result.0 result.1 }
     { work_all(rt, gate, bench, other, others) };
     let ((lane, dones), (other, more)) = join(rt, first, second);
     (lane.join(&bench.words, other), both_handed(dones, more))
@@ -87,7 +87,8 @@ fn both_handed<L: Named>(
 ) -> Result<Vec<Done<L>>, DriveFault>
     ensures first { IfOk result (λ all. IsOkAnd dones (λ one. IsOkAnd more (λ other.
         all.items ≡ one.items ++ other.items))) }
-    ensures fault { IfErr dones ComesOfWork → IfErr more ComesOfWork → IfErr result ComesOfWork }
+    ensures fault { (writers : ℕ) → IfErr dones (ComesOfWork writers) → IfErr more (ComesOfWork writers)
+        → IfErr result (ComesOfWork writers) }
 {
     let mut dones = dones?;
     let mut more = more?;
@@ -106,8 +107,8 @@ fn at_most_one<L: Named, R: Wait + Clock, G: Gate>(
     mut writers: Vec<Writer<L>>,
 ) -> Worked<L>
     requires few { vec_len writers < 2 }
-    requires ready { MayBegin bench.now.words bench.now.estimate bench.now.task lane writers.items }
-    ensures { HaveWorked writers.items lane result.0 result.1 }
+    requires ready { MayBegin bench.now.words bench.now.estimate bench.now.task bench.now.writers lane writers.items }
+    ensures { HaveWorked bench.now.writers writers.items lane result.0 result.1 }
 {
     let mut dones = Vec::new(bench.alloc);
     let Some(writer) = writers.pop() else {

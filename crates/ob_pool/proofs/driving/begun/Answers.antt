@@ -3,13 +3,13 @@ use Rattle.std.specs.Prelude.{vec_len}
 use Rattle.std.proofs.lemmas.List.{length-map}
 use Rattle.std.proofs.lemmas.List.FromFn.{length-range_with_len}
 use Rattle.std.specs.List.{range_with_len}
-use Rattle.ob_shared.specs.Maker.{new_maker}
-use Rattle.ob_pool.proofs.Shares.{last_maker}
+use Rattle.ob_shared.specs.Share.{new_share}
+use Rattle.ob_pool.proofs.Shares.{last_share}
 use Rattle.ob_pool.proofs.driving.begun.Goals as goal
 
 pub unreachable-requires : goal.unreachable-requires
 unreachable-requires g c =
-    let all = ap length c.in-Ok.ensures.shares ∙ length-map (range_with_len 0 c.args.opening.callers) new_maker
+    let all = ap length c.in-Ok.ensures.shares ∙ length-map (range_with_len 0 c.args.opening.callers) new_share
     ∙ length-range_with_len 0 c.args.opening.callers in
     let some : 0 < length c.in-Ok.shares.items = omega (arith, all, c.requires.callers) in
     let there : 0 < vec_len c.in-Ok.shares = search rules in
@@ -17,10 +17,10 @@ unreachable-requires g c =
 
 pub writers_of-requires-clause-shares : goal.writers_of-requires-clause-shares
 writers_of-requires-clause-shares g c =
-    (last_maker (length c.args.plans.items) c.args.opening.callers c.in-Ok.shares.items c.pop.new.self.items
+    (last_share (length c.args.plans.items) c.args.opening.callers c.in-Ok.shares.items c.pop.new.self.items
     c.in-Some.share c.in-Ok.ensures.shares c.requires.callers c.in-Some.ensures.items).0
 
 pub returns-clause-share : goal.returns-clause-share
 returns-clause-share g c =
-    (last_maker (length c.args.plans.items) c.args.opening.callers c.in-Ok.shares.items c.pop.new.self.items
+    (last_share (length c.args.plans.items) c.args.opening.callers c.in-Ok.shares.items c.pop.new.self.items
     c.in-Some.share c.in-Ok.ensures.shares c.requires.callers c.in-Some.ensures.items).1

@@ -10,7 +10,11 @@ returns-clause-ended g c = record {
   handed =
       subst (λ (history : History). HaveHandedIn history.records (c.args.dones.items ++ c.args.done ∷ []))
       (sym c.report_of.ensures.recorded)
-      (record { own = c.in_ok-recorded.ensures.own; counted = c.in_ok-recorded.ensures.counted });
+      (record {
+        own = c.in_ok-recorded.ensures.own;
+        counted = c.in_ok-recorded.ensures.counted;
+        saw = c.in_ok-recorded.ensures.saw;
+      });
   counts = c.report_of.ensures.counted;
   rest = record { total = search rules; clear = search rules; mark = search rules };
 }

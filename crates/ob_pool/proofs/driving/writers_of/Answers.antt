@@ -1,4 +1,5 @@
 use Rattle.std.proofs.Common.{◌≡◌, ◌∷◌, length, ap, arith, rules}
+use Rattle.ob_shared.specs.Share.{ShareValue}
 use Rattle.ob_pool.proofs.Shares.{asked_more, next_share, roomy_more, rooms_more}
 use Rattle.ob_pool.proofs.driving.writers_of.Goals as goal
 
@@ -13,7 +14,7 @@ loop-plan-preserved g c =
     let pushed = c.push_reserved.ensures.items in
     let mine = next_share _ _ _ _ _ _ _ rest kept.shares begin split count in
     record {
-      asked = asked_more _ _ _ _ _ _ rest _ kept.asked begin mine.0 count pushed;
+      asked = asked_more _ _ _ _ _ _ rest _ kept.asked begin (ap (λ (share : ShareValue). share.maker) mine.0) count pushed;
       shares = mine.1;
       roomy = roomy_more c.args.estimate c.args.task _ _ _ kept.roomy c.room_of-room.ensures pushed;
       room = rooms_more c.args.estimate c.args.task _ _ _ _ rest _ kept.room begin c.room_of-room.ensures pushed;

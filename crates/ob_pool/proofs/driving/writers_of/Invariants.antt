@@ -1,7 +1,7 @@
 use Rattle.std.proofs.Common.{◌≡◌, ◌+◌, ◌≤◌, ◌++◌, length, map}
 use Rattle.std.specs.Prelude.{vec_capacity, vec_len}
 use Rattle.std.specs.List.{All, range_with_len}
-use Rattle.ob_shared.specs.Maker.{new_maker}
+use Rattle.ob_shared.specs.Share.{new_share}
 use Rattle.ob_pool.specs.Errand.{IsRoomy, asked, deeds_from, room_for}
 use Rattle.ob_pool.specs.HandOff.{rooms_of}
 use Rattle.ob_pool.proofs.driving.writers_of.Given as goal
@@ -11,7 +11,7 @@ invariant-loop-plan g l =
     let rest = l.plan-iterator.rest.items in
     record {
       asked : map asked l.writers.items ++ deeds_from (vec_len l.writers) rest ≡ deeds_from 0 l.fn.plans.items;
-      shares : l.shares.rest.items ≡ map new_maker (range_with_len (vec_len l.writers) (length rest));
+      shares : l.shares.rest.items ≡ map new_share (range_with_len (vec_len l.writers) (length rest));
       roomy : All (IsRoomy l.estimate l.task) l.writers.items;
       room : room_for l.writers.items + rooms_of l.estimate l.task rest ≡ rooms_of l.estimate l.task l.fn.plans.items;
       places : vec_len l.writers + length rest ≤ vec_capacity l.writers;

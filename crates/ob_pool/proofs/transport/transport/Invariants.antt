@@ -1,5 +1,5 @@
-use Rattle.std.proofs.Common.{◌≡◌, ◌+◌, ◌≤◌, length}
-use Rattle.ob_pool.specs.Keeping.{failings_in}
+use Rattle.ob_pool.specs.Keeping.{IsCarried}
+use Rattle.ob_pool.proofs.Taking.{handed_of}
 use Rattle.ob_pool.proofs.transport.transport.Given as goal
 
 -- what is there when the desk was just taken
@@ -13,9 +13,6 @@ ghosts-one_pass g a = record {
 }
 
 abbrev pub invariant-turns : goal.invariant-turns
-invariant-turns g l = record {
-  caller : l.share.caller ≡ l.fn.share.caller;
-  made : l.share.made ≡ l.fn.share.made + length l.receipts.items;
-  failings : failings_in l.receipts.items + (g.S.Sink.content l.initial.sink).failures
-      ≤ (g.S.Sink.content l.sink).failures;
-}
+invariant-turns g l =
+    IsCarried g.L.Named.opened.settings l.fn.share.maker (g.S.Sink.content l.initial.sink) (g.S.Sink.content l.sink)
+    (handed_of l.share l.receipts.items)

@@ -1,7 +1,7 @@
 use Rattle.std.proofs.Common.{ap, arith, rules}
 use Rattle.std.proofs.lemmas.Result.{IfOk-weaker}
-use Rattle.ob_pool.specs.Errand.{room_for}
-use Rattle.ob_pool.proofs.Halves.{both_handed_done, parts_done, parts_roomy, rooms_of_parts, splits}
+use Rattle.ob_pool.specs.Errand.{IsNumbered, IsRoomy, room_for}
+use Rattle.ob_pool.proofs.Halves.{both_handed_done, parts_alike, parts_done, rooms_of_parts, splits}
 use Rattle.ob_pool.proofs.writers.+work.Goals as goal
 
 pub work_all-room_for-requires : goal.work_all-room_for-requires
@@ -28,9 +28,8 @@ work_all-both_halves-requires-clause-ready g t c = λ κs lives.
     let shares = c.in-Ok-split.ensures.shares in
     record {
       words = search rules;
-      roomy =
-          (parts_roomy c.args.bench.now.estimate c.args.bench.now.task _ _ _ _ c.in-Ok.ensures.items
-          c.in-Ok.ensures.tail c.requires.roomy).0;
+      roomy = (parts_alike (IsRoomy c.args.bench.now.estimate c.args.bench.now.task) _ _ _ _ c.in-Ok.ensures.items c.in-Ok.ensures.tail c.requires.roomy).0;
+      numbered = (parts_alike (IsNumbered c.args.bench.now.writers) _ _ _ _ c.in-Ok.ensures.items c.in-Ok.ensures.tail c.requires.numbered).0;
       room = omega (
         arith,
         parts,
@@ -46,9 +45,8 @@ work_all-both_halves-requires-clause-ready g t c = λ κs lives.
 pub work_all-both_halves-requires-clause-other_ready : goal.work_all-both_halves-requires-clause-other_ready
 work_all-both_halves-requires-clause-other_ready g t c = λ κs lives. record {
   words = search rules;
-  roomy =
-      (parts_roomy c.args.bench.now.estimate c.args.bench.now.task _ _ _ _ c.in-Ok.ensures.items c.in-Ok.ensures.tail
-      c.requires.roomy).1;
+  roomy = (parts_alike (IsRoomy c.args.bench.now.estimate c.args.bench.now.task) _ _ _ _ c.in-Ok.ensures.items c.in-Ok.ensures.tail c.requires.roomy).1;
+  numbered = (parts_alike (IsNumbered c.args.bench.now.writers) _ _ _ _ c.in-Ok.ensures.items c.in-Ok.ensures.tail c.requires.numbered).1;
   room = search rules;
   whole = search rules;
 }
@@ -68,3 +66,7 @@ both_halves-returns-clause-done g t c =
     (λ all is. both_handed_done c.join-lane.result.0.1 c.join-lane.result.1.1 (λ dones. dones.items)
     c.args.writers.items c.args.others.items all.items is c.join-lane.ensures.first.done
     c.join-lane.ensures.second.done) c.both_handed.ensures.first
+
+pub both_halves-returns-clause-fault : goal.both_halves-returns-clause-fault
+both_halves-returns-clause-fault g t c =
+    c.both_handed.ensures.fault c.args.bench.now.writers c.join-lane.ensures.first.fault c.join-lane.ensures.second.fault

@@ -8,8 +8,8 @@ abbrev pub invariant-steps : goal.invariant-steps
 invariant-steps g l = record {
   lane : IsBack l.fn.lane l.lane;
   roomy : room_of l.bench.estimate l.bench.task l.command-iterator.rest.items ≤ l.fn.self.room;
-  caller : l.share.caller ≡ l.fn.self.maker.caller;
-  made : l.share.made ≡ l.fn.self.maker.made + vec_len l.receipts;
+  caller : l.share.maker.caller ≡ l.fn.self.maker.caller;
+  made : l.share.maker.made ≡ l.fn.self.maker.made + vec_len l.receipts;
   commands : commands_in l.receipts.items ++ l.command-iterator.rest.items ≡ l.fn.self.plan;
   places : vec_len l.receipts + length l.command-iterator.rest.items ≤ vec_capacity l.receipts;
   step : l.step ≡ vec_len l.receipts;
