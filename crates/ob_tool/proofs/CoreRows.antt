@@ -25,9 +25,9 @@ late_lane : script_fault language (codes "lane 9 0\nw 0\nlane 9 0")
     ≡ Some (3, Misplaced)
 late_lane = refl
 
--- a mark stuck below low
-a_mark_stuck_below_low : trace_of language (codes "lane 200 0\nlane 200 0\nc 1 80\nc 0 30\nd 1\nk 1\nk 0\n")
-    ≡ codes "lane 0\nlane 1\nadd t=80 w=00000000\nadd t=110 w=00000000\nsub t=30 w=00000000\n"
-    ++ codes "lower t=30 w=00000000\nraise t=30 w=00000001 -\nend quiet owed=30\n"
+-- a mark set with the add that passes high, and cleared with the subtract that comes below low
+a_mark_set_and_cleared : trace_of language (codes "lane 200 0\nlane 200 0\nc 1 80\nc 0 30\nd 1\nk 1\nk 0\n")
+    ≡ codes "lane 0\nlane 1\nadd t=80 w=00000000\nadd t=110 w=00000001 -\n"
+    ++ codes "sub t=30 w=00000000 +\n!6 t=30 w=00000000\n!6 t=30 w=00000000\nend quiet owed=30\n"
 unfolding digits padded_integral char_count
-a_mark_stuck_below_low = refl
+a_mark_set_and_cleared = refl

@@ -10,7 +10,6 @@ use Rattle.ob_core.specs.Run.{core_after_all}
 use Rattle.ob_core.specs.Turn.{core_after}
 use Rattle.ob_core.specs.declared.ask.Turn.{Turn}
 use Rattle.ob_core.specs.declared.lane_start.LaneStart.{LaneStart}
-use Rattle.ob_tool.specs.CoreQuiet.{is_quiet}
 use Rattle.ob_tool.specs.CoreScript.{core_behind, core_last_text, has_any, has_lane, has_turn, lanes_of, turns_of}
 use Rattle.ob_tool.specs.CoreSession.{HasPlayed, core_once}
 use Rattle.ob_tool.specs.CoreText.{end_text}
@@ -131,11 +130,11 @@ turn_done (Ok fits) old new turn marks starts core turned = λ yes before played
 
 -- the last text, by the core that a session has
 last_at : (has : Bool) (core behind : CoreState) → Some core ≡ cond has (Some behind) None
-    → end_text (is_quiet core) (sum_owed core.lanes) ≡ cond has (end_text (is_quiet behind) (sum_owed behind.lanes)) []
+    → end_text (sum_owed core.lanes) ≡ cond has (end_text (sum_owed behind.lanes)) []
 last_at true core behind e =
-    let same : core ≡ behind = cc in ap (λ (c : CoreState). end_text (is_quiet c) (sum_owed c.lanes)) same
+    let same : core ≡ behind = cc in ap (λ (c : CoreState). end_text (sum_owed c.lanes)) same
 last_at false core behind e = absurd cc
 
 pub last_text-once : (marks : Marks) (lines : List CoreLine) (core : CoreState) → Some core ≡ core_once marks lines
-    → end_text (is_quiet core) (sum_owed core.lanes) ≡ core_last_text marks lines
+    → end_text (sum_owed core.lanes) ≡ core_last_text marks lines
 last_text-once marks lines core e = last_at (has_lane lines) core (core_behind marks lines) e

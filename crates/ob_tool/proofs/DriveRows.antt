@@ -2,7 +2,7 @@
 use Rattle.std.proofs.Common.{◌≡◌, ℕ, List, [], ◌∷◌, refl, codes, true, false, Some}
 use Rattle.std.specs.Fmt.{digits, padded_integral, char_count}
 use Rattle.ob_transport.specs.declared.script.SinkStep.TheVariants.{Take, Fail}
-use Rattle.ob_types.specs.declared.command.Command.TheVariants.{Write, Flush, Cancel, UserBit}
+use Rattle.ob_types.specs.declared.command.Command.TheVariants.{Write, Flush, Cancel, UserBit, SetMarks}
 use Rattle.ob_types.specs.declared.message.Message.TheVariants.{Block, Region, Other}
 use Rattle.ob_tool.specs.DriveScript.{drive_language, most_after, most_turns, plans_of, steps_of}
 use Rattle.ob_tool.specs.DriveText.{hand_text, number_line}
@@ -47,6 +47,14 @@ told_twice = refl
 
 no_such_writer : script_fault drive_language (codes "f 63\nf 64") ≡ Some (2, OutOfRange)
 no_such_writer = refl
+
+-- marks that a writer sets, and a low mark above the high one
+marks_of_a_writer : plans_of (script_lines drive_language (codes "m 0 5 5\nm 0 0 2147483647"))
+    ≡ (SetMarks (record { low = 5; high = 5 }) ∷ SetMarks (record { low = 0; high = 2147483647 }) ∷ []) ∷ []
+marks_of_a_writer = refl
+
+a_low_mark_above_the_high_one : script_fault drive_language (codes "f 0\nm 0 5 4") ≡ Some (2, Misplaced)
+a_low_mark_above_the_high_one = refl
 
 -- two lines of a report
 a_number : number_line (codes "writes") 100 ≡ codes "writes 100\n"

@@ -3,7 +3,6 @@ pub mod NumbersLemmas
 pub mod LineLemmas
 pub mod RangesLemmas
 pub mod CoreScriptLemmas
-pub mod CoreSessionLemmas
 pub mod SessionLemmas
 pub mod TraceLemmas
 pub mod EntryLemmas

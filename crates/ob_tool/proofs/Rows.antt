@@ -11,7 +11,7 @@ use Rattle.ob_types.specs.declared.command.Command.TheVariants.{Write, Flush, Re
 use Rattle.ob_types.specs.declared.message.Message.TheVariants.{Region, Other}
 use Rattle.ob_tool.specs.declared.script_line.ScriptLine.{ScriptLine}
 use Rattle.ob_tool.specs.declared.script_line.ScriptLine.TheVariants.{Block, Command}
-use Rattle.ob_tool.specs.declared.line_fault.LineFault.TheVariants.{OutOfRange, TooFewWords}
+use Rattle.ob_tool.specs.declared.line_fault.LineFault.TheVariants.{Misplaced, OutOfRange, TooFewWords}
 
 -- the language of `run` with the options of most rows
 abbrev language : Language ScriptLine
@@ -125,3 +125,21 @@ failing_without_notice_keeps_the_mark : trace_of language (codes "b 400\nf\nb 4\
     ++ codes "n 1 t=100 w=00000001 0:f7\nn 1 t=0 w=00000001 1:f7\n!4 t=0 w=00000001\n"
 unfolding user_bits digits padded_integral char_count
 failing_without_notice_keeps_the_mark = refl
+
+-- marks are raised, and then lowered, while the buffer is open
+marks_raised_while_open : trace_of language (codes "b 304\nb 0\nm 600 700\n?\nb 0\nf\nrm\n")
+    ≡ codes "id 0 t=400 w=00000000\nid 1 t=496 w=00000001 -\nok t=496 w=00000001\n"
+    ++ codes "size=0 cur=0 bu=0 bw=0 t=496 w=00000001\nid 2 t=592 w=00000001\nn 3 t=592 w=00000001\n"
+    ++ codes "yes t=192 w=00000000 + 0:ok\n"
+unfolding user_bits digits padded_integral char_count
+marks_raised_while_open = refl
+
+marks_lowered_while_open : trace_of language (codes "b 304\nm 0 100\n?\nb 0\nm 5 4\n")
+    ≡ codes "id 0 t=400 w=00000000\nok t=400 w=00000000\nsize=0 cur=0 bu=0 bw=0 t=400 w=00000000\n"
+    ++ codes "id 1 t=496 w=00000001 -\n"
+unfolding user_bits digits padded_integral char_count
+marks_lowered_while_open = refl
+
+-- a low mark above the high one is misplaced
+a_low_mark_above_the_high_one : script_fault language (codes "b 304\nm 0 100\n?\nb 0\nm 5 4\n") ≡ Some (5, Misplaced)
+a_low_mark_above_the_high_one = refl

@@ -8,7 +8,6 @@ use Rattle.ob_core.specs.Run.{core_after_all}
 use Rattle.ob_core.specs.Turn.{event_of, core_after, change_of}
 use Rattle.ob_core.specs.declared.ask.Turn.{Turn}
 use Rattle.ob_core.specs.declared.lane_start.LaneStart.{LaneStart}
-use Rattle.ob_tool.specs.CoreQuiet.{is_quiet}
 use Rattle.ob_tool.specs.CoreTable.{core_table}
 use Rattle.ob_tool.specs.CoreText.{turn_text, lane_text, end_text}
 use Rattle.ob_tool.specs.Language.{Language}
@@ -49,7 +48,7 @@ is_core_misplaced before (line.Turn turn) = not (has_lane before)
 abbrev pub core_behind : Marks → List CoreLine → CoreState
 core_behind marks lines = core_after_all (new_core marks (lanes_of lines)) (turns_of lines)
 
--- the trace line of a turn of a core: its event, the two words after it, and its change
+-- the trace line of a turn of a core: its event, the total and the word after it, and its change
 abbrev pub turn_trace : CoreState → Turn → List ℕ
 turn_trace core turn =
     let after = core_after core turn in turn_text (event_of core turn) after.total after.word (change_of core turn)
@@ -62,7 +61,7 @@ core_line_text marks before (line.Turn turn) = turn_trace (core_behind marks bef
 -- the last line of a trace, none where there is no lane
 abbrev pub core_last_text : Marks → List CoreLine → List ℕ
 core_last_text marks lines =
-    let core = core_behind marks lines in if has_lane lines then end_text (is_quiet core) (sum_owed core.lanes) else []
+    let core = core_behind marks lines in if has_lane lines then end_text (sum_owed core.lanes) else []
 
 -- the language of `core` with these marks
 abbrev pub core_language : Marks → Language CoreLine

@@ -1,10 +1,10 @@
 -- The text of the lines of a core trace.
-use Rattle.std.specs.Prelude.{ℕ, Bool, true, false, List, [], ◌∷◌, ◌++◌, codes, Option}
+use Rattle.std.specs.Prelude.{ℕ, List, [], ◌∷◌, ◌++◌, codes, Option}
 use Rattle.std.specs.Fmt.{decimal}
 use Rattle.ob_types.specs.declared.reply.Change.{Change}
 use Rattle.ob_core.specs.AskFault.{number_of}
 use Rattle.ob_core.specs.declared.event.Event.{Event}
-use Rattle.ob_core.specs.declared.event.Event.TheVariants.{Added, Subtracted, Raised, Lowered, BitSet, BitCleared}
+use Rattle.ob_core.specs.declared.event.Event.TheVariants.{Added, Subtracted, BitSet, BitCleared}
 use Rattle.ob_core.specs.declared.event.Event.TheVariants.{ReadWord, ReadTotal, Nothing, Refused}
 use Rattle.ob_tool.specs.Text.{change_text, words_text}
 
@@ -12,8 +12,6 @@ use Rattle.ob_tool.specs.Text.{change_text, words_text}
 abbrev pub event_text : Event → List ℕ
 event_text Added = codes "add"
 event_text Subtracted = codes "sub"
-event_text Raised = codes "raise"
-event_text Lowered = codes "lower"
 event_text BitSet = codes "bit"
 event_text BitCleared = codes "bit"
 event_text ReadWord = codes "word"
@@ -29,11 +27,6 @@ turn_text event total word change = event_text event ++ words_text total word ++
 abbrev pub lane_text : ℕ → List ℕ
 lane_text number = codes "lane " ++ decimal number ++ 10 ∷ []
 
--- quiet or busy
-abbrev pub rest_text : Bool → List ℕ
-rest_text true = codes "quiet"
-rest_text false = codes "busy"
-
--- the last line: whether the core is quiet, and the sum owed
-abbrev pub end_text : Bool → ℕ → List ℕ
-end_text quiet owed = codes "end " ++ rest_text quiet ++ codes " owed=" ++ decimal owed ++ 10 ∷ []
+-- the last line: a core is always quiet, and the sum owed
+abbrev pub end_text : ℕ → List ℕ
+end_text owed = codes "end quiet owed=" ++ decimal owed ++ 10 ∷ []

@@ -1,12 +1,13 @@
 -- The table of the lines of `drive`.
 use Rattle.std.specs.Prelude.{ℕ, ◌==◌, List, [], ◌∷◌, codes}
+use Rattle.ob_types.specs.WaterMark.{water_mark_of}
 use Rattle.ob_types.specs.declared.command.Command.{Command}
 use Rattle.ob_types.specs.declared.command.Command.TheVariants as command
 use Rattle.ob_types.specs.declared.message.Message.TheVariants as message
 use Rattle.ob_transport.specs.declared.script.SinkStep.TheVariants as step
 use Rattle.ob_tool.specs.Numbers.{up_to}
-use Rattle.ob_tool.specs.RunTable.{any_32, any_64}
-use Rattle.ob_tool.specs.Table.{Kind, Table, row}
+use Rattle.ob_tool.specs.RunTable.{any_32, any_64, any_mark, marks_line}
+use Rattle.ob_tool.specs.Table.{Kind, Table, row, row_if}
 use Rattle.ob_tool.specs.declared.range.Range.{Range}
 use Rattle.ob_tool.specs.declared.drive_word.DriveWord.{DriveWord}
 use Rattle.ob_tool.specs.declared.drive_word.DriveWord.TheVariants as word
@@ -22,7 +23,7 @@ any_writer = up_to 63
 -- the first words that there are
 abbrev pub drive_words : List DriveWord
 drive_words =
-    word.Blocks ∷ word.Region ∷ word.Other ∷ word.Flush ∷ word.Cancel ∷ word.UserBit ∷ word.Take ∷ word.Fail ∷ word.Then
+    word.Blocks ∷ word.Region ∷ word.Other ∷ word.Flush ∷ word.Cancel ∷ word.UserBit ∷ word.SetMarks ∷ word.Take ∷ word.Fail ∷ word.Then
     ∷ word.Turns ∷ []
 
 -- a line of a writer, and a command of one
@@ -50,6 +51,9 @@ drive_kind word.Cancel =
 drive_kind word.UserBit =
     row (codes "u") (any_writer ∷ up_to 255 ∷ up_to 1 ∷ [])
     (λ number. command_line (number 0) (command.UserBit (number 1) (number 2 == 1)))
+drive_kind word.SetMarks =
+    row_if (codes "m") (any_writer ∷ any_mark ∷ any_mark ∷ [])
+    (λ number. marks_line (command_line (number 0)) (water_mark_of (number 1) (number 2)))
 drive_kind word.Take = row (codes "take") (any_32 ∷ []) (λ number. line.Sink (step.Take (number 0)))
 drive_kind word.Fail = row (codes "fail") (any_32 ∷ []) (λ number. line.Sink (step.Fail (number 0)))
 drive_kind word.Then = row (codes "then") (any_32 ∷ []) (λ number. line.Then (number 0))

@@ -1,5 +1,4 @@
 pub mod Call
-pub mod CoreQuiet
 pub mod CoreScript
 pub mod CoreSession
 pub mod CoreTable

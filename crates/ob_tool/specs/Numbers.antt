@@ -1,12 +1,13 @@
 -- The numbers of a script line.
 use Rattle.std.specs.Prelude.{◌≡◌, ◌==◌, ◌≤◌, ◌&&◌, ℕ, zero, suc, Bool, not, List, [], ◌∷◌, length, nat_le, nat_lt}
-use Rattle.std.specs.Prelude.{slice_index, if◌then◌else◌, Result, Ok, Err}
+use Rattle.std.specs.Prelude.{slice_index, if◌then◌else◌, Option, ok_or, Result, Ok, Err}
 use Rattle.std.specs.List.{list_all}
 use Rattle.std.specs.Char.{is_ascii_digit}
 use Rattle.std.specs.Str.Parse.{digits_value}
 use Rattle.ob_tool.specs.declared.range.Range.{Range}
 use Rattle.ob_tool.specs.declared.line_fault.LineFault.{LineFault}
 use Rattle.ob_tool.specs.declared.line_fault.LineFault.TheVariants.{NotANumber, OutOfRange, TooFewWords, TooManyWords}
+use Rattle.ob_tool.specs.declared.line_fault.LineFault.TheVariants.{Misplaced}
 
 -- a number is one or more decimal digits, and zeros may lead
 abbrev pub is_number : List ℕ → Bool
@@ -45,9 +46,9 @@ all_numbers_in ranges words =
     else (if nat_lt (length ranges) (length words) then Err TooManyWords
     else numbers_in ranges words)
 
--- what a line asks by the numbers at their places, unless these have a fault
-abbrev pub asked_by : {L : Type 0} → ((ℕ → ℕ) → L) → Result (List ℕ) LineFault → Result L LineFault
-asked_by asked (Ok numbers) = Ok (asked (λ place. slice_index numbers place))
+-- what a line asks by the numbers at their places, unless these have a fault, or do not fit one another
+abbrev pub asked_by : {L : Type 0} → ((ℕ → ℕ) → Option L) → Result (List ℕ) LineFault → Result L LineFault
+asked_by asked (Ok numbers) = ok_or (asked (λ place. slice_index numbers place)) Misplaced
 asked_by asked (Err fault) = Err fault
 
 -- an array holds the numbers that were read, with zeros behind them, or the fault is the one that was found

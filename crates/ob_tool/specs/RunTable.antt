@@ -1,9 +1,13 @@
 -- The table of the lines of `run`.
-use Rattle.std.specs.Prelude.{◌==◌, List, [], ◌∷◌, codes}
+use Rattle.std.specs.Prelude.{◌==◌, List, [], ◌∷◌, codes, Option, option_map, Result}
+use Rattle.std.specs.Result.{result_ok}
+use Rattle.ob_types.specs.WaterMark.{Marks, water_mark_of}
+use Rattle.ob_types.specs.declared.command.Command.{Command}
 use Rattle.ob_types.specs.declared.command.Command.TheVariants as command
 use Rattle.ob_types.specs.declared.message.Message.TheVariants as message
+use Rattle.ob_types.specs.declared.refusal.Refusal.{Refusal}
 use Rattle.ob_tool.specs.Numbers.{up_to}
-use Rattle.ob_tool.specs.Table.{Kind, Table, row}
+use Rattle.ob_tool.specs.Table.{Kind, Table, row, row_if}
 use Rattle.ob_tool.specs.declared.range.Range.{Range}
 use Rattle.ob_tool.specs.declared.line_word.LineWord.{LineWord}
 use Rattle.ob_tool.specs.declared.line_word.LineWord.TheVariants as word
@@ -17,12 +21,20 @@ any_32 = up_to 4294967295
 abbrev pub any_64 : Range
 any_64 = up_to 18446744073709551615
 
+-- the numbers that a mark may be
+abbrev pub any_mark : Range
+any_mark = up_to 2147483647
+
+-- a line that sets marks, if two numbers are marks
+abbrev pub marks_line : {L : Type 0} → (Command → L) → Result Marks Refusal → Option L
+marks_line given marks = option_map (λ made. given (command.SetMarks made)) (result_ok marks)
+
 -- the first words that there are
 abbrev pub run_words : List LineWord
 run_words =
     word.Block ∷ word.Region ∷ word.Other ∷ word.Flush ∷ word.Remove ∷ word.RemoveWith ∷ word.RemoveBytes ∷
     word.Progress
-    ∷ word.Cancel ∷ word.FailFlushed ∷ word.Close ∷ word.UserBit ∷ word.Look ∷ word.Gather ∷ []
+    ∷ word.Cancel ∷ word.FailFlushed ∷ word.Close ∷ word.UserBit ∷ word.SetMarks ∷ word.Look ∷ word.Gather ∷ []
 
 -- the kind of line that a word begins
 abbrev pub run_kind : LineWord → Kind ScriptLine
@@ -47,6 +59,8 @@ run_kind word.Close =
     row (codes "cl") (any_32 ∷ []) (λ number. line.Command (command.Close (record { 0 = number 0 })))
 run_kind word.UserBit =
     row (codes "u") (up_to 255 ∷ up_to 1 ∷ []) (λ number. line.Command (command.UserBit (number 0) (number 1 == 1)))
+run_kind word.SetMarks =
+    row_if (codes "m") (any_mark ∷ any_mark ∷ []) (λ number. marks_line line.Command (water_mark_of (number 0) (number 1)))
 run_kind word.Look = row (codes "?") [] (λ number. line.Look)
 run_kind word.Gather =
     row (codes "g") (record { least = 1; greatest = 1024 } ∷ record { least = 1; greatest = 2147483647 } ∷ [])

@@ -130,7 +130,7 @@ impl Interpreter for CoreSession {
 
     fn push_last(&self, text: &mut String) -> Result<(), AllocError> {
         match &self.world {
-            Some(world) => push_end(text, world.quiet(), world.owed()),
+            Some(world) => push_end(text, world.owed()),
             None => Ok(()),
         }
     }

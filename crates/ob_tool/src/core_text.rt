@@ -1,5 +1,5 @@
 ghost use Rattle.std.specs.Prelude.{◌≡◌, ◌++◌, OnOk, string_bytes};
-ghost use Rattle.ob_tool.specs.CoreText.{end_text, event_text, lane_text, rest_text, turn_text};
+ghost use Rattle.ob_tool.specs.CoreText.{end_text, event_text, lane_text, turn_text};
 
 use crate::text::{push_change, push_words};
 use ob_core::Event;
@@ -29,24 +29,11 @@ pub fn push_turn(
     text.push('\n')
 }
 
-/// Adds the last line, by whether the core is quiet and the sum owed.
-pub fn push_end(text: &mut String, quiet: bool, owed: u32) -> Result<(), AllocError>
-    ensures { OnOk result (string_bytes text.new ≡ string_bytes text.old ++ end_text quiet owed) }
+/// Adds the last line, by the sum owed. No lane is ever in the middle of a call, so the core is quiet.
+pub fn push_end(text: &mut String, owed: u32) -> Result<(), AllocError>
+    ensures { OnOk result (string_bytes text.new ≡ string_bytes text.old ++ end_text owed) }
 {
-    text.push_str("end ")?;
-    push_rest(text, quiet)?;
-    writeln!(text, " owed={owed}")
-}
-
-/// Adds whether the core is quiet.
-fn push_rest(text: &mut String, quiet: bool) -> Result<(), AllocError>
-    ensures { OnOk result (string_bytes text.new ≡ string_bytes text.old ++ rest_text quiet) }
-{
-    if quiet {
-        text.push_str("quiet")
-    } else {
-        text.push_str("busy")
-    }
+    writeln!(text, "end quiet owed={owed}")
 }
 
 /// Adds the event of a turn.
@@ -56,8 +43,6 @@ fn push_event(text: &mut String, event: Event) -> Result<(), AllocError>
     match event {
         Event::Added => text.push_str("add"),
         Event::Subtracted => text.push_str("sub"),
-        Event::Raised => text.push_str("raise"),
-        Event::Lowered => text.push_str("lower"),
         Event::BitSet | Event::BitCleared => text.push_str("bit"),
         Event::ReadWord => text.push_str("word"),
         Event::ReadTotal => text.push_str("total"),

@@ -75,8 +75,8 @@ impl FirstWord for CoreWord {
         }
     }
 
-    fn line(self, numbers: [u64; 3]) -> CoreLine {
-        match self {
+    fn line(self, numbers: [u64; 3]) -> Option<CoreLine> {
+        Some(match self {
             CoreWord::Lane => CoreLine::Lane(LaneStart {
                 room: numbers[0] as u32,
                 bits: numbers[1] as u32,
@@ -90,7 +90,7 @@ impl FirstWord for CoreWord {
             CoreWord::Word => turn(numbers[0] as u32, Ask::Word),
             CoreWord::Total => turn(numbers[0] as u32, Ask::Total),
             CoreWord::Go => turn(numbers[0] as u32, Ask::Go),
-        }
+        })
     }
 }
 

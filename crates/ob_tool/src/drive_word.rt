@@ -3,10 +3,10 @@ ghost use Rattle.ob_tool.specs.DriveTable.{drive_table};
 
 use crate::drive_line::DriveLine;
 use crate::first_word::FirstWord;
-use crate::range::{ANY_32, ANY_64, BIT_INDEX, BLOCK_BYTES, FLAG, Range};
+use crate::range::{ANY_32, ANY_64, BIT_INDEX, BLOCK_BYTES, FLAG, MARK, Range};
 use crate::writer_line::{Asked, WriterLine};
 use ob_transport::SinkStep;
-use ob_types::{Command, Message, PromiseId};
+use ob_types::{Command, Message, PromiseId, WaterMark};
 
 /// The first word of a line of `drive`.
 #[derive(Clone, Copy)]
@@ -23,6 +23,8 @@ pub enum DriveWord {
     Cancel,
     /// `u W I V`: writer W sets the user bit I, or clears it where V is 1.
     UserBit,
+    /// `m W LOW HIGH`: writer W sets the marks of the buffer to LOW and HIGH.
+    SetMarks,
     /// `take N`: the next call of the sink takes at most N.
     Take,
     /// `fail C`: the next call of the sink fails with C.
@@ -34,13 +36,14 @@ pub enum DriveWord {
 }
 
 /// The first words that there are.
-static DRIVE_WORDS: [DriveWord; 10] = [
+static DRIVE_WORDS: [DriveWord; 11] = [
     DriveWord::Blocks,
     DriveWord::Region,
     DriveWord::Other,
     DriveWord::Flush,
     DriveWord::Cancel,
     DriveWord::UserBit,
+    DriveWord::SetMarks,
     DriveWord::Take,
     DriveWord::Fail,
     DriveWord::Then,
@@ -75,6 +78,9 @@ static WRITER_ALONE: [Range; 1] = [WRITER];
 /// A writer, the index of a bit, and a flag.
 static BIT_NUMBERS: [Range; 3] = [WRITER, BIT_INDEX, FLAG];
 
+/// A writer, the low mark and the high mark.
+static MARK_NUMBERS: [Range; 3] = [WRITER, MARK, MARK];
+
 /// How much the sink takes, or the number with which it fails.
 static SINK_NUMBER: [Range; 1] = [ANY_32];
 
@@ -101,6 +107,7 @@ impl FirstWord for DriveWord {
             DriveWord::Flush => b"f",
             DriveWord::Cancel => b"x",
             DriveWord::UserBit => b"u",
+            DriveWord::SetMarks => b"m",
             DriveWord::Take => b"take",
             DriveWord::Fail => b"fail",
             DriveWord::Then => b"then",
@@ -115,12 +122,13 @@ impl FirstWord for DriveWord {
             DriveWord::Other | DriveWord::Cancel => &WRITER_AND_NUMBER,
             DriveWord::Flush => &WRITER_ALONE,
             DriveWord::UserBit => &BIT_NUMBERS,
+            DriveWord::SetMarks => &MARK_NUMBERS,
             DriveWord::Take | DriveWord::Fail | DriveWord::Then => &SINK_NUMBER,
             DriveWord::Turns => &TURNS_NUMBER,
         }
     }
 
-    fn line(self, numbers: [u64; 3]) -> DriveLine {
+    fn line(self, numbers: [u64; 3]) -> Option<DriveLine> {
         let asked = match self {
             DriveWord::Blocks => Asked::Blocks(numbers[1], numbers[2] as u32),
             DriveWord::Region => Asked::Command(Command::Write(Message::Region(numbers[1]))),
@@ -130,14 +138,18 @@ impl FirstWord for DriveWord {
             DriveWord::UserBit => {
                 Asked::Command(Command::UserBit(numbers[1] as u32, numbers[2] == 1))
             }
-            DriveWord::Take => return DriveLine::Sink(SinkStep::Take(numbers[0])),
-            DriveWord::Fail => return DriveLine::Sink(SinkStep::Fail(numbers[0] as u32)),
-            DriveWord::Then => return DriveLine::Then(numbers[0]),
-            DriveWord::Turns => return DriveLine::Turns(numbers[0] as u32),
+            DriveWord::SetMarks => Asked::Command(Command::SetMarks(WaterMark::new(
+                numbers[1] as u32,
+                numbers[2] as u32,
+            ).ok()?)),
+            DriveWord::Take => return Some(DriveLine::Sink(SinkStep::Take(numbers[0]))),
+            DriveWord::Fail => return Some(DriveLine::Sink(SinkStep::Fail(numbers[0] as u32))),
+            DriveWord::Then => return Some(DriveLine::Then(numbers[0])),
+            DriveWord::Turns => return Some(DriveLine::Turns(numbers[0] as u32)),
         };
-        DriveLine::Writer(WriterLine {
+        Some(DriveLine::Writer(WriterLine {
             writer: numbers[0] as u8,
             asked,
-        })
+        }))
     }
 }

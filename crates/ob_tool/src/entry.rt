@@ -1,4 +1,5 @@
-ghost use Rattle.std.specs.Prelude.{◌≡◌, ◌≤◌, ◌⊎◌, ℕ, IfSome, IfErr, IsErrOf};
+ghost use Rattle.std.specs.Prelude.{◌≡◌, ◌≤◌, ℕ, IfSome, IfErr, IsErrOf};
+ghost use Rattle.std.specs.IoError.{error_kind};
 ghost use Rattle.std.specs.Io.KnownBytes.{Appends, Keeps};
 ghost use Rattle.ob_tool.specs.Outcome.{WentThrough, fault_told, status_of};
 ghost use Rattle.ob_tool.specs.Request.{WritesRequested, requested_fault, requested_trace_of_first};
@@ -88,7 +89,8 @@ fn carry_out<H: AllocGlobal + Threads + Wait + Clock + Sync, R: Read, W: Write>(
 /// Tells why the words of the command line could not be had, and answers the status with which the program ends: 4 for
 /// want of memory, and else 1.
 pub fn refused_words<E: Write>(error: &Error, errors: &mut E) -> u8
-    ensures { (result ≡ 1) ⊎ (result ≡ 4) }
+    ensures no_memory { error_kind error.now ≡ ErrorKind.OutOfMemory → result ≡ 4 }
+    ensures other { ¬ (error_kind error.now ≡ ErrorKind.OutOfMemory) → result ≡ 1 }
 {
     if error.kind() == ErrorKind::OutOfMemory {
         let fault = EntryFault::Run(RunFault::NoMemory);

@@ -20,7 +20,8 @@ Faults of a line, told as `line N: fault F`:
             "
 Faults, and help and the version where they are asked for, go to standard error.
 Status: 0 done, 1 the command line (help and the version too), 2 a line, 3 reading or writing, 4 memory",
-            $own_status
+            $own_status,
+            "\nWhat each fault means, what is kept then and what to do is in docs/FAULTS.md."
         )
     };
 }
@@ -42,6 +43,7 @@ Lines of a script:
   fl C V  fail all flushed messages with the cause C, with notice where V is 1, without where it is 0
   cl C    close with the cause C; it is refused while flushed messages are left
   u I V   set the user bit I where V is 0, clear it where V is 1
+  m L H   set the low mark L and the high mark H, both at most 2147483647; no bit moves before the next rise or fall
   ?       look at the buffer
   g C N   gather at most C blocks, 1 to 1024, of together at most N bytes, 1 to 2147483647
 Where no range stands here, the N of r, rb and p go up to 18446744073709551615, I up to 255, and all else up to
@@ -62,7 +64,8 @@ A refused command changes nothing. The numbers R of `!R`:
   8 no user bit (1 to 31)          9 flushed messages are left            10 no such promise
   11 as many commands as --limit says are recorded
 ",
-    "",
+    "  7  a low mark above the high mark
+",
     ""
 );
 
@@ -77,16 +80,16 @@ Lines of a script, those of the lanes first; the lanes are numbered from 0:
   u L I V   lane L sets the user bit I where V is 0, clears it where V is 1
   w L       lane L reads the word
   t L       lane L reads the total
-  k L       lane L goes on with the call that it is in the middle of
-I goes up to 255, and all else up to 4294967295. A lane in the middle of a call goes on with it, whatever it is asked.
+  k L       lane L goes on with a call, which is refused: each call is one step
+I goes up to 255, and all else up to 4294967295.
 
 Each line gives one line on standard output; `lane K` for a lane, EVENT t=T w=W CHANGE for a turn:
-  EVENT    `add` charged, and then to raise where that passed high; `sub` discharged, and then to lower where that came
-           below low; `raise` set bit 0 of the word; `lower` cleared it; `bit` set or cleared a user bit; `word` and
-           `total` read; `none` a charge of 0 or its discharge; `!F` refused, and nothing changed
+  EVENT    `add` charged, and set bit 0 of the word if that passed high; `sub` discharged, and cleared bit 0 if that
+           came below low; `bit` set or cleared a user bit; `word` and `total` read; `none` a charge of 0 or its
+           discharge; `!F` refused, and nothing changed
   t=T w=W  the total, and the word in hexadecimal digits
   CHANGE   `-` the word left 0, `+` it came back to 0, or nothing
-The last line is `end quiet owed=S`, or `end busy owed=S` where a lane is in the middle of a call: S is owed in all.
+The last line is `end quiet owed=S`: S is owed in all.
 
 The numbers F of `!F`:
   1 no such lane                   2 the charge is above the lane's room  3 the lane owes a charge already
@@ -103,7 +106,8 @@ pub const DRIVE: &str = help_on_scripts!(
     "  ob_tool drive < FILE
 
 It loads one buffer as a server does, to see that nothing is lost: each writer of the script gives its commands from a
-thread of its own, and beside them one transport hands what is flushed to a sink.
+thread of its own, and beside them one transport hands what is flushed to a sink. If no more threads can be started, it
+goes on with those that it has.
 
 Lines of a script; W is a writer, 0 to 63, and there is one writer more than the greatest W:
   b W N K  writer W writes K blocks, 1 to 1024, of N bytes, at most 1048576
@@ -112,6 +116,8 @@ Lines of a script; W is a writer, 0 to 63, and there is one writer more than the
   f W      writer W flushes
   x W ID   writer W cancels the promise ID
   u W I V  writer W sets the user bit I where V is 0, clears it where V is 1
+  m W L H  writer W sets the low mark L and the high mark H of the buffer, both at most 2147483647; the bytes that are
+           handed over go by the marks of the options all the while
   take N   the next call of the sink takes at most N bytes
   fail C   the next call of the sink fails with the number C, and so does all that is flushed
   then N   each call of the sink behind these takes at most N bytes; all where no line says it
@@ -125,10 +131,10 @@ All lines are read first. When all threads have ended, standard output gets thes
   hand                             the bytes that are still handed over, and a word: 0 00000000 where all is well
 
 Faults of a drive, told as `drive: fault N`; standard output stays empty:
-  1 there is no writer             3 the writers hand over too much       4 no memory, or no thread
-  6 as many commands as --limit says were recorded                        7 so it was as the transport went on
+  1 there is no writer             3 the writers hand over too much       4 no memory
+  6 as many commands as --limit says were recorded                        7 the transport found so, or no memory
 ",
-    "  7  a second `then`, or a second `turns`
+    "  7  a second `then`, or a second `turns`, or a low mark above the high mark
 ",
     ", 5 the drive"
 );

@@ -38,7 +38,7 @@ fn read_words<W: FirstWord>(word: W, after: &[u8]) -> Result<W::Line, LineFault>
     ensures { result ≡ kind_reading (W.table.kind_of word) (words_after after.now) }
 {
     match read_all_numbers(word.ranges(), after) {
-        Ok(numbers) => Ok(word.line(numbers)),
+        Ok(numbers) => word.line(numbers).ok_or(LineFault::Misplaced),
         Err(fault) => Err(fault),
     }
 }

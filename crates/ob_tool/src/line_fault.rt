@@ -15,7 +15,7 @@ pub enum LineFault {
     NotANumber = 2,
     /// A number is outside its range.
     OutOfRange = 3,
-    /// It stands where it may not, or does not go with the lines before it.
+    /// It stands where it may not, or does not go with the lines before it, or its numbers do not fit one another.
     Misplaced = 7,
 }
 

@@ -1,9 +1,9 @@
 ghost use Rattle.ob_tool.specs.RunTable.{run_table};
 
 use crate::first_word::FirstWord;
-use crate::range::{ANY_32, ANY_64, BIT_INDEX, BLOCK_BYTES, FLAG, Range};
+use crate::range::{ANY_32, ANY_64, BIT_INDEX, BLOCK_BYTES, FLAG, MARK, Range};
 use crate::script_line::ScriptLine;
-use ob_types::{Cause, Command, Message, PromiseId};
+use ob_types::{Cause, Command, Message, PromiseId, WaterMark};
 
 /// The first word of a line of `run`.
 #[derive(Clone, Copy)]
@@ -32,6 +32,8 @@ pub enum LineWord {
     Close,
     /// `u I V`: set the user bit I, or clear it where V is 1.
     UserBit,
+    /// `m LOW HIGH`: set the marks to LOW and HIGH.
+    SetMarks,
     /// `?`: look at the buffer.
     Look,
     /// `g C N`: gather at most C blocks of at most N bytes.
@@ -39,7 +41,7 @@ pub enum LineWord {
 }
 
 /// The first words that there are.
-static LINE_WORDS: [LineWord; 14] = [
+static LINE_WORDS: [LineWord; 15] = [
     LineWord::Block,
     LineWord::Region,
     LineWord::Other,
@@ -52,6 +54,7 @@ static LINE_WORDS: [LineWord; 14] = [
     LineWord::FailFlushed,
     LineWord::Close,
     LineWord::UserBit,
+    LineWord::SetMarks,
     LineWord::Look,
     LineWord::Gather,
 ];
@@ -70,6 +73,9 @@ static FAIL_NUMBERS: [Range; 2] = [ANY_32, FLAG];
 
 /// The index of a bit, and a flag.
 static BIT_NUMBERS: [Range; 2] = [BIT_INDEX, FLAG];
+
+/// The low mark and the high mark.
+static MARK_NUMBERS: [Range; 2] = [MARK, MARK];
 
 /// How many blocks, and of how many bytes, a transport takes at most.
 static GATHER_NUMBERS: [Range; 2] = [
@@ -106,6 +112,7 @@ impl FirstWord for LineWord {
             LineWord::FailFlushed => b"fl",
             LineWord::Close => b"cl",
             LineWord::UserBit => b"u",
+            LineWord::SetMarks => b"m",
             LineWord::Look => b"?",
             LineWord::Gather => b"g",
         }
@@ -120,14 +127,15 @@ impl FirstWord for LineWord {
             }
             LineWord::FailFlushed => &FAIL_NUMBERS,
             LineWord::UserBit => &BIT_NUMBERS,
+            LineWord::SetMarks => &MARK_NUMBERS,
             LineWord::Gather => &GATHER_NUMBERS,
             LineWord::Flush | LineWord::Remove | LineWord::Look => &[],
         }
     }
 
-    fn line(self, numbers: [u64; 3]) -> ScriptLine {
+    fn line(self, numbers: [u64; 3]) -> Option<ScriptLine> {
         let command = match self {
-            LineWord::Block => return ScriptLine::Block(numbers[0]),
+            LineWord::Block => return Some(ScriptLine::Block(numbers[0])),
             LineWord::Region => Command::Write(Message::Region(numbers[0])),
             LineWord::Other => Command::Write(Message::Other(numbers[0] as u32)),
             LineWord::Flush => Command::Flush,
@@ -141,11 +149,14 @@ impl FirstWord for LineWord {
             }
             LineWord::Close => Command::Close(Cause(numbers[0] as u32)),
             LineWord::UserBit => Command::UserBit(numbers[0] as u32, numbers[1] == 1),
-            LineWord::Look => return ScriptLine::Look,
+            LineWord::SetMarks => {
+                Command::SetMarks(WaterMark::new(numbers[0] as u32, numbers[1] as u32).ok()?)
+            }
+            LineWord::Look => return Some(ScriptLine::Look),
             LineWord::Gather => {
-                return ScriptLine::Gather(numbers[0] as u32, numbers[1] as u32);
+                return Some(ScriptLine::Gather(numbers[0] as u32, numbers[1] as u32));
             }
         };
-        ScriptLine::Command(command)
+        Some(ScriptLine::Command(command))
     }
 }

@@ -38,6 +38,9 @@ pub const BLOCK_BYTES: Range = up_to!(1048576);
 /// The index of a user bit.
 pub const BIT_INDEX: Range = up_to!(255);
 
+/// A water mark, in bytes.
+pub const MARK: Range = up_to!(2147483647);
+
 /// A flag.
 pub const FLAG: Range = up_to!(1);
 

@@ -174,6 +174,7 @@ fn next_byte(byte: u8, command: &Command) -> u8
         | Command::Cancel(_)
         | Command::FailFlushed(_, _)
         | Command::Close(_)
-        | Command::UserBit(_, _) => byte,
+        | Command::UserBit(_, _)
+        | Command::SetMarks(_) => byte,
     }
 }

@@ -11,10 +11,10 @@ use std::test::Fail;
 static READ: [(&str, &str); 2] = [
     (
         "b 3 2 2\nf 1\ntake 4\nr 1 18446744073709551615\no 0 4294967295\nfail 9\nx 3 7\n\
-        then 0\nu 0 255 1\nturns 5\nu 0 1 0",
+        then 0\nu 0 255 1\nturns 5\nu 0 1 0\nm 1 5 7",
         "[Take(4), Fail(9)] Some(0) Some(5) \
         [Plan { commands: [Write(Other(4294967295)), UserBit(255, true), UserBit(1, false)] }, \
-        Plan { commands: [Flush, Write(Region(18446744073709551615))] }, Plan { commands: [] }, \
+        Plan { commands: [Flush, Write(Region(18446744073709551615)), SetMarks(WaterMark { low: 5, high: 7 })] }, Plan { commands: [] }, \
         Plan { commands: [Write(Block(b\"\\x03\\x03\")), Write(Block(b\"\\x03\\x03\")), Cancel(PromiseId(7))] }]",
     ),
     ("", "[] None None []"),

@@ -10,10 +10,12 @@ use std::test::Fail;
 
 static WORDS: [&str; 6] = ["ob_tool", "run", "--low", "200", "--high", "400"];
 
-static SCRIPT: &str = "b 304\nb 0\nf\nrm\n";
+/// Failing without notice keeps the mark.
+static SCRIPT: &str = "b 400\nf\nb 4\ncl 7\nfl 7 0\ncl 7\nb 1\n";
 
-static TRACE: &str =
-    "id 0 t=400 w=00000000\nid 1 t=496 w=00000001 -\nn 2 t=496 w=00000001\nyes t=96 w=00000000 + 0:ok\n";
+static TRACE: &str = "\
+id 0 t=496 w=00000001 -\nn 1 t=496 w=00000001\nid 1 t=596 w=00000001\n!9 t=596 w=00000001\n\
+n 1 t=100 w=00000001 0:f7\nn 1 t=0 w=00000001 1:f7\n!4 t=0 w=00000001\n";
 
 /// More calls than any of these runs makes.
 const MANY: u32 = 1000;
@@ -31,13 +33,13 @@ fn breaks<H: Host>(rt: &H, reads: u32, writes: u32, end: &str, written: &str) ->
     Ok(())
 }
 
-/// The 15 bytes of the script come one a call, and then its end: each of these 16 calls may fail.
+/// The 33 bytes of the script come one a call, and then its end: each of these 34 calls may fail.
 #[test]
 fn tells_each_failed_read(rt: HostRuntime) -> Result<(), Fail> {
-    for calls in 0..16 {
+    for calls in 0..34 {
         breaks(&rt, calls, MANY, "status 3: read fault\n", "")?;
     }
-    for calls in 16..20 {
+    for calls in 34..38 {
         breaks(&rt, calls, MANY, "status 0: ", TRACE)?;
     }
     Ok(())
@@ -79,15 +81,15 @@ fn counts_the_bytes_of_a_script(rt: HostRuntime) -> Result<(), Fail> {
     Ok(())
 }
 
-/// A script is read in at most so many reads: 15 for its bytes and one for its end. A read that is interrupted counts,
+/// A script is read in at most so many reads: 33 for its bytes and one for its end. A read that is interrupted counts,
 /// and is tried again.
 #[test]
 fn counts_the_reads_of_a_script(rt: HostRuntime) {
     for (interrupted, reads, wanted) in [
-        (MANY, 15, Err(RunFault::Read)),
-        (MANY, 16, Ok(15)),
-        (7, 16, Err(RunFault::Read)),
-        (7, 17, Ok(15)),
+        (MANY, 33, Err(RunFault::Read)),
+        (MANY, 34, Ok(33)),
+        (7, 34, Err(RunFault::Read)),
+        (7, 35, Ok(33)),
     ] {
         let mut reader = Failing::new(SCRIPT.as_bytes(), interrupted);
         reader.failure = ErrorKind::Interrupted;

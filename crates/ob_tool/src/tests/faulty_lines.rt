@@ -5,7 +5,8 @@ use std::test::Fail;
 
 /// Runs the program on a script around each faulty line, and compares all that it leaves. A row is the number of a
 /// fault, and behind bars the lines of which it is the first: 1 no such word, 2 no number, 3 out of range, 4 too few
-/// words, 5 too many words, 7 misplaced. `@` stands for the line in the script, and for the number in what is left.
+/// words, 5 too many words, 6 too long, 7 misplaced. `@` stands for the line in the script, and for the number in what
+/// is left.
 fn tells<H: Host>(rt: &H, words: &str, script: &str, left: &str, rows: &str) -> Result<(), Fail> {
     for row in rows.lines() {
         let (fault, lines) = row.split_once('|').ok_or("no bar")?;
@@ -18,21 +19,24 @@ fn tells<H: Host>(rt: &H, words: &str, script: &str, left: &str, rows: &str) -> 
     Ok(())
 }
 
-/// The first line is empty.
+/// Bad lines behind three good ones. The first is empty.
 static OF_RUN: &str = "\
-1||z|R 1|rcx 1|B 1| b 1
-2|b |b x|b +1|b -1|b 1\r|r x|o -1|rc |u 1 x|g 1 x
+1||c|z|R 1|rcx 1|B 1| b 1
+2|b |cl |b x|b +1|b -1|b 1\r|r x|o -1|rc |u 1 x|g 1 x|m x 1|m 1 -1
 3|b 1048577|b 18446744073709551616|b 99999999999999999999999999999999|r 18446744073709551616|o 4294967296
 3|rc 4294967296|rb 18446744073709551616|p 18446744073709551616|x 4294967296|fl 1 2|fl 4294967296 0|cl 4294967296
-3|u 256 0|u 1 2|g 0 1|g 1 0|g 1025 1|g 1 2147483648|g 0 x
-4|b|r|o|rc|rb|p|x|fl|fl 1|cl|u 1|g|g 1
-5|b  1|b 1 |b x y|r 1 1|f 1|f |rm 0|x 0 0|fl 1 1 1|cl 1 1|? ?|g 1 1 1";
+3|m 2147483648 0|m 0 2147483648|u 256 0|u 1 2|g 0 1|g 1 0|g 1025 1|g 1 2147483648|g 0 x
+4|b|r|o|rc|rb|p|x|fl|fl 1|cl|u 1|g|g 1|m|m 1
+5|b  1|b 1 |cl 7 |b x y|r 1 1|f 1|f |rm 0|x 0 0|fl 1 1 1|cl 1 1|? ?|g 1 1 1|m 1 2 3
+7|m 5 4|m 2147483647 2147483646";
 
 #[test]
 fn faulty_lines_of_run(rt: HostRuntime) -> Result<(), Fail> {
-    let script = "f\n@\nf\n";
-    let left = "n 0 t=0 w=00000000\nstatus 2: line 2: fault @\n";
-    tells(&rt, "ob_tool run", script, left, OF_RUN)
+    let rows = format!(in rt.alloc(); "{OF_RUN}\n6|{:z>201}", "")?;
+    let script = "b 400\nf\nb 4\n@\nf\n";
+    let left =
+        "id 0 t=496 w=00000001 -\nn 1 t=496 w=00000001\nid 1 t=596 w=00000001\nstatus 2: line 4: fault @\n";
+    tells(&rt, "ob_tool run --low 200 --high 400", script, left, &rows)
 }
 
 /// The first line is empty.
@@ -57,10 +61,10 @@ static OF_DRIVE: &str = "\
 2|b x 1 0|u 0 x 2
 3|b 64 1 1|b 0 1048577 1|b 0 1 0|b 0 1 1025|r 64 1|r 0 18446744073709551616|o 0 4294967296|o 64 x|f 64
 3|x 0 4294967296|x 64 0|u 64 1 0|u 0 256 0|u 0 1 2|take 4294967296|fail 4294967296|then 4294967296
-3|turns 0|turns 16777217
-4|b 0 1|r 0|f|x 0|u 0 1|take
-5|b 0 1 1 1|f 0 0|fail 1 1
-7|then 1|turns 1";
+3|turns 0|turns 16777217|m 64 0 0|m 0 2147483648 0|m 0 0 2147483648
+4|b 0 1|r 0|f|x 0|u 0 1|take|m 0 1
+5|b 0 1 1 1|f 0 0|fail 1 1|m 0 1 2 3
+7|then 1|turns 1|m 0 5 4";
 
 #[test]
 fn faulty_lines_of_drive(rt: HostRuntime) -> Result<(), Fail> {

@@ -41,6 +41,20 @@ $ core
 k 0 / line 1: fault 7
 lane 9 0 /
 
+# marks lowered while open, and then a low mark above the high one
+$ run --low 200 --high 400
+b 304 / id 0 t=400 w=00000000
+m 0 100 / ok t=400 w=00000000
+? / size=0 cur=0 bu=0 bw=0 t=400 w=00000000
+b 0 / id 1 t=496 w=00000001 -
+m 5 4 / line 5: fault 7
+b 0 /
+
+# a low mark above the high one drives nothing
+$ drive
+b 0 1 1
+m 0 5 4 / line 2: fault 7
+
 # a faulty line drives nothing: all lines are read before anything is done
 $ drive
 b 0 1 1

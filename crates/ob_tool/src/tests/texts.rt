@@ -71,7 +71,9 @@ The script comes on standard input. Its lines end with the byte 10 alone, one sp
   ob_tool run --low 200 --high 400 < FILE
 
 Lines of a script:|  b N     write a block of N bytes, at most 1048576|  r N  ..|  o N  ..|  f  ..|  rm  ..|  rc C  ..
-  rb N  ..|  p N  ..|  x ID  ..|  fl C V  ..|  cl C  ..|  u I V  ..|  ?  ..
+  rb N  ..|  p N  ..|  x ID  ..|  fl C V  ..|  cl C  ..|  u I V  ..
+  m L H   set the low mark L and the high mark H, both at most 2147483647; no bit moves before the next rise or fall
+  ?  ..
   g C N   gather at most C blocks, 1 to 1024, of together at most N bytes, 1 to 2147483647
 Where no range stands here, the N of r, rb and p go up to 18446744073709551615, I up to 255, and all else up to
 4294967295.
@@ -86,9 +88,11 @@ A refused command changes nothing. The numbers R of `!R`:|  1 the message is too
 Faults of a line, told as `line N: fault F`:|  1  its first word is none of these
   2  a word in a number's place is no number|  3  a number is out of its range|  4  too few words follow the first
   5  too many words follow the first|  6  it has more than 200 bytes
+  7  a low mark above the high mark
 
 Faults, and help and the version where they are asked for, go to standard error.
-Status: 0 done, 1 the command line (help and the version too), 2 a line, 3 reading or writing, 4 memory";
+Status: 0 done, 1 the command line (help and the version too), 2 a line, 3 reading or writing, 4 memory
+What each fault means, what is kept then and what to do is in docs/FAULTS.md.";
 
 static HELP_OF_CORE: &str = "\
 status 1: Reads a script of lanes and turns from standard input, ..
@@ -100,17 +104,17 @@ Options:|      --low <BYTES>   Writers may ..|      --high <BYTES>  Writers shou
 The script comes ..|  ob_tool core --low 50 --high 100 < FILE
 
 Lines of a script, ..|  lane R B  a lane with room R, which holds the bits of the mask B|  c L N  ..|  d L  ..
-  u L I V  ..|  w L  ..|  t L  ..|  k L  ..|I goes up to 255, and all else up to 4294967295. A lane in the middle ..
+  u L I V  ..|  w L  ..|  t L  ..|  k L  ..|I goes up to 255, and all else up to 4294967295.
 
 Each line gives one line on standard output; `lane K` for a lane, EVENT t=T w=W CHANGE for a turn:
-  EVENT  ..|           below low; ..|           `total` read; ..|  t=T w=W  ..|  CHANGE  ..|The last line is ..
+  EVENT  ..|           came below low; ..|           discharge; ..|  t=T w=W  ..|  CHANGE  ..|The last line is ..
 
 The numbers F of `!F`:|  1 no such lane  ..|  4 the lane owes nothing  ..
 
 Faults of a line, ..|  1  ..|  2  ..|  3  ..|  4  ..|  5  ..|  6  it has more than 200 bytes
   7  a lane behind a turn, a turn before the first lane, ..|     another holds, ..
 
-Faults, and help ..|Status: 0 done, 1 the command line (help and the version too), ..";
+Faults, and help ..|Status: 0 done, 1 the command line (help and the version too), ..|What each fault means, ..";
 
 static HELP_OF_DRIVE: &str = "\
 status 1: Reads a script of writers from standard input, runs them in threads, ..
@@ -124,10 +128,11 @@ Options:|      --low <BYTES>       ..|      --high <BYTES>      ..|      --overh
 
 The script comes ..|  ob_tool drive < FILE
 
-It loads one buffer as a server does, to see that nothing is lost: ..|thread of its own, ..
+It loads one buffer as a server does, to see that nothing is lost: ..|thread of its own, ..|goes on with those that it has.
 
 Lines of a script; ..|  b W N K  writer W writes K blocks, 1 to 1024, of N bytes, at most 1048576|  r W N  ..
-  o W N  ..|  f W  ..|  x W ID  ..|  u W I V  ..|  take N  ..|  fail C  ..|  then N  ..|  turns N  ..|The N of r ..
+  o W N  ..|  f W  ..|  x W ID  ..|  u W I V  ..|  m W L H  ..|           handed over ..
+  take N  ..|  fail C  ..|  then N  ..|  turns N  ..|The N of r ..
 
 All lines are read first. ..|  writes, flushes, cancels, bits  ..|  taken  ..|  success, failed, cancelled, left ..
   hand  ..
@@ -135,10 +140,11 @@ All lines are read first. ..|  writes, flushes, cancels, bits  ..|  taken  ..|  
 Faults of a drive, told as `drive: fault N`; ..|  1 there is no writer  ..|  6 as many commands as --limit says ..
 
 Faults of a line, ..|  1  ..|  2  ..|  3  ..|  4  ..|  5  ..|  6  it has more than 200 bytes
-  7  a second `then`, or a second `turns`
+  7  a second `then`, or a second `turns`, or a low mark above the high mark
 
 Faults, and help ..
-Status: 0 done, 1 the command line (help and the version too), 2 a line, 3 reading or writing, 4 memory, 5 the drive";
+Status: 0 done, 1 the command line (help and the version too), 2 a line, 3 reading or writing, 4 memory, 5 the drive
+What each fault means, what is kept then and what to do is in docs/FAULTS.md.";
 
 /// Asks the program for help, and compares each line of it.
 fn tells_help<H: Host>(rt: &H, words: &str, wanted: &str) -> Result<(), Fail> {

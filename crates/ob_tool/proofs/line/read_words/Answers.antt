@@ -1,4 +1,6 @@
-use Rattle.std.proofs.Common.{ap, Ok, ◌∙◌}
+use Rattle.std.proofs.Common.{ap, ◌∙◌}
+use Rattle.std.specs.Prelude.{ok_or}
+use Rattle.ob_tool.specs.declared.line_fault.LineFault.TheVariants.{Misplaced}
 use Rattle.ob_tool.proofs.RangesLemmas.{held-within}
 use Rattle.ob_tool.proofs.LineLemmas.{asked_by-Ok, asked_by-Err}
 use Rattle.ob_tool.proofs.line.read_words.Goals as goal
@@ -12,7 +14,7 @@ pub returns-in-Ok : goal.returns-in-Ok
 returns-in-Ok g c =
     let kind = g.W.FirstWord.table.kind_of c.args.word in
     let held = rw c.ranges-2.ensures.value at c.in-Ok.ensures in
-    ap Ok c.line.ensures ∙ asked_by-Ok kind.asked _ _ held
+    c.ok_or.ensures.value ∙ ap (λ asked. ok_or asked Misplaced) c.line.ensures ∙ asked_by-Ok kind.asked _ _ held
 
 pub returns-in-Err : goal.returns-in-Err
 returns-in-Err g c =

@@ -1,19 +1,15 @@
 use Rattle.std.proofs.Common.{◌∙◌, ◌++◌, ap, sym, string_bytes}
 use Rattle.std.specs.Prelude.{option_map}
 use Rattle.ob_core.specs.CoreState.{WorldState}
-use Rattle.ob_tool.specs.CoreQuiet.{is_quiet}
 use Rattle.ob_tool.specs.CoreText.{end_text}
 use Rattle.ob_tool.proofs.CoreScriptLemmas.{last_text-once}
-use Rattle.ob_tool.proofs.CoreSessionLemmas.{quiet-same}
 use Rattle.ob_tool.proofs.SessionLemmas.{OnOk-follows}
 use Rattle.ob_tool.proofs.core_session.CoreSessionInterpreter.push_last.Goals as goal
 
 pub returns-in-Some : goal.returns-in-Some
 returns-in-Some c = OnOk-follows c.push_end.result (λ told. λ lines played.
     let old = string_bytes c.args.text.now in
-    let core = c.in-Some.world.core in
     let stands = ap (option_map (λ (w : WorldState). w.core)) (sym c.in-Some.is) ∙ played.1 in
-    told ∙ ap (λ quiet. old ++ end_text quiet c.owed.result) (quiet-same c.quiet.result core c.quiet.ensures)
-    ∙ ap (λ owed. old ++ end_text (is_quiet core) owed) c.owed.ensures
-    ∙ ap (λ text. old ++ text) (last_text-once c.args.self.now.marks lines core stands))
+    told ∙ ap (λ owed. old ++ end_text owed) c.owed.ensures
+    ∙ ap (λ text. old ++ text) (last_text-once c.args.self.now.marks lines c.in-Some.world.core stands))
     c.push_end.ensures
