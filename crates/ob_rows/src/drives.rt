@@ -21,6 +21,7 @@ f 0
 fail 9
 / writes 2, flushes 1, cancels 0, bits 0, refused 0, taken 0, success 0, failed 2, cancelled 0, left 0, hand 0 00000000
 : sink / 0 bytes, 1 failures
+: fails / fl 9 1
 
 # refused commands
 $ drive
@@ -29,6 +30,15 @@ x 1 7
 u 1 3 0
 r 1 9223372036854775808
 / writes 1, flushes 0, cancels 0, bits 1, refused 2, taken 0, success 0, failed 0, cancelled 0, left 1, hand 0 00000000
+
+# a writer sets the marks of the buffer, which no line of the report counts; what is handed over goes by the marks of the options
+$ drive --low 200 --high 400
+m 0 0 0
+b 0 100 4
+m 0 600 700
+f 0
+then 100
+/ writes 4, flushes 1, cancels 0, bits 0, refused 0, taken 400, success 4, failed 0, cancelled 0, left 0, hand 0 00000000
 
 # the steps of the sink come in order: the sink takes 3 bytes of the first block, and then nothing
 $ drive
@@ -72,15 +82,42 @@ then 2
 turns 3
 / drive: fault 1
 
-# a history that has no place for a command
+# a full history refuses a writer: three writes, and a place for two
 $ drive --limit 2
-b 0 1 3
+b 1 1 3
 / drive: fault 6
+: why / a command of writer 1 was refused: the history is full
+
+# a writer's fault comes before the transport's: a write and a flush, and one place more, where a pass reserves two
+$ drive --limit 3
+b 0 1 1
+f 0
+b 0 1 2
+/ drive: fault 6
+: why / a command of writer 0 was refused: the history is full
+
+# a full history ends the transport
+$ drive --limit 3
+b 0 1 1
+f 0
+b 0 1 1
+/ drive: fault 7
+: why / the transport ended: the history is full
+
+# the hand-off has the marks of the buffer: a block of one byte is charged 33, which is above high, and nothing is below a low mark of 0
+$ drive --low 0 --high 32
+b 0 1 1
+/ writes 1, flushes 0, cancels 0, bits 0, refused 0, taken 0, success 0, failed 0, cancelled 0, left 1, hand 0 00000001
+
+# a hand-off that is charged as much as high sets nothing
+$ drive --low 0 --high 33
+b 0 1 1
+/ writes 1, flushes 0, cancels 0, bits 0, refused 0, taken 0, success 0, failed 0, cancelled 0, left 1, hand 0 00000000
 ";
 
 /// The same with lines that tests alone give: `each` gives a line to so many writers, from the first on, a block may have any
-/// length, and `rm` gives a removal. `sink` tells how many bytes the sink took and how often it failed, and `why` the
-/// text of the fault.
+/// length, and `rm` gives a removal. `sink` tells how many bytes the sink took and how often it failed, `fails` what was
+/// failed for that, and `why` the text of the fault.
 pub static PLANS: &str = "
 # sixty-four writers
 $ drive
@@ -112,16 +149,15 @@ each 1 rm
 / drive: fault 2
 why / step 0 of writer 0 may not stand in a plan
 
-# a full history refuses a writer: three writes, and a place for two
-$ drive --limit 2
-each 1 b 1 3
-/ drive: fault 6
-why / a command of writer 0 was refused: the history is full
+# marks stand in a plan, and the report counts none of them
+$ drive
+each 2 m 5 7
+/ writes 0, flushes 0, cancels 0, bits 0, refused 0, taken 0, success 0, failed 0, cancelled 0, left 0, hand 0 00000000
 
-# a full history ends the transport: a write and a flush, and one place more, where a pass reserves two
-$ drive --limit 3
-each 1 b 1 1
+# a transport without turns takes nothing
+$ drive
+turns 0
+each 1 b 1 3
 each 1 f
-/ drive: fault 7
-why / the transport ended: the history is full
+/ writes 3, flushes 1, cancels 0, bits 0, refused 0, taken 0, success 0, failed 0, cancelled 0, left 3, hand 0 00000000
 ";

@@ -37,6 +37,19 @@ reserve 3 / ok
 ? / place 3: size=0 cur=0 bu=65537 bw=0 t=0 w=00000000
 callers / 9 9 9
 
+# marks that are set are a record, and a look goes by those in force at its place
+$ history --limit 3
+? / place 0: size=0 cur=0 bu=65537 bw=0 t=0 w=00000000
+3 b 4 / place 0: id 0 t=100 w=00000000
+4 m 0 150 / place 1: ok t=100 w=00000000
+? / place 2: size=0 cur=0 bu=51 bw=0 t=100 w=00000000
+4 b 0 / place 2: id 1 t=196 w=00000001 -
+? / place 3: size=0 cur=0 bu=0 bw=197 t=196 w=00000001
+seen 1 / yes
+seen 1@1 / no
+looks 0 1 2 / none
+told 0 1 2 / none
+
 # a removal settles five promises, more than fit without the allocator
 $ history --limit 7
 5 times 3 b 1 / place 4: id 4 t=485 w=00000000

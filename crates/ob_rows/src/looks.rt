@@ -1,6 +1,6 @@
-/// What a buffer tells between its commands, by lines that tests alone ask: of a promise, of the message in front, of
-/// the flushed messages, of its state (writable or not, its line empty or not, open or closed, how many writes are left),
-/// and of a user bit.
+/// What a buffer tells between its commands, by lines that tests alone ask: of a promise, of the message in front and its
+/// promise, of the flushed messages, of its state (writable or not, its line empty or not, open or closed, how many
+/// writes are left), and of a user bit.
 pub static LOOKS: &str = "
 # a refused write leaves all as it was
 $ run --low 200 --high 400
@@ -56,6 +56,33 @@ f / n 6 t=591 w=00000001
 g 8 15 / g 1 2 3 4 5 t=591 w=00000001
 g 4 15 / g 1 2 3 4 t=591 w=00000001
 g 8 14 / g 1 2 3 4 t=591 w=00000001
+
+# the promise in front: none before a flush, then that of the oldest message in line, sent in part or voided
+$ run --low 200 --high 400
+front / nothing
+b 4 / id 0 t=100 w=00000000
+front / nothing
+b 4 / id 1 t=200 w=00000000
+b 4 / id 2 t=300 w=00000000
+x 1 / yes t=300 w=00000000 1:x
+f / n 3 t=200 w=00000000
+front / id 0
+rm / yes t=100 w=00000000 0:ok
+front / id 1
+current / b 0
+rb 1 / n 1 t=100 w=00000000
+front / id 2
+current / b 3
+p 2 / ok t=100 w=00000000
+front / id 2
+rm / yes t=0 w=00000000 2:ok
+front / nothing
+b 4 / id 3 t=100 w=00000000
+f / n 1 t=100 w=00000000
+x 3 / no t=100 w=00000000
+front / id 3
+fl 7 1 / n 1 t=0 w=00000000 3:f7
+front / nothing
 
 # failing takes the whole line away: without notice the buffer stays unwritable, however little is pending
 $ run --low 200 --high 400

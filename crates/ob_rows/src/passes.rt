@@ -82,7 +82,8 @@ settled / 0:ok 1:ok 2:ok 3:ok 4:ok 5:ok 6:ok 7:ok 8:ok 9:ok 10:ok 11:ok 12:f1
 ";
 
 /// The same over a buffer that wants memory for the removal of more than four messages right behind a reserve.
-pub static SCARCE: &str = "bytes whose removal wants memory stay in front, and are booked later
+pub static SCARCE: &str = "
+# bytes whose removal wants memory stay in front, and are booked later
 $ transport --low 200 --high 400 then 5
 4 times b 1 / id 3 t=388 w=00000000
 b 1 / id 4 t=485 w=00000001 -
@@ -91,6 +92,17 @@ f / n 6 t=582 w=00000001
 pass / 5 unbooked: place 7, t=582 cur=0, 0001020304
 book 5 / n 5 + 0:ok 1:ok 2:ok 3:ok 4:ok: place 8, t=97 cur=0, 0001020304
 pass / took 1: place 9, t=0 cur=0, 000102030405
+settled / 0:ok 1:ok 2:ok 3:ok 4:ok 5:ok
+
+# taken but unbooked: the sink takes all six blocks, which stay in front until their removal is booked
+$ transport --low 200 --high 400 then 100
+4 times b 1 / id 3 t=388 w=00000000
+b 1 / id 4 t=485 w=00000001 -
+b 1 / id 5 t=582 w=00000001
+f / n 6 t=582 w=00000001
+pass / 6 unbooked: place 7, t=582 cur=0, 000102030405
+? / size=6 cur=0 bu=0 bw=383 t=582 w=00000001
+book 6 / n 6 + 0:ok 1:ok 2:ok 3:ok 4:ok 5:ok: place 8, t=0 cur=0, 000102030405
 settled / 0:ok 1:ok 2:ok 3:ok 4:ok 5:ok
 ";
 

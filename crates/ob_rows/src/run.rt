@@ -9,6 +9,28 @@ $ run --low 200 --high 400
 b 304 / id 0 t=400 w=00000000
 b 0 / id 1 t=496 w=00000001 -
 
+# marks raised while open: no bit moves, and the next fall goes by the new low mark
+$ run --low 200 --high 400
+b 304 / id 0 t=400 w=00000000
+b 0 / id 1 t=496 w=00000001 -
+m 600 700 / ok t=496 w=00000001
+? / size=0 cur=0 bu=0 bw=0 t=496 w=00000001
+b 0 / id 2 t=592 w=00000001
+f / n 3 t=592 w=00000001
+rm / yes t=192 w=00000000 + 0:ok
+
+# marks lowered while open: no bit moves, and the next rise goes by the new high mark
+$ run --low 200 --high 400
+b 304 / id 0 t=400 w=00000000
+m 0 100 / ok t=400 w=00000000
+? / size=0 cur=0 bu=0 bw=0 t=400 w=00000000
+b 0 / id 1 t=496 w=00000001 -
+
+# marks of a closed buffer
+$ run
+cl 1 / n 0 t=0 w=00000000
+m 1 2 / !4 t=0 w=00000000
+
 # the first run
 $ run --low 200 --high 400
 b 304 / id 0 t=400 w=00000000

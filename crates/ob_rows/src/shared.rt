@@ -1,8 +1,13 @@
 /// What callers of a shared buffer do in turn, each call from a desk of its own. A line that begins with the number of a
 /// caller is a call of it, or a look (`?`), which it keeps, or a wait for a promise (`wait`), or has its receipts given
-/// anew (`again`). `made` asks how many records each made. `finish` hands in all shares, receipts and looks, but for what was laid aside: all that a caller
-/// has (`without`), its last receipt (`short`), or the command of its first one, with a flush in its place (`forge`).
-/// The same line puts that back.
+/// anew (`again`). `made` asks how many records each made. `finish` hands in all shares, receipts and looks, but for
+/// what was laid aside: all that a caller has (`without`), its last receipt (`short`), or the command of one of its
+/// receipts (`forge`) or of the first that it was told of (`told`), with a flush in its place, which goes aside in turn
+/// where a second one is laid there; `seen` changes its first look. `exchange` gives each of two callers the receipts of
+/// the other, and `twice` puts the first receipt of a caller in the place of its last one too. The same line puts that
+/// back, the last one first.
+/// `why` asks for the text of the last fault. `read`, behind the number of a caller, is a glance without the lock; `watch`
+/// makes a reader of a caller's share, `watched` is its glance, and `check` its look under the lock.
 pub static SHARED: &str = "
 # two callers finish: the first writes and the second flushes
 $ shared --callers 2 --limit 8
@@ -13,13 +18,16 @@ made / 0:1 1:1
 1 ? / place 2: size=1 cur=0 bu=65437 bw=0 t=100 w=00000000
 without 0
 finish / shares missing
+why / the share of a caller is missing
 without 0
 short 0
 finish / receipts of 0 missing
+why / caller 0 handed in another number of receipts than it made records
 short 0
-forge 0
+forge 0 0
 finish / foreign: 0 at 0
-forge 0
+why / caller 0 handed in what is not of the history, at place 0
+forge 0 0
 finish / 2 records: size=1 cur=0 bu=65437 bw=0 t=100 w=00000000
 
 # what a desk left is what the next desk and the end find
@@ -40,10 +48,126 @@ $ shared --callers 2 --limit 16
 0 wait 5 / !10
 made / 0:0 1:7
 finish / 7 records: size=0 cur=0 bu=65537 bw=0 t=0 w=00000000
+
+# what is foreign first: of the first caller its receipts, then what it was told, then what it saw
+$ shared --callers 2 --limit 8
+0 b 4 / place 0: id 0 t=100 w=00000000
+0 b 4 / place 1: id 1 t=200 w=00000000
+1 f / place 2: n 2 t=200 w=00000000
+1 rm / place 3: yes t=100 w=00000000 0:ok
+0 wait 0 / place 3 of caller 1: 0:ok
+0 ? / place 4: size=1 cur=0 bu=65437 bw=0 t=100 w=00000000
+1 ? / place 4: size=1 cur=0 bu=65437 bw=0 t=100 w=00000000
+short 0
+finish / receipts of 0 missing
+short 0
+forge 0 0
+finish / foreign: 0 at 0
+forge 0 0
+seen 1
+finish / foreign: 1 at 4
+seen 0
+finish / foreign: 0 at 4
+told 0
+finish / foreign: 0 at 3
+forge 0 1
+finish / foreign: 0 at 1
+without 0
+finish / shares missing
+without 0
+forge 0 1
+finish / foreign: 0 at 3
+told 0
+seen 0
+forge 1 1
+finish / foreign: 1 at 3
+forge 1 1
+seen 1
+finish / 4 records: size=1 cur=0 bu=65437 bw=0 t=100 w=00000000
+
+# exchanged receipts: each caller hands in what the other was given
+$ shared --callers 2 --limit 8
+0 o 1 / place 0: id 0 t=104 w=00000000
+1 o 2 / place 1: id 1 t=208 w=00000000
+exchange 0 1
+finish / foreign: 0 at 1
+exchange 0 1
+finish / 2 records: size=0 cur=0 bu=65329 bw=0 t=208 w=00000000
+
+# a receipt that is handed in twice
+$ shared --callers 2 --limit 8
+0 o 1 / place 0: id 0 t=104 w=00000000
+0 o 2 / place 1: id 1 t=208 w=00000000
+twice 0
+finish / foreign: 0 at 0
+twice 0
+finish / 2 records: size=0 cur=0 bu=65329 bw=0 t=208 w=00000000
+
+# a share that is left out is told before a receipt that the other lacks
+$ shared --callers 2 --limit 8
+0 o 1 / place 0: id 0 t=104 w=00000000
+1 o 2 / place 1: id 1 t=208 w=00000000
+without 1
+finish / shares missing
+short 0
+finish / shares missing
+without 1
+finish / receipts of 0 missing
+short 0
+without 0
+finish / shares missing
+short 0
+finish / shares missing
+short 0
+without 0
+finish / 2 records: size=0 cur=0 bu=65329 bw=0 t=208 w=00000000
+
+# readers glance without the lock: at nothing, and at what another caller wrote
+$ shared --callers 2 --limit 8 --low 200 --high 400
+watch 1
+watched / t=0 w=00000000
+0 b 304 / place 0: id 0 t=400 w=00000000
+0 b 0 / place 1: id 1 t=496 w=00000001 -
+0 read / t=496 w=00000001
+watch 0
+watched / t=496 w=00000001
+1 read / t=496 w=00000001
+check / place 2: size=0 cur=0 bu=0 bw=297 t=496 w=00000001
+finish / 2 records: size=0 cur=0 bu=0 bw=297 t=496 w=00000001
+
+# marks that are set while the buffer is open: each look goes by those of its place
+$ shared --callers 2 --limit 8 --low 200 --high 400
+0 b 304 / place 0: id 0 t=400 w=00000000
+1 ? / place 1: size=0 cur=0 bu=1 bw=0 t=400 w=00000000
+1 m 50 100 / place 1: ok t=400 w=00000000
+1 ? / place 2: size=0 cur=0 bu=0 bw=0 t=400 w=00000000
+0 read / t=400 w=00000000
+0 b 0 / place 2: id 1 t=496 w=00000001 -
+1 read / t=496 w=00000001
+0 ? / place 3: size=0 cur=0 bu=0 bw=447 t=496 w=00000001
+seen 1
+finish / foreign: 1 at 1
+seen 1
+finish / 3 records: size=0 cur=0 bu=0 bw=447 t=496 w=00000001
+
+# the last of sixty-five callers hands in too
+$ shared --callers 65 --limit 8
+64 b 4 / place 0: id 0 t=100 w=00000000
+0 f / place 1: n 1 t=100 w=00000000
+without 64
+finish / shares missing
+without 64
+short 64
+finish / receipts of 64 missing
+short 64
+forge 64 0
+finish / foreign: 64 at 0
+forge 64 0
+finish / 2 records: size=1 cur=0 bu=65437 bw=0 t=100 w=00000000
 ";
 
 /// One caller writes, and then waits while another sends.
-pub static WRITES: &str = "the first caller writes
+pub static WRITES: &str = "a caller writes
 $ shared --callers 2 --limit 8
 b 4 / place 0: id 0 t=100 w=00000000
 ";
@@ -59,4 +183,10 @@ pub static SENDS: &str = "the second caller sends
 $ shared --callers 2 --limit 8
 f / place 1: n 1 t=100 w=00000000
 rm / place 2: yes t=0 w=00000000 0:ok
+";
+
+/// The wait of each of two callers, while a third flushes and removes what it wrote.
+pub static TOLD: &str = "both who wait are told of one removal
+$ shared --callers 3 --limit 8
+wait 0 / place 2 of caller 2: 0:ok
 ";

@@ -1,38 +1,38 @@
 /// Turns that lanes are given, in the lines and the traces of `ob_tool core`.
 pub static CORE: &str = "
-# a mark stuck below low
+# a mark set with the add that passes high, and cleared with the subtract that comes below low
 $ core --low 50 --high 100
 lane 200 0 / lane 0
 lane 200 0 / lane 1
 c 1 80 / add t=80 w=00000000
-c 0 30 / add t=110 w=00000000
-d 1 / sub t=30 w=00000000
-k 1 / lower t=30 w=00000000
-k 0 / raise t=30 w=00000001 -
+c 0 30 / add t=110 w=00000001 -
+d 1 / sub t=30 w=00000000 +
+k 1 / !6 t=30 w=00000000
+k 0 / !6 t=30 w=00000000
 / end quiet owed=30
 
-# a mark stuck below low, until the other lane owes nothing
+# a mark that is clear below low stays so until nothing is owed
 $ core --low 50 --high 100
 lane 200 0 / lane 0
 lane 200 0 / lane 1
 c 1 80 / add t=80 w=00000000
-c 0 30 / add t=110 w=00000000
-d 1 / sub t=30 w=00000000
-k 1 / lower t=30 w=00000000
-k 0 / raise t=30 w=00000001 -
-d 0 / sub t=0 w=00000001
-k 0 / lower t=0 w=00000000 +
+c 0 30 / add t=110 w=00000001 -
+d 1 / sub t=30 w=00000000 +
+k 1 / !6 t=30 w=00000000
+k 0 / !6 t=30 w=00000000
+d 0 / sub t=0 w=00000000
+k 0 / !6 t=0 w=00000000
 / end quiet owed=0
 
-# a mark lost above high
+# a mark set above high stays so, though another lane came below low before
 $ core --low 50 --high 100
 lane 200 0 / lane 0
 lane 200 0 / lane 1
 c 1 30 / add t=30 w=00000000
 d 1 / sub t=0 w=00000000
-c 0 120 / add t=120 w=00000000
-k 0 / raise t=120 w=00000001 -
-k 1 / lower t=120 w=00000000 +
+c 0 120 / add t=120 w=00000001 -
+k 0 / !6 t=120 w=00000001
+k 1 / !6 t=120 w=00000001
 / end quiet owed=120
 
 # refused asks of the core
@@ -54,13 +54,13 @@ c 1 0 / none t=5 w=00000002
 d 1 / none t=5 w=00000002
 / end quiet owed=5
 
-# a script that ends while a lane is in the middle of a call; a bit that is cleared
+# a script that ends while a lane owes; a bit that is cleared
 $ core --low 50 --high 100
 lane 200 2147483648 / lane 0
 u 0 31 0 / bit t=0 w=80000000 -
 u 0 31 1 / bit t=0 w=00000000 +
-c 0 101 / add t=101 w=00000000
-/ end busy owed=101
+c 0 101 / add t=101 w=00000001 -
+/ end quiet owed=101
 
 # no line
 $ core --low 50 --high 100
@@ -75,18 +75,18 @@ $ core
 lane 99999 0 / lane 0
 c 0 65536 / add t=65536 w=00000000
 d 0 / sub t=0 w=00000000
-k 0 / lower t=0 w=00000000
-c 0 65537 / add t=65537 w=00000000
-k 0 / raise t=65537 w=00000001 -
-d 0 / sub t=0 w=00000001
-k 0 / lower t=0 w=00000000 +
+k 0 / !6 t=0 w=00000000
+c 0 65537 / add t=65537 w=00000001 -
+k 0 / !6 t=65537 w=00000001
+d 0 / sub t=0 w=00000000 +
+k 0 / !6 t=0 w=00000000
 / end quiet owed=0
 
-# a lane inside a call ignores what it is asked
+# a lane that has just set the mark refuses what it is asked as any other
 $ core --low 50 --high 100
 lane 200 0 / lane 0
-c 0 101 / add t=101 w=00000000
-u 0 32 1 / raise t=101 w=00000001 -
+c 0 101 / add t=101 w=00000001 -
+u 0 32 1 / !5 t=101 w=00000001
 u 0 32 1 / !5 t=101 w=00000001
 / end quiet owed=101
 

@@ -6,6 +6,7 @@
 #![tactic(auto)]
 
 pub mod caller;
+pub mod in_flight;
 pub mod shared;
 #[cfg(test)]
 mod tests;

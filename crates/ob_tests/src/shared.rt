@@ -47,11 +47,11 @@ fn run<L: Named + Send + Sync, R: Threads + Wait + Clock + Sync, S: Sink + Send>
         return Err(Refusal::NoMemory);
     };
     let shared = &buffer;
-    // if no second thread can be had, one runs both in this order, so no writer waits for the transport
-    let (writers, (transport, is_sent)) = join(
+    // if no second thread can be had, the first of the two runs last, so no writer waits for the transport
+    let ((transport, is_sent), writers) = join(
         rt,
-        move || map_vec(rt, shares, &|share| write(rt, alloc, shared, share)),
         move || send(rt, alloc, shared, last, sink),
+        move || map_vec(rt, shares, &|share| write(rt, alloc, shared, share)),
     );
     let mut dones = writers?;
     if is_sent {

@@ -52,6 +52,7 @@ pub struct Options {
     pub unknown: u32,
     pub limit: u32,
     pub task: u32,
+    pub callers: u32,
 }
 
 impl Options {
@@ -63,6 +64,7 @@ impl Options {
             unknown: 8,
             limit: 1048576,
             task: TASK_OVERHEAD,
+            callers: 2,
         };
         let mut words = Words::of(command);
         for _ in 0..MOST {
@@ -73,6 +75,7 @@ impl Options {
                 "--unknown" => options.unknown = words.small()?,
                 "--limit" => options.limit = words.small()?,
                 "--task" => options.task = words.small()?,
+                "--callers" => options.callers = words.small()?,
                 _ => {}
             }
         }

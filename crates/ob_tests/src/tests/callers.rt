@@ -2,7 +2,7 @@
 
 use crate::tests::commands::wanted;
 use crate::tests::story::Player;
-use crate::tests::trace::{push_answer, push_look, push_refusal, push_settled};
+use crate::tests::trace::{push_answer, push_glance, push_look, push_refusal, push_settled};
 use crate::tests::words::{NoAnswer, Words};
 use ob_history::{Receipt, Recorded};
 use ob_seq::Look;
@@ -29,8 +29,8 @@ pub fn finished<L: Named>(buffer: SharedBuffer<L>, dones: Vec<Done<L>>) -> Resul
     }
 }
 
-/// A caller that plays lines: a command, `?` for a look, `wait` and a promise, or `again` for all its receipts anew. It
-/// keeps all that it hands in.
+/// A caller that plays lines: a command, `?` for a look, `wait` and a promise, `again` for all its receipts anew, or
+/// `read` for a glance without the lock. It keeps all that it hands in.
 #[derive(Drop)]
 pub struct Caller<'b, L: Named, R> {
     pub rt: &'b R,
@@ -46,6 +46,7 @@ impl<'b, L: Named, R: Wait> Player for Caller<'b, L, R> {
             "?" => self.look(text),
             "wait" => self.wait(PromiseId(words.small()?), text),
             "again" => self.again(text),
+            "read" => self.read(text),
             _ => self.call(wanted(self.alloc, &mut Words::of(asked))?, text),
         }
     }
@@ -80,6 +81,12 @@ impl<'b, L: Named, R: Wait> Caller<'b, L, R> {
         };
         self.done = Some(caller);
         told
+    }
+
+    /// Reads without the lock.
+    fn read(&mut self, text: &mut String) -> Result<(), NoAnswer> {
+        let caller = self.done.as_mut().ok_or(NoAnswer::Unread)?;
+        Ok(push_glance(text, caller.share.read(self.buffer))?)
     }
 
     fn look(&mut self, text: &mut String) -> Result<(), NoAnswer> {

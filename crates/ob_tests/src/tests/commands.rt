@@ -2,7 +2,7 @@
 
 use crate::tests::words::{NoAnswer, Words};
 use bytes::Bytes;
-use ob_types::{Cause, Command, Message, PromiseId};
+use ob_types::{Cause, Command, Message, PromiseId, WaterMark};
 use std::alloc::{AllocError, Global};
 
 /// The command of the words that are left, which have to be one.
@@ -32,6 +32,7 @@ pub fn command(
         "fl" => Command::FailFlushed(Cause(words.small()?), words.flag()),
         "cl" => Command::Close(Cause(words.small()?)),
         "u" => Command::UserBit(words.small()?, words.flag()),
+        "m" => Command::SetMarks(WaterMark::new(words.small()?, words.small()?)?),
         _ => return Ok(None),
     }))
 }

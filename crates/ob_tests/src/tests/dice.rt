@@ -3,7 +3,7 @@
 ghost use Rattle.std.specs.Prelude.{◌<◌};
 
 use crate::tests::commands::block;
-use ob_types::{Cause, Command, Message, PromiseId};
+use ob_types::{Cause, Command, Message, PromiseId, WaterMark};
 use std::alloc::{AllocError, Global};
 
 /// Numbers that look like chance, from a seed on.
@@ -24,11 +24,11 @@ impl Dice {
         (self.0 / 256) % sides
     }
 
-    /// One of the ten commands, a write more often than the others, and a close seldom.
+    /// One of the eleven commands, a write more often than the others, and a close seldom.
     pub fn command(&mut self, alloc: Global) -> Result<Command, AllocError> {
         let cause = Cause(self.roll(9));
         let flag = self.roll(2) == 0;
-        Ok(match self.roll(14) {
+        Ok(match self.roll(15) {
             0 => Command::Flush,
             1 => Command::Remove,
             2 => Command::RemoveWith(cause),
@@ -46,7 +46,16 @@ impl Dice {
             }
             9 => Command::Write(Message::Region(u64::from(self.roll(1000)))),
             10 => Command::Write(Message::Other(7)),
+            11 => self.marks(),
             _ => Command::Write(block(alloc, 0, u64::from(self.roll(80)))?),
         })
+    }
+
+    /// Marks that are set, equal ones now and then; a flush where the low one would be above the high one.
+    fn marks(&mut self) -> Command {
+        match WaterMark::new(self.roll(20) * 100, self.roll(20) * 100) {
+            Ok(marks) => Command::SetMarks(marks),
+            Err(_) => Command::Flush,
+        }
     }
 }

@@ -3,10 +3,12 @@
 use crate::tests::buffers::Options;
 use crate::tests::commands::command;
 use crate::tests::story::{Player, Story, parts};
-use crate::tests::words::{NoAnswer, Words};
+use crate::tests::words::{NoAnswer, Words, number_in};
 use ob_pool::{DriveFault, Gate, OpenGate, Plan, Report, drive};
 use ob_rows::{DRIVES, PLANS};
-use ob_transport::{Limits, ScriptSink, SinkStep};
+use ob_shared::FinishFault;
+use ob_transport::{ScriptSink, Sink, SinkStep};
+use ob_types::{Cause, Command};
 use std::alloc::{AllocError, Global};
 use std::process::Abort;
 use std::sync::Wait;
@@ -16,7 +18,7 @@ use std::time::Clock;
 
 /// What is to be driven, and what came of it.
 #[derive(Drop)]
-struct Driven {
+pub struct Driven {
     alloc: Global,
     options: Options,
     /// The most passes of the transport.
@@ -26,7 +28,7 @@ struct Driven {
     /// The most bytes that a call of the sink takes behind its steps.
     most: u64,
     /// How many bytes the sink took, and how often it failed.
-    sink: (usize, u64),
+    pub sink: (usize, u64),
     end: Option<Result<Report, DriveFault>>,
 }
 
@@ -34,10 +36,14 @@ impl Player for Driven {
     /// The lines that give something were given before.
     fn answer(&mut self, asked: &str, text: &mut String) -> Result<(), NoAnswer> {
         let (bytes, failures) = self.sink;
+        if let (Some(count), Some(Ok(report))) = (asked.strip_prefix("among "), &self.end) {
+            return push_callers(text, report, number_in(count)? as usize);
+        }
         match (asked, &self.end) {
             ("", Some(Ok(report))) => push_report(text, report)?,
             ("", Some(Err(fault))) => write!(text, "drive: fault {}", fault.number())?,
             ("why", Some(Err(fault))) => write!(text, "{fault}")?,
+            ("fails", Some(Ok(report))) => push_fails(text, report)?,
             ("sink", _) => write!(text, "{bytes} bytes, {failures} failures")?,
             _ => {}
         }
@@ -47,7 +53,7 @@ impl Player for Driven {
 
 impl Driven {
     /// What a story gives, before it is driven.
-    fn of(alloc: Global, story: Story) -> Result<Driven, NoAnswer> {
+    pub fn of(alloc: Global, story: Story) -> Result<Driven, NoAnswer> {
         let mut driven = Driven {
             alloc,
             options: Options::of(story.command)?,
@@ -64,11 +70,30 @@ impl Driven {
         Ok(driven)
     }
 
+    /// The sink of a story.
+    pub fn script(&mut self) -> ScriptSink {
+        let steps = std::mem::replace(&mut self.steps, Vec::new(self.alloc));
+        ScriptSink::new(steps, self.most)
+    }
+
+    /// Drives what a story gives, with its writers behind a gate.
+    pub fn run<R: AllocGlobal + Threads + Wait + Clock + Sync, G: Gate + Sync, S: Sink + Send>(
+        &mut self,
+        rt: &R,
+        gate: &G,
+        sink: &mut S,
+    ) -> Result<(), NoAnswer> {
+        let config = self.options.config(self.turns)?;
+        let plans = std::mem::replace(&mut self.plans, Vec::new(self.alloc));
+        self.end = Some(drive(rt, rt.alloc(), gate, plans, sink, config));
+        Ok(())
+    }
+
     /// Takes in what a line gives.
     fn take(&mut self, asked: &str) -> Result<(), NoAnswer> {
         let mut words = Words::of(asked);
         match words.word() {
-            "" | "sink" | "why" => {}
+            "" | "sink" | "why" | "fails" | "among" => {}
             "take" => self.steps.push(SinkStep::Take(words.number()?))?,
             "fail" => self.steps.push(SinkStep::Fail(words.small()?))?,
             "then" => self.most = words.number()?,
@@ -116,13 +141,9 @@ pub fn drives<R: Abort + AllocGlobal + Threads + Wait + Clock + Sync, G: Gate + 
     story: Story,
 ) -> Result<(), Fail> {
     let mut driven = Driven::of(rt.alloc(), story)?;
-    let config = driven.options.config(driven.turns)?;
-    let plans = std::mem::replace(&mut driven.plans, Vec::new(rt.alloc()));
-    let steps = std::mem::replace(&mut driven.steps, Vec::new(rt.alloc()));
-    let mut sink = ScriptSink::new(steps, driven.most);
-    let end = drive(rt, rt.alloc(), gate, plans, &mut sink, config);
+    let mut sink = driven.script();
+    driven.run(rt, gate, &mut sink)?;
     driven.sink = (sink.taken().len(), sink.failures());
-    driven.end = Some(end);
     story.play(rt, rt.alloc(), &mut driven);
     Ok(())
 }
@@ -147,6 +168,25 @@ fn push_report(text: &mut String, report: &Report) -> Result<(), AllocError> {
     write!(text, "hand {total} {word:08x}")
 }
 
+/// Adds how many callers made the first so many records.
+fn push_callers(text: &mut String, report: &Report, count: usize) -> Result<(), NoAnswer> {
+    let mut callers = 0u64;
+    for one in report.recorded.records().iter().take(count) {
+        callers |= 1u64.wrapping_shl(one.caller);
+    }
+    Ok(write!(text, "{} callers", callers.count_ones())?)
+}
+
+/// Adds the commands that failed what was flushed.
+fn push_fails(text: &mut String, report: &Report) -> Result<(), AllocError> {
+    for one in report.recorded.records() {
+        if let Command::FailFlushed(Cause(cause), notice) = &one.command {
+            write!(text, "fl {cause} {} ", u8::from(*notice))?;
+        }
+    }
+    Ok(())
+}
+
 fn plays<R: Abort + AllocGlobal + Threads + Wait + Clock + Sync>(
     rt: &R,
     stories: &str,
@@ -165,4 +205,15 @@ fn writers_drive(rt: HostRuntime) -> Result<(), Fail> {
 #[test]
 fn plans_are_driven_or_refused(rt: HostRuntime) -> Result<(), Fail> {
     plays(&rt, PLANS)
+}
+
+#[test]
+fn want_of_memory_is_told(rt: HostRuntime) -> Result<(), Fail> {
+    let end = DriveFault::Finish(FinishFault::NoMemory);
+    let told = format!(in rt.alloc(); "{}; {end}", DriveFault::NoMemory)?;
+    assert_eq!(rt;
+        told.as_str(),
+        "out of memory; the buffer was not finished: out of memory"
+    );
+    Ok(())
 }

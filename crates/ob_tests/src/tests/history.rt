@@ -67,6 +67,8 @@ impl History {
     /// Makes a call, tells what it answered, and keeps its receipt.
     fn call(&mut self, caller: u32, words: &mut Words, text: &mut String) -> Result<(), NoAnswer> {
         let command = wanted(self.alloc, words)?;
+        // a call that was made is not asked again for want of a place for its receipt
+        self.receipts.reserve(1)?;
         self.kept.caller = caller;
         match self.kept.call(command) {
             Ok(receipt) => {

@@ -41,7 +41,7 @@ impl<B: Booked> Booked for Keeping<B> {
 }
 
 fn keep(receipts: &mut Vec<Receipt>, receipt: &Receipt) {
-    if let Ok(copy) = receipt.copy() {
+    if let Ok(copy) = receipt.copy().or_else(|_| receipt.copy()) {
         let _ = receipts.push(copy);
     }
 }

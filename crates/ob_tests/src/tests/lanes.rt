@@ -1,6 +1,7 @@
-//! Running lanes, over words with marks of 50 and 100.
+//! Running lanes, over one word with marks of 50 and 100.
 
 mod bits;
+mod carrying;
 mod crossing;
 mod meeting;
 mod splitting;
@@ -12,6 +13,7 @@ use ob_lanes::{Lane, NoRoom, Words, lanes};
 use ob_types::WaterMark;
 use std::alloc::Global;
 use std::process::Abort;
+use std::sync::Wait;
 use std::test::Fail;
 
 /// Words with marks of 50 and 100, and the lane that has all of it.
@@ -35,12 +37,17 @@ fn split(words: &Words, lane: Lane, room: u32, bits: u32) -> Result<(Lane, Lane)
 }
 
 /// A charge that is refused gives the lane back.
-fn not_charged(rt: &impl Abort, words: &Words, lane: Lane, amount: u32) -> Result<Lane, Fail>
+fn not_charged<R: Abort + Wait>(
+    rt: &R,
+    words: &Words,
+    lane: Lane,
+    amount: u32,
+) -> Result<Lane, Fail>
     requires { lane.words ≡ words.now }
     ensures { IfOk result (λ lane. lane.words ≡ words.now) }
 {
     let room = lane.room();
-    match lane.charge(words, amount) {
+    match lane.charge(rt, words, amount) {
         Ok(_charged) => Err(Fail::new("the charge is above the room")),
         Err((lane, fault)) => {
             assert_eq!(rt; (fault, lane.room()), (NoRoom, room));

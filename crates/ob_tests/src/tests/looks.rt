@@ -14,6 +14,7 @@ pub fn look(buffer: &Buffer, asked: &str, text: &mut String) -> Result<(), NoAns
         "g" => push_gathered(text, buffer, words.small()?, words.small()?)?,
         "promise" => push_promise(text, buffer.promise(PromiseId(words.small()?)))?,
         "current" => push_current(text, buffer.current())?,
+        "front" => push_front(text, buffer.front())?,
         "flushed" => push_flushed(text, buffer)?,
         "state" => push_state(text, buffer)?,
         "bit" => {
@@ -55,6 +56,13 @@ fn push_current(text: &mut String, current: Option<&Message>) -> Result<(), Allo
     match current {
         None => text.push_str("nothing"),
         Some(message) => push_message(text, message),
+    }
+}
+
+fn push_front(text: &mut String, front: Option<PromiseId>) -> Result<(), AllocError> {
+    match front {
+        None => text.push_str("nothing"),
+        Some(PromiseId(id)) => write!(text, "id {id}"),
     }
 }
 

@@ -1,4 +1,4 @@
-//! The core: two words over given schedules.
+//! The core: one word over given schedules.
 
 use crate::tests::buffers::Options;
 use crate::tests::story::{Begins, Player, Story, play_each};
@@ -82,8 +82,8 @@ impl Schedule {
 
     /// The end of a schedule. Played at once it comes to the same.
     fn end(&self, world: &World, text: &mut String) -> Result<(), NoAnswer> {
-        let busy = if world.quiet() { "quiet" } else { "busy" };
-        write!(text, "end {busy} owed={}", world.owed())?;
+        let rest = if world.quiet() { "quiet" } else { "busy" };
+        write!(text, "end {rest} owed={}", world.owed())?;
         let mut again = self::world(self.alloc, self.marks, &self.lanes)?;
         let events = play(self.alloc, &mut again, &self.turns)?;
         let words = (world.total(), world.word());
@@ -98,8 +98,6 @@ fn push_event(text: &mut String, event: Event) -> Result<(), AllocError> {
     text.push_str(match event {
         Event::Added => "add",
         Event::Subtracted => "sub",
-        Event::Raised => "raise",
-        Event::Lowered => "lower",
         Event::BitSet | Event::BitCleared => "bit",
         Event::ReadWord => "word",
         Event::ReadTotal => "total",

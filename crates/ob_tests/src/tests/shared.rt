@@ -5,11 +5,11 @@ ghost use Rattle.ob_shared.specs.Opened.{IsNameOf};
 use crate::tests::buffers::Options;
 use crate::tests::callers::{Caller, begun};
 use crate::tests::story::{Again, Player, Story};
-use crate::tests::trace::push_look;
+use crate::tests::trace::{push_glance, push_look};
 use crate::tests::words::{NoAnswer, Words, number_in};
 use ob_history::Receipt;
 use ob_rows::SHARED;
-use ob_shared::{Done, FinishFault, Named, Opening, SharedBuffer, Unfinished};
+use ob_shared::{Done, FinishFault, Named, Opening, Reader, SharedBuffer, Unfinished};
 use ob_types::Command;
 use std::alloc::Global;
 use std::marker::Brand;
@@ -27,6 +27,10 @@ struct Crew<'r, L: Named, R> {
     dones: Vec<Done<L>>,
     /// What is not handed in.
     aside: Aside<L>,
+    /// Why the buffer was not finished the last time.
+    fault: Option<FinishFault>,
+    /// Who reads beside the callers.
+    watcher: Option<Reader<L>>,
 }
 
 /// What lines have laid aside, until they put it back.
@@ -47,7 +51,15 @@ impl<'r, L: Named, R: Wait> Player for Crew<'r, L, R> {
             "finish" => self.finish(text),
             "without" => self.without(words.small()? as usize),
             "short" => self.short(words.small()? as usize),
-            "forge" => self.forge(words.small()? as usize),
+            "forge" => self.forge(words.small()? as usize, words.small()? as usize),
+            "told" => self.told(words.small()? as usize),
+            "seen" => self.seen(words.small()? as usize),
+            "exchange" => self.exchange(words.small()? as usize, words.small()? as usize),
+            "twice" => self.twice(words.small()? as usize),
+            "why" => self.why(text),
+            "watch" => self.watch(words.small()? as usize),
+            "watched" => self.watched(text),
+            "check" => self.check(text),
             _ => self.ask(number_in(word)? as usize, asked, text),
         }
     }
@@ -71,6 +83,33 @@ impl<'r, L: Named, R: Wait> Crew<'r, L, R> {
             self.dones.insert(caller, done)?;
         }
         told
+    }
+
+    /// Makes a reader of a caller's share.
+    fn watch(&mut self, caller: usize) -> Result<(), NoAnswer> {
+        let (Some(buffer), Some(done)) = (&self.buffer, self.dones.get_mut(caller)) else {
+            return Err(NoAnswer::Unread);
+        };
+        self.watcher = Some(done.share.reader(buffer));
+        Ok(())
+    }
+
+    /// What the reader reads without the lock.
+    fn watched(&mut self, text: &mut String) -> Result<(), NoAnswer> {
+        let (Some(buffer), Some(reader)) = (&self.buffer, &mut self.watcher) else {
+            return Err(NoAnswer::Unread);
+        };
+        Ok(push_glance(text, reader.read(buffer))?)
+    }
+
+    /// What it sees under the lock.
+    fn check(&mut self, text: &mut String) -> Result<(), NoAnswer> {
+        let (Some(buffer), Some(reader)) = (&self.buffer, &mut self.watcher) else {
+            return Err(NoAnswer::Unread);
+        };
+        let look = buffer.check_in(self.rt, reader);
+        write!(text, "place {}: ", look.place)?;
+        Ok(push_look(text, look.look)?)
     }
 
     fn made(&self, text: &mut String) -> Result<(), NoAnswer> {
@@ -100,12 +139,61 @@ impl<'r, L: Named, R: Wait> Crew<'r, L, R> {
         Ok(())
     }
 
-    /// Exchanges the command of the first receipt of a caller for the one that is aside, at first a flush.
-    fn forge(&mut self, caller: usize) -> Result<(), NoAnswer> {
+    /// Exchanges the command of a receipt of a caller for the one that is aside, at first a flush.
+    fn forge(&mut self, caller: usize, index: usize) -> Result<(), NoAnswer> {
         let done = self.dones.get_mut(caller).ok_or(NoAnswer::Unread)?;
-        let receipt = done.receipts.get_mut(0).ok_or(NoAnswer::Unread)?;
+        let receipt = done.receipts.get_mut(index).ok_or(NoAnswer::Unread)?;
         std::mem::swap(&mut receipt.command, &mut self.aside.command);
         Ok(())
+    }
+
+    /// Does the same with the first receipt that a caller was told of.
+    fn told(&mut self, caller: usize) -> Result<(), NoAnswer> {
+        let done = self.dones.get_mut(caller).ok_or(NoAnswer::Unread)?;
+        let receipt = done.told.get_mut(0).ok_or(NoAnswer::Unread)?;
+        std::mem::swap(&mut receipt.command, &mut self.aside.command);
+        Ok(())
+    }
+
+    /// Changes what a caller saw first, or changes it back.
+    fn seen(&mut self, caller: usize) -> Result<(), NoAnswer> {
+        let done = self.dones.get_mut(caller).ok_or(NoAnswer::Unread)?;
+        let seen = done.seen.get_mut(0).ok_or(NoAnswer::Unread)?;
+        seen.look.total ^= 1;
+        Ok(())
+    }
+
+    /// Exchanges all receipts of two callers, or exchanges them back.
+    fn exchange(&mut self, one: usize, other: usize) -> Result<(), NoAnswer> {
+        let given = std::mem::replace(
+            &mut self.dones.get_mut(one).ok_or(NoAnswer::Unread)?.receipts,
+            Vec::new(self.alloc),
+        );
+        let other = self.dones.get_mut(other).ok_or(NoAnswer::Unread)?;
+        let taken = std::mem::replace(&mut other.receipts, given);
+        self.dones.get_mut(one).ok_or(NoAnswer::Unread)?.receipts = taken;
+        Ok(())
+    }
+
+    /// Puts the first receipt of a caller in the place of its last one too, or puts that one back.
+    fn twice(&mut self, caller: usize) -> Result<(), NoAnswer> {
+        let done = self.dones.get_mut(caller).ok_or(NoAnswer::Unread)?;
+        let first = done.receipts.first().ok_or(NoAnswer::Unread)?.copy()?;
+        let last = done.receipts.pop();
+        match self.aside.receipt.take() {
+            Some(receipt) => done.receipts.push(receipt)?,
+            None => {
+                done.receipts.push(first)?;
+                self.aside.receipt = last;
+            }
+        }
+        Ok(())
+    }
+
+    /// Adds why the buffer was not finished.
+    fn why(&self, text: &mut String) -> Result<(), NoAnswer> {
+        let fault = self.fault.ok_or(NoAnswer::Unread)?;
+        Ok(write!(text, "{fault}")?)
     }
 
     /// Hands in what all callers have, and has it back on a fault.
@@ -126,6 +214,7 @@ impl<'r, L: Named, R: Wait> Crew<'r, L, R> {
                 } = unfinished;
                 self.buffer = Some(buffer);
                 self.dones = dones;
+                self.fault = Some(fault);
                 push_fault(text, fault)
             }
         }
@@ -165,6 +254,8 @@ fn plays<L: Named, R: Wait + Abort>(
             receipt: None,
             command: Command::Flush,
         },
+        fault: None,
+        watcher: None,
     };
     story.play(rt, alloc, &mut Again(crew));
     Ok(())
@@ -174,7 +265,8 @@ fn plays<L: Named, R: Wait + Abort>(
 fn callers_in_turn(rt: HostRuntime) -> Result<(), Fail> {
     for text in SHARED.split('#') {
         let story = Story::of(text);
-        let opening = Options::of(story.command)?.opening(rt.alloc(), 2)?;
+        let options = Options::of(story.command)?;
+        let opening = options.opening(rt.alloc(), options.callers)?;
         plays::<Brand, _>(&rt, rt.alloc(), opening, story)?;
     }
     Ok(())

@@ -21,7 +21,7 @@ pub trait Begins: Player + Drop {
 pub fn play_each<P: Begins>(rt: &impl Abort, alloc: Global, stories: &str) -> Result<(), Fail> {
     for text in stories.split('#') {
         let story = Story::of(text);
-        let mut player = P::begin(alloc, story)?;
+        let mut player = Again(P::begin(alloc, story)?);
         story.play(rt, alloc, &mut player);
     }
     Ok(())
@@ -80,7 +80,8 @@ impl<'a> Story<'a> {
     /// Asks a player all lines, and wants each answer to be that of the line.
     pub fn play<P: Player>(&self, rt: &impl Abort, alloc: Global, player: &mut P) {
         // an answer takes no memory, so that it is not asked again for its text
-        let Ok(mut text) = String::with_capacity(alloc, LONGEST) else {
+        let asked = String::with_capacity(alloc, LONGEST);
+        let Ok(mut text) = asked.or_else(|_| String::with_capacity(alloc, LONGEST)) else {
             return;
         };
         for line in self.lines.lines() {

@@ -6,16 +6,19 @@ use crate::tests::buffers::Options;
 use crate::tests::callers::finished;
 use crate::tests::commands::block;
 use crate::tests::dice::Dice;
+use crate::tests::gates::wait_for;
 use crate::tests::words::NoAnswer;
 use ob_history::Recorded;
 use ob_shared::{Done, Named, Opening, Share, SharedBuffer};
-use ob_types::{Command, Refusal};
+use ob_types::{Command, Message, Refusal};
 use std::alloc::{AllocError, Global};
 use std::marker::Brand;
 use std::process::Abort;
 use std::sync::Wait;
+use std::sync::atomic::{AtomicU64, Ordering};
 use std::test::Fail;
 use std::thread::{Threads, map_vec};
+use std::time::Clock;
 
 /// What each of many callers asks for.
 #[derive(Clone, Copy)]
@@ -38,6 +41,65 @@ fn eight_threads_of_250_calls_by_chance(rt: HostRuntime) -> Result<(), Fail> {
     let opening = Options::of("--limit 2000")?.opening(rt.alloc(), 8)?;
     let recorded = all_made::<Brand, _>(&rt, rt.alloc(), opening, Mix::ByChance)?;
     is_of_one_thread(&rt, rt.alloc(), &recorded, 2000)
+}
+
+/// Three of eight callers end at a command that the buffer refuses, and the others go on when these have ended: at the end
+/// there are the records and the bytes of all.
+#[test]
+fn three_refused_callers_leave_the_others_going(rt: HostRuntime) -> Result<(), Fail> {
+    let opening = Options::of("--limit 2000")?.opening(rt.alloc(), 8)?;
+    let recorded = some_refused::<Brand, _>(&rt, rt.alloc(), opening)?;
+    is_of_one_thread(&rt, rt.alloc(), &recorded, 118)?;
+    let left = recorded.buffer().writes_left();
+    assert_eq!(rt; (recorded.look().look.total, left), (11500, 1048461));
+    Ok(())
+}
+
+fn some_refused<L: Named + Send + Sync, R: Threads + Wait + Clock + Sync>(
+    rt: &R,
+    alloc: Global,
+    opening: Opening,
+) -> Result<Recorded, Fail>
+    requires { IsNameOf opening L.opened L.name L.parts }
+{
+    let (buffer, shares) = opening.begin::<L>()?;
+    let ended = AtomicU64::new(0);
+    let (shared, count) = (&buffer, &ended);
+    let dones = map_vec(
+        rt,
+        shares,
+        &|share| { writes(rt, alloc, shared, share, count) },
+    )?;
+    finished(buffer, dones)
+}
+
+/// Writes twenty blocks of 4 bytes, or five and a region that is too long. The others write their second ten when three
+/// have ended so.
+fn writes<L: Named, R: Wait + Clock>(
+    rt: &R,
+    alloc: Global,
+    buffer: &SharedBuffer<L>,
+    share: Share<L>,
+    ended: &AtomicU64,
+) -> Done<L> {
+    let is_refused = matches!(share.caller(), 1 | 4 | 6);
+    let mut caller = Done::new(alloc, share);
+    for number in 0..20u32 {
+        if is_refused && number == 5 {
+            let region = Command::Write(Message::Region(u64::MAX));
+            caller = buffer.call(rt, caller, region).0;
+            ended.fetch_add(1, Ordering::SeqCst);
+            break;
+        }
+        if number == 10 && wait_for(rt, ended, 3).is_err() {
+            break;
+        }
+        let Ok(message) = block(alloc, 0, 4) else {
+            break;
+        };
+        caller = buffer.call(rt, caller, Command::Write(message)).0;
+    }
+    caller
 }
 
 /// The history after each caller has made 250 calls in a thread of its own.

@@ -1,7 +1,7 @@
 //! What is answered, in the words of the traces of `ob_tool`.
 
 use crate::tests::words::NoAnswer;
-use ob_history::Receipt;
+use ob_history::{Glance, Receipt};
 use ob_seq::Look;
 use ob_types::{Answer, Change, Outcome, PromiseId, Refusal, Reply};
 use std::alloc::AllocError;
@@ -92,6 +92,11 @@ pub fn push_outcome(text: &mut String, outcome: Outcome) -> Result<(), AllocErro
         Outcome::Failed(cause) => write!(text, "f{}", cause.0),
         Outcome::Cancelled => text.push_str("x"),
     }
+}
+
+/// Adds what a glance shows.
+pub fn push_glance(text: &mut String, glance: Glance) -> Result<(), AllocError> {
+    write!(text, "t={} w={:08x}", glance.total, glance.word)
 }
 
 /// Adds a look.

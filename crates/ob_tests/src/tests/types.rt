@@ -43,7 +43,7 @@ fn refusals_tell_what_was_wrong(rt: HostRuntime) -> Result<(), Fail> {
     Ok(())
 }
 
-/// The ten commands: the copy of a block wants memory, and has it here.
+/// The eleven commands: the copy of a block wants memory, and has it here.
 #[test]
 fn each_command_is_copied(rt: HostRuntime) -> Result<(), Fail> {
     let commands = [
@@ -57,6 +57,7 @@ fn each_command_is_copied(rt: HostRuntime) -> Result<(), Fail> {
         Command::FailFlushed(Cause(3), true),
         Command::Close(Cause(4)),
         Command::UserBit(31, false),
+        Command::SetMarks(WaterMark::new(5, 7)?),
     ];
     for command in &commands {
         assert!(rt; command.copy()? == *command, "{command:?}");

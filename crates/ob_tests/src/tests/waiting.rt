@@ -47,7 +47,7 @@ fn waits_for_another<L: Named + Send + Sync, R: Threads + Wait + Abort + Sync>(
 }
 
 /// What a caller hands in that has played a story.
-fn played<L: Named, R: Wait + Abort>(
+pub fn played<L: Named, R: Wait + Abort>(
     rt: &R,
     alloc: Global,
     buffer: &SharedBuffer<L>,

@@ -7,6 +7,7 @@ use ob_lanes::{Charged, Lane, Words};
 use ob_types::Change;
 use ob_types::Change::{Unwritable, Writable};
 use std::process::Abort;
+use std::sync::Wait;
 use std::test::Fail;
 use std::thread::{Threads, join, sleep};
 use std::time::{Clock, Duration};
@@ -14,11 +15,11 @@ use std::time::{Clock, Duration};
 type Met = Option<(Charged, Option<Change>)>;
 
 /// Charges 60, and then reads the total until it is 120. None if that is not seen in ten seconds.
-fn meet<R: Clock>(rt: &R, words: &Words, lane: Lane) -> Met
+fn meet<R: Clock + Wait>(rt: &R, words: &Words, lane: Lane) -> Met
     requires { lane.words ≡ words.now }
     ensures { IfSome result (λ met. met.0.words ≡ words.now) }
 {
-    let Ok((mut charged, change)) = lane.charge(words, 60) else {
+    let Ok((mut charged, change)) = lane.charge(rt, words, 60) else {
         return None;
     };
     'asks: for _ in 0..10_000u32 {
@@ -31,7 +32,12 @@ fn meet<R: Clock>(rt: &R, words: &Words, lane: Lane) -> Met
 }
 
 /// Two threads that each see the charge of the other give their charges back.
-fn meet_in_threads<R: Threads + Clock + Sync>(rt: &R, words: &Words, a: Lane, b: Lane) -> (Met, Met)
+fn meet_in_threads<R: Threads + Clock + Wait + Sync>(
+    rt: &R,
+    words: &Words,
+    a: Lane,
+    b: Lane,
+) -> (Met, Met)
     requires { (a.words ≡ words.now) × (b.words ≡ words.now) }
     ensures first { IfSome result.0 (λ met. met.0.words ≡ words.now) }
     ensures second { IfSome result.1 (λ met. met.0.words ≡ words.now) }
@@ -50,12 +56,12 @@ fn meet_in_threads<R: Threads + Clock + Sync>(rt: &R, words: &Words, a: Lane, b:
 }
 
 /// The first discharge leaves 60, which is not below the low mark, and the second leaves nothing.
-fn part(rt: &impl Abort, words: Words, mut first: Charged, second: Charged)
+fn part<R: Abort + Wait>(rt: &R, words: Words, mut first: Charged, second: Charged)
     requires { (first.words ≡ words) × (second.words ≡ words) }
 {
     let word = first.word(&words);
-    let (first, of_first) = first.discharge(&words);
-    let (second, of_second) = second.discharge(&words);
+    let (first, of_first) = first.discharge(rt, &words);
+    let (second, of_second) = second.discharge(rt, &words);
     assert_eq!(rt; (word, of_first, of_second), (1, None, Some(Writable)));
     join_and_finish(rt, words, first, second);
 }

@@ -3,45 +3,62 @@
 ghost use Rattle.std.specs.Prelude.{◌≡◌, IfOk};
 
 use super::{join_and_finish, not_charged, open, split};
+use crate::in_flight::two_connections;
 use ob_lanes::{Charged, Lane, RoomOut, Words};
 use ob_types::Change;
 use ob_types::Change::{Unwritable, Writable};
 use std::process::Abort;
+use std::sync::Wait;
 use std::test::Fail;
 
 /// A charge that is not refused.
-fn charge(words: &Words, lane: Lane, amount: u32) -> Result<(Charged, Option<Change>), Fail>
+fn charge<R: Wait>(
+    rt: &R,
+    words: &Words,
+    lane: Lane,
+    amount: u32,
+) -> Result<(Charged, Option<Change>), Fail>
     requires { lane.words ≡ words.now }
     ensures { IfOk result (λ ok. ok.0.words ≡ words.now) }
 {
-    match lane.charge(words, amount) {
+    match lane.charge(rt, words, amount) {
         Ok(charged) => Ok(charged),
         Err((_lane, fault)) => Err(Fail::new(fault)),
     }
 }
 
 /// B charges 100, and A 1 more, which passes the high mark.
-fn both_charge(rt: &impl Abort, words: &Words, a: Lane, b: Lane) -> Result<(Charged, Charged), Fail>
+fn both_charge<R: Abort + Wait>(
+    rt: &R,
+    words: &Words,
+    a: Lane,
+    b: Lane,
+) -> Result<(Charged, Charged), Fail>
     requires { (a.words ≡ words.now) × (b.words ≡ words.now) }
     ensures { IfOk result (λ ok. (ok.0.words ≡ words.now) × (ok.1.words ≡ words.now)) }
 {
-    let (b, of_b) = charge(words, b, 100)?;
-    let (a, of_a) = charge(words, a, 1)?;
+    let mut a = a;
+    let (b, of_b) = charge(rt, words, b, 100)?;
+    let total = a.total(words);
+    let (a, of_a) = charge(rt, words, a, 1)?;
     let owed = (a.owed(), b.owed());
-    assert_eq!(rt; (of_b, of_a, owed), (None, Some(Unwritable), (1, 100)));
+    assert_eq!(rt;
+        (of_b, total, of_a, owed),
+        (None, 100, Some(Unwritable), (1, 100))
+    );
     Ok((a, b))
 }
 
 /// B discharges first, which leaves what A owes.
-fn both_discharge(rt: &impl Abort, words: &Words, a: Charged, b: Charged) -> (Lane, Lane)
+fn both_discharge<R: Abort + Wait>(rt: &R, words: &Words, a: Charged, b: Charged) -> (Lane, Lane)
     requires { (a.words ≡ words.now) × (b.words ≡ words.now) }
     ensures first { result.0.words ≡ words.now }
     ensures second { result.1.words ≡ words.now }
 {
     let mut a = a;
-    let (b, of_b) = b.discharge(words);
+    let (b, of_b) = b.discharge(rt, words);
     let total = a.total(words);
-    let (a, of_a) = a.discharge(words);
+    let (a, of_a) = a.discharge(rt, words);
     assert_eq!(rt; (of_b, total, of_a), (Some(Writable), 1, None));
     (a, b)
 }
@@ -69,5 +86,26 @@ fn lanes_split_charge_and_join(rt: HostRuntime) -> Result<(), Fail> {
     let (a, b) = both_discharge(&rt, &words, a, b);
     let (words, b) = not_ended(&rt, words, b)?;
     join_and_finish(&rt, words, a, b);
+    Ok(())
+}
+
+/// Each of two words ends by its own lane, one while the other is charged.
+#[test]
+fn two_connections_end(rt: HostRuntime) -> Result<(), Fail> {
+    assert_eq!(rt; two_connections(&rt, rt.alloc()), Ok(true));
+    Ok(())
+}
+
+/// All of the greatest room is charged.
+#[test]
+fn the_greatest_room(rt: HostRuntime) -> Result<(), Fail> {
+    let (words, lane) = open(rt.alloc(), u32::MAX, 0)?;
+    let (mut all, change) = charge(&rt, &words, lane, u32::MAX)?;
+    let total = all.total(&words);
+    let (lane, back) = all.discharge(&rt, &words);
+    assert_eq!(rt;
+        (change, total, back, lane.finish(words).ok()),
+        (Some(Unwritable), 4294967295, Some(Writable), Some((0, 0)))
+    );
     Ok(())
 }

@@ -1,0 +1,144 @@
+//! A sink that is held in its calls, with the desk in its hands, and the writers that meet it there.
+
+ghost use Rattle.ob_transport.specs.Script.{Plays};
+
+use crate::tests::drives::Driven;
+use crate::tests::gates::wait_for;
+use crate::tests::story::Story;
+use bytes::Bytes;
+use ob_pool::{Gate, Stuck};
+use ob_transport::{ScriptSink, Sink, SinkFault};
+use std::sync::Wait;
+use std::sync::atomic::{AtomicU64, Ordering};
+use std::test::Fail;
+use std::thread::sleep;
+use std::time::{Clock, Duration};
+
+/// How far writers and the sink have come, from 1 on: the first call of the sink has begun, meanwhile writer 0 has
+/// charged its third step, and then writer 1 its first; that is answered; the second call of the sink has begun, and
+/// meanwhile writer 0 ends.
+#[derive(Drop)]
+struct Order {
+    stage: AtomicU64,
+    /// What is handed off when writer 1 has charged.
+    total: AtomicU64,
+}
+
+impl Order {
+    fn reach(&self, stage: u64) {
+        self.stage.store(stage, Ordering::SeqCst);
+    }
+}
+
+impl Gate for Order {
+    fn before<R: Wait + Clock>(&self, rt: &R, writer: u32, step: usize) -> Result<(), Stuck> {
+        match (writer, step) {
+            (0, 2) => wait_for(rt, &self.stage, 1),
+            (0, 3) => wait_for(rt, &self.stage, 4),
+            (1, 0) => {
+                wait_for(rt, &self.stage, 2)?;
+                // by then writer 0 waits for the desk
+                sleep(rt, Duration::from_millis(20));
+                Ok(())
+            }
+            _ => Ok(()),
+        }
+    }
+
+    fn during<R: Wait + Clock>(
+        &self,
+        _rt: &R,
+        writer: u32,
+        step: usize,
+        total: u64,
+    ) -> Result<(), Stuck> {
+        match (writer, step) {
+            (0, 2) => self.reach(2),
+            (1, 0) => {
+                self.total.store(total, Ordering::SeqCst);
+                self.reach(3);
+            }
+            _ => {}
+        }
+        Ok(())
+    }
+
+    fn after<R: Wait + Clock>(&self, rt: &R, writer: u32, step: usize) {
+        match (writer, step) {
+            (1, 0) => self.reach(4),
+            (0, 3) => {
+                let _ = wait_for(rt, &self.stage, 5);
+                self.reach(6);
+            }
+            _ => {}
+        }
+    }
+}
+
+/// A sink of a script, whose first two calls meet the writers.
+#[derive(Drop)]
+struct Held<'r, R> {
+    rt: &'r R,
+    order: &'r Order,
+    calls: u64,
+    script: ScriptSink,
+}
+
+impl<'r, R: Clock> Sink for Held<'r, R> {
+    ghost content = { λ held. held.script.content };
+
+    ghost does = { λ before asked answer after. Plays before.script asked answer after.script };
+
+    fn take(&mut self, blocks: &[Bytes]) -> Result<usize, SinkFault> {
+        self.calls = self.calls.saturating_add(1);
+        if self.calls == 1 {
+            self.order.reach(1);
+            let _ = wait_for(self.rt, &self.order.stage, 3);
+        }
+        if self.calls == 2 {
+            self.order.reach(5);
+            let _ = wait_for(self.rt, &self.order.stage, 6);
+            // by then all writers have ended
+            sleep(self.rt, Duration::from_millis(50));
+        }
+        self.script.take(blocks)
+    }
+
+    fn take_region(&mut self, units: u64) -> Result<u64, SinkFault> {
+        self.script.take_region(units)
+    }
+}
+
+/// The second call of the sink takes nothing, when the writers have ended meanwhile: what they left is still taken.
+const MET: &str = "writers meet the sink
+$ drive
+b 0 1 1
+f 0
+b 0 1 1
+f 0
+b 1 1 1
+take 1
+take 0
+/ writes 3, flushes 2, cancels 0, bits 0, refused 0, taken 3, success 3, failed 0, cancelled 0, left 0, hand 0 00000000
+";
+
+#[test]
+fn writers_meet_the_sink(rt: HostRuntime) -> Result<(), Fail> {
+    let order = Order {
+        stage: AtomicU64::new(0),
+        total: AtomicU64::new(0),
+    };
+    let story = Story::of(MET);
+    let mut driven = Driven::of(rt.alloc(), story)?;
+    let mut sink = Held {
+        rt: &rt,
+        order: &order,
+        calls: 0,
+        script: driven.script(),
+    };
+    driven.run(&rt, &order, &mut sink)?;
+    story.play(&rt, rt.alloc(), &mut driven);
+    // the charge of writer 0 stands as long as its call waits for the desk
+    assert_eq!(rt; order.total.load(Ordering::SeqCst), 66);
+    Ok(())
+}
