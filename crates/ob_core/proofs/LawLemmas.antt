@@ -1,5 +1,5 @@
 -- The laws of whole runs: the accounts of the bytes and of the mark after any turns, and the changes.
-use Rattle.std.proofs.Common.{◌≡◌, ◌<◌, ◌≤◌, Bool, true, false, List, [], ◌∷◌, None, refl, ap, arith}
+use Rattle.std.proofs.Common.{◌≡◌, ◌<◌, ◌≤◌, Bool, true, false, List, [], ◌∷◌, None, refl, ap, subst, arith}
 use Rattle.std.specs.List.{cons_option}
 use Rattle.ob_types.specs.Change.{is_writable, turn as turned}
 use Rattle.ob_types.specs.WaterMark.{Marks}
@@ -12,6 +12,7 @@ use Rattle.ob_core.specs.CoreState.{CoreState}
 use Rattle.ob_core.specs.Opening.{Opening, new_core, opening_of}
 use Rattle.ob_core.specs.Owed.{sum_owed}
 use Rattle.ob_core.specs.Run.{answers_of, changes_in, core_after_all, AlternateFrom}
+use Rattle.ob_core.specs.Sound.{IsSound}
 use Rattle.ob_core.specs.Turn.{step_of, lane_after_nothing, core_after}
 use Rattle.ob_core.specs.declared.ask.Ask.{Ask}
 use Rattle.ob_core.specs.declared.ask.Turn.{Turn}
@@ -89,6 +90,23 @@ pub clear_at_rest : (opening : Opening) (core : CoreState) → BytesAgree openin
 clear_at_rest opening core bytes agree low nothing =
     let same_low : core.marks.low ≡ opening.marks.low = ap (λ (m : Marks). m.low) bytes.marks in
     agree.below (omega (arith, same_low, low, bytes.total, nothing)) (omega (arith, bytes.total, nothing))
+
+-- a core that is sound shows the mark so by the marks of its own
+module _ (core : CoreState) (sound : IsSound core) where
+  pub sound_above : core.marks.high < core.total → is_set core.word 0 ≡ true
+  sound_above above =
+      set_above sound.opening core sound.accounts.bytes.marks sound.accounts.mark sound.ordered
+      (subst (λ (m : Marks). m.high < core.total) sound.accounts.bytes.marks above)
+
+  pub sound_below : core.total < core.marks.low → is_set core.word 0 ≡ false
+  sound_below below =
+      clear_below sound.opening core sound.accounts.bytes.marks sound.accounts.mark sound.ordered
+      (subst (λ (m : Marks). core.total < m.low) sound.accounts.bytes.marks below)
+
+  pub sound_at_rest : 0 < core.marks.low → sum_owed core.lanes ≡ 0 → is_set core.word 0 ≡ false
+  sound_at_rest low =
+      clear_at_rest sound.opening core sound.accounts.bytes sound.accounts.mark
+      (subst (λ (m : Marks). 0 < m.low) sound.accounts.bytes.marks low)
 
 -- ---- changes
 

@@ -151,21 +151,19 @@ WideBits =
     × (without_bit (5 * 2 ^ 32 + 1) 33 ≡ 5 * 2 ^ 32 + 1)
     × (without_bit (5 * 2 ^ 32 + 1) 0 ≡ 5 * 2 ^ 32)
 
+-- a word with bit 1 put is this word; not one that has another bit more, not one that has another bit less, and not the
+-- word as it was
+abbrev pub PutsBit1 : (ℕ → ℕ → ℕ → Type 0) → ℕ → ℕ → ℕ → ℕ → Type 0
+PutsBit1 Puts old new more less =
+    Puts old 1 new × (Puts old 1 more → ⊥) × (Puts old 1 less → ⊥) × (Puts old 1 old → ⊥)
+
 -- 6 is 4 with bit 1 set; 7 has another bit more, 2 one less, and 4 has not that bit
 abbrev pub BitSet : Type 0
-BitSet =
-    SetsBit 4 1 6
-    × (SetsBit 4 1 7 → ⊥)
-    × (SetsBit 4 1 2 → ⊥)
-    × (SetsBit 4 1 4 → ⊥)
+BitSet = PutsBit1 SetsBit 4 6 7 2
 
 -- 4 is 6 with bit 1 cleared; 5 has another bit more, 0 one less, and 6 has that bit still
 abbrev pub BitCleared : Type 0
-BitCleared =
-    ClearsBit 6 1 4
-    × (ClearsBit 6 1 5 → ⊥)
-    × (ClearsBit 6 1 0 → ⊥)
-    × (ClearsBit 6 1 6 → ⊥)
+BitCleared = PutsBit1 ClearsBit 6 4 5 0
 
 -- an add leaves bits 1 and 2, and may set bit 0; to set a bit leaves the total; a load leaves both
 abbrev pub RestLeft : Type 0

@@ -1,14 +1,14 @@
 use Rattle.std.proofs.Common.{◌≡◌, ◌≢◌, ℕ, refl, arith}
 use Rattle.std.specs.Int.{bit_at}
 use Rattle.ob_core.specs.Bits.{PutsBit}
+use Rattle.ob_core.specs.Worked.{PutsBit1}
 use Rattle.ob_core.proofs.BitLemmas.{SetsBit-with_bit, ClearsBit-without_bit}
 use Rattle.ob_core.proofs.worked.worked_steps.Goals as goal
 
 -- a word with bit 1 put, and three that go apart from it at bit 0, at bit 2 and at that bit
 only_first : (value old new more less : ℕ) → PutsBit value old 1 new → bit_at more 0 ≢ bit_at old 0
     → bit_at less 2 ≢ bit_at old 2 → bit_at old 1 ≢ value
-    → PutsBit value old 1 new × (PutsBit value old 1 more → ⊥)
-    × (PutsBit value old 1 less → ⊥) × (PutsBit value old 1 old → ⊥)
+    → PutsBit1 (PutsBit value) old new more less
 only_first value old new more less puts above below other = (
   puts,
   (λ wrong. above (wrong.others 0 (λ same. absurd (omega (arith, same))))),
