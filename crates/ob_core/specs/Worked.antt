@@ -77,22 +77,17 @@ OwingMoreThanRoom =
 
 -- ---- shares
 
+-- a free lane with this room, these bits, and these of them raised
+abbrev pub free_lane : ℕ → ℕ → ℕ → Lane
+free_lane room held raised = record { room = room; debt = None; held = held; raised = raised }
+
 -- a lane with room 10 that holds bits 1 and 2 and raised bit 1 gives bit 2 and no room
 abbrev pub BitGiven : Type 0
-BitGiven =
-    AreShares
-    (record { room = 10; debt = None; held = 6; raised = 2 })
-    (record { room = 10; debt = None; held = 2; raised = 2 })
-    (record { room = 0; debt = None; held = 4; raised = 0 })
+BitGiven = AreShares (free_lane 10 6 2) (free_lane 10 2 2) (free_lane 0 4 0)
 
 -- it can't give bit 2 and keep it
 abbrev pub BitGivenAndKept : Type 0
-BitGivenAndKept =
-    AreShares
-    (record { room = 10; debt = None; held = 6; raised = 2 })
-    (record { room = 10; debt = None; held = 6; raised = 2 })
-    (record { room = 0; debt = None; held = 4; raised = 0 })
-    → ⊥
+BitGivenAndKept = AreShares (free_lane 10 6 2) (free_lane 10 6 2) (free_lane 0 4 0) → ⊥
 
 -- a free lane with half of the room gives 20 of it and no bit to a new lane behind all lanes
 abbrev pub Divided : Type 0

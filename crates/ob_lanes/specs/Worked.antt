@@ -6,6 +6,7 @@ use Rattle.atomic_table.specs.Table.{step}
 use Rattle.ob_types.specs.declared.reply.Change.TheVariants.{Unwritable, Writable}
 use Rattle.ob_core.specs.CoreState.{CoreState}
 use Rattle.ob_core.specs.Opening.{Opening, one_lane}
+use Rattle.ob_core.specs.Worked.{free_lane}
 use Rattle.ob_core.specs.declared.lane.Lane.{Lane}
 use Rattle.ob_core.specs.declared.lane_step.LaneStep.TheVariants.{Add, SetBit, Load}
 use Rattle.ob_lanes.specs.Begins.{BeginsWith}
@@ -84,10 +85,6 @@ Begins =
     × BeginsWith meeting meeting
     × (BeginsWith first_run meeting → ⊥)
     × (BeginsWith meeting (Divides 0 (half None) (half None) (0 ∷ []) ∷ Steps 0 (Add 60) 0 ∷ []) → ⊥)
-
--- a free lane with this room, these bits, and these of them raised
-abbrev pub free_lane : ℕ → ℕ → ℕ → Lane
-free_lane room held raised = record { room = room; debt = None; held = held; raised = raised }
 
 -- a lane with room 10 and bits 1 and 2 has no room of 11 and no bit 3, and refuses the room first; it has room 10, each
 -- of its bits alone, and all of both; bit 31 is a bit as the others

@@ -1,16 +1,14 @@
-use Rattle.std.proofs.Common.{◌≡◌, ℕ, None, w32, refl, arith}
+use Rattle.std.proofs.Common.{◌≡◌, ℕ, w32, refl, arith}
 use Rattle.std.proofs.lemmas.Nat.Bits.{bit_at-zero}
 use Rattle.ob_core.specs.Shares.{AreShares}
-use Rattle.ob_core.specs.Worked.{second_lane}
-use Rattle.ob_core.specs.declared.lane.Lane.{Lane}
+use Rattle.ob_core.specs.Worked.{free_lane, second_lane}
 use Rattle.ob_core.proofs.BitLemmas.{ShareOut-and}
 use Rattle.ob_core.proofs.ShareLemmas.{AreShares-cut}
 use Rattle.ob_core.proofs.worked.worked_shares.Goals as goal
 
 pub returns-clause-bit_given : goal.returns-clause-bit_given
 returns-clause-bit_given c =
-    let lane : Lane = record { room = 10; debt = None; held = 6; raised = 2 } in
-    AreShares-cut w32 lane 0 4 (record { debt = refl })
+    AreShares-cut w32 (free_lane 10 6 2) 0 4 (record { debt = refl })
     (λ i. omega (arith, ShareOut-and w32 6 4 (omega arith) (omega arith) i)) (omega arith) (omega arith) (omega arith)
     (omega arith)
 

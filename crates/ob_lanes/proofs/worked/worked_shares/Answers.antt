@@ -1,6 +1,6 @@
 use Rattle.std.proofs.Common.{◌≡◌, ℕ, None, Some, refl, arith}
 use Rattle.std.proofs.lemmas.Nat.Bits.{bit_at_or}
-use Rattle.ob_lanes.specs.Worked.{free_lane}
+use Rattle.ob_core.specs.Worked.{free_lane}
 use Rattle.ob_lanes.proofs.Halves.{split_told}
 use Rattle.ob_lanes.proofs.worked.worked_shares.Goals as goal
 
