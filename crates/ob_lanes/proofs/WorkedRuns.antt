@@ -1,15 +1,17 @@
 -- The runs of the worked rows, move by move.
-use Rattle.std.proofs.Common.{ℕ, ◌<◌, ◌≤◌, List, [], ◌∷◌, ◌++◌, None, Some, refl, arith}
+use Rattle.std.proofs.Common.{◌≡◌, ℕ, ◌<◌, ◌≤◌, List, [], ◌∷◌, ◌++◌, None, Some, refl, arith}
+use Rattle.ob_types.specs.Packed.{word_half, total_half}
 use Rattle.ob_core.specs.CoreState.{CoreState}
 use Rattle.ob_core.specs.CoreStep.{IsCoreStep}
-use Rattle.ob_core.specs.Opening.{one_lane}
+use Rattle.ob_core.specs.Opening.{Opening, one_lane}
 use Rattle.ob_core.specs.declared.lane.Lane.{Lane}
+use Rattle.ob_core.specs.declared.lane_step.LaneStep.{LaneStep}
 use Rattle.ob_core.specs.declared.lane_step.LaneStep.TheVariants.{Add, SetBit, Load}
 use Rattle.ob_core.specs.Bits.{AreAmong, ShareOut}
 use Rattle.ob_core.specs.Shares.{AreShares, IsDivision}
 use Rattle.std.proofs.lemmas.List.Elements.{All-nil}
 use Rattle.std.proofs.lemmas.Nat.Bits.{bit_at-zero}
-use Rattle.ob_lanes.specs.Begins.{BeginsWith}
+use Rattle.ob_lanes.specs.Begins.{BeginsWith, BeginsWithAll}
 use Rattle.ob_lanes.specs.Facts.{one_step}
 use Rattle.ob_lanes.specs.InRun.{IsInRun}
 use Rattle.ob_lanes.specs.Run.{Leads}
@@ -27,8 +29,28 @@ first_found [] = 0
 first_found (first ∷ others) = first.found
 
 -- no run is seen that a run would have to begin with
-abbrev pub begins_none : (run : List Move) → Rattle.ob_lanes.specs.Begins.BeginsWithAll run []
+abbrev pub begins_none : (run : List Move) → BeginsWithAll run []
 begins_none run = All-nil (BeginsWith run)
+
+-- a lane sees the step that it makes last in a run, if what it finds is the core state that the moves before it lead to
+seen_last : {opening : Opening} {had_seen : List (List Move)} {step : LaneStep} {found : ℕ} {name : List ℕ}
+    {lane : Lane} {made : List Made} (seat : ℕ) (before : List Move) (at core : CoreState)
+    → Leads (one_lane opening) before at → total_half found ≡ at.total → word_half found ≡ at.word
+    → BeginsWithAll before had_seen
+    → IsInRun opening (Steps seat step found ∷ before) core seat name lane made
+    → Sees opening had_seen step found name lane made ((Steps seat step found ∷ before) ∷ [])
+seen_last seat before at core leads total word begins in_run = record {
+  seat = seat;
+  before = before;
+  at = at;
+  core = core;
+  leads = leads;
+  total_found = total;
+  word_found = word;
+  seen_is = refl;
+  begins = begins;
+  in_run = in_run;
+}
 
 -- a core state of one lane
 abbrev pub alone : ℕ → ℕ → Lane → CoreState
@@ -45,18 +67,8 @@ pub set_in_run : IsInRun with_bits bit_2_run (alone 0 4 (lone 4 None)) 0 [] (lon
 set_in_run = record { leads = sets; is_lane = refl; is_named = refl; is_made = refl }
 
 pub set_seen : Sees with_bits [] (SetBit 2) 0 [] (lone 4 None) bit_2_set (bit_2_run ∷ [])
-set_seen = record {
-  seat = 0;
-  before = [];
-  at = one_lane with_bits;
-  core = alone 0 4 (lone 4 None);
-  leads = refl;
-  total_found = refl;
-  word_found = refl;
-  seen_is = refl;
-  begins = begins_none [];
-  in_run = set_in_run;
-}
+set_seen =
+    seen_last 0 [] (one_lane with_bits) (alone 0 4 (lone 4 None)) refl refl refl (begins_none []) set_in_run
 
 -- and reads
 pub read_seen : Sees with_bits (bit_2_run ∷ []) Load shows_bit_2 [] (lone 4 None) (bit_2_set ++ one_step Load shows_bit_2)
@@ -64,18 +76,9 @@ pub read_seen : Sees with_bits (bit_2_run ∷ []) Load shows_bit_2 [] (lone 4 No
 read_seen =
     let read : IsCoreStep (alone 0 4 (lone 4 None)) 0 Load (alone 0 4 (lone 4 None)) =
     record { lane = lone 4 None; is_lane = refl; allowed = tt; after = refl } in
-    record {
-      seat = 0;
-      before = bit_2_run;
-      at = alone 0 4 (lone 4 None);
-      core = alone 0 4 (lone 4 None);
-      leads = sets;
-      total_found = refl;
-      word_found = refl;
-      seen_is = refl;
-      begins = begins_one bit_2_run bit_2_run (begins_itself bit_2_run);
-      in_run = record { leads = (alone 0 4 (lone 4 None), sets, (read, refl)); is_lane = refl; is_named = refl; is_made = refl };
-    }
+    let here = alone 0 4 (lone 4 None) in
+    seen_last 0 bit_2_run here here sets refl refl (begins_one bit_2_run bit_2_run (begins_itself bit_2_run))
+    (record { leads = (here, sets, (read, refl)); is_lane = refl; is_named = refl; is_made = refl })
 
 -- or it reads a total of 0
 reads_first : Leads (one_lane with_bits) (Steps 0 Load 0 ∷ []) (one_lane with_bits)
@@ -85,38 +88,21 @@ reads_first =
     (one_lane with_bits, refl, (read, refl))
 
 pub nothing_seen : Sees with_bits [] Load 0 [] (lone 0 None) (one_step Load 0) ((Steps 0 Load 0 ∷ []) ∷ [])
-nothing_seen = record {
-  seat = 0;
-  before = [];
-  at = one_lane with_bits;
-  core = one_lane with_bits;
-  leads = refl;
-  total_found = refl;
-  word_found = refl;
-  seen_is = refl;
-  begins = begins_none [];
-  in_run = record { leads = reads_first; is_lane = refl; is_named = refl; is_made = refl };
-}
+nothing_seen =
+    seen_last 0 [] (one_lane with_bits) (one_lane with_bits) refl refl refl (begins_none [])
+    (record { leads = reads_first; is_lane = refl; is_named = refl; is_made = refl })
 
 -- and charges 60
 pub charge_seen : Sees with_bits [] (Add 60) 0 [] (lone 0 (Some 60)) adds_60 (adding_run ∷ [])
 charge_seen =
     let may : 0 < 60 = omega arith in
     let room : 60 ≤ 120 = omega arith in
+    let here = one_lane with_bits in
     let step : IsCoreStep (one_lane with_bits) 0 (Add 60) (alone 60 0 (lone 0 (Some 60))) =
     record { lane = lone 0 None; is_lane = refl; allowed = (refl, may, room); after = refl } in
-    record {
-      seat = 0;
-      before = Steps 0 Load 0 ∷ [];
-      at = one_lane with_bits;
-      core = alone 60 0 (lone 0 (Some 60));
-      leads = reads_first;
-      total_found = refl;
-      word_found = refl;
-      seen_is = refl;
-      begins = begins_none (Steps 0 Load 0 ∷ []);
-      in_run = record { leads = (one_lane with_bits, reads_first, (step, refl)); is_lane = refl; is_named = refl; is_made = refl };
-    }
+    seen_last 0 (Steps 0 Load 0 ∷ []) here (alone 60 0 (lone 0 (Some 60))) reads_first refl refl
+    (begins_none (Steps 0 Load 0 ∷ []))
+    (record { leads = (here, reads_first, (step, refl)); is_lane = refl; is_named = refl; is_made = refl })
 
 -- the core states on the way
 abbrev pub way : ℕ → Lane → Lane → CoreState
@@ -168,18 +154,9 @@ pub met_in_run : IsInRun opening meeting (met 1) 1 (0 ∷ []) (half (Some 60)) (
 met_in_run = record { leads = meets; is_lane = refl; is_named = refl; is_made = refl }
 
 pub met_seen : Sees opening [] (Add 60) 60 (0 ∷ []) (half (Some 60)) (one_step (Add 60) 60) (meeting ∷ [])
-met_seen = record {
-  seat = 1;
-  before = first_run;
-  at = way 60 (half (Some 60)) (half None);
-  core = met 1;
-  leads = first_adds;
-  total_found = refl;
-  word_found = refl;
-  seen_is = refl;
-  begins = begins_none first_run;
-  in_run = met_in_run;
-}
+met_seen =
+    seen_last 1 first_run (way 60 (half (Some 60)) (half None)) (met 1) first_adds refl refl (begins_none first_run)
+    met_in_run
 
 -- the first half reads before the second adds, and behind it
 pub early_seen : Sees opening (first_run ∷ []) Load 60 [] (half (Some 60)) (one_step (Add 60) 0 ++ one_step Load 60)
@@ -188,34 +165,14 @@ early_seen =
     let here = way 60 (half (Some 60)) (half None) in
     let read : IsCoreStep (way 60 (half (Some 60)) (half None)) 0 Load (way 60 (half (Some 60)) (half None)) =
     record { lane = half (Some 60); is_lane = refl; allowed = tt; after = refl } in
-    record {
-      seat = 0;
-      before = first_run;
-      at = here;
-      core = here;
-      leads = first_adds;
-      total_found = refl;
-      word_found = refl;
-      seen_is = refl;
-      begins = begins_one first_run first_run (begins_itself first_run);
-      in_run = record { leads = (here, first_adds, (read, refl)); is_lane = refl; is_named = refl; is_made = refl };
-    }
+    seen_last 0 first_run here here first_adds refl refl (begins_one first_run first_run (begins_itself first_run))
+    (record { leads = (here, first_adds, (read, refl)); is_lane = refl; is_named = refl; is_made = refl })
 
 pub late_seen : Sees opening (first_run ∷ []) Load shows_mark [] (half (Some 60))
     (one_step (Add 60) 0 ++ one_step Load shows_mark) ((Steps 0 Load shows_mark ∷ meeting) ∷ [])
 late_seen =
     let read : IsCoreStep (met 1) 0 Load (met 1) =
     record { lane = half (Some 60); is_lane = refl; allowed = tt; after = refl } in
-    record {
-      seat = 0;
-      before = meeting;
-      at = met 1;
-      core = met 1;
-      leads = meets;
-      total_found = refl;
-      word_found = refl;
-      seen_is = refl;
-      begins = begins_one meeting first_run (begins_more (Steps 1 (Add 60) 60) first_run first_run
-          (begins_itself first_run));
-      in_run = record { leads = (met 1, meets, (read, refl)); is_lane = refl; is_named = refl; is_made = refl };
-    }
+    seen_last 0 meeting (met 1) (met 1) meets refl refl
+    (begins_one meeting first_run (begins_more (Steps 1 (Add 60) 60) first_run first_run (begins_itself first_run)))
+    (record { leads = (met 1, meets, (read, refl)); is_lane = refl; is_named = refl; is_made = refl })

@@ -1,13 +1,18 @@
-use Rattle.std.proofs.Common.{◌≡◌, ◌<◌, ◌++◌, ℕ, List, [], ◌∷◌, None, Some, refl, sym, ap, ◌∙◌, subst, arith}
+use Rattle.std.proofs.Common.{◌≡◌, ◌<◌, ◌++◌, ℕ, List, [], ◌∷◌, Option, None, Some}
+use Rattle.std.proofs.Common.{refl, sym, ap, ◌∙◌, arith}
 use Rattle.std.proofs.lemmas.List.Elements.{All-nil, All-cons}
+use Rattle.ob_types.specs.declared.reply.Change.{Change}
 use Rattle.ob_types.specs.declared.reply.Change.TheVariants.{Unwritable}
 use Rattle.ob_core.specs.Found.{change_found}
+use Rattle.ob_core.specs.declared.lane_step.LaneStep.{LaneStep}
 use Rattle.ob_core.specs.declared.lane_step.LaneStep.TheVariants.{Add, Load}
-use Rattle.ob_lanes.specs.Charge.{AreReads}
+use Rattle.ob_lanes.specs.Charge.{AreReads, ChangesDebt, IsOneStep, debt_of}
 use Rattle.ob_lanes.specs.Facts.{one_step}
+use Rattle.ob_lanes.specs.RunningLane.{RunningLane}
 use Rattle.ob_lanes.specs.Split.{are_held}
-use Rattle.ob_lanes.specs.Worked.{opening, with_bits}
+use Rattle.ob_lanes.specs.Worked.{runs_alone, runs_beside}
 use Rattle.ob_lanes.specs.declared.facts.Made.{Made}
+use Rattle.ob_lanes.specs.declared.facts.Move.{Move}
 use Rattle.ob_lanes.proofs.WorkedRuns.{charge_seen, met_seen}
 use Rattle.ob_lanes.proofs.worked.worked_calls.Goals as goal
 
@@ -26,39 +31,49 @@ last_found [] = 0
 last_found (made ∷ []) = made.found
 last_found (made ∷ other ∷ more) = last_found (other ∷ more)
 
-last-one : (reads : List Made) (step : Rattle.ob_core.specs.declared.lane_step.LaneStep.LaneStep) (found : ℕ)
+last-one : (reads : List Made) (step : LaneStep) (found : ℕ)
     → last_found (reads ++ one_step step found) ≡ found
 last-one [] step found = refl
 last-one (read ∷ []) step found = refl
 last-one (read ∷ other ∷ more) step found = last-one (other ∷ more) step found
 
+-- the change is that of what the last step found
+turn_of_last : (old new : RunningLane) (change : Option Change) → IsOneStep (Add 60) old new change
+    → change ≡ change_found (Add 60) old.words.opening.marks (last_found new.made)
+turn_of_last old new change one =
+    let last = ap last_found one.made ∙ last-one (old.made ++ one.reads) (Add 60) one.found in
+    one.turn ∙ ap (change_found (Add 60) old.words.opening.marks) (sym last)
+
+-- a lane that is as it was but for a debt of 60 and the step of that, and has seen these runs, was charged
+charged : (old : RunningLane) (made : List Made) (seen : List (List Move)) (change : Option Change)
+    → IsOneStep (Add 60) old (record old { lane = record old.lane { debt = Some 60 }; made = made; seen = seen }) change
+    → ChangesDebt (debt_of 60) 60 (Add 60) old
+    (record old { lane = record old.lane { debt = Some 60 }; made = made; seen = seen }) change
+charged old made seen change one = record {
+  words = refl;
+  same = record { name = refl; splits = refl; taken = refl };
+  owes = refl;
+  made = λ _. one;
+  nothing = λ none. absurd (omega (arith, none));
+}
+
 pub returns-clause-owes : goal.returns-clause-owes
 returns-clause-owes c id =
     let some : 0 < 60 = omega arith in (
-      record {
-        words = refl;
-        same = record { name = refl; splits = refl; taken = refl };
-        owes = refl;
-        made = λ _. record {
-          reads = one_step Load 0;
-          are_reads = one_read;
-          found = 0;
-          made = refl;
-          turn = refl;
-          sees = charge_seen;
-        };
-        nothing = λ none. absurd (omega (arith, none));
-      },
+      charged (runs_alone id 0 None [] []) _ _ _
+          (record {
+            reads = one_step Load 0;
+            are_reads = one_read;
+            found = 0;
+            made = refl;
+            turn = refl;
+            sees = charge_seen;
+          }),
       (λ call. let wrong : None ≡ Some 60 = ap (λ l. l.debt) call.owes in absurd (cc)),
       (λ call.
           let made = call.made some in
           no_less made.reads made.found made.made),
-      (λ call.
-          let made = call.made some in
-          let found : 0 ≡ made.found = ap last_found made.made ∙ last-one made.reads (Add 60) made.found in
-          let turn : Some Unwritable ≡ None =
-          subst (λ n. Some Unwritable ≡ change_found (Add 60) with_bits.marks n) (sym found) made.turn in
-          absurd (cc)),
+      (λ call. let turn : Some Unwritable ≡ None = turn_of_last _ _ _ (call.made some) in absurd (cc)),
       (λ call. let wrong : ◌≡◌ {A = ℕ} 4 0 = ap (λ l. l.raised) call.owes in absurd (omega (arith, wrong))),
     )
   where
@@ -69,24 +84,14 @@ returns-clause-owes c id =
 pub returns-clause-raises : goal.returns-clause-raises
 returns-clause-raises c id =
     let some : 0 < 60 = omega arith in (
-      record {
-        words = refl;
-        same = record { name = refl; splits = refl; taken = refl };
-        owes = refl;
-        made = λ _. record {
-          reads = [];
-          are_reads = All-nil (λ (m : Made). m.step ≡ Load);
-          found = 60;
-          made = refl;
-          turn = refl;
-          sees = met_seen;
-        };
-        nothing = λ none. absurd (omega (arith, none));
-      },
-      (λ call.
-          let made = call.made some in
-          let found : 60 ≡ made.found = ap last_found made.made ∙ last-one made.reads (Add 60) made.found in
-          let turn : None ≡ Some Unwritable =
-          subst (λ n. None ≡ change_found (Add 60) opening.marks n) (sym found) made.turn in
-          absurd (cc)),
+      charged (runs_beside (0 ∷ []) 0 id None [] []) _ _ _
+          (record {
+            reads = [];
+            are_reads = All-nil (λ (m : Made). m.step ≡ Load);
+            found = 60;
+            made = refl;
+            turn = refl;
+            sees = met_seen;
+          }),
+      (λ call. let turn : None ≡ Some Unwritable = turn_of_last _ _ _ (call.made some) in absurd (cc)),
     )

@@ -1,8 +1,9 @@
-use Rattle.std.proofs.Common.{◌≡◌, ◌≤◌, ℕ, zero, suc, Bool, true, false, eqb, List, [], ◌∷◌, ◌++◌, if◌then◌else◌}
+use Rattle.std.proofs.Common.{◌≡◌, ◌≤◌, ◌<◌, ℕ, zero, suc, Bool, true, false, eqb, List, [], ◌∷◌, ◌++◌, if◌then◌else◌}
 use Rattle.std.proofs.Common.{Option, None, Some, unwrap_or, refl, sym, ap, ◌∙◌, subst, arith}
 use Rattle.std.specs.Int.{bit_at}
 use Rattle.std.specs.List.{slice_get}
 use Rattle.std.proofs.lemmas.List.{append-nil, same_from_push}
+use Rattle.atomic_table.specs.Seated.{TableId}
 use Rattle.ob_core.specs.CoreState.{CoreState}
 use Rattle.ob_core.specs.Found.{value_found}
 use Rattle.ob_core.specs.Opening.{one_lane}
@@ -14,14 +15,14 @@ use Rattle.ob_lanes.specs.Facts.{one_step}
 use Rattle.ob_lanes.specs.Run.{Leads, own_steps}
 use Rattle.ob_lanes.specs.declared.facts.Move.{Move}
 use Rattle.ob_lanes.specs.declared.facts.Move.TheVariants.{Steps, Divides, Merges}
-use Rattle.ob_lanes.specs.Worked.{opening, half, met, with_bits, lone, bit_2_run, first_run, shows_bit_2}
+use Rattle.ob_lanes.specs.Worked.{opening, half, met, with_bits, lone, bit_2_run, first_run, has_set, shows_bit_2}
 use Rattle.ob_lanes.specs.declared.facts.Made.{Made}
 use Rattle.ob_lanes.proofs.KeptAccounts.{accounts_after_run, not_opened}
 use Rattle.ob_lanes.proofs.WorkedRuns.{alone, set_in_run, met_in_run}
 use Rattle.ob_lanes.proofs.Runs.{begins_itself, begins_one}
 use Rattle.ob_lanes.specs.Begins.{BeginsWith}
 use Rattle.std.proofs.lemmas.List.Elements.{All-head, All-nil}
-use Rattle.ob_lanes.specs.InRun.{EndedIn}
+use Rattle.ob_lanes.specs.InRun.{EndedIn, EndsRun}
 use Rattle.ob_lanes.proofs.worked.worked_places.Goals as goal
 
 -- both halves owe 60
@@ -94,6 +95,18 @@ only_set moves later core seat leads same = no_bits_here later core (subst (λ m
         held_wrong division.lane (sym is_lane ∙ lane_is) (sym rooms)
     no_bits_here (move ∷ later) core leads = no_bits_here later leads.0 leads.1
 
+-- a lane that has all of the room and owes nothing ends with no total above 0
+owes_nothing : (id : TableId) (total word : ℕ) → 0 < total → EndsRun (has_set id) total word → ⊥
+owes_nothing id total word some end =
+    let run = end.in_run in
+    let holds = accounts_after_run with_bits end.moves end.core refl run.leads in
+    absurd (omega (
+      arith,
+      total-le-outside with_bits end.core end.seat (lone 4 None) holds.bytes run.is_lane,
+      end.total_is,
+      some,
+    ))
+
 pub returns-clause-ends_with_bit_2 : goal.returns-clause-ends_with_bit_2
 returns-clause-ends_with_bit_2 c id = (
   record {
@@ -106,22 +119,8 @@ returns-clause-ends_with_bit_2 c id = (
     total_is = refl;
     word_is = refl;
   },
-  (λ end.
-      let run = end.in_run in
-      let holds = accounts_after_run with_bits end.moves end.core refl run.leads in
-      absurd (omega (
-        arith,
-        total-le-outside with_bits end.core end.seat (lone 4 None) holds.bytes run.is_lane,
-        end.total_is,
-      ))),
-  (λ end.
-      let run = end.in_run in
-      let holds = accounts_after_run with_bits end.moves end.core refl run.leads in
-      absurd (omega (
-        arith,
-        total-le-outside with_bits end.core end.seat (lone 4 None) holds.bytes run.is_lane,
-        end.total_is,
-      ))),
+  owes_nothing id 4 0 (omega arith),
+  owes_nothing id 1 4 (omega arith),
   (λ end.
       let run = end.in_run in
       let holds = accounts_after_run with_bits end.moves end.core refl run.leads in

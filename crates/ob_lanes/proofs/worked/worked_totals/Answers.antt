@@ -1,28 +1,36 @@
-use Rattle.std.proofs.Common.{◌≡◌, ◌≤◌, ◌%◌, ◌+◌, ℕ, refl, ap, arith}
+use Rattle.std.proofs.Common.{◌≡◌, ◌≤◌, ◌%◌, ◌+◌, ◌++◌, ℕ, List, [], None, refl, ap, arith}
 use Rattle.std.specs.List.{sum_by}
-use Rattle.ob_lanes.specs.Worked.{shows_mark}
+use Rattle.ob_types.specs.Packed.{total_half}
+use Rattle.ob_core.specs.Owed.{owed_by}
+use Rattle.ob_core.specs.declared.lane_step.LaneStep.TheVariants.{Load}
+use Rattle.ob_lanes.specs.Facts.{one_step}
+use Rattle.ob_lanes.specs.Read.{IsTotalRead}
+use Rattle.ob_lanes.specs.RunningLane.{RunningLane, room_outside}
+use Rattle.ob_lanes.specs.Sees.{Sees}
+use Rattle.ob_lanes.specs.Worked.{has_added, runs_alone, shows_mark}
 use Rattle.ob_lanes.specs.declared.facts.Made.{Made}
+use Rattle.ob_lanes.specs.declared.facts.Move.{Move}
 use Rattle.ob_lanes.proofs.WorkedRuns.{nothing_seen, early_seen, late_seen}
 use Rattle.ob_lanes.proofs.worked.worked_totals.Goals as goal
 
+-- a lane reads the total of what it finds, if it sees that and is as it was but for the step
+reads : (old : RunningLane) (found : ℕ) (seen : List (List Move))
+    → Sees old.words.opening old.seen Load found old.name old.lane (old.made ++ one_step Load found) seen
+    → owed_by old.lane ≤ total_half found → total_half found ≤ owed_by old.lane + room_outside old
+    → IsTotalRead old (total_half found) (record old { made = old.made ++ one_step Load found; seen = seen })
+reads old found seen sees least most = record {
+  found = found;
+  steps = record { words = refl; made = refl; same = record { name = refl; splits = refl; taken = refl }; sees = sees };
+  total_is = refl;
+  lane = refl;
+  least = least;
+  most = most;
+}
+
 pub returns-clause-reads_total : goal.returns-clause-reads_total
 returns-clause-reads_total c id = (
-  record {
-    found = 60;
-    steps = record { words = refl; made = refl; same = record { name = refl; splits = refl; taken = refl }; sees = early_seen };
-    total_is = refl;
-    lane = refl;
-    least = omega arith;
-    most = omega arith;
-  },
-  record {
-    found = shows_mark;
-    steps = record { words = refl; made = refl; same = record { name = refl; splits = refl; taken = refl }; sees = late_seen };
-    total_is = refl;
-    lane = refl;
-    least = omega arith;
-    most = omega arith;
-  },
+  reads (has_added id) 60 _ early_seen (omega arith) (omega arith),
+  reads (has_added id) shows_mark _ late_seen (omega arith) (omega arith),
   (λ read. let wrong : 60 ≤ 59 = read.least in absurd (omega (arith, wrong))),
   (λ read. let wrong : 121 ≤ 120 = read.most in absurd (omega (arith, wrong))),
   (λ read.
@@ -33,13 +41,6 @@ returns-clause-reads_total c id = (
 
 pub returns-clause-reads_nothing : goal.returns-clause-reads_nothing
 returns-clause-reads_nothing c id = (
-  record {
-    found = 0;
-    steps = record { words = refl; made = refl; same = record { name = refl; splits = refl; taken = refl }; sees = nothing_seen };
-    total_is = refl;
-    lane = refl;
-    least = omega arith;
-    most = omega arith;
-  },
+  reads (runs_alone id 0 None [] []) 0 _ nothing_seen (omega arith) (omega arith),
   (λ read. let wrong : 1 ≤ 0 = read.most in absurd (omega (arith, wrong))),
 )
