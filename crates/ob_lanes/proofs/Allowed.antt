@@ -9,7 +9,6 @@ use Rattle.atomic_table.specs.Table.{Step, step, Allows}
 use Rattle.atomic_table.specs.declared.shared.Seat.{Seat}
 use prog.Atomic.{either}
 use Rattle.ob_types.specs.Packed.{total_half}
-use Rattle.ob_core.specs.LaneStep.{CanMake}
 use Rattle.ob_core.specs.Opening.{Opening}
 use Rattle.ob_core.specs.Owed.{owed_by}
 use Rattle.ob_core.proofs.FoundLemmas.{total_half-packed}
@@ -22,8 +21,8 @@ use Rattle.ob_lanes.specs.Inside.{AreWords, words_of}
 use Rattle.ob_lanes.specs.Packed.{packed_after}
 use Rattle.ob_lanes.specs.Ruled.{Ruled}
 use Rattle.ob_lanes.specs.RunningLane.{WordsValue}
-use Rattle.ob_lanes.specs.Told.{Knows, MayMake, Told, ToldTry, ToldAdding, ToldSubtracting, ToldOfBit}
-use Rattle.ob_lanes.specs.Told.{PackedTold}
+use Rattle.ob_lanes.specs.Told.{Knows, MayMake, Told, ToldTry, ToldOfBit}
+use Rattle.ob_lanes.specs.Told.{PackedTold, MakesOrReads}
 use Rattle.ob_lanes.specs.declared.facts.Facts.{Facts}
 use Rattle.ob_lanes.specs.declared.words.Words.TheInside.{Inside as WordsInside}
 use Rattle.ob_lanes.proofs.KeptAccounts.{word_fits}
@@ -44,44 +43,6 @@ packed_told opening s id facts bits ruled at =
       fits = word_fits opening (core opening s) ruled.accounts bits;
       shows = λ index. shown-held opening (core opening s) id facts.lane index ruled.accounts.bits here;
     }
-
--- how much an exchange adds or subtracts is read off its two values
-pub added_is : (marks : Marks) (amount found next : ℕ) → total_half found + amount < 4294967296
-    → next ≡ packed_after (Add amount) marks found → total_half next - total_half found ≡ amount
-added_is marks amount found next fits computes =
-    omega (arith, ap total_half computes ∙ total_half-packed _ _ fits)
-
-pub taken_is : (marks : Marks) (amount found next : ℕ) → amount ≤ total_half found
-    → next ≡ packed_after (Subtract amount) marks found → total_half found - total_half next ≡ amount
-taken_is marks amount found next least computes =
-    let fits : total_half found - amount < 4294967296 = omega arith in
-    omega (arith, ap total_half computes ∙ total_half-packed _ _ fits, least)
-
--- a charge that a lane may make fits, and what it owes is there
-pub add_fits : (facts : Facts) (amount found : ℕ) → PackedTold facts found → CanMake facts.lane (Add amount)
-    → facts.opening.room < 4294967296 → total_half found + amount < 4294967296
-add_fits facts amount found told may room =
-    let nothing : owed_by facts.lane ≡ 0 = ap (λ debt. unwrap_or debt 0) may.0 in
-    omega (arith, nothing, told.no_more, may.2, room)
-
-pub subtract_fits : (facts : Facts) (amount found : ℕ) → PackedTold facts found → CanMake facts.lane (Subtract amount)
-    → amount ≤ total_half found
-subtract_fits facts amount found told may =
-    let all_of_it : owed_by facts.lane ≡ amount = ap (λ debt. unwrap_or debt 0) may.0 in
-    omega (arith, all_of_it, told.no_less)
-
--- an exchange that was told by how much is told of the amount
-pub told_adding : (marks : Marks) (amount found next slots : ℕ) (old : Knows) (now : ℕ) (new : Knows)
-    → total_half found + amount < 4294967296 → next ≡ packed_after (Add amount) marks found
-    → ToldAdding (step slots 0 found next none) old now new → ToldTry (Add amount) found old now new
-told_adding marks amount found next slots old now new fits computes told =
-    subst (λ n. ToldTry (Add n) found old now new) (added_is marks amount found next fits computes) told
-
-pub told_subtracting : (marks : Marks) (amount found next slots : ℕ) (old : Knows) (now : ℕ) (new : Knows)
-    → amount ≤ total_half found → next ≡ packed_after (Subtract amount) marks found
-    → ToldSubtracting (step slots 0 found next none) old now new → ToldTry (Subtract amount) found old now new
-told_subtracting marks amount found next slots old now new least computes told =
-    subst (λ n. ToldTry (Subtract n) found old now new) (taken_is marks amount found next least computes) told
 
 module _ (words : WordsInside) (are : AreWords words) (value : WordsValue) (view_is : words_of words ≡ value)
     (seat : Seat (Unit {0}) Facts) where
@@ -153,22 +114,14 @@ module _ (words : WordsInside) (are : AreWords words) (value : WordsValue) (view
           λ s ruled homes at small. by_case s ruled at (eqb (get_or s.words 0 0) expected) refl,
         )
 
-  -- an exchange that adds or subtracts is told by how much
-  pub may_add : (amount found next : ℕ) → MayMake value seat (Add amount) → total_half found + amount < 4294967296
-      → next ≡ packed_after (Add amount) opening.marks found
-      → MayDo (λ n. either (eqb n found) next n)
-      (ToldAdding (step words.table.shared.table_id.slots 0 found next none) me)
-  may_add amount found next asked fits computes =
-      subst (λ n. MayDo (λ m. either (eqb m found) next m) (ToldTry (Add n) found me))
-      (sym (added_is opening.marks amount found next fits computes)) (may_try (Add amount) asked found next computes)
-
-  pub may_subtract : (amount found next : ℕ) → MayMake value seat (Subtract amount) → amount ≤ total_half found
-      → next ≡ packed_after (Subtract amount) opening.marks found
-      → MayDo (λ n. either (eqb n found) next n)
-      (ToldSubtracting (step words.table.shared.table_id.slots 0 found next none) me)
-  may_subtract amount found next asked fits computes =
-      subst (λ n. MayDo (λ m. either (eqb m found) next m) (ToldTry (Subtract n) found me))
-      (sym (taken_is opening.marks amount found next fits computes)) (may_try (Subtract amount) asked found next computes)
+  -- an exchange that moves the total is told by how much
+  pub may_move : (step_of : ℕ → LaneStep) (amount moved found next : ℕ) (marks : Marks)
+      → MayMake value seat (step_of amount) → marks ≡ value.opening.marks
+      → next ≡ packed_after (step_of amount) marks found → moved ≡ amount
+      → MayDo (λ n. either (eqb n found) next n) (ToldTry (step_of moved) found me)
+  may_move step_of amount moved found next marks asked are_marks computes is =
+      subst (λ n. MayDo (λ m. either (eqb m found) next m) (ToldTry (step_of n) found me)) (sym is)
+      (may_try (step_of amount) asked found next (under_marks (step_of amount) marks found next are_marks computes))
 
   -- a step of a bit is told of the bit that its mask is of
   of_bit : (bit_step : ℕ → LaneStep) (mask_of : ℕ → ℕ) (index mask : ℕ) (makes : ℕ → ℕ) → mask ≡ mask_of index
@@ -198,6 +151,36 @@ module _ (words : WordsInside) (are : AreWords words) (value : WordsValue) (view
       (always (ClearBit index) may (λ n. bit_and n mask) (λ found small.
       ap (bit_and found) is ∙ and-is-without_bit w64 found (index + 32) small (omega (arith, within))
       ∙ without_bit-halves found index))
+
+-- by how much an exchange moves the total is read off its two values: a charge that a lane may make fits
+pub added_is : {value : WordsValue} (seat : Seat (Unit {0}) Facts) (amount found next : ℕ) (marks : Marks)
+    → value.opening.room < 4294967296 → MayMake value seat (Add amount) → PackedTold seat.me.0 found
+    → next ≡ packed_after (Add amount) marks found → total_half next - total_half found ≡ amount
+added_is seat amount found next marks room asked told computes =
+    let nothing : owed_by seat.me.0.lane ≡ 0 = ap (λ debt. unwrap_or debt 0) asked.may.0 in
+    let same = ap (λ (o : Opening). o.room) asked.of.1 in
+    let fits : total_half found + amount < 4294967296 = omega (arith, nothing, told.no_more, asked.may.2, room, same) in
+    omega (arith, ap total_half computes ∙ total_half-packed _ _ fits)
+
+-- and what it owes is there
+pub taken_is : {value : WordsValue} (seat : Seat (Unit {0}) Facts) (amount found next : ℕ) (marks : Marks)
+    → MayMake value seat (Subtract amount) → PackedTold seat.me.0 found
+    → next ≡ packed_after (Subtract amount) marks found → total_half found - total_half next ≡ amount
+taken_is seat amount found next marks asked told computes =
+    let all_of_it : owed_by seat.me.0.lane ≡ amount = ap (λ debt. unwrap_or debt 0) asked.may.0 in
+    let least : amount ≤ total_half found = omega (arith, all_of_it, told.no_less) in
+    let fits : total_half found - amount < 4294967296 = omega arith in
+    omega (arith, ap total_half computes ∙ total_half-packed _ _ fits, least)
+
+-- so that the seat has made the step of the amount, or has read
+pub made_or_read : (step_of : ℕ → LaneStep) {amount moved found now : ℕ} {old new : Seat (Unit {0}) Facts}
+    → moved ≡ amount
+    → (new.table_id ≡ old.table_id) × (new.id ≡ old.id) × ToldTry (step_of moved) found old.me now new.me
+    → MakesOrReads (step_of amount) found old now new
+made_or_read step_of {found = found} {now = now} {old = old} {new = new} is ensured = record {
+  same = (ensured.0, ensured.1);
+  told = subst (λ n. ToldTry (step_of n) found old.me now new.me) is ensured.2;
+}
 
 -- where no two bits have one mask, a step that is told of the bit of its mask is told of its bit
 pub told_of : (bit_step : ℕ → LaneStep) (mask_of : ℕ → ℕ)

@@ -1,29 +1,23 @@
-use Rattle.std.proofs.Common.{◌≡◌, ◌≤◌, sym, ap, ◌∙◌, rules}
+use Rattle.std.proofs.Common.{◌≡◌, ◌-◌}
 use Rattle.ob_types.specs.Packed.{total_half}
 use Rattle.ob_core.specs.declared.lane_step.LaneStep.TheVariants.{Subtract}
-use Rattle.ob_lanes.proofs.Allowed.{may_subtract, subtract_fits, told_subtracting, under_marks}
+use Rattle.ob_lanes.proofs.Allowed.{may_move, taken_is, made_or_read}
 use Rattle.ob_lanes.proofs.words.Words.try_subtract.Goals as goal
+use Rattle.ob_lanes.proofs.words.Words.try_subtract.Goals.{After-after_subtract-next}
+
+-- the exchange makes the total the amount less
+takes : (c : After-after_subtract-next)
+    → total_half c.args.found - total_half c.after_subtract-next.result ≡ c.args.amount
+takes c =
+    taken_is c.args.seat.now c.args.amount c.args.found _ c.marks.result c.requires.may c.requires.told
+    c.after_subtract-next.ensures
 
 pub compare_exchange-requires : goal.compare_exchange-requires
 compare_exchange-requires c =
-    let facts = c.args.seat.now.me.0 in
-    let fits : c.args.amount ≤ total_half c.args.found =
-    subtract_fits facts c.args.amount c.args.found c.requires.told c.requires.may.may in
-    let computes =
-    under_marks c.self.inside c.self.invariant _ c.self.view_is c.args.seat.now (Subtract c.args.amount) _ c.args.found _
-    c.marks.ensures.marks c.after_subtract-next.ensures in
-    may_subtract c.self.inside c.self.invariant _ c.self.view_is c.args.seat.now c.args.amount c.args.found _ c.requires.may fits
-    computes
+    may_move c.self.inside c.self.invariant _ c.self.view_is c.args.seat.now Subtract _ _ c.args.found _ _
+    c.requires.may c.marks.ensures.marks c.after_subtract-next.ensures
+    (takes (goal.at.compare_exchange-requires c).After-after_subtract-next)
 
 pub returns-clause-made : goal.returns-clause-made
 returns-clause-made c =
-    let facts = c.args.seat.now.me.0 in
-    let fits : c.args.amount ≤ total_half c.args.found =
-    subtract_fits facts c.args.amount c.args.found c.requires.told c.requires.may.may in
-    let computes =
-    under_marks c.self.inside c.self.invariant _ c.self.view_is c.args.seat.now (Subtract c.args.amount) _ c.args.found _
-    c.marks.ensures.marks c.after_subtract-next.ensures in
-    record {
-      same = search rules;
-      told = told_subtracting c.self.inside.table.shared.key.marks c.args.amount c.args.found _ 0 _ _ _ fits computes c.compare_exchange.ensures.2;
-    }
+    made_or_read Subtract (takes (goal.at.returns-clause-made c).After-after_subtract-next) c.compare_exchange.ensures
