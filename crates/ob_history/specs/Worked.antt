@@ -12,6 +12,7 @@ use Rattle.ob_types.specs.declared.reply.Answer.{Answer}
 use Rattle.ob_types.specs.declared.reply.Answer.TheVariants.{Id, Count, Yes, Done}
 use Rattle.ob_types.specs.declared.reply.Change.TheVariants.{Unwritable}
 use Rattle.ob_seq.specs.Settings.{Settings}
+use Rattle.ob_seq.specs.Worked.{empty_look}
 use Rattle.ob_history.specs.Accepted.{accepted_commands}
 use Rattle.ob_history.specs.Call.{IsCovered, call_answer, history_after}
 use Rattle.ob_history.specs.First.{IsFirstBreak}
@@ -102,14 +103,7 @@ abbrev pub SeenBeforeTheRemoval : Type 0
 SeenBeforeTheRemoval =
     seen_now (stored 3) ≡ record {
       place = 3;
-      look = record {
-        total = 100;
-        word = 0;
-        size = 1;
-        before_unwritable = 65437;
-        before_writable = 0;
-        current_progress = 0;
-      };
+      look = record empty_look { total = 100; size = 1; before_unwritable = 65437 };
     }
 
 -- a glance shows the same total before it, and nothing after
@@ -146,14 +140,7 @@ SeenUnderNewMarks =
     (seen_now (record { settings = settings; limit = 4; records = write_at 0 ∷ marks_lowered ∷ []; reserved = 0 })
     ≡ record {
       place = 2;
-      look = record {
-        total = 100;
-        word = 0;
-        size = 0;
-        before_unwritable = 0;
-        before_writable = 0;
-        current_progress = 0;
-      };
+      look = record empty_look { total = 100; before_unwritable = 0 };
     })
     × (glance_after settings (write_at 0 ∷ marks_lowered ∷ write_under_new_marks ∷ [])
     ≡ record { word = 1; total = 200 })

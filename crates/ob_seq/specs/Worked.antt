@@ -15,6 +15,7 @@ use Rattle.ob_types.specs.declared.reply.Answer.TheVariants.{Id, Count, Yes, Don
 use Rattle.ob_types.specs.declared.reply.Change.{Change}
 use Rattle.ob_types.specs.declared.reply.Change.TheVariants.{Unwritable, Writable}
 use Rattle.ob_types.specs.declared.reply.Reply.{Reply}
+use Rattle.ob_seq.specs.declared.look.Look.{Look}
 use Rattle.ob_seq.specs.Settings.{Settings}
 use Rattle.ob_seq.specs.Total.{total}
 use Rattle.ob_seq.specs.Effect.{rows_after}
@@ -116,17 +117,21 @@ ProgressTold =
     ∷ replied Done [] None 100 0 ∷ record { answer = Err TooFar; total = 100; word = 0 } ∷ replied Done [] None 100 0
     ∷ replied (Yes true) (settles 0 (Failed (record { 0 = 9 }))) None 0 0 ∷ replied (Yes false) [] None 0 0 ∷ []
 
+-- a look at an empty buffer with Netty's marks
+abbrev pub empty_look : Look
+empty_look = record {
+  total = 0;
+  word = 0;
+  size = 0;
+  before_unwritable = 65537;
+  before_writable = 0;
+  current_progress = 0;
+}
+
 -- a look at an empty buffer, and at one that is unwritable
 abbrev pub Looks : Type 0
 Looks =
-    (look_after (marked 32768 65536) [] ≡ record {
-      total = 0;
-      word = 0;
-      size = 0;
-      before_unwritable = 65537;
-      before_writable = 0;
-      current_progress = 0;
-    })
+    (look_after (marked 32768 65536) [] ≡ empty_look)
     × (look_after (marked 200 400) (block 304 ∷ block 0 ∷ [])
     ≡ record { total = 496; word = 1; size = 0; before_unwritable = 0; before_writable = 297; current_progress = 0 })
 

@@ -8,7 +8,7 @@ use Rattle.ob_types.specs.declared.reply.Answer.TheVariants.{Id, Count, Yes, Don
 use Rattle.ob_types.specs.declared.reply.Change.TheVariants.{Unwritable}
 use Rattle.ob_seq.specs.Looks.{current_after, look_after}
 use Rattle.ob_seq.specs.Settings.{Settings}
-use Rattle.ob_seq.specs.Worked.{marked, refused, replied, shown, succeeds}
+use Rattle.ob_seq.specs.Worked.{empty_look, marked, refused, replied, shown, succeeds}
 use Rattle.ob_seq.specs.WorkedBytes.{block_of}
 
 -- no overhead, and the greatest pending size for an unknown message
@@ -35,14 +35,7 @@ TotalAtItsLimit =
 abbrev pub LookAtTheLimit : Type 0
 LookAtTheLimit =
     look_after light (Write (Other 1) ∷ Write (Other 2) ∷ block_of (9 ∷ []) ∷ [])
-    ≡ record {
-      total = 4294967295;
-      word = 1;
-      size = 0;
-      before_unwritable = 0;
-      before_writable = 4294967295;
-      current_progress = 0;
-    }
+    ≡ record empty_look { total = 4294967295; word = 1; before_unwritable = 0; before_writable = 4294967295 }
 
 -- an overhead with which a block of one byte has the greatest pending size
 abbrev pub heavy : Settings
@@ -74,12 +67,5 @@ ProgressAtItsTop =
     ∷ replied (Count 0) [] None 100 0 ∷ refused TooFar 100 0 ∷ replied Done [] None 100 0
     ∷ replied (Count 1) (succeeds 0) None 0 0 ∷ [])
     × (look_after (marked 200 400) skipped_past_the_top
-    ≡ record {
-      total = 100;
-      word = 0;
-      size = 1;
-      before_unwritable = 301;
-      before_writable = 0;
-      current_progress = 9223372036854775807;
-    })
+    ≡ record empty_look { total = 100; size = 1; before_unwritable = 301; current_progress = 9223372036854775807 })
     × (current_after (marked 200 400) skipped_past_the_top ≡ Some (Block (4 ∷ [])))

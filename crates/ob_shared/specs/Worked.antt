@@ -10,6 +10,7 @@ use Rattle.ob_types.specs.declared.promise.PromiseId.{PromiseId}
 use Rattle.ob_types.specs.declared.reply.Answer.{Answer}
 use Rattle.ob_types.specs.declared.reply.Answer.TheVariants.{Id, Count, Yes}
 use Rattle.ob_seq.specs.Settings.{Settings}
+use Rattle.ob_seq.specs.Worked.{empty_look}
 use Rattle.ob_history.specs.Beginning.{IsBeginning}
 use Rattle.ob_history.specs.Receipt.{receipt_of}
 use Rattle.ob_history.specs.declared.record.Record.{Record}
@@ -54,14 +55,7 @@ records = written ∷ flushed ∷ removed ∷ []
 abbrev pub look : Seen
 look = record {
   place = 2;
-  look = record {
-    total = 100;
-    word = 0;
-    size = 1;
-    before_unwritable = 65437;
-    before_writable = 0;
-    current_progress = 0;
-  };
+  look = record empty_look { total = 100; size = 1; before_unwritable = 65437 };
 }
 
 -- what caller 0 hands in with these receipts of its two calls
