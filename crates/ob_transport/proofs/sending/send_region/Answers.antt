@@ -5,23 +5,37 @@ use Rattle.ob_transport.proofs.Covered.{first_never_refused, second_never_refuse
 use Rattle.ob_transport.proofs.Standings.{part_of_rest, same_after, same_standing, whole_rest}
 use Rattle.ob_transport.proofs.sending.send_region.Goals as goal
 
-pub returns-in_err-give-clause-sends : goal.returns-in_err-give-clause-sends
-returns-in_err-give-clause-sends g c =
+-- a call that was reserved is not refused: not the first
+first_refused : (g : _) (c : goal.After-from_residual-in_err-give g) → ⊥
+first_refused g c =
     let readied = c.in_ok-make_ready.ensures.readied in
-    absurd (first_never_refused (g.B.Booked.history c.args.booked.now) (g.B.Booked.caller c.args.booked.now) readied.0
+    first_never_refused (g.B.Booked.history c.args.booked.now) (g.B.Booked.caller c.args.booked.now) readied.0
     (g.B.Booked.caller c.make_ready.new.booked) c.in_ok-taken.taken (g.B.Booked.history c.make_ready.new.booked)
-    (g.B.Booked.history c.give.new.booked) c.in_err-give.field-0.0 readied.1 c.in_err-give.ensures.given)
+    (g.B.Booked.history c.give.new.booked) c.in_err-give.field-0.0 readied.1 c.in_err-give.ensures.given
 
-pub returns-in_err-give-2-clause-sends : goal.returns-in_err-give-2-clause-sends
-returns-in_err-give-2-clause-sends g c =
+-- and not the second
+second_refused : (g : _) (c : goal.After-from_residual-in_err-give-2 g) → ⊥
+second_refused g c =
     let first = c.in_ok-give.ensures.given.1
     ∙ same_after (Progress c.in_ok-taken.taken) c.in_ok-make_ready.ensures.readied.1 c.in_ok-make_ready.ensures.caller
     in
-    absurd (second_never_refused (g.B.Booked.history c.args.booked.now) (g.B.Booked.caller c.args.booked.now)
+    second_never_refused (g.B.Booked.history c.args.booked.now) (g.B.Booked.caller c.args.booked.now)
     c.in_ok-make_ready.ensures.readied.0
     (g.B.Booked.caller c.give.new.booked) c.in_ok-taken.taken (g.B.Booked.history c.give.new.booked)
     (g.B.Booked.history c.give-then-taken-rest.new.booked) c.in_err-give-2.field-0.0
-    first c.in_err-give-2.ensures.given)
+    first c.in_err-give-2.ensures.given
+
+pub returns-in_err-give-clause-sends : goal.returns-in_err-give-clause-sends
+returns-in_err-give-clause-sends g c = absurd (first_refused g c)
+
+pub returns-in_err-give-clause-asks : goal.returns-in_err-give-clause-asks
+returns-in_err-give-clause-asks g c = absurd (first_refused g c)
+
+pub returns-in_err-give-2-clause-sends : goal.returns-in_err-give-2-clause-sends
+returns-in_err-give-2-clause-sends g c = absurd (second_refused g c)
+
+pub returns-in_err-give-2-clause-asks : goal.returns-in_err-give-2-clause-asks
+returns-in_err-give-2-clause-asks g c = absurd (second_refused g c)
 
 pub returns-in_ok-give-2-clause-sends : goal.returns-in_ok-give-2-clause-sends
 returns-in_ok-give-2-clause-sends g c =
@@ -58,21 +72,3 @@ returns-else-taken-rest-clause-sends g c =
         left = same_standing booked c.in_ok-taken.ensures.taken;
       },
     )
-
-pub returns-in_err-give-clause-asks : goal.returns-in_err-give-clause-asks
-returns-in_err-give-clause-asks g c =
-    let readied = c.in_ok-make_ready.ensures.readied in
-    absurd (first_never_refused (g.B.Booked.history c.args.booked.now) (g.B.Booked.caller c.args.booked.now) readied.0
-    (g.B.Booked.caller c.make_ready.new.booked) c.in_ok-taken.taken (g.B.Booked.history c.make_ready.new.booked)
-    (g.B.Booked.history c.give.new.booked) c.in_err-give.field-0.0 readied.1 c.in_err-give.ensures.given)
-
-pub returns-in_err-give-2-clause-asks : goal.returns-in_err-give-2-clause-asks
-returns-in_err-give-2-clause-asks g c =
-    let first = c.in_ok-give.ensures.given.1
-    ∙ same_after (Progress c.in_ok-taken.taken) c.in_ok-make_ready.ensures.readied.1 c.in_ok-make_ready.ensures.caller
-    in
-    absurd (second_never_refused (g.B.Booked.history c.args.booked.now) (g.B.Booked.caller c.args.booked.now)
-    c.in_ok-make_ready.ensures.readied.0
-    (g.B.Booked.caller c.give.new.booked) c.in_ok-taken.taken (g.B.Booked.history c.give.new.booked)
-    (g.B.Booked.history c.give-then-taken-rest.new.booked) c.in_err-give-2.field-0.0
-    first c.in_err-give-2.ensures.given)
