@@ -1,12 +1,11 @@
 -- Writers whose plans have no fault send nothing.
 use Rattle.std.proofs.Common.{◌≡◌, ℕ, zero, suc, ◌<◌, ◌≤◌, Bool, true, false, List, [], ◌∷◌, length, map, cond, eqb, get_or}
-use Rattle.std.proofs.Common.{refl, sym, ap, subst, arith, eq-eqb}
+use Rattle.std.proofs.Common.{refl, sym, subst, arith, eq-eqb}
 use Rattle.std.specs.Prelude.{Some, is_ok, slice_get, take}
 use Rattle.std.specs.List.{All}
 use Rattle.std.proofs.lemmas.Bool.{eqb-false}
 use Rattle.std.proofs.lemmas.List.Elements.{All-cons, All-head, All-nil, All-tail}
 use Rattle.ob_types.specs.declared.command.Command.{Command}
-use Rattle.ob_seq.specs.Row.{Row}
 use Rattle.ob_seq.specs.Effect.{rows_after}
 use Rattle.ob_seq.specs.Settings.{Settings}
 use Rattle.ob_history.specs.Accepted.{accepted_commands}

@@ -1,5 +1,5 @@
 -- What a sink took of what receipts send.
-use Rattle.std.proofs.Common.{◌≡◌, ℕ, zero, suc, ◌+◌, ◌<◌, ◌≤◌, Bool, true, false, List, [], ◌∷◌, ◌++◌, length, map, take, cond}
+use Rattle.std.proofs.Common.{◌≡◌, ℕ, ◌+◌, ◌<◌, ◌≤◌, Bool, true, false, List, [], ◌∷◌, ◌++◌, length, map, take, cond}
 use Rattle.std.proofs.Common.{append-nil, eqb, refl, sym, ap, ◌∙◌, subst, append_assoc, arith, length-append, get_or}
 use Rattle.std.specs.Option.{ok_or}
 use Rattle.std.specs.Prelude.{Ok, Option, None, Some, is_ok, slice_get, sum_by}
@@ -7,7 +7,7 @@ use Rattle.std.specs.List.{All, flat_map}
 use Rattle.std.proofs.lemmas.Grind.{flat_map-append}
 use Rattle.std.proofs.lemmas.List.{append_cancel_left, take-append-le}
 use Rattle.std.proofs.lemmas.List.Concat.{flat_map-cons}
-use Rattle.std.proofs.lemmas.List.Elements.{All-append, All-head, All-map, All-nil, All-cons, All-tail}
+use Rattle.std.proofs.lemmas.List.Elements.{All-append, All-head, All-map, All-nil, All-cons, All-tail, All-weaker}
 use Rattle.std.proofs.lemmas.List.Folds.{flat_map-map}
 use Rattle.std.proofs.lemmas.List.Sums.{sum_by-append, sum_by-cons}
 use Rattle.ob_seq.specs.Effect.{rows_after}
@@ -173,47 +173,44 @@ module _ (settings : Settings) where
           );
         }
 
+  -- what is added up over records, of which those of others add nothing, is added up over those of one caller
+  own_sum : (A : Type 0) (sum : List Record → A) (add : Record → A → A) →
+      ((one : Record) (rest : List Record) → sum (one ∷ rest) ≡ add one (sum rest)) → (caller : ℕ) (records : List Record) →
+      All (λ one. eqb one.caller caller ≡ false → (rest : A) → add one rest ≡ rest) records →
+      sum records ≡ sum (records_of caller records)
+  own_sum A sum add first caller [] none = refl
+  own_sum A sum add first caller (one ∷ records) none =
+      first one records ∙ by_caller (eqb one.caller caller) refl (own_sum A sum add first caller records
+      (All-tail (λ its. eqb its.caller caller ≡ false → (rest : A) → add its rest ≡ rest) one records none))
+    where
+      by_caller : (is : Bool) → eqb one.caller caller ≡ is → sum records ≡ sum (records_of caller records) →
+          add one (sum records) ≡ sum (cond is (one ∷ records_of caller records) (records_of caller records))
+      by_caller true is rest = ap (add one) rest ∙ sym (first one (records_of caller records))
+      by_caller false is rest =
+          All-head (λ its. eqb its.caller caller ≡ false → (more : A) → add its more ≡ more) one records none is (sum records)
+          ∙ rest
+
   -- of records of which all others send nothing those of one caller send all
   own_bytes : (part : Record → Sent) (caller : ℕ) (records : List Record) →
       All (λ one. eqb one.caller caller ≡ false → part one ≡ nothing) records →
       flat_map (λ one. (part one).bytes) records ≡ flat_map (λ one. (part one).bytes) (records_of caller records)
-  own_bytes part caller [] none = refl
-  own_bytes part caller (one ∷ records) none =
-      flat_map-cons (λ its. (part its).bytes) one records
-      ∙ by_caller (eqb one.caller caller) refl (own_bytes part caller records
-      (All-tail (λ its. eqb its.caller caller ≡ false → part its ≡ nothing) one records none))
-    where
-      by_caller : (is : Bool) → eqb one.caller caller ≡ is →
-          flat_map (λ its. (part its).bytes) records ≡ flat_map (λ its. (part its).bytes) (records_of caller records) →
-          (part one).bytes ++ flat_map (λ its. (part its).bytes) records
-          ≡ flat_map (λ its. (part its).bytes) (cond is (one ∷ records_of caller records) (records_of caller records))
-      by_caller true is rest =
-          ap (λ bytes. (part one).bytes ++ bytes) rest
-          ∙ sym (flat_map-cons (λ its. (part its).bytes) one (records_of caller records))
-      by_caller false is rest =
-          ap (λ (sent : Sent). sent.bytes ++ flat_map (λ its. (part its).bytes) records)
-          (All-head (λ its. eqb its.caller caller ≡ false → part its ≡ nothing) one records none is) ∙ rest
+  own_bytes part caller records none =
+      let add : Record → List ℕ → List ℕ = λ one rest. (part one).bytes ++ rest in
+      own_sum (List ℕ) (flat_map (λ one. (part one).bytes)) add (flat_map-cons (λ one. (part one).bytes)) caller records
+      (All-weaker (λ one. eqb one.caller caller ≡ false → part one ≡ nothing)
+      (λ one. eqb one.caller caller ≡ false → (rest : List ℕ) → add one rest ≡ rest)
+      (λ one quiet other rest. ap (λ (sent : Sent). sent.bytes ++ rest) (quiet other)) records none)
 
   own_units : (part : Record → Sent) (caller : ℕ) (records : List Record) →
       All (λ one. eqb one.caller caller ≡ false → part one ≡ nothing) records →
       sum_by (λ one. (part one).units) records ≡ sum_by (λ one. (part one).units) (records_of caller records)
-  own_units part caller [] none = refl
-  own_units part caller (one ∷ records) none =
-      sum_by-cons (λ its. (part its).units) one records
-      ∙ by_caller (eqb one.caller caller) refl (own_units part caller records
-      (All-tail (λ its. eqb its.caller caller ≡ false → part its ≡ nothing) one records none))
-    where
-      by_caller : (is : Bool) → eqb one.caller caller ≡ is →
-          sum_by (λ its. (part its).units) records ≡ sum_by (λ its. (part its).units) (records_of caller records) →
-          (part one).units + sum_by (λ its. (part its).units) records
-          ≡ sum_by (λ its. (part its).units) (cond is (one ∷ records_of caller records) (records_of caller records))
-      by_caller true is rest =
-          ap (λ units. (part one).units + units) rest
-          ∙ sym (sum_by-cons (λ its. (part its).units) one (records_of caller records))
-      by_caller false is rest =
-          let none_sent = ap (λ (sent : Sent). sent.units)
-          (All-head (λ its. eqb its.caller caller ≡ false → part its ≡ nothing) one records none is) in
-          omega (arith, none_sent, rest)
+  own_units part caller records none =
+      let add : Record → ℕ → ℕ = λ one rest. (part one).units + rest in
+      own_sum ℕ (sum_by (λ one. (part one).units)) add (sum_by-cons (λ one. (part one).units)) caller records
+      (All-weaker (λ one. eqb one.caller caller ≡ false → part one ≡ nothing)
+      (λ one. eqb one.caller caller ≡ false → (rest : ℕ) → add one rest ≡ rest)
+      (λ one quiet other rest. let none_sent = ap (λ (sent : Sent). sent.units) (quiet other) in omega (arith, none_sent))
+      records none)
 
   -- where a caller has the receipts of all its records, and all others send nothing, what is taken of its receipts is
   -- what the history sends

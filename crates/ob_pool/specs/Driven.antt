@@ -1,5 +1,5 @@
 -- What the report of a drive tells.
-use Rattle.std.specs.Prelude.{◌≡◌, ℕ, ◌<◌, ◌≤◌, false, List, length}
+use Rattle.std.specs.Prelude.{◌≡◌, ℕ, ◌+◌, ◌<◌, ◌≤◌, false, List, length}
 use Rattle.std.specs.List.{All}
 use Rattle.std.specs.Int.{bit_at}
 use Rattle.ob_core.specs.Bits.{is_set}
@@ -7,8 +7,11 @@ use Rattle.ob_types.specs.WaterMark.{Marks}
 use Rattle.ob_types.specs.declared.command.Command.{Command}
 use Rattle.ob_history.specs.History.{History}
 use Rattle.ob_history.specs.Legal.{IsLegal}
+use Rattle.ob_transport.specs.Content.{Content}
+use Rattle.ob_transport.specs.Taken.{HasTaken}
 use Rattle.ob_pool.specs.CarriedOut.{AreCarriedOut}
 use Rattle.ob_pool.specs.Counted.{IsCounted}
+use Rattle.ob_pool.specs.Counts.{failings_of}
 use Rattle.ob_pool.specs.declared.report.Report.{Report}
 
 -- the words of a hand-off have come to rest under these marks: nothing is handed over, no user bit is set, and the mark
@@ -29,3 +32,9 @@ pub record TellsOf (first : History) (plans : List (List Command)) (report : Rep
   pub callers : All (λ one. one.caller ≤ length plans) report.recorded.records
   pub counts : IsCounted (length plans) report
   pub rest : AreAtRest first.settings.marks report.hand
+
+-- what a report's history tells of the sink: no record fails what is flushed unless the sink failed, and what the sink
+-- took is what the history sends
+pub record TellsOfSink (old new : Content) (report : Report) : Type 0 where
+  pub failings : failings_of report.recorded.records + old.failures ≤ new.failures
+  pub taken : HasTaken report.recorded old new

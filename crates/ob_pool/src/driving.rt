@@ -12,11 +12,9 @@ ghost use Rattle.ob_shared.specs.Finished.{HandsInAll};
 ghost use Rattle.ob_shared.specs.Handed.{made_by};
 ghost use Rattle.ob_shared.specs.Share.{new_share, new_shares};
 ghost use Rattle.ob_shared.specs.Opened.{IsAsOpened, IsNameOf};
-ghost use Rattle.ob_transport.specs.Taken.{HasTaken};
 ghost use Rattle.ob_pool.specs.Config.{AreWithin, first_history};
-ghost use Rattle.ob_pool.specs.Counts.{failings_of};
 ghost use Rattle.ob_pool.specs.DriveFault.{ComesOfWork, NamesOneOf, number_of};
-ghost use Rattle.ob_pool.specs.Driven.{TellsOf};
+ghost use Rattle.ob_pool.specs.Driven.{TellsOf, TellsOfSink};
 ghost use Rattle.ob_pool.specs.Errand.{HaveWorked, IsRoomy, MayBegin, asked, deeds_from, room_for};
 ghost use Rattle.ob_pool.specs.HandOff.{rooms_of};
 ghost use Rattle.ob_pool.specs.HandedIn.{TellsEnd};
@@ -61,7 +59,8 @@ use std::time::Clock;
 /// to more than 4294967295 bytes. These three come before a thread starts. `NoMemory` comes if the allocator refused, or
 /// a block has more owners than can be counted; `Stuck` if the gate held a writer too long; `Refused` if the history
 /// was full; `Transport` if a pass came to no end; `Finish` if the buffer could not be finished. The least writer's
-/// fault comes first, and writers' before the transport's. What the sink took before a fault stands.
+/// fault comes first, and writers' before the transport's. What the sink took before a fault stands; with one of the
+/// first three it was not asked.
 pub fn drive<R: Threads + Wait + Clock + Sync, G: Gate + Sync, S: Sink + Send>(
     rt: &R,
     alloc: Global,
@@ -78,13 +77,12 @@ pub fn drive<R: Threads + Wait + Clock + Sync, G: Gate + Sync, S: Sink + Send>(
         → refusal ≡ HistoryFull }
     ensures writers { IfErr result (NamesOneOf (length plans.items)) }
 
-    // The report tells of the plans, and no record fails what is flushed unless the sink failed.
+    // If the plans have a fault, the sink is not asked, and is as it was.
+    ensures unasked { IsSome (plans_fault config.estimate config.task plans.items) → sink.new ≡ sink.old }
+
+    // The report tells of the plans, and of the sink.
     ensures report { IfOk result (TellsOf (first_history config) plans.items) }
-    ensures failings { IfOk result (λ report.
-        failings_of report.recorded.records + (S.content sink.old).failures ≤ (S.content sink.new).failures) }
-    // What the sink took is what the history sends.
-    ensures taken { IfOk result (λ report.
-        HasTaken report.recorded (S.content sink.old) (S.content sink.new)) }
+    ensures sink { IfOk result (TellsOfSink (S.content sink.old) (S.content sink.new)) }
 {
     if let Some(fault) = plans_fault(config.estimate, config.task, &plans) {
         return Err(fault);
@@ -114,10 +112,7 @@ fn driven<L: Named + Send + Sync, R: Threads + Wait + Clock + Sync, G: Gate + Sy
     requires callers { opening.callers ≡ length plans.items + 1 }
     ensures planned { IfErr result (ComesOfWork (length plans.items)) }
     ensures report { IfOk result (TellsOf (first_history config) plans.items) }
-    ensures failings { IfOk result (λ report.
-        failings_of report.recorded.records + (S.content sink.old).failures ≤ (S.content sink.new).failures) }
-    ensures taken { IfOk result (λ report.
-        HasTaken report.recorded (S.content sink.old) (S.content sink.new)) }
+    ensures sink { IfOk result (TellsOfSink (S.content sink.old) (S.content sink.new)) }
 {
     let count = plans.len() as u32;
     let Some(room) = rooms_of(config.estimate, config.task, &plans) else {

@@ -90,23 +90,16 @@ returns-clause-report g c =
           (ap (λ (opening : Opening). opening.marks) c.in-Ok.ensures.words) ended.rest;
     }) c.reported.ensures.ended
 
-pub returns-clause-failings : goal.returns-clause-failings
-returns-clause-failings g c =
-    let planned = steps_are_planned c.args.config.estimate c.args.config.task c.args.plans.items c.requires.plans in
-    let none = no_failing_step c.args.plans.items planned in
-    let sink = (carried g c).failings in
-    IfOk-weaker c.reported.result _ _
-    (λ report ended. omega (arith, failings_told _ _ _ _ (have_ended g c report ended.handed) none, sink))
-    c.reported.ensures.ended
-
-pub returns-clause-taken : goal.returns-clause-taken
-returns-clause-taken g c =
+pub returns-clause-sink : goal.returns-clause-sink
+returns-clause-sink g c =
     let settings = g.L.Named.opened.settings in
     let done = c.in_ok-carried.field-0 in
     let all = c.in_ok-dones.field-0.items ++ done ∷ [] in
     let before = g.S.Sink.content c.args.sink.now in
     let after = g.S.Sink.content c.run-lane.new.sink in
     let planned = steps_are_planned c.args.config.estimate c.args.config.task c.args.plans.items c.requires.plans in
+    let none = no_failing_step c.args.plans.items planned in
+    let failed = (carried g c).failings in
     IfOk-weaker c.reported.result _ _ (λ report ended.
     let records = report.recorded.records in
     let ends = have_ended g c report ended.handed in
@@ -120,8 +113,11 @@ returns-clause-taken g c =
     (taken_further settings done.sight.seen records done.receipts before after seen (carried g c).taken)
     (own ∙ ap (λ (caller : ℕ). records_of caller records) ends.last) quiet in
     record {
-      bytes = whole.0
-          ∙ ap (λ (its : Settings). before.bytes ++ sent_bytes its records) (sym ended.opened.settings);
-      units = whole.1
-          ∙ ap (λ (its : Settings). before.units + sent_units its records) (sym ended.opened.settings);
+      failings = omega (arith, failings_told _ _ _ _ ends none, failed);
+      taken = record {
+        bytes = whole.0
+            ∙ ap (λ (its : Settings). before.bytes ++ sent_bytes its records) (sym ended.opened.settings);
+        units = whole.1
+            ∙ ap (λ (its : Settings). before.units + sent_units its records) (sym ended.opened.settings);
+      };
     }) c.reported.ensures.ended

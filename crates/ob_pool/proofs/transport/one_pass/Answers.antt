@@ -4,8 +4,6 @@ use Rattle.ob_seq.specs.Settings.{Settings}
 use Rattle.ob_history.specs.History.{History}
 use Rattle.ob_history.specs.Legal.{IsLegal}
 use Rattle.ob_history.specs.declared.receipt.Receipt.{Receipt}
-use Rattle.ob_history.specs.declared.record.Record.{Record}
-use Rattle.ob_shared.specs.Maker.{Maker}
 use Rattle.ob_shared.specs.Share.{ShareValue}
 use Rattle.ob_transport.specs.GrowAlike.{GrowAlike}
 use Rattle.ob_transport.specs.Standing.{standing}
