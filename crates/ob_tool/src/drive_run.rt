@@ -1,7 +1,9 @@
-ghost use Rattle.std.specs.Prelude.{◌≡◌, ◌≢◌, ◌≤◌, IfErr, IfOk, IfSome, OnOk, length};
+ghost use Rattle.std.specs.Prelude.{◌≡◌, ◌≢◌, ◌≤◌, None, IfErr, IfOk, IfSome, IsErrOf, OnOk, length};
 ghost use Rattle.std.specs.Io.KnownBytes.{Appends, Keeps};
 ghost use Rattle.ob_pool.specs.Driven.{TellsOf};
-ghost use Rattle.ob_tool.specs.DriveReport.{WritesReport};
+ghost use Rattle.ob_pool.specs.PlansFault.{plans_fault};
+ghost use Rattle.ob_pool.specs.declared.fault.DriveFault.{DriveFault};
+ghost use Rattle.ob_tool.specs.DriveReport.{ComesTo, WritesReport};
 ghost use Rattle.ob_tool.specs.DriveScript.{drive_language, plans_in, plans_of};
 ghost use Rattle.ob_tool.specs.DriveSession.{HasKept};
 ghost use Rattle.ob_tool.specs.DriveText.{report_text};
@@ -10,6 +12,7 @@ ghost use Rattle.ob_tool.specs.Interprets.{GoesThrough};
 ghost use Rattle.ob_tool.specs.Options.{first_history};
 ghost use Rattle.ob_tool.specs.Outcome.{IsFaultOfDrive, IsWritingFault};
 ghost use Rattle.ob_tool.specs.Script.{greatest_script, script_lines};
+ghost use Rattle.ob_tool.specs.declared.run_fault.RunFault.TheVariants.{Drive};
 
 use crate::drive_session::DriveSession;
 use crate::drive_text::push_report;
@@ -45,11 +48,15 @@ pub fn drive_script<H: AllocGlobal + Threads + Wait + Clock + Sync, R: Read, W: 
     writer: &mut W,
     options: Options,
 ) -> Result<(), RunFault>
-    // The text of a report on a drive of what was read is written and nothing else.
+    // What was read has plans without a fault, and the text of a report on a drive of them is written and nothing else.
     ensures report { OnOk result (IfSome (R.remaining reader.old) (λ script.
         WritesReport options (plans_of (script_lines drive_language script))
         (W.contents writer.old) (W.contents writer.new))) }
     ensures through { GoesThrough drive_language (R.remaining reader.old) (R.remaining reader.new) result }
+
+    // A fault of the drive is the first that the plans have, or one that no plans have.
+    ensures drive { (fault : DriveFault) → IsErrOf result (Drive fault) → IfSome (R.remaining reader.old) (λ script.
+        ComesTo options (plans_of (script_lines drive_language script)) fault) }
 
     // Without a report nothing is written, unless the writer fails.
     ensures unwritten { IfErr result (λ fault. fault ≢ RunFault.Write
@@ -81,7 +88,11 @@ fn drive_session<H: AllocGlobal + Threads + Wait + Clock + Sync>(
     options: Options,
 ) -> Result<Report, RunFault>
     ensures told { IfOk result (λ report. TellsOf (first_history options) (plans_in session.writers.items) report) }
+    ensures faultless { OnOk result
+        (plans_fault options.estimate options.task (plans_in session.writers.items) ≡ None) }
     ensures faults { IfErr result IsFaultOfDrive }
+    ensures drive { (fault : DriveFault) → IsErrOf result (Drive fault)
+        → ComesTo options (plans_in session.writers.items) fault }
 {
     let plans = plans(rt.alloc(), &session.writers)?;
     let config = config(options, session.most_turns());

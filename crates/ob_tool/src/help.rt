@@ -131,7 +131,7 @@ All lines are read first. When all threads have ended, standard output gets thes
   hand                             the bytes that are still handed over, and a word: 0 00000000 where all is well
 
 Faults of a drive, told as `drive: fault N`; standard output stays empty:
-  1 there is no writer             3 the writers hand over too much       4 no memory
+  1 there is no writer             4 no memory
   6 as many commands as --limit says were recorded                        7 the transport found so, or no memory
 ",
     "  7  a second `then`, or a second `turns`, or a low mark above the high mark
