@@ -1,5 +1,5 @@
 use Rattle.std.proofs.Common.{◌≡◌, None, Option, Some, refl, ap, subst, sym, ◌∙◌}
-use Rattle.std.specs.Prelude.{Err, IfSome, IsErrOf, Ok, Result}
+use Rattle.std.specs.Prelude.{Err, IfSome, IsErrOf, Ok}
 use Rattle.std.specs.Result.{is_ok}
 use Rattle.std.proofs.lemmas.Bool.{true≢false}
 use Rattle.ob_pool.specs.Config.{first_history}
