@@ -13,6 +13,7 @@ mod keeping;
 mod lanes;
 mod limits;
 mod looks;
+mod moments;
 mod readers;
 mod run;
 mod schedules;

@@ -1,21 +1,14 @@
 //! Writers that are held at gates.
 
 use crate::tests::drives::drives;
+use crate::tests::moments::{GateOf, Moment, Moments};
 use crate::tests::story::Story;
-use ob_pool::{Gate, Stuck};
+use ob_pool::Stuck;
 use std::sync::atomic::{AtomicU64, Ordering};
 use std::sync::{Mutex, Wait};
 use std::test::Fail;
 use std::thread::sleep;
 use std::time::{Clock, Duration};
-
-/// Where two writers meet. A total is 0 as long as its writer has not come.
-#[derive(Drop)]
-struct Crossing {
-    first: AtomicU64,
-    second: AtomicU64,
-    answered: AtomicU64,
-}
 
 /// Asks each millisecond whether a number has come that is not less, ten thousand times.
 pub fn wait_for<R: Clock>(rt: &R, number: &AtomicU64, least: u64) -> Result<(), Stuck> {
@@ -28,36 +21,31 @@ pub fn wait_for<R: Clock>(rt: &R, number: &AtomicU64, least: u64) -> Result<(), 
     Err(Stuck)
 }
 
-impl Gate for Crossing {
-    fn before<R: Wait + Clock>(&self, rt: &R, writer: u32, step: usize) -> Result<(), Stuck> {
-        if writer == 0 && step == 2 {
-            return wait_for(rt, &self.answered, 1);
-        }
-        Ok(())
-    }
+/// Where two writers meet. A total is 0 as long as its writer has not come.
+#[derive(Default, Drop)]
+struct Crossing {
+    first: AtomicU64,
+    second: AtomicU64,
+    answered: AtomicU64,
+}
 
-    fn during<R: Wait + Clock>(
-        &self,
-        rt: &R,
-        writer: u32,
-        step: usize,
-        total: u64,
-    ) -> Result<(), Stuck> {
-        if step != 1 {
-            return Ok(());
-        }
-        if writer == 0 {
-            self.first.store(total, Ordering::SeqCst);
-            wait_for(rt, &self.second, 1)
-        } else {
-            self.second.store(total, Ordering::SeqCst);
-            wait_for(rt, &self.first, 1)
-        }
-    }
-
-    fn after<R: Wait + Clock>(&self, _rt: &R, writer: u32, step: usize) {
-        if writer == 1 && step == 2 {
-            self.answered.store(1, Ordering::SeqCst);
+impl Moments for Crossing {
+    fn at<R: Wait + Clock>(&self, rt: &R, moment: Moment) -> Result<(), Stuck> {
+        match moment {
+            Moment::Before(0, 2) => wait_for(rt, &self.answered, 1),
+            Moment::During(0, 1, total) => {
+                self.first.store(total, Ordering::SeqCst);
+                wait_for(rt, &self.second, 1)
+            }
+            Moment::During(_, 1, total) => {
+                self.second.store(total, Ordering::SeqCst);
+                wait_for(rt, &self.first, 1)
+            }
+            Moment::After(1, 2) => {
+                self.answered.store(1, Ordering::SeqCst);
+                Ok(())
+            }
+            _ => Ok(()),
         }
     }
 }
@@ -72,36 +60,34 @@ then 1
 
 #[test]
 fn gate_crosses(rt: HostRuntime) -> Result<(), Fail> {
-    let gate = Crossing {
-        first: AtomicU64::new(0),
-        second: AtomicU64::new(0),
-        answered: AtomicU64::new(0),
-    };
+    let gate = GateOf(Crossing::default());
     drives(&rt, &gate, Story::of(CROSSED))?;
-    let first = gate.first.load(Ordering::SeqCst);
-    let second = gate.second.load(Ordering::SeqCst);
-    assert_eq!(rt; first.max(second), 66);
+    let (first, second) = (&gate.0.first, &gate.0.second);
+    assert_eq!(rt;
+        first
+            .load(Ordering::SeqCst)
+            .max(second.load(Ordering::SeqCst)),
+        66
+    );
     Ok(())
 }
 
 /// Where writers wait before their second write until eight first ones have an answer.
-#[derive(Drop)]
+#[derive(Default, Drop)]
 struct Barrier {
     answered: AtomicU64,
 }
 
-impl Gate for Barrier {
-    fn before<R: Wait + Clock>(&self, rt: &R, _writer: u32, step: usize) -> Result<(), Stuck> {
-        if step == 1 {
-            return wait_for(rt, &self.answered, 8);
+impl Moments for Barrier {
+    fn at<R: Wait + Clock>(&self, rt: &R, moment: Moment) -> Result<(), Stuck> {
+        match moment {
+            Moment::Before(_, 1) => return wait_for(rt, &self.answered, 8),
+            Moment::After(_, 0) => {
+                self.answered.fetch_add(1, Ordering::SeqCst);
+            }
+            _ => {}
         }
         Ok(())
-    }
-
-    fn after<R: Wait + Clock>(&self, _rt: &R, _writer: u32, step: usize) {
-        if step == 0 {
-            self.answered.fetch_add(1, Ordering::SeqCst);
-        }
     }
 }
 
@@ -115,27 +101,18 @@ among 8 / 8 callers
 
 #[test]
 fn gate_barrier(rt: HostRuntime) -> Result<(), Fail> {
-    let gate = Barrier {
-        answered: AtomicU64::new(0),
-    };
-    drives(&rt, &gate, Story::of(IN_STEP))
+    drives(&rt, &GateOf(Barrier::default()), Story::of(IN_STEP))
 }
 
-/// A gate that holds two writers for ever, once their second write is charged.
+/// Holds all writers but the first for ever, once their second write is charged.
 struct Closed;
 
-impl Gate for Closed {
-    fn during<R: Wait + Clock>(
-        &self,
-        _rt: &R,
-        writer: u32,
-        step: usize,
-        _total: u64,
-    ) -> Result<(), Stuck> {
-        if writer > 0 && step == 1 {
-            return Err(Stuck);
+impl Moments for Closed {
+    fn at<R: Wait + Clock>(&self, _rt: &R, moment: Moment) -> Result<(), Stuck> {
+        match moment {
+            Moment::During(writer, 1, _) if writer > 0 => Err(Stuck),
+            _ => Ok(()),
         }
-        Ok(())
     }
 }
 
@@ -150,32 +127,22 @@ why / writer 1 is stuck
 
 #[test]
 fn the_least_stuck_writer_is_named(rt: HostRuntime) -> Result<(), Fail> {
-    drives(&rt, &Closed, Story::of(HELD))
+    drives(&rt, &GateOf(Closed), Story::of(HELD))
 }
 
-/// A gate that writes down what it is asked.
+/// Writes down what its gate is asked.
 #[derive(Drop)]
 struct Log(Mutex<String>);
 
-impl Gate for Log {
-    fn before<R: Wait + Clock>(&self, rt: &R, writer: u32, step: usize) -> Result<(), Stuck> {
-        let _ = write!(self.0.lock(rt), "before {writer}.{step}, ");
+impl Moments for Log {
+    fn at<R: Wait + Clock>(&self, rt: &R, moment: Moment) -> Result<(), Stuck> {
+        let mut log = self.0.lock(rt);
+        let _ = match moment {
+            Moment::Before(writer, step) => write!(log, "before {writer}.{step}, "),
+            Moment::During(writer, step, total) => write!(log, "during {writer}.{step}: {total}, "),
+            Moment::After(writer, step) => write!(log, "after {writer}.{step}, "),
+        };
         Ok(())
-    }
-
-    fn during<R: Wait + Clock>(
-        &self,
-        rt: &R,
-        writer: u32,
-        step: usize,
-        total: u64,
-    ) -> Result<(), Stuck> {
-        let _ = write!(self.0.lock(rt), "during {writer}.{step}: {total}, ");
-        Ok(())
-    }
-
-    fn after<R: Wait + Clock>(&self, rt: &R, writer: u32, step: usize) {
-        let _ = write!(self.0.lock(rt), "after {writer}.{step}, ");
     }
 }
 
@@ -197,9 +164,9 @@ static ALONE: [(&str, &str); 2] = [
 #[test]
 fn a_gate_is_asked_at_each_step(rt: HostRuntime) -> Result<(), Fail> {
     for (story, wanted) in ALONE {
-        let gate = Log(Mutex::new(String::new(rt.alloc())));
+        let gate = GateOf(Log(Mutex::new(String::new(rt.alloc()))));
         drives(&rt, &gate, Story::of(story))?;
-        let log = gate.0.into_inner();
+        let log = gate.0.0.into_inner();
         assert_eq!(rt; log.as_str(), wanted);
     }
     Ok(())

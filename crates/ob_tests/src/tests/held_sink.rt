@@ -4,9 +4,10 @@ ghost use Rattle.ob_transport.specs.Script.{Plays};
 
 use crate::tests::drives::Driven;
 use crate::tests::gates::wait_for;
+use crate::tests::moments::{GateOf, Moment, Moments};
 use crate::tests::story::Story;
 use bytes::Bytes;
-use ob_pool::{Gate, Stuck};
+use ob_pool::Stuck;
 use ob_transport::{ScriptSink, Sink, SinkFault};
 use std::sync::Wait;
 use std::sync::atomic::{AtomicU64, Ordering};
@@ -17,7 +18,7 @@ use std::time::{Clock, Duration};
 /// How far writers and the sink have come, from 1 on: the first call of the sink has begun, meanwhile writer 0 has
 /// charged its third step, and then writer 1 its first; that is answered; the second call of the sink has begun, and
 /// meanwhile writer 0 ends.
-#[derive(Drop)]
+#[derive(Default, Drop)]
 struct Order {
     stage: AtomicU64,
     /// What is handed off when writer 1 has charged.
@@ -30,48 +31,29 @@ impl Order {
     }
 }
 
-impl Gate for Order {
-    fn before<R: Wait + Clock>(&self, rt: &R, writer: u32, step: usize) -> Result<(), Stuck> {
-        match (writer, step) {
-            (0, 2) => wait_for(rt, &self.stage, 1),
-            (0, 3) => wait_for(rt, &self.stage, 4),
-            (1, 0) => {
+impl Moments for Order {
+    fn at<R: Wait + Clock>(&self, rt: &R, moment: Moment) -> Result<(), Stuck> {
+        match moment {
+            Moment::Before(0, 2) => wait_for(rt, &self.stage, 1)?,
+            Moment::Before(0, 3) => wait_for(rt, &self.stage, 4)?,
+            Moment::Before(1, 0) => {
                 wait_for(rt, &self.stage, 2)?;
                 // by then writer 0 waits for the desk
                 sleep(rt, Duration::from_millis(20));
-                Ok(())
             }
-            _ => Ok(()),
-        }
-    }
-
-    fn during<R: Wait + Clock>(
-        &self,
-        _rt: &R,
-        writer: u32,
-        step: usize,
-        total: u64,
-    ) -> Result<(), Stuck> {
-        match (writer, step) {
-            (0, 2) => self.reach(2),
-            (1, 0) => {
+            Moment::During(0, 2, _) => self.reach(2),
+            Moment::During(1, 0, total) => {
                 self.total.store(total, Ordering::SeqCst);
                 self.reach(3);
             }
-            _ => {}
-        }
-        Ok(())
-    }
-
-    fn after<R: Wait + Clock>(&self, rt: &R, writer: u32, step: usize) {
-        match (writer, step) {
-            (1, 0) => self.reach(4),
-            (0, 3) => {
+            Moment::After(1, 0) => self.reach(4),
+            Moment::After(0, 3) => {
                 let _ = wait_for(rt, &self.stage, 5);
                 self.reach(6);
             }
             _ => {}
         }
+        Ok(())
     }
 }
 
@@ -124,21 +106,18 @@ take 0
 
 #[test]
 fn writers_meet_the_sink(rt: HostRuntime) -> Result<(), Fail> {
-    let order = Order {
-        stage: AtomicU64::new(0),
-        total: AtomicU64::new(0),
-    };
+    let gate = GateOf(Order::default());
     let story = Story::of(MET);
     let mut driven = Driven::of(rt.alloc(), story)?;
     let mut sink = Held {
         rt: &rt,
-        order: &order,
+        order: &gate.0,
         calls: 0,
         script: driven.script(),
     };
-    driven.run(&rt, &order, &mut sink)?;
+    driven.run(&rt, &gate, &mut sink)?;
     story.play(&rt, rt.alloc(), &mut driven);
     // the charge of writer 0 stands as long as its call waits for the desk
-    assert_eq!(rt; order.total.load(Ordering::SeqCst), 66);
+    assert_eq!(rt; gate.0.total.load(Ordering::SeqCst), 66);
     Ok(())
 }
