@@ -12,6 +12,7 @@ ghost use Rattle.ob_core.specs.Bits.{is_set};
 use ob_lanes::{Lane, NoRoom, Words, lanes};
 use ob_types::WaterMark;
 use std::alloc::Global;
+use std::fmt::Display;
 use std::process::Abort;
 use std::sync::Wait;
 use std::test::Fail;
@@ -30,8 +31,15 @@ fn split(words: &Words, lane: Lane, room: u32, bits: u32) -> Result<(Lane, Lane)
     requires { lane.words ≡ words.now }
     ensures { IfOk result (λ ok. (ok.0.words ≡ words.now) × (ok.1.words ≡ words.now)) }
 {
-    match lane.split(words, room, bits) {
-        Ok(lanes) => Ok(lanes),
+    accepted(lane.split(words, room, bits))
+}
+
+/// What a lane answers that does not refuse.
+fn accepted<T: Drop, F: Display + Drop>(answer: Result<T, (Lane, F)>) -> Result<T, Fail>
+    ensures { IfOk result (λ value. answer ≡ Ok value) }
+{
+    match answer {
+        Ok(value) => Ok(value),
         Err((_lane, fault)) => Err(Fail::new(fault)),
     }
 }

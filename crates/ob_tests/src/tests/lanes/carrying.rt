@@ -2,7 +2,7 @@
 
 ghost use Rattle.std.specs.Prelude.{◌≡◌, ◌++◌, IfOk};
 
-use super::{join_and_finish, open, split};
+use super::{accepted, join_and_finish, open, split};
 use ob_lanes::{Lane, Words};
 use ob_types::Change::{Unwritable, Writable};
 use std::test::Fail;
@@ -13,10 +13,7 @@ fn tell(words: &Words, speaker: Lane, listener: Lane) -> Result<(Lane, Lane), Fa
     ensures words { IfOk result (λ ok. (ok.0.words ≡ words.now) × (ok.1.words ≡ words.now)) }
     ensures heard { IfOk result (λ ok. ok.1.seen ≡ listener.seen ++ speaker.seen) }
 {
-    let (speaker, told) = match speaker.split(words, 0, 0) {
-        Ok(lanes) => lanes,
-        Err((_speaker, fault)) => return Err(Fail::new(fault)),
-    };
+    let (speaker, told) = accepted(speaker.split(words, 0, 0))?;
     Ok((speaker, listener.join(words, told)))
 }
 

@@ -2,7 +2,7 @@
 
 ghost use Rattle.std.specs.Prelude.{◌≡◌, IfOk};
 
-use super::{join_and_finish, not_charged, open, split};
+use super::{accepted, join_and_finish, not_charged, open, split};
 use crate::in_flight::two_connections;
 use ob_lanes::{Charged, Lane, RoomOut, Words};
 use ob_types::Change;
@@ -21,10 +21,7 @@ fn charge<R: Wait>(
     requires { lane.words ≡ words.now }
     ensures { IfOk result (λ ok. ok.0.words ≡ words.now) }
 {
-    match lane.charge(rt, words, amount) {
-        Ok(charged) => Ok(charged),
-        Err((_lane, fault)) => Err(Fail::new(fault)),
-    }
+    accepted(lane.charge(rt, words, amount))
 }
 
 /// B charges 100, and A 1 more, which passes the high mark.
