@@ -4,6 +4,7 @@ ghost use Rattle.ob_shared.specs.Opened.{IsNameOf};
 
 use crate::tests::buffers::Options;
 use crate::tests::callers::finished;
+use crate::tests::threads::{Mix, calls};
 use ob_history::{Glance, Recorded};
 use ob_shared::{Done, Named, Opening, Reader, Share, SharedBuffer};
 use ob_types::{Command, Message, Refusal};
@@ -128,32 +129,13 @@ fn writes<L: Named + Send + Sync, R: Threads + Wait + Sync>(
     ended: &AtomicBool,
     shares: Vec<Share<L>>,
 ) -> Result<Vec<Done<L>>, AllocError> {
-    let dones = map_vec(rt, shares, &|share| calls(rt, alloc, buffer, share));
+    let dones = map_vec(
+        rt,
+        shares,
+        &|share| calls(rt, alloc, buffer, share, CALLS, Mix::RegionsInTurn),
+    );
     ended.store(true, Ordering::SeqCst);
     dones
-}
-
-/// Writes, flushes and removals in turn.
-fn calls<L: Named, R: Wait>(
-    rt: &R,
-    alloc: Global,
-    buffer: &SharedBuffer<L>,
-    share: Share<L>,
-) -> Done<L> {
-    let mut caller = Done::new(alloc, share);
-    for number in 0..CALLS {
-        let command = match number % 3 {
-            0 => Command::Write(Message::Region(0)),
-            1 => Command::Flush,
-            _ => Command::Remove,
-        };
-        let (same, answer) = buffer.call(rt, caller, command);
-        caller = same;
-        if answer.is_err() {
-            break;
-        }
-    }
-    caller
 }
 
 /// What a reader sees until the writers have ended, each glance once that differs from the one before.

@@ -20,11 +20,13 @@ use std::test::Fail;
 use std::thread::{Threads, map_vec};
 use std::time::Clock;
 
-/// What each of many callers asks for.
+/// What a caller asks for, call by call.
 #[derive(Clone, Copy)]
-enum Mix {
-    /// Writes, flushes and removals in turn.
-    InTurn,
+pub enum Mix {
+    /// Writes of blocks, flushes and removals in turn.
+    BlocksInTurn,
+    /// Writes of regions, flushes and removals in turn.
+    RegionsInTurn,
     /// Commands of all ten kinds, by chance.
     ByChance,
 }
@@ -32,7 +34,7 @@ enum Mix {
 #[test]
 fn four_threads_of_250_calls(rt: HostRuntime) -> Result<(), Fail> {
     let opening = Options::of("--limit 1000")?.opening(rt.alloc(), 4)?;
-    let recorded = all_made::<Brand, _>(&rt, rt.alloc(), opening, Mix::InTurn)?;
+    let recorded = all_made::<Brand, _>(&rt, rt.alloc(), opening, Mix::BlocksInTurn)?;
     is_of_one_thread(&rt, rt.alloc(), &recorded, 1000)
 }
 
@@ -113,21 +115,26 @@ fn all_made<L: Named + Send + Sync, R: Threads + Wait + Sync>(
 {
     let (buffer, shares) = opening.begin::<L>()?;
     let shared = &buffer;
-    let dones = map_vec(rt, shares, &|share| calls(rt, alloc, shared, share, asks))?;
+    let dones = map_vec(
+        rt,
+        shares,
+        &|share| calls(rt, alloc, shared, share, 250, asks),
+    )?;
     finished(buffer, dones)
 }
 
-/// Makes 250 calls, each from a desk of its own, and stops where one is refused.
-fn calls<L: Named, R: Wait>(
+/// Makes so many calls, each from a desk of its own, and stops where one is refused.
+pub fn calls<L: Named, R: Wait>(
     rt: &R,
     alloc: Global,
     buffer: &SharedBuffer<L>,
     share: Share<L>,
+    count: u32,
     asks: Mix,
 ) -> Done<L> {
     let mut dice = Dice::new(share.caller());
     let mut caller = Done::new(alloc, share);
-    for number in 0..250u32 {
+    for number in 0..count {
         let Ok(command) = command(alloc, &mut dice, asks, number) else {
             break;
         };
@@ -141,13 +148,12 @@ fn calls<L: Named, R: Wait>(
 }
 
 fn command(alloc: Global, dice: &mut Dice, asks: Mix, number: u32) -> Result<Command, AllocError> {
-    match asks {
-        Mix::ByChance => dice.command(alloc),
-        Mix::InTurn => match number % 3 {
-            0 => Ok(Command::Write(block(alloc, 0, 4)?)),
-            1 => Ok(Command::Flush),
-            _ => Ok(Command::Remove),
-        },
+    match (asks, number % 3) {
+        (Mix::ByChance, _) => dice.command(alloc),
+        (Mix::BlocksInTurn, 0) => Ok(Command::Write(block(alloc, 0, 4)?)),
+        (Mix::RegionsInTurn, 0) => Ok(Command::Write(Message::Region(0))),
+        (_, 1) => Ok(Command::Flush),
+        _ => Ok(Command::Remove),
     }
 }
 
