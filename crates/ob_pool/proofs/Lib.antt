@@ -1,13 +1,4 @@
-pub mod AcceptedCounts
-pub mod BadSteps
-pub mod Ending
-pub mod Faults
-pub mod Halves
-pub mod KeptReceipts
-pub mod Passing
-pub mod PlannedSteps
-pub mod Quiet
-pub mod Rooms
-pub mod Settled
-pub mod Shares
-pub mod Taking
+pub mod Histories
+pub mod Jobs
+pub mod Passes
+pub mod Plans

@@ -1,14 +1,5 @@
-pub mod CarriedOut
 pub mod Config
-pub mod Counted
-pub mod Counts
 pub mod DriveFault
-pub mod Driven
-pub mod Errand
-pub mod HandOff
-pub mod HandedIn
-pub mod Keeping
-pub mod Kind
-pub mod Plan
-pub mod PlansFault
-pub mod Sending
+pub mod Planning
+pub mod Report
+pub mod Threads

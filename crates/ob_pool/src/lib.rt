@@ -4,19 +4,15 @@
 //! hands that to the buffer. `drive` carries all plans out, and answers the finished history with its numbers.
 #![tactic(auto)]
 
-mod bench;
 mod config;
-mod counting;
 mod driving;
 mod fault;
 mod gate;
-mod keeper;
+mod opening;
 mod plan;
 mod planning;
 mod report;
-mod transport;
-mod writer;
-mod writers;
+mod threads;
 
 pub use config::{Config, TASK_OVERHEAD};
 pub use driving::drive;

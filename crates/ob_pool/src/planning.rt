@@ -3,9 +3,9 @@
 ghost use Rattle.std.specs.Prelude.{◌≡◌, ◌<◌, ◌≤◌, length, IfSome, IsNone};
 ghost use Rattle.ob_core.specs.Limits.{greatest_room, most_lanes};
 ghost use Rattle.ob_pool.specs.DriveFault.{NamesOneOf, number_of};
-ghost use Rattle.ob_pool.specs.HandOff.{charge_for, charge_of, room_of, rooms_of};
-ghost use Rattle.ob_pool.specs.Plan.{bad_step, is_planned};
-ghost use Rattle.ob_pool.specs.PlansFault.{bad_plan_from, plans_fault};
+ghost use Rattle.ob_pool.specs.Planning.HandOff.{charge_for, charge_of, room_of, rooms_of};
+ghost use Rattle.ob_pool.specs.Planning.Plan.{bad_step, is_planned};
+ghost use Rattle.ob_pool.specs.Planning.PlansFault.{bad_plan_from, plans_fault};
 
 use crate::fault::DriveFault;
 use crate::plan::Plan;

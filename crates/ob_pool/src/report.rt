@@ -1,3 +1,7 @@
+mod counting;
+mod ending;
+
+pub use ending::into_report;
 use ob_history::Recorded;
 
 /// What a drive came to: the finished history, and its numbers.

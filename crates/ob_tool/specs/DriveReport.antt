@@ -3,8 +3,8 @@ use Rattle.std.specs.Prelude.{◌≡◌, ◌<◌, ℕ, List, Option, None, IfSom
 use Rattle.std.specs.Io.KnownBytes.{Appends}
 use Rattle.ob_types.specs.declared.command.Command.{Command}
 use Rattle.ob_pool.specs.DriveFault.{number_of}
-use Rattle.ob_pool.specs.Driven.{TellsOf}
-use Rattle.ob_pool.specs.PlansFault.{plans_fault}
+use Rattle.ob_pool.specs.Report.TellsOf.{TellsOf}
+use Rattle.ob_pool.specs.Planning.PlansFault.{plans_fault}
 use Rattle.ob_pool.specs.declared.fault.DriveFault.{DriveFault}
 use Rattle.ob_pool.specs.declared.report.Report.{Report}
 use Rattle.ob_tool.specs.DriveText.{report_text}

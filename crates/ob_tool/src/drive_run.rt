@@ -1,7 +1,7 @@
 ghost use Rattle.std.specs.Prelude.{◌≡◌, ◌≢◌, ◌≤◌, None, IfErr, IfOk, IfSome, IsErrOf, OnOk, length};
 ghost use Rattle.std.specs.Io.KnownBytes.{Appends, Keeps};
-ghost use Rattle.ob_pool.specs.Driven.{TellsOf};
-ghost use Rattle.ob_pool.specs.PlansFault.{plans_fault};
+ghost use Rattle.ob_pool.specs.Report.TellsOf.{TellsOf};
+ghost use Rattle.ob_pool.specs.Planning.PlansFault.{plans_fault};
 ghost use Rattle.ob_pool.specs.declared.fault.DriveFault.{DriveFault};
 ghost use Rattle.ob_tool.specs.DriveReport.{ComesTo, WritesReport};
 ghost use Rattle.ob_tool.specs.DriveScript.{drive_language, plans_in, plans_of};

@@ -1,5 +1,5 @@
 use Rattle.std.proofs.Common.{◌≡◌, take}
-use Rattle.ob_pool.specs.HandOff.{rooms_of}
+use Rattle.ob_pool.specs.Planning.HandOff.{rooms_of}
 use Rattle.ob_pool.proofs.planning.rooms_of.Given as goal
 
 abbrev pub invariant-loop-plan : goal.invariant-loop-plan

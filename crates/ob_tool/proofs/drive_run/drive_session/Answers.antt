@@ -3,7 +3,7 @@ use Rattle.std.specs.Prelude.{Err, IfSome, IsErrOf, Ok}
 use Rattle.std.specs.Result.{is_ok}
 use Rattle.std.proofs.lemmas.Bool.{true≢false}
 use Rattle.ob_pool.specs.Config.{first_history}
-use Rattle.ob_pool.specs.PlansFault.{plans_fault}
+use Rattle.ob_pool.specs.Planning.PlansFault.{plans_fault}
 use Rattle.ob_pool.specs.declared.config.Config.{Config}
 use Rattle.ob_pool.specs.declared.fault.DriveFault.{DriveFault}
 use Rattle.ob_tool.specs.DriveReport.{ComesTo}

@@ -1,0 +1,5 @@
+-- What a finished history tells of those who made it.
+pub mod AcceptedCounts
+pub mod Ending
+pub mod Quiet
+pub mod Settled

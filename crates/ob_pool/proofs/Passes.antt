@@ -1,0 +1,4 @@
+-- What a pass of the transport leaves, and what its receipts tell.
+pub mod LoggedReceipts
+pub mod Passing
+pub mod Taking

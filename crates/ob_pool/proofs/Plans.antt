@@ -1,0 +1,4 @@
+-- Plans, step by step.
+pub mod BadSteps
+pub mod PlannedSteps
+pub mod Rooms

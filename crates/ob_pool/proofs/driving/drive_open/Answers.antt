@@ -1,0 +1,123 @@
+use Rattle.std.proofs.Common.{◌≡◌, ℕ, ◌+◌, ◌++◌, [], ◌∷◌, length, sym, ap, ◌∙◌, subst, arith, rules}
+use Rattle.std.specs.List.{All}
+use Rattle.std.proofs.lemmas.List.Elements.{All-contains, Contains-push}
+use Rattle.std.proofs.lemmas.Result.{IfErr-weaker, IfOk-at_ok, IfOk-weaker}
+use Rattle.ob_types.specs.WaterMark.{Marks}
+use Rattle.ob_core.specs.Opening.{Opening}
+use Rattle.ob_seq.specs.Settings.{Settings}
+use Rattle.ob_history.specs.Beginning.{IsBeginning}
+use Rattle.ob_history.specs.Legal.{IsLegal}
+use Rattle.ob_history.specs.Own.{records_of}
+use Rattle.ob_shared.specs.Finished.{HandsInAll}
+use Rattle.ob_shared.specs.Handed.{Handed}
+use Rattle.ob_shared.specs.Maker.{Maker}
+use Rattle.ob_shared.specs.Opened.{Opened}
+use Rattle.ob_shared.specs.Share.{ShareValue}
+use Rattle.ob_transport.specs.SentBytes.{sent_bytes}
+use Rattle.ob_transport.specs.SentUnits.{sent_units}
+use Rattle.ob_pool.specs.Report.Counted.{IsCounted}
+use Rattle.ob_pool.specs.DriveFault.{ComesOfWork}
+use Rattle.ob_pool.specs.Report.TellsOf.{AreAtRest}
+use Rattle.ob_pool.specs.Threads.Job.{AreDone, IsNumbered}
+use Rattle.ob_pool.specs.Report.HandedIn.{HaveHandedIn}
+use Rattle.ob_pool.specs.Threads.ReceiptLog.{HasTransported}
+use Rattle.ob_pool.specs.declared.report.Report.{Report}
+use Rattle.ob_pool.proofs.Histories.Ending.{HaveEnded, all_carried, callers_told, failings_told}
+use Rattle.ob_pool.proofs.Jobs.Faults.{comes_of_more}
+use Rattle.ob_pool.proofs.Plans.PlannedSteps.{no_failing_step, steps_are_planned}
+use Rattle.ob_pool.proofs.Histories.Quiet.{others_send_nothing}
+use Rattle.ob_pool.proofs.Jobs.Shares.{all_numbered}
+use Rattle.ob_pool.proofs.Passes.Taking.{taken_further, taken_whole}
+use Rattle.ob_pool.proofs.driving.drive_open.Goals as goal
+
+-- what the transport hands in
+transported : (g : _) (c : goal.After-into_report g) →
+    HasTransported g.L.Named.opened.settings c.in_ok-shared.share.maker (g.S.Sink.content c.args.sink.now) (g.S.Sink.content c.run-lane.new.sink)
+    c.in_ok-transported.field-0
+transported g c =
+    IfOk-at_ok (HasTransported g.L.Named.opened.settings c.in_ok-shared.share.maker (g.S.Sink.content c.args.sink.now)
+    (g.S.Sink.content c.run-lane.new.sink)) c.in_ok-transported.was c.run-lane.ensures.transported
+
+-- all have handed in what they were asked
+have_ended : (g : _) (c : goal.After-into_report g) (report : Report) →
+    HaveHandedIn report.recorded.records (c.in_ok-dones.field-0.items ++ c.in_ok-transported.field-0 ∷ []) →
+    HaveEnded report.recorded.records c.in_ok-dones.field-0.items c.in_ok-transported.field-0 c.args.plans.items
+have_ended g c report handed =
+    let share = ap (λ (its : ShareValue). its.maker) c.in_ok-shared.ensures.share in
+    let done = transported g c in
+    record {
+      same = IfOk-at_ok (λ dones. AreDone c.in_ok-shared.jobs.items dones.items) c.in_ok-dones.was
+          c.run-lane.ensures.jobs.done ∙ c.in_ok-shared.ensures.asked;
+      handed = handed;
+      last = done.caller ∙ ap (λ (maker : Maker). maker.caller) share;
+      made = omega (arith, done.made, ap (λ (maker : Maker). maker.made) share);
+    }
+
+pub run-lane-requires-clause-ready : goal.run-lane-requires-clause-ready
+run-lane-requires-clause-ready g c = λ κs lives.
+    let count : c.len-count.result ≡ length c.args.plans.items = search rules in
+    record {
+      words = search rules;
+      roomy = c.in_ok-shared.ensures.roomy;
+      numbered = subst (λ writers. All (IsNumbered writers) c.in_ok-shared.jobs.items) (sym count)
+          (all_numbered c.in_ok-shared.jobs.items c.args.plans.items c.in_ok-shared.ensures.asked);
+      room = search rules;
+      whole = search rules;
+    }
+
+pub returns-in_err-transported-clause-planned : goal.returns-in_err-transported-clause-planned
+returns-in_err-transported-clause-planned g c =
+    IfErr-weaker c.from_residual-in_err-transported.result (ComesOfWork 0) (ComesOfWork (length c.args.plans.items))
+    (comes_of_more (length c.args.plans.items)) (search rules)
+
+pub returns-clause-planned : goal.returns-clause-planned
+returns-clause-planned g c =
+    IfErr-weaker c.into_report.result (ComesOfWork 0) (ComesOfWork (length c.args.plans.items))
+    (comes_of_more (length c.args.plans.items)) c.into_report.ensures.fault
+
+pub returns-clause-report : goal.returns-clause-report
+returns-clause-report g c =
+    let opened = c.requires.name.opened in
+    let count : c.len-count.result ≡ length c.args.plans.items = search rules in
+    IfOk-weaker c.into_report.result _ _ (λ report ended. record {
+      legal = ended.opened.legal;
+      settings = ended.opened.settings ∙ ap (λ (opened : Opened). opened.settings) opened ∙ c.requires.settings;
+      limit = ended.opened.limit ∙ ap (λ (opened : Opened). opened.limit) opened ∙ c.requires.limit;
+      carried_out = all_carried _ _ _ _ (have_ended g c report ended.handed);
+      callers = callers_told _ _ _ _ (have_ended g c report ended.handed);
+      counts = subst (λ writers. IsCounted writers report) count ended.counts;
+      rest = subst (λ (marks : Marks). AreAtRest marks report.hand)
+          (ap (λ (opening : Opening). opening.marks) c.in-Ok.ensures.words) ended.rest;
+    }) c.into_report.ensures.ended
+
+pub returns-clause-sink : goal.returns-clause-sink
+returns-clause-sink g c =
+    let settings = g.L.Named.opened.settings in
+    let done = c.in_ok-transported.field-0 in
+    let all = c.in_ok-dones.field-0.items ++ done ∷ [] in
+    let before = g.S.Sink.content c.args.sink.now in
+    let after = g.S.Sink.content c.run-lane.new.sink in
+    let planned = steps_are_planned c.args.config.estimate c.args.config.task c.args.plans.items c.requires.plans in
+    let none = no_failing_step c.args.plans.items planned in
+    let failed = (transported g c).failings in
+    IfOk-weaker c.into_report.result _ _ (λ report ended.
+    let records = report.recorded.records in
+    let ends = have_ended g c report ended.handed in
+    let here = Contains-push c.in_ok-dones.field-0.items done in
+    let seen = All-contains (λ (one : Handed). IsBeginning one.sight.seen records) all done ended.handed.saw here in
+    let own = All-contains (HandsInAll records) all done ended.handed.own here in
+    let legal = subst (λ (its : Settings). IsLegal its records) ended.opened.settings ended.opened.legal in
+    let quiet = others_send_nothing settings records c.args.plans.items (all_carried _ _ _ _ ends) planned
+    (callers_told _ _ _ _ ends) in
+    let whole = taken_whole settings records done.receipts (length c.args.plans.items) before after legal
+    (taken_further settings done.sight.seen records done.receipts before after seen (transported g c).taken)
+    (own ∙ ap (λ (caller : ℕ). records_of caller records) ends.last) quiet in
+    record {
+      failings = omega (arith, failings_told _ _ _ _ ends none, failed);
+      taken = record {
+        bytes = whole.0
+            ∙ ap (λ (its : Settings). before.bytes ++ sent_bytes its records) (sym ended.opened.settings);
+        units = whole.1
+            ∙ ap (λ (its : Settings). before.units + sent_units its records) (sym ended.opened.settings);
+      };
+    }) c.into_report.ensures.ended

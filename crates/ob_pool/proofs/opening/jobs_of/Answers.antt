@@ -1,0 +1,22 @@
+use Rattle.std.proofs.Common.{◌≡◌, ◌∷◌, length, ap, arith, rules}
+use Rattle.ob_shared.specs.Share.{ShareValue}
+use Rattle.ob_pool.proofs.Jobs.Shares.{asked_more, next_share, roomy_more, rooms_more}
+use Rattle.ob_pool.proofs.opening.jobs_of.Goals as goal
+
+pub loop-plan-preserved : goal.loop-plan-preserved
+loop-plan-preserved g c =
+    let kept = c.loop-plan.invariant in
+    let rest = c.next.new.self.rest.items in
+    let begin : c.loop-plan.plan-iterator.rest.items ≡ c.in-Some.plan ∷ rest = search rules in
+    let split : c.loop-plan.shares.rest.items
+    ≡ c.in-Some-next.share ∷ c.next-in-loop-plan.new.self.rest.items = search rules in
+    let count = c.push_reserved.ensures.len in
+    let pushed = c.push_reserved.ensures.items in
+    let mine = next_share _ _ _ _ _ _ _ rest kept.shares begin split count in
+    record {
+      asked = asked_more _ _ _ _ _ _ rest _ kept.asked begin (ap (λ (share : ShareValue). share.maker) mine.0) count pushed;
+      shares = mine.1;
+      roomy = roomy_more c.args.estimate c.args.task _ _ _ kept.roomy c.room_of-room.ensures pushed;
+      room = rooms_more c.args.estimate c.args.task _ _ _ _ rest _ kept.room begin c.room_of-room.ensures pushed;
+      places = omega (arith, kept.places, count, ap length begin, c.push_reserved.ensures.capacity);
+    }

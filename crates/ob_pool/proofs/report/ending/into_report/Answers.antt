@@ -1,0 +1,20 @@
+use Rattle.std.proofs.Common.{◌++◌, [], ◌∷◌, sym, subst, rules}
+use Rattle.ob_history.specs.History.{History}
+use Rattle.ob_pool.specs.Report.HandedIn.{HaveHandedIn}
+use Rattle.ob_pool.proofs.report.ending.into_report.Goals as goal
+
+-- `rest` is written out for the must-fail edits that fail there: `search` finds it unasked (CONTRIBUTING.md).
+pub returns-clause-ended : goal.returns-clause-ended
+returns-clause-ended g c = record {
+  opened = search rules;
+  handed =
+      subst (λ (history : History). HaveHandedIn history.records (c.args.dones.items ++ c.args.done ∷ []))
+      (sym c.report_of.ensures.recorded)
+      (record {
+        own = c.in_ok-recorded.ensures.own;
+        counted = c.in_ok-recorded.ensures.counted;
+        saw = c.in_ok-recorded.ensures.saw;
+      });
+  counts = c.report_of.ensures.counted;
+  rest = record { total = search rules; clear = search rules; mark = search rules };
+}

@@ -1,0 +1,16 @@
+use Rattle.std.proofs.Common.{◌≡◌, ◌+◌, ◌≤◌, ◌++◌, length}
+use Rattle.std.specs.Prelude.{vec_capacity, vec_len}
+use Rattle.ob_pool.specs.Threads.Job.{IsBack, commands_in}
+use Rattle.ob_pool.specs.Planning.HandOff.{room_of}
+use Rattle.ob_pool.proofs.threads.job.Job.run.Given as goal
+
+abbrev pub invariant-steps : goal.invariant-steps
+invariant-steps g l = record {
+  lane : IsBack l.fn.lane l.lane;
+  roomy : room_of l.context.estimate l.context.task l.command-iterator.rest.items ≤ l.fn.self.room;
+  caller : l.share.maker.caller ≡ l.fn.self.maker.caller;
+  made : l.share.maker.made ≡ l.fn.self.maker.made + vec_len l.receipts;
+  commands : commands_in l.receipts.items ++ l.command-iterator.rest.items ≡ l.fn.self.plan;
+  places : vec_len l.receipts + length l.command-iterator.rest.items ≤ vec_capacity l.receipts;
+  step : l.step ≡ vec_len l.receipts;
+}

@@ -1,0 +1,4 @@
+-- What the threads of a drive begin with, keep and come to. No public clause cites these modules.
+pub mod Job
+pub mod Sending
+pub mod ReceiptLog

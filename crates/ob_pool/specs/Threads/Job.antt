@@ -1,0 +1,92 @@
+-- What one writer is to do, and what it has done. No public clause cites this module.
+use Rattle.std.specs.Prelude.{◌≡◌, ◌+◌, ◌<◌, ◌≤◌, ℕ, suc, List, [], ◌∷◌, length, map, sum_by, Result, IfErr, IfOk, Vec}
+use Rattle.std.specs.List.{All}
+use Rattle.ob_types.specs.declared.command.Command.{Command}
+use Rattle.ob_types.specs.declared.estimate.Estimate.{Estimate}
+use Rattle.ob_history.specs.declared.receipt.Receipt.{Receipt}
+use Rattle.ob_lanes.specs.RunningLane.{RunningLane, WordsValue}
+use Rattle.ob_shared.specs.Handed.{Handed}
+use Rattle.ob_shared.specs.Maker.{Maker, one_more}
+use Rattle.ob_shared.specs.Share.{ShareValue}
+use Rattle.ob_pool.specs.DriveFault.{ComesOfWork}
+use Rattle.ob_pool.specs.Planning.HandOff.{room_of}
+use Rattle.ob_pool.specs.declared.fault.DriveFault.{DriveFault}
+
+-- what a writer begins with: its share, its plan, and the room of its lane
+pub record Job : Type 0 where
+  pub maker : Maker
+  pub plan : List Command
+  pub room : ℕ
+
+-- a caller, how many records it has made, and commands
+pub record Work : Type 0 where
+  pub caller : ℕ
+  pub made : ℕ
+  pub commands : List Command
+
+-- what a writer is to do
+abbrev pub asked : Job → Work
+asked job = record {
+  caller = job.maker.caller;
+  made = job.maker.made + length job.plan;
+  commands = job.plan;
+}
+
+-- the commands of receipts
+abbrev pub commands_in : List Receipt → List Command
+commands_in receipts = map (λ receipt. receipt.command) receipts
+
+-- what a caller hands in that it has done
+abbrev pub done_by : Handed → Work
+done_by one = record { caller = one.maker.caller; made = one.maker.made; commands = commands_in one.receipts }
+
+-- plans carried out by callers that are numbered from this number on
+abbrev pub work_from : ℕ → List (List Command) → List Work
+work_from caller [] = []
+work_from caller (plan ∷ plans) =
+    record { caller = caller; made = length plan; commands = plan } ∷ work_from (suc caller) plans
+
+-- the room that jobs need together
+abbrev pub room_for : List Job → ℕ
+room_for jobs = sum_by (λ job. job.room) jobs
+
+-- the room of a job is at least that of its plan
+abbrev pub IsRoomy : Estimate → ℕ → Job → Type 0
+IsRoomy estimate task job = room_of estimate task job.plan ≤ job.room
+
+-- a job is that of one of so many writers, who are numbered from 0 on
+abbrev pub IsNumbered : ℕ → Job → Type 0
+IsNumbered writers job = job.maker.caller < writers
+
+-- those who hand in have done what was asked of these jobs, in order
+abbrev pub AreDone : List Job → List Handed → Type 0
+AreDone jobs handed = map done_by handed ≡ map asked jobs
+
+-- a lane comes back with its words and with all its room
+pub record IsBack (lane back : RunningLane) : Type 0 where
+  pub words : back.words ≡ lane.words
+  pub room : back.lane.room ≡ lane.lane.room
+
+-- one call with a share answers with a share of which one record more was made, and with a receipt of its command
+pub record IsOneCall (share : ShareValue) (asked : Command) (answer : ShareValue × Receipt) : Type 0 where
+  pub made : answer.0.maker ≡ one_more share.maker
+  pub command : answer.1.command ≡ asked
+
+-- jobs of so many writers may begin: their lane steps on these words and has room for all of them together, and
+-- each has room for its plan
+pub record MayBegin (used : WordsValue) (estimate : Estimate) (task writers : ℕ) (lane : RunningLane)
+    (jobs : List Job)
+    : Type 0 where
+  pub words : lane.words ≡ used
+  pub roomy : All (IsRoomy estimate task) jobs
+  pub numbered : All (IsNumbered writers) jobs
+  pub room : room_for jobs ≤ lane.lane.room
+  pub whole : lane.lane.room ≤ lane.words.opening.room
+
+-- jobs of so many writers have been worked on: their lane is back, and they are done, or a fault of the work ended
+-- them
+pub record JobsHaveEnded {Z : Type 0} (writers : ℕ) (jobs : List Job) (lane back : RunningLane)
+    (handed : Result (Vec Handed Z) DriveFault) : Type 0 where
+  pub lane_back : IsBack lane back
+  pub done : IfOk handed (λ dones. AreDone jobs dones.items)
+  pub fault : IfErr handed (ComesOfWork writers)

@@ -1,0 +1,67 @@
+//! The end of a drive, whose threads have all ended.
+
+ghost use Rattle.std.specs.List.{All};
+ghost use Rattle.std.specs.Prelude.{◌≡◌, ◌≤◌, ◌++◌, [], ◌∷◌, length, IfErr, IfOk};
+ghost use Rattle.ob_history.specs.Beginning.{IsBeginning};
+ghost use Rattle.ob_shared.specs.Finished.{HandsInAll};
+ghost use Rattle.ob_shared.specs.Handed.{made_by};
+ghost use Rattle.ob_shared.specs.Opened.{IsAsOpened};
+ghost use Rattle.ob_pool.specs.DriveFault.{ComesOfWork};
+ghost use Rattle.ob_pool.specs.Report.HandedIn.{TellsEnd};
+
+use crate::fault::DriveFault;
+use crate::report::Report;
+use crate::report::counting::report_of;
+use crate::threads::Context;
+use ob_history::Recorded;
+use ob_lanes::Lane;
+use ob_shared::{Done, Named, SharedBuffer};
+
+/// The report of a drive whose threads have ended, with what its writers and its transport hand in.
+pub fn into_report<L: Named>(
+    context: Context<L>,
+    lane: Lane,
+    dones: Vec<Done<L>>,
+    done: Done<L>,
+) -> Result<Report, DriveFault>
+    requires words { lane.words ≡ context.words }
+    requires whole { context.words.opening.room ≤ lane.lane.room }
+    requires no_bit { context.words.opening.bits ≡ 0 }
+    ensures fault { IfErr result (ComesOfWork 0) }
+    ensures ended { IfOk result
+        (TellsEnd L.opened context.words.opening.marks context.writers (dones.items ++ done ∷ [])) }
+{
+    let Context {
+        shared,
+        words,
+        writers,
+        ..
+    } = context;
+    let recorded = finished(shared, dones, done)?;
+    let Ok(hand) = lane.finish(words) else {
+        unreachable!()
+    };
+    Ok(report_of(recorded, writers, hand))
+}
+
+/// The history of a shared buffer at its end, with what its writers and its transport hand in.
+fn finished<L: Named>(
+    shared: SharedBuffer<L>,
+    mut dones: Vec<Done<L>>,
+    done: Done<L>,
+) -> Result<Recorded, DriveFault>
+    ensures fault { IfErr result (ComesOfWork 0) }
+    ensures opened { IfOk result (λ recorded. IsAsOpened L.opened recorded) }
+    ensures own { IfOk result (λ recorded. All (HandsInAll recorded.records) (dones.items ++ done ∷ [])) }
+    ensures counted { IfOk result (λ recorded. length recorded.records ≡ made_by (dones.items ++ done ∷ [])) }
+    ensures saw { IfOk result (λ recorded.
+        All (λ one. IsBeginning one.sight.seen recorded.records) (dones.items ++ done ∷ [])) }
+{
+    if dones.push(done).is_err() {
+        return Err(DriveFault::NoMemory);
+    }
+    match shared.finish(dones) {
+        Ok(end) => Ok(end.recorded),
+        Err(unfinished) => Err(DriveFault::Finish(unfinished.fault)),
+    }
+}

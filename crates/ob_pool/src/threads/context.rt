@@ -1,0 +1,20 @@
+use ob_lanes::Words;
+use ob_shared::{Named, SharedBuffer};
+use ob_types::Estimate;
+use std::alloc::Global;
+use std::sync::atomic::AtomicBool;
+
+/// What all writers of a drive use together, and its transport.
+#[derive(Drop)]
+pub struct Context<L: Named> {
+    pub alloc: Global,
+    pub shared: SharedBuffer<L>,
+    pub words: Words,
+    pub estimate: Estimate,
+    /// The bytes that a hand-off adds to the estimate of a message.
+    pub task: u32,
+    /// How many writers there are.
+    pub writers: u32,
+    /// Whether all writers have ended.
+    pub ended: AtomicBool,
+}
