@@ -1,11 +1,11 @@
 -- How a run ends.
 use Rattle.std.specs.Prelude.{ℕ, Option, None, Some, Result, Ok, Err}
-use Rattle.ob_tool.specs.declared.line_fault.LineFault.{LineFault}
-use Rattle.ob_tool.specs.declared.run_fault.RunFault.{RunFault}
-use Rattle.ob_tool.specs.declared.run_fault.RunFault.TheVariants.{Line, Read, TooLong, Write, NoMemory, Drive}
+use Rattle.ob_tool.specs.declared.reading.fault.LineFault.{LineFault}
+use Rattle.ob_tool.specs.declared.script_fault.ScriptFault.{ScriptFault}
+use Rattle.ob_tool.specs.declared.script_fault.ScriptFault.TheVariants.{Line, Read, TooLong, Write, NoMemory, Drive}
 
 -- the fault of a line that a run tells, with the line's number
-abbrev pub fault_told : {T : Type 0} → Result T RunFault → Option (ℕ × LineFault)
+abbrev pub fault_told : {T : Type 0} → Result T ScriptFault → Option (ℕ × LineFault)
 fault_told (Ok done) = None
 fault_told (Err (Line number fault)) = Some (number, fault)
 fault_told (Err Read) = None
@@ -15,7 +15,7 @@ fault_told (Err NoMemory) = None
 fault_told (Err (Drive fault)) = None
 
 -- a run went through the script to its end, or to its first faulty line
-abbrev pub WentThrough : {T : Type 0} → Result T RunFault → Type 0
+abbrev pub WentThrough : {T : Type 0} → Result T ScriptFault → Type 0
 WentThrough (Ok done) = Unit {0}
 WentThrough (Err (Line number fault)) = Unit {0}
 WentThrough (Err Read) = ⊥
@@ -25,7 +25,7 @@ WentThrough (Err NoMemory) = ⊥
 WentThrough (Err (Drive fault)) = ⊥
 
 -- a fault of reading a script
-abbrev pub IsReadingFault : RunFault → Type 0
+abbrev pub IsReadingFault : ScriptFault → Type 0
 IsReadingFault (Line number fault) = ⊥
 IsReadingFault Read = Unit {0}
 IsReadingFault TooLong = Unit {0}
@@ -34,7 +34,7 @@ IsReadingFault NoMemory = Unit {0}
 IsReadingFault (Drive fault) = ⊥
 
 -- a fault of driving what was read
-abbrev pub IsFaultOfDrive : RunFault → Type 0
+abbrev pub IsFaultOfDrive : ScriptFault → Type 0
 IsFaultOfDrive (Line number fault) = ⊥
 IsFaultOfDrive Read = ⊥
 IsFaultOfDrive TooLong = ⊥
@@ -43,7 +43,7 @@ IsFaultOfDrive NoMemory = Unit {0}
 IsFaultOfDrive (Drive fault) = Unit {0}
 
 -- a fault of writing a text
-abbrev pub IsWritingFault : RunFault → Type 0
+abbrev pub IsWritingFault : ScriptFault → Type 0
 IsWritingFault (Line number fault) = ⊥
 IsWritingFault Read = ⊥
 IsWritingFault TooLong = ⊥
@@ -52,7 +52,7 @@ IsWritingFault NoMemory = Unit {0}
 IsWritingFault (Drive fault) = ⊥
 
 -- the status with which the program ends after a fault of a run
-abbrev pub status_of : RunFault → ℕ
+abbrev pub status_of : ScriptFault → ℕ
 status_of (Line number fault) = 2
 status_of Read = 3
 status_of TooLong = 3

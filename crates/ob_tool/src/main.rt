@@ -2,46 +2,17 @@
 //! writers of a script, and writes the report.
 #![tactic(auto)]
 
-mod block;
-mod command_line;
-mod core_line;
-mod core_run;
-mod core_session;
-mod core_text;
-mod core_word;
-mod drive_line;
-mod drive_run;
-mod drive_session;
-mod drive_text;
-mod drive_word;
-mod entry;
-mod entry_fault;
-mod first_word;
-mod help;
-mod interpreter;
-mod line;
-mod line_fault;
-mod line_word;
-mod line_words;
-mod numbers;
-mod options;
-mod pipeline;
-mod plans;
-mod range;
-mod request;
+mod cli;
+mod drive;
+mod reading;
 mod run;
-mod run_fault;
-mod script;
-mod script_line;
-mod session;
-mod subcommands;
+mod script_fault;
 #[cfg(test)]
 mod tests;
-mod text;
-mod trace;
-mod writer_line;
+mod tracing;
+mod turns;
 
-use entry::{entry, refused_words};
+use cli::entry::{entry, refused_words};
 use std::process::ExitCode;
 use std::{env, io};
 

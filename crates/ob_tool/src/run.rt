@@ -1,11 +1,19 @@
-ghost use Rattle.ob_tool.specs.Interprets.{Interprets};
-ghost use Rattle.ob_tool.specs.Options.{first_history};
-ghost use Rattle.ob_tool.specs.RunScript.{run_language};
+//! The subcommand `run`: commands to one buffer, whose calls are recorded.
 
-use crate::options::Options;
-use crate::pipeline::interpret;
-use crate::run_fault::RunFault;
-use crate::session::Session;
+ghost use Rattle.ob_tool.specs.Tracing.Interprets.{Interprets};
+ghost use Rattle.ob_tool.specs.Cli.Options.{first_history};
+ghost use Rattle.ob_tool.specs.Run.Script.{run_language};
+
+pub mod block;
+pub mod line;
+pub mod session;
+pub mod text;
+pub mod words;
+
+use crate::cli::options::Options;
+use crate::run::session::RunSession;
+use crate::script_fault::ScriptFault;
+use crate::tracing::interpret::interpret;
 use std::alloc::Global;
 use std::io::{Read, Write};
 
@@ -21,9 +29,9 @@ pub fn run<R: Read, W: Write>(
     reader: &mut R,
     writer: &mut W,
     options: Options,
-) -> Result<(), RunFault>
+) -> Result<(), ScriptFault>
     ensures { Interprets (run_language (first_history options)) (R.remaining reader.old) (R.remaining reader.new)
         (W.contents writer.old) (W.contents writer.new) result }
 {
-    interpret(alloc, reader, writer, Session::new(alloc, options))
+    interpret(alloc, reader, writer, RunSession::new(alloc, options))
 }

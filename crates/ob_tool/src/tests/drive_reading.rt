@@ -1,7 +1,7 @@
 //! What is read of a drive script: the plans of its writers, and the steps of its sink.
 
-use crate::drive_run::read_lines;
-use crate::plans::plans;
+use crate::drive::plans::make_plans;
+use crate::drive::read_lines;
 use ob_types::{Command, Message};
 use std::test::Fail;
 
@@ -24,7 +24,7 @@ static READ: [(&str, &str); 2] = [
 fn reads_each_line(rt: HostRuntime) -> Result<(), Fail> {
     for (script, kept) in READ {
         let session = read_lines(rt.alloc(), script.as_bytes())?;
-        let plans = plans(rt.alloc(), &session.writers)?;
+        let plans = make_plans(rt.alloc(), &session.writers)?;
         let (steps, after, turns) = (&session.steps, session.after, session.turns);
         let shown = format!(in rt.alloc(); "{steps:?} {after:?} {turns:?} {plans:?}")?;
         assert_eq!(rt; shown.as_str(), kept);
@@ -36,7 +36,7 @@ fn reads_each_line(rt: HostRuntime) -> Result<(), Fail> {
 #[test]
 fn blocks_of_a_line_share_their_memory(rt: HostRuntime) -> Result<(), Fail> {
     let session = read_lines(rt.alloc(), b"b 0 4 3\nb 1 4 1\nb 1 4 1")?;
-    let plans = plans(rt.alloc(), &session.writers)?;
+    let plans = make_plans(rt.alloc(), &session.writers)?;
     let mut alone = Vec::new(rt.alloc());
     for plan in &plans {
         for command in &plan.commands {

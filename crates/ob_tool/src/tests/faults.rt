@@ -1,8 +1,8 @@
 //! A reader and a writer that fail, a script that is too long, and want of memory.
 
-use crate::entry::entry;
-use crate::run_fault::RunFault;
-use crate::script::read_script;
+use crate::cli::entry::entry;
+use crate::reading::script::read_script;
+use crate::script_fault::ScriptFault;
 use crate::tests::doubles::Failing;
 use crate::tests::play::{Host, ended, leaves};
 use std::io::ErrorKind;
@@ -86,9 +86,9 @@ fn counts_the_bytes_of_a_script(rt: HostRuntime) -> Result<(), Fail> {
 #[test]
 fn counts_the_reads_of_a_script(rt: HostRuntime) {
     for (interrupted, reads, wanted) in [
-        (MANY, 33, Err(RunFault::Read)),
+        (MANY, 33, Err(ScriptFault::Read)),
         (MANY, 34, Ok(33)),
-        (7, 34, Err(RunFault::Read)),
+        (7, 34, Err(ScriptFault::Read)),
         (7, 35, Ok(33)),
     ] {
         let mut reader = Failing::new(SCRIPT.as_bytes(), interrupted);

@@ -1,6 +1,6 @@
 //! Runs the program, and compares all that it leaves.
 
-use crate::entry::entry;
+use crate::cli::entry::entry;
 use std::io::{Read, Write};
 use std::process::Abort;
 use std::sync::Wait;

@@ -1,6 +1,6 @@
 //! What the program tells of its command line, in place of reading a script, and the texts of faults.
 
-use crate::entry_fault::EntryFault;
+use crate::cli::fault::EntryFault;
 use crate::tests::play::{Host, left};
 use ob_core::{AskFault, WorldFault};
 use std::test::Fail;

@@ -1,0 +1,7 @@
+-- What the proofs of functions share, in the folders of what they speak of.
+pub mod Cli
+pub mod Drive
+pub mod Reading
+pub mod Run
+pub mod Tracing
+pub mod Turns

@@ -1,0 +1,3 @@
+-- Drive scripts.
+mod Rows
+pub mod Script

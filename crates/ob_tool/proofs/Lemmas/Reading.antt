@@ -1,0 +1,5 @@
+-- The lines of a script, and their numbers.
+pub mod Line
+pub mod Lines
+pub mod Numbers
+pub mod Ranges

@@ -1,0 +1,3 @@
+-- Scripts of `run`.
+mod Rows
+pub mod Session

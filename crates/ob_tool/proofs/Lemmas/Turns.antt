@@ -1,0 +1,3 @@
+-- Core scripts.
+mod Rows
+pub mod Script

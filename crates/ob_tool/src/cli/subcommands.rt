@@ -1,0 +1,159 @@
+//! The subcommands of the program and their options, as `clap` is told of them.
+
+use crate::cli::help;
+use clap::{Arg, ArgAction, Command, value_parser};
+use std::alloc::{AllocError, Global};
+
+/// What `--version` tells.
+const VERSION: &str = "0.1.0";
+
+/// The greatest mark, in bytes.
+const MAX_MARK: i64 = 2147483647;
+
+/// The most records of a history, which is also its limit where none is given.
+pub const MAX_RECORDS: u32 = 1048576;
+
+/// A subcommand. Its help ends with `help`.
+struct Subcommand {
+    name: &'static str,
+    about: &'static str,
+    help: &'static str,
+    options: &'static [NumberOption],
+}
+
+/// An option that is given a number.
+struct NumberOption {
+    name: &'static str,
+    numbers: Numbers,
+    help: &'static str,
+}
+
+/// The numbers that an option takes.
+enum Numbers {
+    /// A mark, in bytes.
+    Mark,
+    /// A size, in bytes, up to 65535.
+    Size,
+    /// How many records, 1 to 1048576.
+    Records,
+}
+
+static SUBCOMMANDS: [Subcommand; 3] = [
+    Subcommand {
+        name: "run",
+        about: "Reads a script from standard input, and writes one line for each of its lines to standard output",
+        help: help::RUN,
+        options: &[LOW, HIGH, OVERHEAD, UNKNOWN, LIMIT],
+    },
+    Subcommand {
+        name: "core",
+        about: "Reads a script of lanes and turns from standard input, and writes one line for each to standard output",
+        help: help::CORE,
+        options: &[LOW, HIGH],
+    },
+    Subcommand {
+        name: "drive",
+        about: "Reads a script of writers from standard input, runs them in threads, and counts what came of it",
+        help: help::DRIVE,
+        options: &[LOW, HIGH, OVERHEAD, UNKNOWN, LIMIT, TASK],
+    },
+];
+
+const LOW: NumberOption = NumberOption {
+    name: "low",
+    numbers: Numbers::Mark,
+    help: "Writers may go on once fewer bytes than this are pending (32768 where it is not given)",
+};
+
+const HIGH: NumberOption = NumberOption {
+    name: "high",
+    numbers: Numbers::Mark,
+    help: "Writers should stop once more bytes than this are pending (65536 where it is not given)",
+};
+
+const OVERHEAD: NumberOption = NumberOption {
+    name: "overhead",
+    numbers: Numbers::Size,
+    help: "Bytes that each message counts beside its own (96 where it is not given)",
+};
+
+const UNKNOWN: NumberOption = NumberOption {
+    name: "unknown",
+    numbers: Numbers::Size,
+    help: "Bytes that a message of unknown size counts (8 where it is not given)",
+};
+
+const LIMIT: NumberOption = NumberOption {
+    name: "limit",
+    numbers: Numbers::Records,
+    help: "Commands that are recorded, 1 to 1048576; further ones are refused (1048576 where it is not given)",
+};
+
+const TASK: NumberOption = NumberOption {
+    name: "task",
+    numbers: Numbers::Size,
+    help: "Bytes that a message counts beside its own while it is handed over (32 where it is not given)",
+};
+
+/// What the program takes.
+pub fn command<'a>(alloc: Global) -> Result<Command<'a>, AllocError> {
+    let subcommands = subcommands(alloc)?;
+    Command::new(alloc, "ob_tool")
+        .version(VERSION)
+        .about(
+            "Carries out scripts of commands on the outbound buffer of a channel, and shows what each command does",
+        )
+        .subcommand_required(true)
+        .subcommands(subcommands)
+}
+
+/// The subcommands of the program.
+fn subcommands<'a>(alloc: Global) -> Result<Vec<Command<'a>>, AllocError> {
+    let mut subcommands = Vec::new(alloc);
+    for one in &SUBCOMMANDS {
+        subcommands.push(one.command(alloc)?)?;
+    }
+    Ok(subcommands)
+}
+
+impl Subcommand {
+    /// The subcommand for `clap`.
+    fn command<'a>(&self, alloc: Global) -> Result<Command<'a>, AllocError> {
+        let mut options = Vec::new(alloc);
+        for one in self.options {
+            options.push(one.arg(alloc))?;
+        }
+        Command::new(alloc, self.name)
+            .about(self.about)
+            .after_help(self.help)
+            .args(options)
+    }
+}
+
+impl NumberOption {
+    /// The option for `clap`.
+    fn arg<'a>(&self, alloc: Global) -> Arg<'a> {
+        let arg = Arg::new(alloc, self.name)
+            .long(self.name)
+            .value_name(self.numbers.unit())
+            .action(ArgAction::Set)
+            .help(self.help);
+        match self.numbers {
+            Numbers::Mark => arg.value_parser(value_parser!(u32).range(0..=MAX_MARK)),
+            Numbers::Size => arg.value_parser(value_parser!(u16)),
+            Numbers::Records => arg.value_parser(value_parser!(u32).range(
+                1..=i64::from(MAX_RECORDS),
+            )),
+        }
+    }
+}
+
+impl Numbers {
+    /// What `--help` calls these numbers.
+    fn unit(&self) -> &'static str {
+        match self {
+            Numbers::Mark | Numbers::Size => "BYTES",
+            Numbers::Records => "RECORDS",
+        }
+    }
+}

@@ -1,0 +1,54 @@
+ghost use Rattle.std.specs.Prelude.{◌≡◌, ◌==◌, ◌<◌, ◌≤◌, length, count_by, slice_index};
+ghost use Rattle.ob_tool.specs.Reading.Lines.{words_after};
+ghost use Rattle.ob_tool.specs.Reading.Numbers.{all_numbers_in, numbers_in, HoldsNumbers};
+
+use crate::reading::fault::LineFault;
+use crate::reading::lines::first_word;
+use crate::reading::range::Range;
+
+/// The most numbers that a line has.
+const MAX_NUMBERS: usize = 3;
+
+/// The numbers of the words that follow a first word, one for each range and then zeros, or the first fault: too few
+/// words, too many, or a faulty one.
+pub fn read_all_numbers(ranges: &[Range], after: &[u8]) -> Result<[u64; MAX_NUMBERS], LineFault>
+    requires few { length ranges.now ≤ 3 }
+    requires space { 0 < length after.now → slice_index after.now 0 ≡ 32 }
+    ensures { HoldsNumbers result (all_numbers_in ranges.now (words_after after.now)) }
+{
+    let count = count_spaces(after);
+    if count < ranges.len() {
+        return Err(LineFault::TooFewWords);
+    }
+    if ranges.len() < count {
+        return Err(LineFault::TooManyWords);
+    }
+    read_numbers(ranges, after)
+}
+
+/// How many spaces there are.
+fn count_spaces(bytes: &[u8]) -> usize
+    ensures { result ≡ count_by (λ byte. byte == 32) bytes.now }
+{
+    bytes.iter().filter(|byte| **byte == b' ').count()
+}
+
+/// The numbers of the words, one for each range and then zeros, or the fault of the first faulty word.
+fn read_numbers(ranges: &[Range], after: &[u8]) -> Result<[u64; MAX_NUMBERS], LineFault>
+    requires few { length ranges.now ≤ 3 }
+    requires space { 0 < length after.now → slice_index after.now 0 ≡ 32 }
+    requires each { length (words_after after.now) ≡ length ranges.now }
+    ensures { HoldsNumbers result (numbers_in ranges.now (words_after after.now)) }
+{
+    let mut numbers = [0; MAX_NUMBERS];
+    let mut rest = after;
+    for (place, range) in ranges.iter().enumerate() {
+        let (word, others) = first_word(&rest[1..]);
+        match range.read(word) {
+            Ok(number) => numbers[place] = number,
+            Err(fault) => return Err(fault),
+        }
+        rest = others;
+    }
+    Ok(numbers)
+}
