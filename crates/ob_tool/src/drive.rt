@@ -103,7 +103,7 @@ fn drive_session<H: AllocGlobal + Threads + Wait + Clock + Sync>(
         → ComesTo options (plans_in session.writers.items) fault }
 {
     let plans = make_plans(rt.alloc(), &session.writers)?;
-    let config = config(options, session.most_turns());
+    let config = config(options, session.most_passes());
     let mut sink = session.into_sink();
     match drive(rt, rt.alloc(), &OpenGate, plans, &mut sink, config) {
         Ok(report) => Ok(report),

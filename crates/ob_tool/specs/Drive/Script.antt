@@ -12,8 +12,8 @@ use Rattle.ob_tool.specs.Tracing.Language.{Language}
 use Rattle.ob_tool.specs.Reading.Line.{line_reading}
 use Rattle.ob_tool.specs.declared.drive.line.DriveLine.{DriveLine}
 use Rattle.ob_tool.specs.declared.drive.line.DriveLine.TheVariants as line
-use Rattle.ob_tool.specs.declared.drive.line.Asked.{Asked}
-use Rattle.ob_tool.specs.declared.drive.line.Asked.TheVariants as asked
+use Rattle.ob_tool.specs.declared.drive.line.WriterAction.{WriterAction}
+use Rattle.ob_tool.specs.declared.drive.line.WriterAction.TheVariants as action
 use Rattle.ob_tool.specs.declared.drive.line.WriterLine.{WriterLine}
 
 -- the write of a writer's block: so many bytes, each of them the number of the writer
@@ -21,13 +21,13 @@ abbrev pub writer_block : ℕ → ℕ → Command
 writer_block writer size = command.Write (message.Block (replicate size writer))
 
 -- the commands that a writer is asked for
-abbrev pub commands_asked : ℕ → Asked → List Command
-commands_asked writer (asked.Blocks size count) = replicate count (writer_block writer size)
-commands_asked writer (asked.Command given) = given ∷ []
+abbrev pub commands_of_action : ℕ → WriterAction → List Command
+commands_of_action writer (action.Blocks size count) = replicate count (writer_block writer size)
+commands_of_action writer (action.Command given) = given ∷ []
 
 -- the commands that a line has for this writer: none where it is a line of another
 abbrev pub commands_for : ℕ → WriterLine → List Command
-commands_for writer own = if own.writer == writer then commands_asked writer own.asked else []
+commands_for writer own = if own.writer == writer then commands_of_action writer own.action else []
 
 -- what a line is to a writer, if it is a line of one
 abbrev pub writer_line_of : DriveLine → Option WriterLine
@@ -74,11 +74,11 @@ after_of (line.Sink step) = None
 after_of (line.Then most) = Some most
 after_of (line.Turns count) = None
 
-abbrev pub turns_of : DriveLine → Option ℕ
-turns_of (line.Writer own) = None
-turns_of (line.Sink step) = None
-turns_of (line.Then most) = None
-turns_of (line.Turns count) = Some count
+abbrev pub passes_of : DriveLine → Option ℕ
+passes_of (line.Writer own) = None
+passes_of (line.Sink step) = None
+passes_of (line.Then most) = None
+passes_of (line.Turns count) = Some count
 
 -- the first number that lines tell, if any does
 abbrev pub first_told : (DriveLine → Option ℕ) → List DriveLine → Option ℕ
@@ -89,15 +89,15 @@ abbrev pub most_after : List DriveLine → ℕ
 most_after lines = unwrap_or (first_told after_of lines) 18446744073709551615
 
 -- how many passes the transport makes at most: a million where no line tells it
-abbrev pub most_turns : List DriveLine → ℕ
-most_turns lines = unwrap_or (first_told turns_of lines) 1000000
+abbrev pub most_passes : List DriveLine → ℕ
+most_passes lines = unwrap_or (first_told passes_of lines) 1000000
 
 -- a line is misplaced: a second one with `then`, or a second one with `turns`
 abbrev pub is_drive_misplaced : List DriveLine → DriveLine → Bool
 is_drive_misplaced before (line.Writer own) = false
 is_drive_misplaced before (line.Sink step) = false
 is_drive_misplaced before (line.Then most) = is_some (first_told after_of before)
-is_drive_misplaced before (line.Turns count) = is_some (first_told turns_of before)
+is_drive_misplaced before (line.Turns count) = is_some (first_told passes_of before)
 
 -- the language of `drive`: all lines are read before anything is done, so none has a trace
 abbrev pub drive_language : Language DriveLine

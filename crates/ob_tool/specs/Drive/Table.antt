@@ -7,14 +7,14 @@ use Rattle.ob_types.specs.declared.message.Message.TheVariants as message
 use Rattle.ob_transport.specs.declared.script.SinkStep.TheVariants as step
 use Rattle.ob_tool.specs.Reading.Numbers.{any_32, any_64, any_mark, up_to}
 use Rattle.ob_tool.specs.Run.Table.{marks_line}
-use Rattle.ob_tool.specs.Reading.Table.{Kind, Table, row, row_if}
+use Rattle.ob_tool.specs.Reading.Table.{LineKind, Table, row, row_if}
 use Rattle.ob_tool.specs.declared.reading.range.Range.{Range}
 use Rattle.ob_tool.specs.declared.drive.words.DriveWord.{DriveWord}
 use Rattle.ob_tool.specs.declared.drive.words.DriveWord.TheVariants as word
 use Rattle.ob_tool.specs.declared.drive.line.DriveLine.{DriveLine}
 use Rattle.ob_tool.specs.declared.drive.line.DriveLine.TheVariants as line
-use Rattle.ob_tool.specs.declared.drive.line.Asked.{Asked}
-use Rattle.ob_tool.specs.declared.drive.line.Asked.TheVariants as asked
+use Rattle.ob_tool.specs.declared.drive.line.WriterAction.{WriterAction}
+use Rattle.ob_tool.specs.declared.drive.line.WriterAction.TheVariants as action
 
 -- the number of a writer
 abbrev pub any_writer : Range
@@ -27,17 +27,17 @@ drive_words =
     ∷ word.Turns ∷ []
 
 -- a line of a writer, and a command of one
-abbrev writer_line : ℕ → Asked → DriveLine
-writer_line writer asks = line.Writer (record { writer = writer; asked = asks })
+abbrev writer_line : ℕ → WriterAction → DriveLine
+writer_line writer does = line.Writer (record { writer = writer; action = does })
 
 abbrev command_line : ℕ → Command → DriveLine
-command_line writer given = writer_line writer (asked.Command given)
+command_line writer given = writer_line writer (action.Command given)
 
 -- the kind of line that a word begins
-abbrev pub drive_kind : DriveWord → Kind DriveLine
+abbrev pub drive_kind : DriveWord → LineKind DriveLine
 drive_kind word.Blocks =
     row (codes "b") (any_writer ∷ up_to 1048576 ∷ record { least = 1; greatest = 1024 } ∷ [])
-    (λ number. writer_line (number 0) (asked.Blocks (number 1) (number 2)))
+    (λ number. writer_line (number 0) (action.Blocks (number 1) (number 2)))
 drive_kind word.Region =
     row (codes "r") (any_writer ∷ any_64 ∷ [])
     (λ number. command_line (number 0) (command.Write (message.Region (number 1))))

@@ -2,12 +2,12 @@
 use Rattle.std.specs.Prelude.{ℕ, List, [], ◌∷◌, length, nat_lt, if◌then◌else◌, Option, None, Some, Result, Err}
 use Rattle.ob_tool.specs.Reading.Lines.{words_of}
 use Rattle.ob_tool.specs.Reading.Numbers.{all_numbers_in, asked_by}
-use Rattle.ob_tool.specs.Reading.Table.{Kind, Table, word_named}
+use Rattle.ob_tool.specs.Reading.Table.{LineKind, Table, word_named}
 use Rattle.ob_tool.specs.declared.reading.fault.LineFault.{LineFault}
 use Rattle.ob_tool.specs.declared.reading.fault.LineFault.TheVariants.{UnknownWord, LongLine}
 
 -- what a line of a kind says, by the words that follow the first
-abbrev pub kind_reading : {L : Type 0} → Kind L → List (List ℕ) → Result L LineFault
+abbrev pub kind_reading : {L : Type 0} → LineKind L → List (List ℕ) → Result L LineFault
 kind_reading kind words = asked_by kind.asked (all_numbers_in kind.ranges words)
 
 -- what a line says whose first word is this one, by the words that follow

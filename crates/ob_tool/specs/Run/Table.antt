@@ -7,7 +7,7 @@ use Rattle.ob_types.specs.declared.command.Command.TheVariants as command
 use Rattle.ob_types.specs.declared.message.Message.TheVariants as message
 use Rattle.ob_types.specs.declared.refusal.Refusal.{Refusal}
 use Rattle.ob_tool.specs.Reading.Numbers.{any_32, any_64, any_mark, up_to}
-use Rattle.ob_tool.specs.Reading.Table.{Kind, Table, row, row_if}
+use Rattle.ob_tool.specs.Reading.Table.{LineKind, Table, row, row_if}
 use Rattle.ob_tool.specs.declared.reading.range.Range.{Range}
 use Rattle.ob_tool.specs.declared.run.words.RunWord.{RunWord}
 use Rattle.ob_tool.specs.declared.run.words.RunWord.TheVariants as word
@@ -26,7 +26,7 @@ run_words =
     ∷ word.Cancel ∷ word.FailFlushed ∷ word.Close ∷ word.UserBit ∷ word.SetMarks ∷ word.Look ∷ word.Gather ∷ []
 
 -- the kind of line that a word begins
-abbrev pub run_kind : RunWord → Kind RunLine
+abbrev pub run_kind : RunWord → LineKind RunLine
 run_kind word.Block = row (codes "b") (up_to 1048576 ∷ []) (λ number. line.Block (number 0))
 run_kind word.Region =
     row (codes "r") (any_64 ∷ []) (λ number. line.Command (command.Write (message.Region (number 0))))

@@ -3,7 +3,7 @@ use Rattle.std.specs.Prelude.{ℕ, ◌==◌, List, [], ◌∷◌, codes}
 use Rattle.ob_core.specs.declared.ask.Ask.{Ask}
 use Rattle.ob_core.specs.declared.ask.Ask.TheVariants as ask
 use Rattle.ob_tool.specs.Reading.Numbers.{any_32, up_to}
-use Rattle.ob_tool.specs.Reading.Table.{Kind, Table, row}
+use Rattle.ob_tool.specs.Reading.Table.{LineKind, Table, row}
 use Rattle.ob_tool.specs.declared.turns.words.CoreWord.{CoreWord}
 use Rattle.ob_tool.specs.declared.turns.words.CoreWord.TheVariants as word
 use Rattle.ob_tool.specs.declared.turns.line.CoreLine.{CoreLine}
@@ -18,7 +18,7 @@ abbrev turn_line : ℕ → Ask → CoreLine
 turn_line lane ask = line.Turn (record { lane = lane; ask = ask })
 
 -- the kind of line that a word begins
-abbrev pub core_kind : CoreWord → Kind CoreLine
+abbrev pub core_kind : CoreWord → LineKind CoreLine
 core_kind word.Lane =
     row (codes "lane") (any_32 ∷ any_32 ∷ []) (λ number. line.Lane (record { room = number 0; bits = number 1 }))
 core_kind word.Charge =

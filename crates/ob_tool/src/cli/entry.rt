@@ -36,7 +36,7 @@ pub fn entry<H: AllocGlobal + Threads + Wait + Clock + Sync, S: AsStr, R: Read, 
     match start(rt, words, reader, writer) {
         Ok(()) => 0,
         Err(fault) => {
-            tell(&fault, errors);
+            print_fault(&fault, errors);
             fault.status()
         }
     }
@@ -94,7 +94,7 @@ pub fn refused_words<E: Write>(error: &Error, errors: &mut E) -> u8
 {
     if error.kind() == ErrorKind::OutOfMemory {
         let fault = EntryFault::Run(ScriptFault::NoMemory);
-        tell(&fault, errors);
+        print_fault(&fault, errors);
         return fault.status();
     }
     let _ = writeln!(errors, "{error}");
@@ -102,7 +102,7 @@ pub fn refused_words<E: Write>(error: &Error, errors: &mut E) -> u8
 }
 
 /// Tells a fault in its text and one byte 10. Where that fails there is nobody left to tell.
-fn tell<E: Write>(fault: &EntryFault, errors: &mut E) {
+fn print_fault<E: Write>(fault: &EntryFault, errors: &mut E) {
     let _ = match fault {
         EntryFault::CommandLine(error) => write!(errors, "{error}"),
         EntryFault::NoSubcommand | EntryFault::BadMarks | EntryFault::Run(_) => {

@@ -24,12 +24,12 @@ struct Subcommand {
 /// An option that is given a number.
 struct NumberOption {
     name: &'static str,
-    numbers: Numbers,
+    kind: NumberKind,
     help: &'static str,
 }
 
 /// The numbers that an option takes.
-enum Numbers {
+enum NumberKind {
     /// A mark, in bytes.
     Mark,
     /// A size, in bytes, up to 65535.
@@ -61,37 +61,37 @@ static SUBCOMMANDS: [Subcommand; 3] = [
 
 const LOW: NumberOption = NumberOption {
     name: "low",
-    numbers: Numbers::Mark,
+    kind: NumberKind::Mark,
     help: "Writers may go on once fewer bytes than this are pending (32768 where it is not given)",
 };
 
 const HIGH: NumberOption = NumberOption {
     name: "high",
-    numbers: Numbers::Mark,
+    kind: NumberKind::Mark,
     help: "Writers should stop once more bytes than this are pending (65536 where it is not given)",
 };
 
 const OVERHEAD: NumberOption = NumberOption {
     name: "overhead",
-    numbers: Numbers::Size,
+    kind: NumberKind::Size,
     help: "Bytes that each message counts beside its own (96 where it is not given)",
 };
 
 const UNKNOWN: NumberOption = NumberOption {
     name: "unknown",
-    numbers: Numbers::Size,
+    kind: NumberKind::Size,
     help: "Bytes that a message of unknown size counts (8 where it is not given)",
 };
 
 const LIMIT: NumberOption = NumberOption {
     name: "limit",
-    numbers: Numbers::Records,
+    kind: NumberKind::Records,
     help: "Commands that are recorded, 1 to 1048576; further ones are refused (1048576 where it is not given)",
 };
 
 const TASK: NumberOption = NumberOption {
     name: "task",
-    numbers: Numbers::Size,
+    kind: NumberKind::Size,
     help: "Bytes that a message counts beside its own while it is handed over (32 where it is not given)",
 };
 
@@ -135,25 +135,25 @@ impl NumberOption {
     fn arg<'a>(&self, alloc: Global) -> Arg<'a> {
         let arg = Arg::new(alloc, self.name)
             .long(self.name)
-            .value_name(self.numbers.unit())
+            .value_name(self.kind.unit())
             .action(ArgAction::Set)
             .help(self.help);
-        match self.numbers {
-            Numbers::Mark => arg.value_parser(value_parser!(u32).range(0..=MAX_MARK)),
-            Numbers::Size => arg.value_parser(value_parser!(u16)),
-            Numbers::Records => arg.value_parser(value_parser!(u32).range(
+        match self.kind {
+            NumberKind::Mark => arg.value_parser(value_parser!(u32).range(0..=MAX_MARK)),
+            NumberKind::Size => arg.value_parser(value_parser!(u16)),
+            NumberKind::Records => arg.value_parser(value_parser!(u32).range(
                 1..=i64::from(MAX_RECORDS),
             )),
         }
     }
 }
 
-impl Numbers {
+impl NumberKind {
     /// What `--help` calls these numbers.
     fn unit(&self) -> &'static str {
         match self {
-            Numbers::Mark | Numbers::Size => "BYTES",
-            Numbers::Records => "RECORDS",
+            NumberKind::Mark | NumberKind::Size => "BYTES",
+            NumberKind::Records => "RECORDS",
         }
     }
 }

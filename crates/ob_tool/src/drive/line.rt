@@ -20,12 +20,12 @@ pub struct WriterLine {
     /// The number of the writer, from 0 on.
     pub writer: u8,
     /// What it is to do.
-    pub asked: Asked,
+    pub action: WriterAction,
 }
 
 /// What a writer is to do.
 #[derive(Drop)]
-pub enum Asked {
+pub enum WriterAction {
     /// To write blocks: of how many bytes each, and how many. They are made up where the plan is.
     Blocks(u64, u32),
     /// To give a command.

@@ -1,7 +1,7 @@
 ghost use Rattle.std.specs.Prelude.{◌≡◌, ◌++◌, replicate, IfOk, OnOk};
-ghost use Rattle.ob_tool.specs.Drive.Script.{commands_asked, plan_of, plans_in, writer_block, writers_in};
+ghost use Rattle.ob_tool.specs.Drive.Script.{commands_of_action, plan_of, plans_in, writer_block, writers_in};
 
-use crate::drive::line::{Asked, WriterLine};
+use crate::drive::line::{WriterAction, WriterLine};
 use bytes::Bytes;
 use ob_pool::Plan;
 use ob_types::{Command, Message};
@@ -36,22 +36,22 @@ fn plan(alloc: Global, lines: &[WriterLine], writer: u32) -> Result<Plan, AllocE
     let mut commands = Vec::new(alloc);
     for line in lines {
         if u32::from(line.writer) == writer {
-            push_asked(alloc, &mut commands, line)?;
+            push_action(alloc, &mut commands, line)?;
         }
     }
     Ok(Plan { commands })
 }
 
 /// Adds the commands that a line asks of its writer. The blocks of one line share their memory.
-fn push_asked(alloc: Global, plan: &mut Vec<Command>, line: &WriterLine) -> Result<(), AllocError>
-    ensures { OnOk result (plan.new.items ≡ plan.old.items ++ commands_asked line.now.writer line.now.asked) }
+fn push_action(alloc: Global, plan: &mut Vec<Command>, line: &WriterLine) -> Result<(), AllocError>
+    ensures { OnOk result (plan.new.items ≡ plan.old.items ++ commands_of_action line.now.writer line.now.action) }
 {
-    match &line.asked {
-        Asked::Blocks(size, count) => {
+    match &line.action {
+        WriterAction::Blocks(size, count) => {
             let write = block_write(alloc, line.writer, *size)?;
             push_copies(plan, &write, *count)
         }
-        Asked::Command(command) => push_copies(plan, command, 1),
+        WriterAction::Command(command) => push_copies(plan, command, 1),
     }
 }
 

@@ -1,6 +1,6 @@
 ghost use Rattle.std.specs.Prelude.{◌≡◌, List, []};
 ghost use Rattle.ob_transport.specs.Script.{new_script};
-ghost use Rattle.ob_tool.specs.Drive.Script.{drive_language, most_after, most_turns, steps_of};
+ghost use Rattle.ob_tool.specs.Drive.Script.{drive_language, most_after, most_passes, steps_of};
 ghost use Rattle.ob_tool.specs.Drive.Session.{HasKept};
 ghost use Rattle.ob_tool.specs.declared.drive.line.DriveLine.{DriveLine};
 
@@ -16,7 +16,7 @@ use std::alloc::{AllocError, Global};
 const ALL: u64 = u64::MAX;
 
 /// How many passes the transport makes at most where no line tells it.
-const MOST_TURNS: u32 = 1000000;
+const MOST_PASSES: u32 = 1000000;
 
 /// What is kept of the lines of a drive script, while they are read.
 #[derive(Drop)]
@@ -45,10 +45,10 @@ impl DriveSession {
     }
 
     /// How many passes the transport makes at most.
-    pub fn most_turns(&self) -> u32
-        ensures { (lines : List DriveLine) → HasKept self.now lines → result ≡ most_turns lines }
+    pub fn most_passes(&self) -> u32
+        ensures { (lines : List DriveLine) → HasKept self.now lines → result ≡ most_passes lines }
     {
-        self.turns.unwrap_or(MOST_TURNS)
+        self.turns.unwrap_or(MOST_PASSES)
     }
 
     /// The sink of the script, before its first call.

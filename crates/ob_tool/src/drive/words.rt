@@ -1,7 +1,7 @@
 ghost use Rattle.std.specs.Prelude.{◌≡◌};
 ghost use Rattle.ob_tool.specs.Drive.Table.{drive_table};
 
-use crate::drive::line::{Asked, DriveLine, WriterLine};
+use crate::drive::line::{DriveLine, WriterAction, WriterLine};
 use crate::reading::first_word::FirstWord;
 use crate::reading::range::{ANY_32, ANY_64, BIT_INDEX, BLOCK_BYTES, FLAG, MARK, Range};
 use ob_transport::SinkStep;
@@ -128,16 +128,20 @@ impl FirstWord for DriveWord {
     }
 
     fn line(self, numbers: [u64; 3]) -> Option<DriveLine> {
-        let asked = match self {
-            DriveWord::Blocks => Asked::Blocks(numbers[1], numbers[2] as u32),
-            DriveWord::Region => Asked::Command(Command::Write(Message::Region(numbers[1]))),
-            DriveWord::Other => Asked::Command(Command::Write(Message::Other(numbers[1] as u32))),
-            DriveWord::Flush => Asked::Command(Command::Flush),
-            DriveWord::Cancel => Asked::Command(Command::Cancel(PromiseId(numbers[1] as u32))),
+        let action = match self {
+            DriveWord::Blocks => WriterAction::Blocks(numbers[1], numbers[2] as u32),
+            DriveWord::Region => WriterAction::Command(Command::Write(Message::Region(numbers[1]))),
+            DriveWord::Other => WriterAction::Command(Command::Write(Message::Other(
+                numbers[1] as u32,
+            ))),
+            DriveWord::Flush => WriterAction::Command(Command::Flush),
+            DriveWord::Cancel => WriterAction::Command(Command::Cancel(PromiseId(
+                numbers[1] as u32,
+            ))),
             DriveWord::UserBit => {
-                Asked::Command(Command::UserBit(numbers[1] as u32, numbers[2] == 1))
+                WriterAction::Command(Command::UserBit(numbers[1] as u32, numbers[2] == 1))
             }
-            DriveWord::SetMarks => Asked::Command(Command::SetMarks(WaterMark::new(
+            DriveWord::SetMarks => WriterAction::Command(Command::SetMarks(WaterMark::new(
                 numbers[1] as u32,
                 numbers[2] as u32,
             ).ok()?)),
@@ -148,7 +152,7 @@ impl FirstWord for DriveWord {
         };
         Some(DriveLine::Writer(WriterLine {
             writer: numbers[0] as u8,
-            asked,
+            action,
         }))
     }
 }

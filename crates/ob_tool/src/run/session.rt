@@ -59,9 +59,9 @@ impl RunSession {
         match line {
             RunLine::Block(size) => {
                 let command = self.block_write(alloc, size)?;
-                self.give(command, text)
+                self.trace_command(command, text)
             }
-            RunLine::Command(command) => self.give(command, text),
+            RunLine::Command(command) => self.trace_command(command, text),
             RunLine::Look => push_look(text, &self.look()),
             RunLine::Gather(max_count, max_bytes) => self.gather(max_count, max_bytes, text),
         }
@@ -94,7 +94,7 @@ impl RunSession {
     }
 
     /// Gives a command to the buffer, and adds its trace to the text.
-    fn give(&mut self, command: Command, text: &mut String) -> Result<(), AllocError>
+    fn trace_command(&mut self, command: Command, text: &mut String) -> Result<(), AllocError>
         ensures options { self.new.options ≡ self.old.options }
         ensures after { OnOk result (self.new.recorded ≡ history_after self.old.recorded 0 command) }
         ensures text { OnOk result (string_bytes text.new

@@ -78,7 +78,7 @@ impl CoreSession {
     }
 
     /// Gives a lane its turn.
-    fn give_turn(&mut self, turn: Turn, text: &mut String) -> Result<bool, AllocError>
+    fn play_turn(&mut self, turn: Turn, text: &mut String) -> Result<bool, AllocError>
         ensures marks { self.new.marks ≡ self.old.marks }
         ensures fits { IfOk result (λ fits. fits ≡ is_some self.old.world) }
         ensures starts { IfOk result (λ fits. fits ≡ true → self.new.starts.items ≡ self.old.starts.items) }
@@ -124,7 +124,7 @@ impl Interpreter for CoreSession {
     ) -> Result<bool, AllocError> {
         match line {
             CoreLine::Lane(start) => self.add_lane(alloc, start, text),
-            CoreLine::Turn(turn) => self.give_turn(turn, text),
+            CoreLine::Turn(turn) => self.play_turn(turn, text),
         }
     }
 

@@ -4,7 +4,7 @@ use Rattle.std.specs.Fmt.{digits, padded_integral, char_count}
 use Rattle.ob_transport.specs.declared.script.SinkStep.TheVariants.{Take, Fail}
 use Rattle.ob_types.specs.declared.command.Command.TheVariants.{Write, Flush, Cancel, UserBit, SetMarks}
 use Rattle.ob_types.specs.declared.message.Message.TheVariants.{Block, Region, Other}
-use Rattle.ob_tool.specs.Drive.Script.{drive_language, most_after, most_turns, plans_of, steps_of}
+use Rattle.ob_tool.specs.Drive.Script.{drive_language, most_after, most_passes, plans_of, steps_of}
 use Rattle.ob_tool.specs.Drive.Text.{hand_text, number_line}
 use Rattle.ob_tool.specs.Reading.Script.{script_fault, script_lines}
 use Rattle.ob_tool.specs.declared.reading.fault.LineFault.TheVariants.{Misplaced, OutOfRange}
@@ -27,7 +27,7 @@ the_steps = refl
 nothing_behind_them : most_after (script_lines drive_language script) ≡ 0
 nothing_behind_them = refl
 
-the_passes : most_turns (script_lines drive_language script) ≡ 5
+the_passes : most_passes (script_lines drive_language script) ≡ 5
 the_passes = refl
 
 -- a script of no bytes has no plan, a sink that takes all, and a million passes
@@ -37,7 +37,7 @@ no_plans = refl
 all_is_taken : most_after (script_lines drive_language []) ≡ 18446744073709551615
 all_is_taken = refl
 
-a_million_passes : most_turns (script_lines drive_language []) ≡ 1000000
+a_million_passes : most_passes (script_lines drive_language []) ≡ 1000000
 a_million_passes = refl
 
 -- a second line with `then`, and a 65th writer

@@ -3,7 +3,7 @@ use Rattle.std.proofs.Common.{◌≡◌, ◌∙◌, ◌++◌, ℕ, false, List, 
 use Rattle.std.specs.Prelude.{filter_map, is_some, slice_get}
 use Rattle.std.specs.List.{cons_option}
 use Rattle.std.proofs.lemmas.List.Elements.{filter_map-append}
-use Rattle.ob_tool.specs.Drive.Script.{after_of, first_told, step_of, turns_of, writer_line_of}
+use Rattle.ob_tool.specs.Drive.Script.{after_of, first_told, step_of, passes_of, writer_line_of}
 use Rattle.ob_tool.specs.Drive.Session.{HasKept}
 use Rattle.ob_tool.specs.declared.drive.line.DriveLine.{DriveLine}
 use Rattle.ob_tool.specs.declared.drive.session.DriveSession.{DriveSession}
@@ -36,7 +36,7 @@ first_told-more told lines line =
 pub kept-more : (old new : DriveSession) (before : List DriveLine) (line : DriveLine) → HasKept old before
     → new.writers.items ≡ old.writers.items ++ cons_option (writer_line_of line) []
     → new.steps.items ≡ old.steps.items ++ cons_option (step_of line) []
-    → new.after ≡ first_else old.after (after_of line) → new.turns ≡ first_else old.turns (turns_of line)
+    → new.after ≡ first_else old.after (after_of line) → new.turns ≡ first_else old.turns (passes_of line)
     → HasKept new (before ++ line ∷ [])
 kept-more old new before line kept writers steps after turns = (
   writers ∙ ap (λ own. own ++ cons_option (writer_line_of line) []) kept.0
@@ -44,5 +44,5 @@ kept-more old new before line kept writers steps after turns = (
   steps ∙ ap (λ some. some ++ cons_option (step_of line) []) kept.1
       ∙ sym (filter_map-append step_of before (line ∷ [])),
   after ∙ ap (λ o. first_else o (after_of line)) kept.2 ∙ first_told-more after_of before line,
-  turns ∙ ap (λ o. first_else o (turns_of line)) kept.3 ∙ first_told-more turns_of before line,
+  turns ∙ ap (λ o. first_else o (passes_of line)) kept.3 ∙ first_told-more passes_of before line,
 )

@@ -5,13 +5,13 @@ use Rattle.ob_tool.proofs.reading.lines.first_word.Goals as goal
 
 pub returns-clause-words : goal.returns-clause-words
 returns-clause-words c =
-    rw (c.split_at.ensures.front, c.split_at.ensures.back, c.place_of-end.ensures.place)
+    rw (c.split_at.ensures.front, c.split_at.ensures.back, c.index_or_len-end.ensures.place)
     (words_of-first c.args.piece.now)
 
 pub returns-clause-space : goal.returns-clause-space
 returns-clause-space c = λ h.
     let piece = c.args.piece.now in
-    let n = c.place_of-end.result in
+    let n = c.index_or_len-end.result in
     let inside : n < length piece = omega arith in
     rw (c.split_at.ensures.back, get_or-drop n piece 0 0, add-zero)
-    (space_after piece n c.place_of-end.ensures.place inside)
+    (space_after piece n c.index_or_len-end.ensures.place inside)

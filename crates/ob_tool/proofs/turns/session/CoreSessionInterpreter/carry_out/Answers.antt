@@ -10,7 +10,7 @@ returns-in-Lane-clause-done c =
 
 pub returns-in-Turn-clause-done : goal.returns-in-Turn-clause-done
 returns-in-Turn-clause-done c =
-    let done = c.give_turn.ensures in
+    let done = c.play_turn.ensures in
     rw c.in-Turn.is
-    (turn_done c.give_turn.result c.args.self.now c.give_turn.new.self c.in-Turn.turn done.marks done.starts
+    (turn_done c.play_turn.result c.args.self.now c.play_turn.new.self c.in-Turn.turn done.marks done.starts
     done.core done.turned)
