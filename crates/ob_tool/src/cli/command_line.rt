@@ -68,6 +68,7 @@ fn request_of_subcommand(name: &str, given: &ArgMatches<'_>) -> Result<Request, 
 /// The options that were given to `run` or to `drive`, with what a hand-off adds.
 fn options_of(given: &ArgMatches<'_>, task: u16) -> Result<Options, EntryFault>
     ensures err { IfErr result (λ fault. exit_status_of fault ≡ 1) }
+    ensures task { IfOk result (λ options. options.task ≡ task) }
 {
     let marks = given_marks(given)?;
     Ok(options(
