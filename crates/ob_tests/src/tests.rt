@@ -9,6 +9,7 @@ mod failing_sink;
 mod gates;
 mod held_sink;
 mod history;
+mod host;
 mod keeping;
 mod lanes;
 mod limits;

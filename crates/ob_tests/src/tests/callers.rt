@@ -1,24 +1,32 @@
 //! The callers of a shared buffer, each call from a desk of its own, and what they hand in.
 
+ghost use Rattle.ob_shared.specs.Opened.{IsNameOf};
+
 use crate::tests::commands::wanted;
 use crate::tests::story::Player;
 use crate::tests::trace::{push_answer, push_glance, push_look, push_refusal, push_settled};
 use crate::tests::words::{NoAnswer, Words};
 use ob_history::{Receipt, Recorded};
 use ob_seq::Look;
-use ob_shared::{Done, Named, Share, SharedBuffer};
+use ob_shared::{Done, Named, Opening, SharedBuffer};
 use ob_types::{Command, PromiseId, Refusal};
 use std::alloc::Global;
 use std::sync::Wait;
 use std::test::Fail;
 
-/// What the callers of these shares hand in before their first calls.
-pub fn begun<L: Named>(alloc: Global, shares: Vec<Share<L>>) -> Result<Vec<Done<L>>, NoAnswer> {
+/// The shared buffer of an opening, and what its callers hand in before their first calls.
+pub fn begin<L: Named>(
+    alloc: Global,
+    opening: Opening,
+) -> Result<(SharedBuffer<L>, Vec<Done<L>>), NoAnswer>
+    requires { IsNameOf opening L.opened L.name L.parts }
+{
+    let (buffer, shares) = opening.begin::<L>()?;
     let mut dones = Vec::new(alloc);
     for share in shares {
         dones.push(Done::new(alloc, share))?;
     }
-    Ok(dones)
+    Ok((buffer, dones))
 }
 
 /// The history of a buffer that can be finished.

@@ -3,14 +3,14 @@
 ghost use Rattle.ob_shared.specs.Opened.{IsNameOf};
 
 use crate::tests::buffers::Options;
-use crate::tests::callers::finished;
+use crate::tests::callers::{begin, finished};
+use crate::tests::host::Host;
 use crate::tests::threads::{Mix, calls};
 use ob_history::{Glance, Recorded};
 use ob_shared::{Done, Named, Opening, Reader, Share, SharedBuffer};
 use ob_types::{Command, Message, Refusal};
 use std::alloc::{AllocError, Global};
 use std::marker::Brand;
-use std::process::Abort;
 use std::sync::Wait;
 use std::sync::atomic::{AtomicBool, Ordering};
 use std::test::Fail;
@@ -21,20 +21,24 @@ use std::time::{Clock, Duration};
 #[test]
 fn readers_meet(rt: HostRuntime) -> Result<(), Fail> {
     let opening = Options::of("--limit 8")?.opening(rt.alloc(), 2)?;
-    both_meet::<Brand, _>(&rt, rt.alloc(), opening)
+    both_meet::<Brand>(&rt, opening)
 }
 
-fn both_meet<L: Named + Send + Sync, R: Threads + Wait + Clock + Abort + Sync>(
-    rt: &R,
-    alloc: Global,
-    opening: Opening,
-) -> Result<(), Fail>
+/// Four readers read without a pause while two writers make their calls: what each sees are glances of the finished
+/// history, in an order that never goes back.
+#[test]
+fn glances_never_go_back(rt: HostRuntime) -> Result<(), Fail> {
+    let opening = Options::of("--low 50 --high 100 --limit 20000")?.opening(rt.alloc(), 2)?;
+    all_read::<Brand>(&rt, opening)
+}
+
+fn both_meet<L: Named + Send + Sync>(rt: &impl Host, opening: Opening) -> Result<(), Fail>
     requires { IsNameOf opening L.opened L.name L.parts }
 {
-    let (buffer, shares) = opening.begin::<L>()?;
+    let (buffer, callers) = begin::<L>(rt.alloc(), opening)?;
     let shared = &buffer;
-    let met = map_vec(rt, shares, &|share| meets(rt, alloc, shared, share))?;
-    let mut dones = Vec::new(alloc);
+    let met = map_vec(rt, callers, &|caller| meets(rt, shared, caller))?;
+    let mut dones = Vec::new(rt.alloc());
     let mut both = 0u32;
     for (done, has_met) in met {
         both = both.saturating_add(u32::from(has_met));
@@ -48,15 +52,10 @@ fn both_meet<L: Named + Send + Sync, R: Threads + Wait + Clock + Abort + Sync>(
 /// Writes a region, and reads each millisecond, ten thousand times, until the total is that of two.
 fn meets<L: Named, R: Wait + Clock>(
     rt: &R,
-    alloc: Global,
     buffer: &SharedBuffer<L>,
-    share: Share<L>,
+    caller: Done<L>,
 ) -> (Done<L>, bool) {
-    let (mut caller, _) = buffer.call(
-        rt,
-        Done::new(alloc, share),
-        Command::Write(Message::Region(0)),
-    );
+    let (mut caller, _) = buffer.call(rt, caller, Command::Write(Message::Region(0)));
     for _ in 0..10_000u32 {
         if caller.share.read(buffer).total == 192 {
             return (caller, true);
@@ -72,21 +71,10 @@ const CALLS: u32 = 10_000;
 /// The most glances that a reader takes, so that it ends also where no second thread could be had.
 const MOST_READS: u32 = 20_000_000;
 
-/// Four readers read without a pause while two writers make their calls: what each sees are glances of the finished
-/// history, in an order that never goes back.
-#[test]
-fn glances_never_go_back(rt: HostRuntime) -> Result<(), Fail> {
-    let opening = Options::of("--low 50 --high 100 --limit 20000")?.opening(rt.alloc(), 2)?;
-    all_read::<Brand, _>(&rt, rt.alloc(), opening)
-}
-
-fn all_read<L: Named + Send + Sync, R: Threads + Wait + Abort + Sync>(
-    rt: &R,
-    alloc: Global,
-    opening: Opening,
-) -> Result<(), Fail>
+fn all_read<L: Named + Send + Sync>(rt: &impl Host, opening: Opening) -> Result<(), Fail>
     requires { IsNameOf opening L.opened L.name L.parts }
 {
+    let alloc = rt.alloc();
     let (buffer, mut shares) = opening.begin::<L>()?;
     let readers = readers_of(alloc, &buffer, &mut shares)?;
     let ended = AtomicBool::new(false);

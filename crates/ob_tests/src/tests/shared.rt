@@ -3,7 +3,8 @@
 ghost use Rattle.ob_shared.specs.Opened.{IsNameOf};
 
 use crate::tests::buffers::Options;
-use crate::tests::callers::{Caller, begun};
+use crate::tests::callers::{Caller, begin};
+use crate::tests::host::Host;
 use crate::tests::story::{Again, Player, Story};
 use crate::tests::trace::{push_glance, push_look};
 use crate::tests::words::{NoAnswer, Words, number_in};
@@ -13,7 +14,6 @@ use ob_shared::{Done, FinishFault, Named, Opening, Reader, SharedBuffer, Unfinis
 use ob_types::Command;
 use std::alloc::Global;
 use std::marker::Brand;
-use std::process::Abort;
 use std::sync::Wait;
 use std::test::Fail;
 
@@ -235,20 +235,16 @@ fn push_fault(text: &mut String, fault: FinishFault) -> Result<(), NoAnswer> {
 }
 
 /// Plays a story on the shared buffer of an opening.
-fn plays<L: Named, R: Wait + Abort>(
-    rt: &R,
-    alloc: Global,
-    opening: Opening,
-    story: Story,
-) -> Result<(), NoAnswer>
+fn plays<L: Named>(rt: &impl Host, opening: Opening, story: Story) -> Result<(), NoAnswer>
     requires { IsNameOf opening L.opened L.name L.parts }
 {
-    let (buffer, shares) = opening.begin::<L>()?;
+    let alloc = rt.alloc();
+    let (buffer, dones) = begin::<L>(alloc, opening)?;
     let crew = Crew {
         rt,
         alloc,
         buffer: Some(buffer),
-        dones: begun(alloc, shares)?,
+        dones,
         aside: Aside {
             done: None,
             receipt: None,
@@ -267,7 +263,7 @@ fn callers_in_turn(rt: HostRuntime) -> Result<(), Fail> {
         let story = Story::of(text);
         let options = Options::of(story.command)?;
         let opening = options.opening(rt.alloc(), options.callers)?;
-        plays::<Brand, _>(&rt, rt.alloc(), opening, story)?;
+        plays::<Brand>(&rt, opening, story)?;
     }
     Ok(())
 }

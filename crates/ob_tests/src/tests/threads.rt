@@ -27,7 +27,7 @@ pub enum Mix {
     BlocksInTurn,
     /// Writes of regions, flushes and removals in turn.
     RegionsInTurn,
-    /// Commands of all ten kinds, by chance.
+    /// Commands of all eleven kinds, by chance.
     ByChance,
 }
 

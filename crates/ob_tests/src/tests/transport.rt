@@ -5,6 +5,7 @@ ghost use Rattle.ob_shared.specs.Opened.{IsNameOf};
 
 use crate::tests::buffers::Options;
 use crate::tests::callers::finished;
+use crate::tests::host::Host;
 use crate::tests::keeping::{Keeping, Scarce};
 use crate::tests::run::Single;
 use crate::tests::story::{Again, Player, Story};
@@ -214,20 +215,16 @@ fn alone(alloc: Global, story: Story) -> Result<Transport<As>, NoAnswer> {
     Ok(Transport::new(alloc, given(alloc, story)?, booked(alloc, story)?))
 }
 
-fn over_a_new_desk<R: Wait + Abort>(rt: &R, alloc: Global, story: Story) -> Result<(), Fail> {
-    let opening = Options::of(story.command)?.opening(alloc, 1)?;
-    over_a_desk::<Brand, _>(rt, alloc, opening, story)
+fn over_a_new_desk(rt: &impl Host, story: Story) -> Result<(), Fail> {
+    let opening = Options::of(story.command)?.opening(rt.alloc(), 1)?;
+    over_a_desk::<Brand>(rt, opening, story)
 }
 
 /// Lends a desk to a story, and ends the buffer with the receipts of all calls.
-fn over_a_desk<L: Named, R: Wait + Abort>(
-    rt: &R,
-    alloc: Global,
-    opening: Opening,
-    story: Story,
-) -> Result<(), Fail>
+fn over_a_desk<L: Named>(rt: &impl Host, opening: Opening, story: Story) -> Result<(), Fail>
     requires { IsNameOf opening L.opened L.name L.parts }
 {
+    let alloc = rt.alloc();
     let given = given(alloc, story)?;
     let (buffer, mut shares) = opening.begin::<L>()?;
     let share = shares.pop().ok_or("a share")?;
@@ -254,7 +251,7 @@ fn passes_of_a_transport(rt: HostRuntime) -> Result<(), Fail> {
     for text in PASSES.split('#') {
         let story = Story::of(text);
         story.play(&rt, rt.alloc(), &mut alone(rt.alloc(), story)?);
-        over_a_new_desk(&rt, rt.alloc(), story)?;
+        over_a_new_desk(&rt, story)?;
     }
     Ok(())
 }
@@ -285,7 +282,7 @@ fn a_refused_growth_changes_no_answer(rt: HostRuntime) -> Result<(), Fail> {
     let text = PASSES
         .split('#')
         .find(|text| text.contains("regions and others pass"));
-    over_a_new_desk(&rt, rt.alloc(), Story::of(text.ok_or("a story")?))
+    over_a_new_desk(&rt, Story::of(text.ok_or("a story")?))
 }
 
 /// What the sink took is booked, or told of and still in front: more blocks than promises are settled without memory.

@@ -3,7 +3,8 @@
 ghost use Rattle.ob_shared.specs.Opened.{IsNameOf};
 
 use crate::tests::buffers::Options;
-use crate::tests::callers::{Caller, begun, finished};
+use crate::tests::callers::{Caller, begin, finished};
+use crate::tests::host::Host;
 use crate::tests::story::{Again, Story};
 use ob_rows::{SENDS, WAITS, WRITES};
 use ob_shared::{Done, Named, Opening, SharedBuffer};
@@ -12,38 +13,14 @@ use std::marker::Brand;
 use std::process::Abort;
 use std::sync::Wait;
 use std::test::Fail;
-use std::thread::{Threads, join};
+use std::thread::join;
 
 /// One caller writes, and waits for its promise while the other flushes and removes: it is told of the removal. Each
 /// growth may be refused in turn.
 #[test]
 fn told_of_a_settlement(rt: HostRuntime) -> Result<(), Fail> {
     let opening = Options::of("--limit 8")?.opening(rt.alloc(), 2)?;
-    waits_for_another::<Brand, _>(&rt, rt.alloc(), opening)
-}
-
-fn waits_for_another<L: Named + Send + Sync, R: Threads + Wait + Abort + Sync>(
-    rt: &R,
-    alloc: Global,
-    opening: Opening,
-) -> Result<(), Fail>
-    requires { IsNameOf opening L.opened L.name L.parts }
-{
-    let (buffer, shares) = opening.begin::<L>()?;
-    let mut dones = begun(alloc, shares)?;
-    let second = dones.pop();
-    let first = played(rt, alloc, &buffer, dones.pop(), WRITES);
-    let shared = &buffer;
-    let (first, second) = join(
-        rt,
-        move || played(rt, alloc, shared, first, WAITS),
-        move || played(rt, alloc, shared, second, SENDS),
-    );
-    dones.push(first.ok_or("a first caller")?)?;
-    dones.push(second.ok_or("a second caller")?)?;
-    let recorded = finished(buffer, dones)?;
-    assert_eq!(rt; recorded.records().len(), 3);
-    Ok(())
+    waits_for_another::<Brand>(&rt, opening)
 }
 
 /// What a caller hands in that has played a story.
@@ -62,4 +39,24 @@ pub fn played<L: Named, R: Wait + Abort>(
     });
     Story::of(story).play(rt, alloc, &mut caller);
     caller.into_inner().done
+}
+
+fn waits_for_another<L: Named + Send + Sync>(rt: &impl Host, opening: Opening) -> Result<(), Fail>
+    requires { IsNameOf opening L.opened L.name L.parts }
+{
+    let alloc = rt.alloc();
+    let (buffer, mut dones) = begin::<L>(alloc, opening)?;
+    let second = dones.pop();
+    let first = played(rt, alloc, &buffer, dones.pop(), WRITES);
+    let shared = &buffer;
+    let (first, second) = join(
+        rt,
+        move || played(rt, alloc, shared, first, WAITS),
+        move || played(rt, alloc, shared, second, SENDS),
+    );
+    dones.push(first.ok_or("a first caller")?)?;
+    dones.push(second.ok_or("a second caller")?)?;
+    let recorded = finished(buffer, dones)?;
+    assert_eq!(rt; recorded.records().len(), 3);
+    Ok(())
 }

@@ -3,8 +3,9 @@
 ghost use Rattle.ob_shared.specs.Opened.{IsNameOf};
 
 use crate::tests::buffers::Options;
-use crate::tests::callers::{begun, finished};
+use crate::tests::callers::{begin, finished};
 use crate::tests::gates::wait_for;
+use crate::tests::host::Host;
 use crate::tests::waiting::played;
 use ob_history::Booked;
 use ob_rows::{TOLD, WRITES};
@@ -17,8 +18,11 @@ use std::process::Abort;
 use std::sync::Wait;
 use std::sync::atomic::{AtomicU64, Ordering};
 use std::test::Fail;
-use std::thread::{Threads, join, sleep};
+use std::thread::{join, sleep};
 use std::time::{Clock, Duration};
+
+/// How many promises are settled one by one.
+const ROUNDS: u32 = 300;
 
 /// What a caller does at the desk at which it has settled what others wait for.
 #[derive(Clone, Copy, PartialEq, Eq)]
@@ -35,21 +39,27 @@ enum Then {
 fn all_who_wait_are_woken(rt: HostRuntime) -> Result<(), Fail> {
     for then in [Then::Leaves, Then::GoesOn, Then::Drops] {
         let opening = Options::of("--limit 8")?.opening(rt.alloc(), 3)?;
-        wakes_all::<Brand, _>(&rt, rt.alloc(), opening, then)?;
+        wakes_all::<Brand>(&rt, opening, then)?;
     }
     Ok(())
 }
 
-fn wakes_all<L: Named + Send + Sync, R: Threads + Wait + Clock + Abort + Sync>(
-    rt: &R,
-    alloc: Global,
+/// One caller waits for one promise after another, and another settles each when the wait begins: none is missed.
+#[test]
+fn no_settlement_is_missed(rt: HostRuntime) -> Result<(), Fail> {
+    let opening = Options::of("--limit 1000")?.opening(rt.alloc(), 2)?;
+    misses_none::<Brand>(&rt, opening)
+}
+
+fn wakes_all<L: Named + Send + Sync>(
+    rt: &impl Host,
     opening: Opening,
     then: Then,
 ) -> Result<(), Fail>
     requires { IsNameOf opening L.opened L.name L.parts }
 {
-    let (buffer, shares) = opening.begin::<L>()?;
-    let mut dones = begun(alloc, shares)?;
+    let alloc = rt.alloc();
+    let (buffer, mut dones) = begin::<L>(alloc, opening)?;
     let third = played(rt, alloc, &buffer, dones.pop(), WRITES);
     let second = dones.pop();
     let first = dones.pop();
@@ -146,25 +156,10 @@ fn ends<L: Named, R: Abort>(
     Ok(())
 }
 
-/// How many promises are settled one by one.
-const ROUNDS: u32 = 300;
-
-/// One caller waits for one promise after another, and another settles each when the wait begins: none is missed.
-#[test]
-fn no_settlement_is_missed(rt: HostRuntime) -> Result<(), Fail> {
-    let opening = Options::of("--limit 1000")?.opening(rt.alloc(), 2)?;
-    misses_none::<Brand, _>(&rt, rt.alloc(), opening)
-}
-
-fn misses_none<L: Named + Send + Sync, R: Threads + Wait + Abort + Sync>(
-    rt: &R,
-    alloc: Global,
-    opening: Opening,
-) -> Result<(), Fail>
+fn misses_none<L: Named + Send + Sync>(rt: &impl Host, opening: Opening) -> Result<(), Fail>
     requires { IsNameOf opening L.opened L.name L.parts }
 {
-    let (buffer, shares) = opening.begin::<L>()?;
-    let mut dones = begun(alloc, shares)?;
+    let (buffer, mut dones) = begin::<L>(rt.alloc(), opening)?;
     let second = dones.pop();
     let first = dones.pop();
     let begun = AtomicU64::new(0);
