@@ -1,8 +1,11 @@
 //! Times the cycles of `bench/cycle_times` by a buffer in plain Rust, and prints the same lines.
 
+// of the whole program by hand this one needs the buffer alone, and not all of it
+#[allow(dead_code)]
+#[path = "../by_hand/buffer.rs"]
 mod buffer;
 
-use buffer::{Buffer, Bytes, Message, Refusal};
+use buffer::{Buffer, Bytes, Estimate, Marks, Message, Refusal};
 use std::hint::black_box;
 use std::time::{Duration, Instant};
 
@@ -45,7 +48,7 @@ fn timed(depth: u32, shape: Shape) -> Result<Option<Duration>, Refusal> {
 }
 
 fn filled(depth: u32, block: &Bytes) -> Result<Buffer, Refusal> {
-    let mut buffer = Buffer::new(32768, 65536, 96, 8);
+    let mut buffer = Buffer::new(Marks { low: 32768, high: 65536 }, Estimate { overhead: 96, unknown: 8 });
     for _ in 0..depth {
         write(&mut buffer, block)?;
     }
