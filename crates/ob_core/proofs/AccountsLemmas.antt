@@ -11,40 +11,40 @@ use Rattle.ob_core.specs.Bits.{AreAmong}
 use Rattle.ob_core.specs.CoreState.{CoreState}
 use Rattle.ob_core.specs.CoreStep.{core_after_step}
 use Rattle.ob_core.specs.LaneStep.{total_after, word_after, CanMake}
-use Rattle.ob_core.specs.Opening.{Opening}
+use Rattle.ob_core.specs.Beginning.{Grant}
 use Rattle.ob_core.specs.Owed.{owed_by}
 use Rattle.ob_core.specs.declared.lane.Lane.{Lane}
 use Rattle.ob_core.specs.declared.lane_step.LaneStep.{LaneStep}
 use Rattle.ob_core.proofs.LaneSums.{all_at, at-le-sum_by, sum_by-put, sum_by-le-each, sum_by-le-outside}
-use Rattle.ob_core.proofs.StepLemmas.{share-lane_after, moved-step, IsWithinRoom-step, AreAmong-step, MarkAgrees-step}
+use Rattle.ob_core.proofs.StepLemmas.{grant-lane_after, moved-step, IsWithinRoom-step, AreAmong-step, MarkAgrees-step}
 use Rattle.ob_core.proofs.StepLemmas.{shown-step, Raising}
 
 -- ---- what is read off the accounts
 
 -- a lane owes no more than the total
-pub owed_by-le-total : (opening : Opening) (core : CoreState) (index : ℕ) (lane : Lane) → BytesAgree opening core
+pub owed_by-le-total : (grant : Grant) (core : CoreState) (index : ℕ) (lane : Lane) → BytesAgree grant core
     → slice_get core.lanes index ≡ Some lane → owed_by lane ≤ core.total
-owed_by-le-total opening core index lane agree is_lane =
+owed_by-le-total grant core index lane agree is_lane =
     omega (arith, at-le-sum_by owed_by core.lanes index lane is_lane, agree.total)
 
 -- what all others owe fits the room outside the lane
-pub total-le-outside : (opening : Opening) (core : CoreState) (index : ℕ) (lane : Lane) → BytesAgree opening core
-    → slice_get core.lanes index ≡ Some lane → core.total + lane.room ≤ opening.room + owed_by lane
-total-le-outside opening core index lane agree is_lane =
+pub total-le-outside : (grant : Grant) (core : CoreState) (index : ℕ) (lane : Lane) → BytesAgree grant core
+    → slice_get core.lanes index ≡ Some lane → core.total + lane.room ≤ grant.room + owed_by lane
+total-le-outside grant core index lane agree is_lane =
     let each : All (λ (l : Lane). owed_by l ≤ l.room) core.lanes = agree.within in
     omega (arith, sum_by-le-outside owed_by (λ l. l.room) core.lanes index lane is_lane each, agree.total, agree.rooms)
 
 -- the total fits the whole room
-pub total-le-room : (opening : Opening) (core : CoreState) → BytesAgree opening core → core.total ≤ opening.room
-total-le-room opening core agree =
+pub total-le-room : (grant : Grant) (core : CoreState) → BytesAgree grant core → core.total ≤ grant.room
+total-le-room grant core agree =
     let each : All (λ (l : Lane). owed_by l ≤ l.room) core.lanes = agree.within in
     omega (arith, sum_by-le-each owed_by (λ l. l.room) core.lanes each, agree.total, agree.rooms)
 
 -- outside a lane that holds a bit no lane raises it
-pub raisers-le-lane : (opening : Opening) (core : CoreState) (index : ℕ) (lane : Lane) (i : ℕ)
-    → BitsAgree opening core → slice_get core.lanes index ≡ Some lane → bit_at lane.held i ≡ 1
+pub raisers-le-lane : (grant : Grant) (core : CoreState) (index : ℕ) (lane : Lane) (i : ℕ)
+    → BitsAgree grant core → slice_get core.lanes index ≡ Some lane → bit_at lane.held i ≡ 1
     → raisers core.lanes i ≤ bit_at lane.raised i
-raisers-le-lane opening core index lane i agree is_lane held =
+raisers-le-lane grant core index lane i agree is_lane held =
     let each : All (λ (l : Lane). bit_at l.raised i ≤ bit_at l.held i) core.lanes =
     All-weaker (λ (l : Lane). AreAmong l.raised l.held) (λ l. bit_at l.raised i ≤ bit_at l.held i)
     (λ l among. among i) core.lanes agree.among in
@@ -53,47 +53,47 @@ raisers-le-lane opening core index lane i agree is_lane held =
       sum_by-le-outside (λ l. bit_at l.raised i)
           (λ l. bit_at l.held i) core.lanes index lane is_lane each,
       agree.held i,
-      bit_at-lt opening.bits i,
+      bit_at-lt grant.bits i,
       held,
     )
 
 -- a lane does not hold bit 0
-held-above : (opening : Opening) (core : CoreState) (index : ℕ) (lane : Lane) (i : ℕ) → BitsAgree opening core
+held-above : (grant : Grant) (core : CoreState) (index : ℕ) (lane : Lane) (i : ℕ) → BitsAgree grant core
     → slice_get core.lanes index ≡ Some lane → bit_at lane.held i ≡ 1 → 0 < i
-held-above opening core index lane zero agree is_lane held =
-    let clear : bit_at opening.bits 0 ≢ 1 = λ is_one. absurd (grind (arith, nat_tests, agree.mark)) in
+held-above grant core index lane zero agree is_lane held =
+    let clear : bit_at grant.bits 0 ≢ 1 = λ is_one. absurd (grind (arith, nat_tests, agree.mark)) in
     absurd (clear (omega (
       arith,
       agree.held 0,
       at-le-sum_by (λ l. bit_at l.held 0) core.lanes index lane is_lane,
       held,
-      bit_at-lt opening.bits 0,
+      bit_at-lt grant.bits 0,
     )))
-held-above opening core index lane (suc i) agree is_lane held = omega arith
+held-above grant core index lane (suc i) agree is_lane held = omega arith
 
 -- so of the bits that a lane holds, the word shows those that it raised
-pub shown-held : (opening : Opening) (core : CoreState) (index : ℕ) (lane : Lane) (i : ℕ) → BitsAgree opening core
+pub shown-held : (grant : Grant) (core : CoreState) (index : ℕ) (lane : Lane) (i : ℕ) → BitsAgree grant core
     → slice_get core.lanes index ≡ Some lane → bit_at lane.held i ≡ 1 → bit_at core.word i ≡ bit_at lane.raised i
-shown-held opening core index lane i agree is_lane held =
-    let above : 0 < i = held-above opening core index lane i agree is_lane held in
+shown-held grant core index lane i agree is_lane held =
+    let above : 0 < i = held-above grant core index lane i agree is_lane held in
     omega (
       arith,
       agree.shown i above,
-      raisers-le-lane opening core index lane i agree is_lane held,
+      raisers-le-lane grant core index lane i agree is_lane held,
       at-le-sum_by
           (λ l. bit_at l.raised i) core.lanes index lane is_lane,
     )
 
 -- ---- with another lane in its place
 
-module _ (opening : Opening) (core : CoreState) (index : ℕ) (lane new : Lane)
+module _ (grant : Grant) (core : CoreState) (index : ℕ) (lane new : Lane)
     (is_lane : slice_get core.lanes index ≡ Some lane) (total word : ℕ) where
   abbrev after : CoreState
   after = record { total = total; word = word; marks = core.marks; lanes = set core.lanes index new }
 
   -- the accounts of the bytes hold where the total moves by as much as the debt, and the room stays
-  BytesAgree-put : BytesAgree opening core → total + owed_by lane ≡ core.total + owed_by new → new.room ≡ lane.room
-      → (IsWithinRoom lane → IsWithinRoom new) → BytesAgree opening after
+  BytesAgree-put : BytesAgree grant core → total + owed_by lane ≡ core.total + owed_by new → new.room ≡ lane.room
+      → (IsWithinRoom lane → IsWithinRoom new) → BytesAgree grant after
   BytesAgree-put agree moved room within = record {
     marks = agree.marks;
     total = omega (arith, sum_by-put owed_by core.lanes index lane new is_lane, moved, agree.total);
@@ -103,10 +103,10 @@ module _ (opening : Opening) (core : CoreState) (index : ℕ) (lane new : Lane)
   }
 
   -- those of the bits hold where the word moves by as much as the raised bits, and the held bits stay
-  BitsAgree-put : BitsAgree opening core → new.held ≡ lane.held
+  BitsAgree-put : BitsAgree grant core → new.held ≡ lane.held
       → (AreAmong lane.raised lane.held → AreAmong new.raised new.held)
       → ((i : ℕ) → 0 < i → bit_at word i + bit_at lane.raised i ≡ bit_at core.word i + bit_at new.raised i)
-      → BitsAgree opening after
+      → BitsAgree grant after
   BitsAgree-put agree held among moved =
       let Among : Lane → Type 0 = λ l. AreAmong l.raised l.held in
       record {
@@ -129,15 +129,15 @@ module _ (opening : Opening) (core : CoreState) (index : ℕ) (lane new : Lane)
 
 -- ---- after a step
 
-pub BytesAgree-step : (opening : Opening) (core : CoreState) (index : ℕ) (lane : Lane) (step : LaneStep)
-    → slice_get core.lanes index ≡ Some lane → CanMake lane step → BytesAgree opening core
-    → BytesAgree opening (core_after_step core index lane step)
-BytesAgree-step opening core index lane step is_lane may agree =
-    let owes : owed_by lane ≤ core.total = owed_by-le-total opening core index lane agree is_lane in
-    BytesAgree-put opening core index lane _ is_lane (total_after step core.total)
+pub BytesAgree-step : (grant : Grant) (core : CoreState) (index : ℕ) (lane : Lane) (step : LaneStep)
+    → slice_get core.lanes index ≡ Some lane → CanMake lane step → BytesAgree grant core
+    → BytesAgree grant (core_after_step core index lane step)
+BytesAgree-step grant core index lane step is_lane may agree =
+    let owes : owed_by lane ≤ core.total = owed_by-le-total grant core index lane agree is_lane in
+    BytesAgree-put grant core index lane _ is_lane (total_after step core.total)
     (word_after step core.marks core.total core.word) agree
     (moved-step step core.total lane may owes)
-    (share-lane_after step lane).room
+    (grant-lane_after step lane).room
     (IsWithinRoom-step step lane may)
 
 -- the mark does not see the lanes
@@ -150,33 +150,33 @@ MarkAgrees-core_step core index lane step may agree =
     let after = MarkAgrees-step step core lane may agree in record { above = after.above; below = after.below }
 
 -- of a bit, those who raise it but for the lane
-raising : (opening : Opening) (core : CoreState) (index : ℕ) (lane : Lane) (i : ℕ)
-    → slice_get core.lanes index ≡ Some lane → BitsAgree opening core → 0 < i
+raising : (grant : Grant) (core : CoreState) (index : ℕ) (lane : Lane) (i : ℕ)
+    → slice_get core.lanes index ≡ Some lane → BitsAgree grant core → 0 < i
     → Raising i core.word lane (raisers core.lanes i - bit_at lane.raised i)
-raising opening core index lane i is_lane agree above = record {
+raising grant core index lane i is_lane agree above = record {
   shown = omega (arith, agree.shown i above, at-le-sum_by (λ l. bit_at l.raised i) core.lanes index lane is_lane);
-  alone = λ held. omega (arith, raisers-le-lane opening core index lane i agree is_lane held);
+  alone = λ held. omega (arith, raisers-le-lane grant core index lane i agree is_lane held);
 }
 
-pub BitsAgree-step : (opening : Opening) (core : CoreState) (index : ℕ) (lane : Lane) (step : LaneStep)
-    → slice_get core.lanes index ≡ Some lane → CanMake lane step → BitsAgree opening core
-    → BitsAgree opening (core_after_step core index lane step)
-BitsAgree-step opening core index lane step is_lane may agree =
-    BitsAgree-put opening core index lane _ is_lane (total_after step core.total)
+pub BitsAgree-step : (grant : Grant) (core : CoreState) (index : ℕ) (lane : Lane) (step : LaneStep)
+    → slice_get core.lanes index ≡ Some lane → CanMake lane step → BitsAgree grant core
+    → BitsAgree grant (core_after_step core index lane step)
+BitsAgree-step grant core index lane step is_lane may agree =
+    BitsAgree-put grant core index lane _ is_lane (total_after step core.total)
     (word_after step core.marks core.total core.word) agree
-    (share-lane_after step lane).held
+    (grant-lane_after step lane).held
     (AreAmong-step step lane may)
     (λ i above.
-    let raised = raising opening core index lane i is_lane agree above in
+    let raised = raising grant core index lane i is_lane agree above in
     omega (arith, raised.shown, shown-step step core.marks core.total core.word lane i _ may above raised))
 
-pub AccountsHold-step : (opening : Opening) (core : CoreState) (index : ℕ) (lane : Lane) (step : LaneStep)
-    → slice_get core.lanes index ≡ Some lane → CanMake lane step → AccountsHold opening core
-    → AccountsHold opening (core_after_step core index lane step)
-AccountsHold-step opening core index lane step is_lane may accounts = record {
-  bytes = BytesAgree-step opening core index lane step is_lane may accounts.bytes;
+pub AccountsHold-step : (grant : Grant) (core : CoreState) (index : ℕ) (lane : Lane) (step : LaneStep)
+    → slice_get core.lanes index ≡ Some lane → CanMake lane step → AccountsHold grant core
+    → AccountsHold grant (core_after_step core index lane step)
+AccountsHold-step grant core index lane step is_lane may accounts = record {
+  bytes = BytesAgree-step grant core index lane step is_lane may accounts.bytes;
   mark = MarkAgrees-core_step core index lane step may accounts.mark;
-  bits = BitsAgree-step opening core index lane step is_lane may accounts.bits;
+  bits = BitsAgree-step grant core index lane step is_lane may accounts.bits;
 }
 
 -- ---- with a lane in the place of one that is like it
@@ -195,25 +195,25 @@ among_alike : (lane new : Lane) → IsAlike lane new → AreAmong lane.raised la
 among_alike lane new alike among =
     λ i. omega (arith, ap (λ n. bit_at n i) alike.held, ap (λ n. bit_at n i) alike.raised, among i)
 
-pub BytesAgree-alike : (opening : Opening) (core : CoreState) (index : ℕ) (lane new : Lane)
-    → slice_get core.lanes index ≡ Some lane → IsAlike lane new → BytesAgree opening core
-    → BytesAgree opening (record core { lanes = set core.lanes index new })
-BytesAgree-alike opening core index lane new is_lane alike agree =
-    BytesAgree-put opening core index lane new is_lane core.total core.word agree (omega (arith, alike.debt)) alike.room
+pub BytesAgree-alike : (grant : Grant) (core : CoreState) (index : ℕ) (lane new : Lane)
+    → slice_get core.lanes index ≡ Some lane → IsAlike lane new → BytesAgree grant core
+    → BytesAgree grant (record core { lanes = set core.lanes index new })
+BytesAgree-alike grant core index lane new is_lane alike agree =
+    BytesAgree-put grant core index lane new is_lane core.total core.word agree (omega (arith, alike.debt)) alike.room
     (within_alike lane new alike)
 
-BitsAgree-alike : (opening : Opening) (core : CoreState) (index : ℕ) (lane new : Lane)
-    → slice_get core.lanes index ≡ Some lane → IsAlike lane new → BitsAgree opening core
-    → BitsAgree opening (record core { lanes = set core.lanes index new })
-BitsAgree-alike opening core index lane new is_lane alike agree =
-    BitsAgree-put opening core index lane new is_lane core.total core.word agree alike.held (among_alike lane new alike)
+BitsAgree-alike : (grant : Grant) (core : CoreState) (index : ℕ) (lane new : Lane)
+    → slice_get core.lanes index ≡ Some lane → IsAlike lane new → BitsAgree grant core
+    → BitsAgree grant (record core { lanes = set core.lanes index new })
+BitsAgree-alike grant core index lane new is_lane alike agree =
+    BitsAgree-put grant core index lane new is_lane core.total core.word agree alike.held (among_alike lane new alike)
     (λ i above. omega (arith, ap (λ n. bit_at n i) alike.raised))
 
-pub AccountsHold-alike : (opening : Opening) (core : CoreState) (index : ℕ) (lane new : Lane)
-    → slice_get core.lanes index ≡ Some lane → IsAlike lane new → AccountsHold opening core
-    → AccountsHold opening (record core { lanes = set core.lanes index new })
-AccountsHold-alike opening core index lane new is_lane alike accounts = record {
-  bytes = BytesAgree-alike opening core index lane new is_lane alike accounts.bytes;
+pub AccountsHold-alike : (grant : Grant) (core : CoreState) (index : ℕ) (lane new : Lane)
+    → slice_get core.lanes index ≡ Some lane → IsAlike lane new → AccountsHold grant core
+    → AccountsHold grant (record core { lanes = set core.lanes index new })
+AccountsHold-alike grant core index lane new is_lane alike accounts = record {
+  bytes = BytesAgree-alike grant core index lane new is_lane alike accounts.bytes;
   mark = MarkAgrees-lanes core _ accounts.mark;
-  bits = BitsAgree-alike opening core index lane new is_lane alike accounts.bits;
+  bits = BitsAgree-alike grant core index lane new is_lane alike accounts.bits;
 }

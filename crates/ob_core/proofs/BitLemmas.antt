@@ -10,7 +10,7 @@ use Rattle.std.proofs.Math.Nat.{mul-add-div_right}
 use Rattle.std.proofs.Math.Pow.{pow-lt}
 use Rattle.std.proofs.lemmas.Nat.Bits.{bit_at-lt, bit_at-suc, bit_at_and, bit_at_or, bit_at_not, bit_at-pow_same}
 use Rattle.std.proofs.lemmas.Nat.Bits.{bit_at-pow_other, bit_at_cat_low, bit_at_cat_high, bit_at_above, same_from_bits}
-use Rattle.ob_core.specs.Bits.{is_set, with_bit, without_bit, PutsBit, SetsBit, ClearsBit, AreAmong, ShareOut}
+use Rattle.ob_core.specs.Bits.{is_set, with_bit, without_bit, PutsBit, SetsBit, ClearsBit, AreAmong, MakeUp}
 
 -- ---- one bit and the others
 
@@ -131,9 +131,9 @@ and-is-without_bit w word k fits within = puts_alike 0 word k (bit_and word (bit
 -- ---- masks
 
 -- a mask is shared out to its bits outside another mask and those within it
-pub ShareOut-and : (w : Width) (mask taken : ℕ) → mask < 2 ^ bits w → taken < 2 ^ bits w
-    → ShareOut mask (bit_and mask (bit_not w taken)) (bit_and mask taken)
-ShareOut-and w mask taken small fits = λ i.
+pub MakeUp-and : (w : Width) (mask taken : ℕ) → mask < 2 ^ bits w → taken < 2 ^ bits w
+    → MakeUp mask (bit_and mask (bit_not w taken)) (bit_and mask taken)
+MakeUp-and w mask taken small fits = λ i.
     let outside = bit_at_and mask (bit_not w taken) i in
     let within = bit_at_and mask taken i in
     ⊎_elim
@@ -142,9 +142,9 @@ ShareOut-and w mask taken small fits = λ i.
     (cases_lt i (bits w))
 
 -- two masks that have no bit in common share out both together
-pub ShareOut-or : (first second : ℕ) → ((i : ℕ) → bit_at first i + bit_at second i ≤ 1)
-    → ShareOut (bit_or first second) first second
-ShareOut-or first second apart = λ i. omega (arith, bit_at_or first second i, apart i)
+pub MakeUp-or : (first second : ℕ) → ((i : ℕ) → bit_at first i + bit_at second i ≤ 1)
+    → MakeUp (bit_or first second) first second
+MakeUp-or first second apart = λ i. omega (arith, bit_at_or first second i, apart i)
 
 -- what is among a mask is so within another mask too
 pub AreAmong-and : (bits mask other : ℕ) → AreAmong bits mask → AreAmong (bit_and bits other) (bit_and mask other)

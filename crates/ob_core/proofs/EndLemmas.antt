@@ -5,20 +5,20 @@ use Rattle.ob_types.specs.WaterMark.{Marks}
 use Rattle.ob_core.specs.Accounts.{AccountsHold}
 use Rattle.ob_core.specs.Bits.{is_set}
 use Rattle.ob_core.specs.CoreState.{CoreState}
-use Rattle.ob_core.specs.Opening.{Opening}
+use Rattle.ob_core.specs.Beginning.{Grant}
 use Rattle.ob_core.specs.Owed.{owed_by}
-use Rattle.ob_core.specs.Shares.{IsFree}
+use Rattle.ob_core.specs.Parts.{IsFree}
 use Rattle.ob_core.specs.declared.lane.Lane.{Lane}
 use Rattle.ob_core.proofs.AccountsLemmas.{total-le-outside}
 
-module _ (opening : Opening) (core : CoreState) (index : ℕ) (lane : Lane) (accounts : AccountsHold opening core)
-    (is_lane : slice_get core.lanes index ≡ Some lane) (free : IsFree lane) (whole : opening.room ≤ lane.room) where
+module _ (grant : Grant) (core : CoreState) (index : ℕ) (lane : Lane) (accounts : AccountsHold grant core)
+    (is_lane : slice_get core.lanes index ≡ Some lane) (free : IsFree lane) (whole : grant.room ≤ lane.room) where
   pub nothing_left : core.total ≡ 0
   nothing_left =
       let nothing : owed_by lane ≡ 0 = ap (λ debt. unwrap_or debt 0) free.debt in
-      omega (arith, total-le-outside opening core index lane accounts.bytes is_lane)
+      omega (arith, total-le-outside grant core index lane accounts.bytes is_lane)
 
-  pub mark_clear : 0 < opening.marks.low → is_set core.word 0 ≡ false
+  pub mark_clear : 0 < grant.marks.low → is_set core.word 0 ≡ false
   mark_clear positive =
-      let same_low : core.marks.low ≡ opening.marks.low = ap (λ (m : Marks). m.low) accounts.bytes.marks in
+      let same_low : core.marks.low ≡ grant.marks.low = ap (λ (m : Marks). m.low) accounts.bytes.marks in
       accounts.mark.below (omega (arith, positive, same_low, nothing_left)) (omega (arith, nothing_left))

@@ -9,7 +9,7 @@ use Rattle.ob_core.specs.Accounts.{AccountsHold, BytesAgree, MarkAgrees}
 use Rattle.ob_core.specs.AskFault.{refusal_of}
 use Rattle.ob_core.specs.Bits.{is_set}
 use Rattle.ob_core.specs.CoreState.{CoreState}
-use Rattle.ob_core.specs.Opening.{Opening, new_core, opening_of}
+use Rattle.ob_core.specs.Beginning.{Grant, new_core, grant_of}
 use Rattle.ob_core.specs.Owed.{sum_owed}
 use Rattle.ob_core.specs.Run.{answers_of, changes_in, core_after_all, AlternateFrom}
 use Rattle.ob_core.specs.Sound.{IsSound}
@@ -21,7 +21,7 @@ use Rattle.ob_core.specs.declared.lane_start.LaneStart.{LaneStart}
 use Rattle.ob_core.proofs.AccountsLemmas.{AccountsHold-step, AccountsHold-alike, BytesAgree-step, BytesAgree-alike}
 use Rattle.ob_core.proofs.AccountsLemmas.{IsAlike, MarkAgrees-core_step, MarkAgrees-lanes}
 use Rattle.ob_core.proofs.Kept.{kept_by_all, kept_by_turn}
-use Rattle.ob_core.proofs.OpeningLemmas.{BytesAgree-new, MarkAgrees-new}
+use Rattle.ob_core.proofs.BeginningLemmas.{BytesAgree-new, MarkAgrees-new}
 use Rattle.ob_core.proofs.TurnLemmas.{owed_by-lane_after_nothing, rest-lane_after_nothing}
 
 -- ---- the accounts
@@ -38,23 +38,23 @@ IsAlike-nothing lane ask accepted no_step =
       raised = ap (λ (l : Lane). l.raised) rest;
     }
 
-pub AccountsHold-turn : (opening : Opening) (core : CoreState) (turn : Turn) → AccountsHold opening core
-    → AccountsHold opening (core_after core turn)
-AccountsHold-turn opening core turn accounts =
-    kept_by_turn (AccountsHold opening) core turn (record {
-      by_step = λ lane step is_lane may. AccountsHold-step opening core turn.lane lane step is_lane may accounts;
-      by_nothing = λ lane is_lane accepted no_step. AccountsHold-alike opening core turn.lane lane _ is_lane
+pub AccountsHold-turn : (grant : Grant) (core : CoreState) (turn : Turn) → AccountsHold grant core
+    → AccountsHold grant (core_after core turn)
+AccountsHold-turn grant core turn accounts =
+    kept_by_turn (AccountsHold grant) core turn (record {
+      by_step = λ lane step is_lane may. AccountsHold-step grant core turn.lane lane step is_lane may accounts;
+      by_nothing = λ lane is_lane accepted no_step. AccountsHold-alike grant core turn.lane lane _ is_lane
           (IsAlike-nothing lane turn.ask accepted no_step) accounts;
     }) accounts
 
 -- those of the bytes hold after any turns, whatever bits the lanes hold
 pub BytesAgree-all : (marks : Marks) (starts : List LaneStart) (turns : List Turn)
-    → BytesAgree (opening_of marks starts) (core_after_all (new_core marks starts) turns)
+    → BytesAgree (grant_of marks starts) (core_after_all (new_core marks starts) turns)
 BytesAgree-all marks starts turns =
-    let opening : Opening = opening_of marks starts in
-    kept_by_all (BytesAgree opening) (λ core turn agree. record {
-      by_step = λ lane step is_lane may. BytesAgree-step opening core turn.lane lane step is_lane may agree;
-      by_nothing = λ lane is_lane accepted no_step. BytesAgree-alike opening core turn.lane lane _ is_lane
+    let grant : Grant = grant_of marks starts in
+    kept_by_all (BytesAgree grant) (λ core turn agree. record {
+      by_step = λ lane step is_lane may. BytesAgree-step grant core turn.lane lane step is_lane may agree;
+      by_nothing = λ lane is_lane accepted no_step. BytesAgree-alike grant core turn.lane lane _ is_lane
           (IsAlike-nothing lane turn.ask accepted no_step) agree;
     }) turns (new_core marks starts) (BytesAgree-new marks starts)
 
@@ -70,42 +70,42 @@ MarkAgrees-all marks starts turns =
 -- ---- the mark
 
 -- in order, the marks are such that a total above the high one is not below the low one, and the other way round
-pub set_above : (opening : Opening) (core : CoreState) → core.marks ≡ opening.marks → MarkAgrees core
-    → opening.marks.low ≤ opening.marks.high → opening.marks.high < core.total → is_set core.word 0 ≡ true
-set_above opening core same agree ordered above =
-    let same_low : core.marks.low ≡ opening.marks.low = ap (λ (m : Marks). m.low) same in
-    let same_high : core.marks.high ≡ opening.marks.high = ap (λ (m : Marks). m.high) same in
+pub set_above : (grant : Grant) (core : CoreState) → core.marks ≡ grant.marks → MarkAgrees core
+    → grant.marks.low ≤ grant.marks.high → grant.marks.high < core.total → is_set core.word 0 ≡ true
+set_above grant core same agree ordered above =
+    let same_low : core.marks.low ≡ grant.marks.low = ap (λ (m : Marks). m.low) same in
+    let same_high : core.marks.high ≡ grant.marks.high = ap (λ (m : Marks). m.high) same in
     agree.above (omega (arith, same_high, above)) (omega (arith, same_low, ordered, above))
 
-pub clear_below : (opening : Opening) (core : CoreState) → core.marks ≡ opening.marks → MarkAgrees core
-    → opening.marks.low ≤ opening.marks.high → core.total < opening.marks.low → is_set core.word 0 ≡ false
-clear_below opening core same agree ordered below =
-    let same_low : core.marks.low ≡ opening.marks.low = ap (λ (m : Marks). m.low) same in
-    let same_high : core.marks.high ≡ opening.marks.high = ap (λ (m : Marks). m.high) same in
+pub clear_below : (grant : Grant) (core : CoreState) → core.marks ≡ grant.marks → MarkAgrees core
+    → grant.marks.low ≤ grant.marks.high → core.total < grant.marks.low → is_set core.word 0 ≡ false
+clear_below grant core same agree ordered below =
+    let same_low : core.marks.low ≡ grant.marks.low = ap (λ (m : Marks). m.low) same in
+    let same_high : core.marks.high ≡ grant.marks.high = ap (λ (m : Marks). m.high) same in
     agree.below (omega (arith, same_low, below)) (omega (arith, same_high, ordered, below))
 
 -- where nothing is owed, bit 0 is clear
-pub clear_at_rest : (opening : Opening) (core : CoreState) → BytesAgree opening core → MarkAgrees core
-    → 0 < opening.marks.low → sum_owed core.lanes ≡ 0 → is_set core.word 0 ≡ false
-clear_at_rest opening core bytes agree low nothing =
-    let same_low : core.marks.low ≡ opening.marks.low = ap (λ (m : Marks). m.low) bytes.marks in
+pub clear_at_rest : (grant : Grant) (core : CoreState) → BytesAgree grant core → MarkAgrees core
+    → 0 < grant.marks.low → sum_owed core.lanes ≡ 0 → is_set core.word 0 ≡ false
+clear_at_rest grant core bytes agree low nothing =
+    let same_low : core.marks.low ≡ grant.marks.low = ap (λ (m : Marks). m.low) bytes.marks in
     agree.below (omega (arith, same_low, low, bytes.total, nothing)) (omega (arith, bytes.total, nothing))
 
 -- a core that is sound shows the mark so by the marks of its own
 module _ (core : CoreState) (sound : IsSound core) where
   pub sound_above : core.marks.high < core.total → is_set core.word 0 ≡ true
   sound_above above =
-      set_above sound.opening core sound.accounts.bytes.marks sound.accounts.mark sound.ordered
+      set_above sound.grant core sound.accounts.bytes.marks sound.accounts.mark sound.ordered
       (subst (λ (m : Marks). m.high < core.total) sound.accounts.bytes.marks above)
 
   pub sound_below : core.total < core.marks.low → is_set core.word 0 ≡ false
   sound_below below =
-      clear_below sound.opening core sound.accounts.bytes.marks sound.accounts.mark sound.ordered
+      clear_below sound.grant core sound.accounts.bytes.marks sound.accounts.mark sound.ordered
       (subst (λ (m : Marks). core.total < m.low) sound.accounts.bytes.marks below)
 
   pub sound_at_rest : 0 < core.marks.low → sum_owed core.lanes ≡ 0 → is_set core.word 0 ≡ false
   sound_at_rest low =
-      clear_at_rest sound.opening core sound.accounts.bytes sound.accounts.mark
+      clear_at_rest sound.grant core sound.accounts.bytes sound.accounts.mark
       (subst (λ (m : Marks). 0 < m.low) sound.accounts.bytes.marks low)
 
 -- ---- changes

@@ -6,9 +6,9 @@ pub mod Kept
 pub mod LaneSums
 pub mod LawLemmas
 pub mod Masks
-pub mod OpeningLemmas
+pub mod BeginningLemmas
 pub mod RestLemmas
-pub mod ShareLemmas
+pub mod PartLemmas
 pub mod SoundLemmas
 pub mod StepLemmas
 pub mod TurnLemmas

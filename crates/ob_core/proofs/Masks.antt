@@ -7,7 +7,7 @@ use Rattle.std.proofs.Math.Seq.{drop-cons}
 use Rattle.std.proofs.lemmas.Bool.Decides.{nat_tests}
 use Rattle.std.proofs.lemmas.Nat.{and_or_apart}
 use Rattle.std.proofs.lemmas.Nat.Bits.{bit_at_and, bit_at_or, bit_at-zero, same_from_bits}
-use Rattle.ob_core.specs.Opening.{share_a_bit, any_overlap}
+use Rattle.ob_core.specs.Beginning.{share_a_bit, any_overlap}
 use Rattle.ob_core.specs.declared.lane_start.LaneStart.{LaneStart}
 
 -- where two masks together have no bit of a third, neither has the second
@@ -18,14 +18,14 @@ apart_of_both a b other none =
     omega (arith, bit_at_and b other i, bit_at_and (bit_or a b) other i, bit_at_or a b i, bit_at-zero i, at_i))
 
 -- a test on three masks, by what is known of them
-share-cases : (both first second : ℕ) → (second ≡ 0 → both ≡ first) → (both ≡ 0 → second ≡ 0)
+made_up-cases : (both first second : ℕ) → (second ≡ 0 → both ≡ first) → (both ≡ 0 → second ≡ 0)
     → not (eqb both 0) ≡ (not (eqb first 0) || not (eqb second 0))
-share-cases both first second only_first neither = grind (arith, nat_tests)
+made_up-cases both first second only_first neither = grind (arith, nat_tests)
 
 -- two masks together have a bit of a third where one of them has
 share_a_bit-or : (a b other : ℕ) → share_a_bit (bit_or a b) other ≡ (share_a_bit a other || share_a_bit b other)
 share_a_bit-or a b other =
-    share-cases (bit_and (bit_or a b) other) (bit_and a other) (bit_and b other) (and_or_apart other a b)
+    made_up-cases (bit_and (bit_or a b) other) (bit_and a other) (bit_and b other) (and_or_apart other a b)
     (apart_of_both a b other)
 
 -- the order of four tests

@@ -9,7 +9,7 @@ use Rattle.ob_core.specs.CoreState.{CoreState}
 use Rattle.ob_core.specs.CoreStep.{core_after_step}
 use Rattle.ob_core.specs.LaneStep.{CanMake, FitsTotal, FitsWord}
 use Rattle.ob_core.specs.Limits.{greatest_room}
-use Rattle.ob_core.specs.Opening.{opening_fault, opening_of, new_lane, new_core}
+use Rattle.ob_core.specs.Beginning.{start_fault, grant_of, new_lane, new_core}
 use Rattle.ob_core.specs.Owed.{owed_by, sum_owed}
 use Rattle.ob_core.specs.Sound.{IsSound}
 use Rattle.ob_core.specs.Turn.{step_of, lane_after_nothing}
@@ -21,15 +21,15 @@ use Rattle.ob_core.specs.declared.lane_step.LaneStep.{LaneStep}
 use Rattle.ob_core.specs.declared.lane_step.LaneStep.TheVariants.{Add, Subtract, SetBit, ClearBit, Load}
 use Rattle.ob_core.proofs.AccountsLemmas.{AccountsHold-step, AccountsHold-alike, owed_by-le-total, total-le-room}
 use Rattle.ob_core.proofs.LawLemmas.{IsAlike-nothing}
-use Rattle.ob_core.proofs.OpeningLemmas.{AccountsHold-new, AreFine-no_fault}
+use Rattle.ob_core.proofs.BeginningLemmas.{AccountsHold-new, AreFine-no_fault}
 use Rattle.ob_core.proofs.TurnLemmas.{HasTurn, can_make-step_of}
 
-pub IsSound-new : (marks : Marks) (starts : List LaneStart) → marks.low ≤ marks.high → opening_fault starts ≡ None
+pub IsSound-new : (marks : Marks) (starts : List LaneStart) → marks.low ≤ marks.high → start_fault starts ≡ None
     → IsSound (new_core marks starts)
 IsSound-new marks starts ordered none =
     let fine = AreFine-no_fault starts none in
     record {
-      opening = opening_of marks starts;
+      grant = grant_of marks starts;
       accounts = AccountsHold-new marks starts none;
       ordered = ordered;
       rooms_fit = fine.rooms_fit;
@@ -39,11 +39,11 @@ IsSound-new marks starts ordered none =
 
 -- another lane in the place of one leaves their number as it is
 IsSound-put : (core : CoreState) (total word index : ℕ) (lane : Lane) (sound : IsSound core)
-    → AccountsHold sound.opening
+    → AccountsHold sound.grant
     (record { total = total; word = word; marks = core.marks; lanes = set core.lanes index lane })
     → IsSound (record { total = total; word = word; marks = core.marks; lanes = set core.lanes index lane })
 IsSound-put core total word index lane sound accounts = record {
-  opening = sound.opening;
+  grant = sound.grant;
   accounts = accounts;
   ordered = sound.ordered;
   rooms_fit = sound.rooms_fit;
@@ -56,30 +56,30 @@ pub IsSound-step : (core : CoreState) (index : ℕ) (lane : Lane) (step : LaneSt
     → IsSound (core_after_step core index lane step)
 IsSound-step core index lane step is_lane may sound =
     IsSound-put core _ _ index _ sound
-    (AccountsHold-step sound.opening core index lane step is_lane may sound.accounts)
+    (AccountsHold-step sound.grant core index lane step is_lane may sound.accounts)
 
 pub IsSound-nothing : (core : CoreState) (index : ℕ) (lane : Lane) (ask : Ask)
     → slice_get core.lanes index ≡ Some lane → refusal_of lane ask ≡ None → step_of lane ask ≡ None → IsSound core
     → IsSound (record core { lanes = set core.lanes index (lane_after_nothing lane ask) })
 IsSound-nothing core index lane ask is_lane accepted no_step sound =
     IsSound-put core core.total core.word index _ sound
-    (AccountsHold-alike sound.opening core index lane _ is_lane (IsAlike-nothing lane ask accepted no_step)
+    (AccountsHold-alike sound.grant core index lane _ is_lane (IsAlike-nothing lane ask accepted no_step)
     sound.accounts)
 
 -- what the lanes owe fits a u32
 pub sum_owed-fits : (core : CoreState) → IsSound core → sum_owed core.lanes ≤ greatest_room
 sum_owed-fits core sound = omega
-    (arith, total-le-room sound.opening core sound.accounts.bytes, sound.accounts.bytes.total, sound.rooms_fit)
+    (arith, total-le-room sound.grant core sound.accounts.bytes, sound.accounts.bytes.total, sound.rooms_fit)
 
 -- so the total takes a step that a lane may make
 pub FitsTotal-step : (core : CoreState) (index : ℕ) (lane : Lane) (step : LaneStep)
     → slice_get core.lanes index ≡ Some lane → CanMake lane step → IsSound core → FitsTotal step core.total
 FitsTotal-step core index lane (Add amount) is_lane may sound =
     let after = IsSound-step core index lane (Add amount) is_lane may sound in
-    omega (arith, total-le-room after.opening _ after.accounts.bytes, after.rooms_fit)
+    omega (arith, total-le-room after.grant _ after.accounts.bytes, after.rooms_fit)
 FitsTotal-step core index lane (Subtract amount) is_lane may sound =
     let all_of_it : owed_by lane ≡ amount = ap (λ debt. unwrap_or debt 0) may.0 in
-    omega (arith, all_of_it, owed_by-le-total sound.opening core index lane sound.accounts.bytes is_lane)
+    omega (arith, all_of_it, owed_by-le-total sound.grant core index lane sound.accounts.bytes is_lane)
 FitsTotal-step core index lane (SetBit bit) is_lane may sound = tt
 FitsTotal-step core index lane (ClearBit bit) is_lane may sound = tt
 FitsTotal-step core index lane Load is_lane may sound = tt

@@ -17,17 +17,17 @@ use Rattle.ob_core.specs.declared.lane_step.LaneStep.TheVariants.{Add, Subtract,
 use Rattle.ob_core.proofs.BitLemmas.{SetsBit-with_bit, ClearsBit-without_bit}
 
 -- a lane has the room and the held bits of another
-pub record HasShareOf (old new : Lane) : Type 0 where
+pub record HasGrantOf (old new : Lane) : Type 0 where
   pub room : new.room ≡ old.room
   pub held : new.held ≡ old.held
 
 -- a step leaves its lane both
-pub share-lane_after : (step : LaneStep) (lane : Lane) → HasShareOf lane (lane_after step lane)
-share-lane_after (Add amount) lane = record { room = refl; held = refl }
-share-lane_after (Subtract amount) lane = record { room = refl; held = refl }
-share-lane_after (SetBit index) lane = record { room = refl; held = refl }
-share-lane_after (ClearBit index) lane = record { room = refl; held = refl }
-share-lane_after Load lane = record { room = refl; held = refl }
+pub grant-lane_after : (step : LaneStep) (lane : Lane) → HasGrantOf lane (lane_after step lane)
+grant-lane_after (Add amount) lane = record { room = refl; held = refl }
+grant-lane_after (Subtract amount) lane = record { room = refl; held = refl }
+grant-lane_after (SetBit index) lane = record { room = refl; held = refl }
+grant-lane_after (ClearBit index) lane = record { room = refl; held = refl }
+grant-lane_after Load lane = record { room = refl; held = refl }
 
 -- the total moves by as much as the debt of the lane
 pub moved-step : (step : LaneStep) (total : ℕ) (lane : Lane) → CanMake lane step → owed_by lane ≤ total

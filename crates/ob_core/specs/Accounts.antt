@@ -3,7 +3,7 @@ use Rattle.std.specs.Prelude.{◌≡◌, ℕ, ◌<◌, ◌≤◌, true, false, L
 use Rattle.std.specs.Int.{bit_at}
 use Rattle.ob_core.specs.Bits.{is_set, AreAmong}
 use Rattle.ob_core.specs.CoreState.{CoreState}
-use Rattle.ob_core.specs.Opening.{Opening}
+use Rattle.ob_core.specs.Beginning.{Grant}
 use Rattle.ob_core.specs.Owed.{owed_by, sum_owed}
 use Rattle.ob_core.specs.declared.lane.Lane.{Lane}
 
@@ -24,10 +24,10 @@ abbrev pub IsWithinRoom : Lane → Type 0
 IsWithinRoom lane = owed_by lane ≤ lane.room
 
 -- the total is the sum owed, each lane is within its room, and the rooms add up to the whole
-pub record BytesAgree (opening : Opening) (core : CoreState) : Type 0 where
-  pub marks : core.marks ≡ opening.marks
+pub record BytesAgree (grant : Grant) (core : CoreState) : Type 0 where
+  pub marks : core.marks ≡ grant.marks
   pub total : core.total ≡ sum_owed core.lanes
-  pub rooms : sum_of_rooms core.lanes ≡ opening.room
+  pub rooms : sum_of_rooms core.lanes ≡ grant.room
   pub within : All IsWithinRoom core.lanes
 
 -- bit 0 is set while the total is above the high mark and not below the low one, and clear while it is below the low
@@ -37,16 +37,16 @@ pub record MarkAgrees (core : CoreState) : Type 0 where
   pub above : core.marks.high < core.total → core.marks.low ≤ core.total → is_set core.word 0 ≡ true
   pub below : core.total < core.marks.low → core.total ≤ core.marks.high → is_set core.word 0 ≡ false
 
--- each bit is held by at most one lane, and only if the opening has it, which leaves bit 0 to the mark; a lane raises
+-- each bit is held by at most one lane, and only if the grant has it, which leaves bit 0 to the mark; a lane raises
 -- only what it holds, and but for bit 0 the word shows exactly what some lane has raised
-pub record BitsAgree (opening : Opening) (core : CoreState) : Type 0 where
-  pub mark : is_set opening.bits 0 ≡ false
-  pub held : (index : ℕ) → holders core.lanes index ≤ bit_at opening.bits index
+pub record BitsAgree (grant : Grant) (core : CoreState) : Type 0 where
+  pub mark : is_set grant.bits 0 ≡ false
+  pub held : (index : ℕ) → holders core.lanes index ≤ bit_at grant.bits index
   pub among : All (λ lane. AreAmong lane.raised lane.held) core.lanes
   pub shown : (index : ℕ) → 0 < index → raisers core.lanes index ≡ bit_at core.word index
 
 -- the accounts of a core state with what it was opened with: those of the bytes, the mark and the bits
-pub record AccountsHold (opening : Opening) (core : CoreState) : Type 0 where
-  pub bytes : BytesAgree opening core
+pub record AccountsHold (grant : Grant) (core : CoreState) : Type 0 where
+  pub bytes : BytesAgree grant core
   pub mark : MarkAgrees core
-  pub bits : BitsAgree opening core
+  pub bits : BitsAgree grant core

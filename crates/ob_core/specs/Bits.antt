@@ -32,5 +32,5 @@ abbrev pub AreAmong : ℕ → ℕ → Type 0
 AreAmong bits mask = (index : ℕ) → bit_at bits index ≤ bit_at mask index
 
 -- of each bit, two masks have together what the whole has
-abbrev pub ShareOut : ℕ → ℕ → ℕ → Type 0
-ShareOut whole first second = (index : ℕ) → bit_at first index + bit_at second index ≡ bit_at whole index
+abbrev pub MakeUp : ℕ → ℕ → ℕ → Type 0
+MakeUp whole first second = (index : ℕ) → bit_at first index + bit_at second index ≡ bit_at whole index

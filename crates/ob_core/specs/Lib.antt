@@ -9,12 +9,13 @@ pub mod Inside
 pub mod LaneStep
 pub mod Limits
 pub mod OneStep
-pub mod Opening
+pub mod Beginning
 pub mod Owed
 pub mod Rest
 pub mod Run
-pub mod Shares
+pub mod Parts
 pub mod Sound
 pub mod Turn
 pub mod Worked
 pub mod WorldFault
+pub mod Words

@@ -6,17 +6,17 @@ use Rattle.ob_core.specs.Bits.{with_bit, without_bit, SetsBit, ClearsBit}
 use Rattle.ob_core.specs.CoreState.{CoreState}
 use Rattle.ob_core.specs.Found.{value_found, change_found}
 use Rattle.ob_core.specs.LaneStep.{word_after}
-use Rattle.ob_core.specs.Opening.{Opening}
+use Rattle.ob_core.specs.Beginning.{Grant}
 use Rattle.ob_core.specs.Rest.{LeavesRest}
-use Rattle.ob_core.specs.Shares.{AreShares, IsDivision, IsMerger, spent_lane}
+use Rattle.ob_core.specs.Parts.{AreParts, IsDivision, IsMerger, spent_lane}
 use Rattle.ob_core.specs.declared.lane.Lane.{Lane}
 use Rattle.ob_core.specs.declared.lane_step.LaneStep.TheVariants.{Add, Subtract, SetBit, ClearBit, Load}
 
 -- ---- accounts
 
 -- marks of 50 and 100, a room of 120, bits 1 and 2
-abbrev pub opening : Opening
-opening = record { marks = record { low = 50; high = 100 }; room = 120; bits = 6 }
+abbrev pub grant : Grant
+grant = record { marks = record { low = 50; high = 100 }; room = 120; bits = 6 }
 
 -- a lane that holds bit 1 and one that holds bit 2, with half of the room each
 abbrev pub first_lane : ℕ → Lane
@@ -26,39 +26,39 @@ abbrev pub second_lane : Lane
 second_lane = record { room = 60; debt = None; held = 4; raised = 0 }
 
 abbrev pub state : ℕ → ℕ → List Lane → CoreState
-state total word lanes = record { total = total; word = word; marks = opening.marks; lanes = lanes }
+state total word lanes = record { total = total; word = word; marks = grant.marks; lanes = lanes }
 
 -- the first lane owes 60 and has raised bit 1
 abbrev pub GoodAccounts : Type 0
-GoodAccounts = AccountsHold opening (state 60 2 (first_lane 2 ∷ second_lane ∷ []))
+GoodAccounts = AccountsHold grant (state 60 2 (first_lane 2 ∷ second_lane ∷ []))
 
 -- none of these accounts holds: the total is not what is owed; bit 2 is shown, and no lane raised it; bit 1 is raised,
 -- and not shown; both lanes hold bit 1; a lane raises bit 2, which it does not hold; a lane is missing, and its room
 abbrev pub WrongTotal : Type 0
-WrongTotal = AccountsHold opening (state 61 2 (first_lane 2 ∷ second_lane ∷ [])) → ⊥
+WrongTotal = AccountsHold grant (state 61 2 (first_lane 2 ∷ second_lane ∷ [])) → ⊥
 
 abbrev pub ShownAndNotRaised : Type 0
-ShownAndNotRaised = AccountsHold opening (state 60 6 (first_lane 2 ∷ second_lane ∷ [])) → ⊥
+ShownAndNotRaised = AccountsHold grant (state 60 6 (first_lane 2 ∷ second_lane ∷ [])) → ⊥
 
 abbrev pub RaisedAndNotShown : Type 0
-RaisedAndNotShown = AccountsHold opening (state 60 0 (first_lane 2 ∷ second_lane ∷ [])) → ⊥
+RaisedAndNotShown = AccountsHold grant (state 60 0 (first_lane 2 ∷ second_lane ∷ [])) → ⊥
 
 abbrev pub HeldTwice : Type 0
-HeldTwice = AccountsHold opening (state 60 0 (first_lane 0 ∷ (record second_lane { held = 2 }) ∷ [])) → ⊥
+HeldTwice = AccountsHold grant (state 60 0 (first_lane 0 ∷ (record second_lane { held = 2 }) ∷ [])) → ⊥
 
 abbrev pub RaisedAndNotHeld : Type 0
-RaisedAndNotHeld = AccountsHold opening (state 60 4 (first_lane 4 ∷ second_lane ∷ [])) → ⊥
+RaisedAndNotHeld = AccountsHold grant (state 60 4 (first_lane 4 ∷ second_lane ∷ [])) → ⊥
 
 abbrev pub LostRoom : Type 0
-LostRoom = AccountsHold opening (state 60 2 (first_lane 2 ∷ [])) → ⊥
+LostRoom = AccountsHold grant (state 60 2 (first_lane 2 ∷ [])) → ⊥
 
 -- bit 0 is set at a total of 0
 abbrev pub ForgottenMark : Type 0
-ForgottenMark = AccountsHold opening (state 0 1 ((record second_lane { room = 120 }) ∷ [])) → ⊥
+ForgottenMark = AccountsHold grant (state 0 1 ((record second_lane { room = 120 }) ∷ [])) → ⊥
 
 -- bit 0 is clear at a total of 120
 abbrev pub LostMark : Type 0
-LostMark = AccountsHold opening (state 120 0 ((record second_lane { room = 120; debt = Some 120 }) ∷ [])) → ⊥
+LostMark = AccountsHold grant (state 120 0 ((record second_lane { room = 120; debt = Some 120 }) ∷ [])) → ⊥
 
 -- bit 0 is set above 100 and clear below 50, and from 50 to 100 it may be either
 abbrev pub Marked : Type 0
@@ -73,9 +73,9 @@ Marked =
 -- a lane owes more than its room
 abbrev pub OwingMoreThanRoom : Type 0
 OwingMoreThanRoom =
-    AccountsHold opening (state 61 2 ((record (first_lane 2) { debt = Some 61 }) ∷ second_lane ∷ [])) → ⊥
+    AccountsHold grant (state 61 2 ((record (first_lane 2) { debt = Some 61 }) ∷ second_lane ∷ [])) → ⊥
 
--- ---- shares
+-- ---- parts
 
 -- a free lane with this room, these bits, and these of them raised
 abbrev pub free_lane : ℕ → ℕ → ℕ → Lane
@@ -83,11 +83,11 @@ free_lane room held raised = record { room = room; debt = None; held = held; rai
 
 -- a lane with room 10 that holds bits 1 and 2 and raised bit 1 gives bit 2 and no room
 abbrev pub BitGiven : Type 0
-BitGiven = AreShares (free_lane 10 6 2) (free_lane 10 2 2) (free_lane 0 4 0)
+BitGiven = AreParts (free_lane 10 6 2) (free_lane 10 2 2) (free_lane 0 4 0)
 
 -- it can't give bit 2 and keep it
 abbrev pub BitGivenAndKept : Type 0
-BitGivenAndKept = AreShares (free_lane 10 6 2) (free_lane 10 6 2) (free_lane 0 4 0) → ⊥
+BitGivenAndKept = AreParts (free_lane 10 6 2) (free_lane 10 6 2) (free_lane 0 4 0) → ⊥
 
 -- a free lane with half of the room gives 20 of it and no bit to a new lane behind all lanes
 abbrev pub Divided : Type 0
@@ -114,27 +114,27 @@ Finds = value_found (state 60 5 []) ≡ 21474836540
 -- other bits stay
 abbrev pub WordsAfter : Type 0
 WordsAfter =
-    (word_after (Add 41) opening.marks 60 4 ≡ 5)
-    × (word_after (Add 40) opening.marks 60 4 ≡ 4)
-    × (word_after (Subtract 11) opening.marks 60 5 ≡ 4)
-    × (word_after (Subtract 10) opening.marks 60 5 ≡ 5)
+    (word_after (Add 41) grant.marks 60 4 ≡ 5)
+    × (word_after (Add 40) grant.marks 60 4 ≡ 4)
+    × (word_after (Subtract 11) grant.marks 60 5 ≡ 4)
+    × (word_after (Subtract 10) grant.marks 60 5 ≡ 5)
 
 -- the writers stop where a bit was set in a word of 0, and go on where the one bit that was set was cleared, whatever
 -- the total beside it
 abbrev pub Changes : Type 0
 Changes =
-    (change_found (Add 41) opening.marks 60 ≡ Some Unwritable)
-    × (change_found (Add 40) opening.marks 60 ≡ None)
-    × (change_found (Add 41) opening.marks (4 * 2 ^ 32 + 60) ≡ None)
-    × (change_found (Subtract 60) opening.marks (2 ^ 32 + 109) ≡ Some Writable)
-    × (change_found (Subtract 60) opening.marks (2 ^ 32 + 110) ≡ None)
-    × (change_found (Subtract 60) opening.marks (5 * 2 ^ 32 + 109) ≡ None)
-    × (change_found (SetBit 2) opening.marks 60 ≡ Some Unwritable)
-    × (change_found (SetBit 2) opening.marks (2 ^ 32 + 60) ≡ None)
-    × (change_found (ClearBit 2) opening.marks (4 * 2 ^ 32 + 60) ≡ Some Writable)
-    × (change_found (ClearBit 2) opening.marks (6 * 2 ^ 32) ≡ None)
-    × (change_found (ClearBit 2) opening.marks (2 * 2 ^ 32) ≡ None)
-    × (change_found Load opening.marks 60 ≡ None)
+    (change_found (Add 41) grant.marks 60 ≡ Some Unwritable)
+    × (change_found (Add 40) grant.marks 60 ≡ None)
+    × (change_found (Add 41) grant.marks (4 * 2 ^ 32 + 60) ≡ None)
+    × (change_found (Subtract 60) grant.marks (2 ^ 32 + 109) ≡ Some Writable)
+    × (change_found (Subtract 60) grant.marks (2 ^ 32 + 110) ≡ None)
+    × (change_found (Subtract 60) grant.marks (5 * 2 ^ 32 + 109) ≡ None)
+    × (change_found (SetBit 2) grant.marks 60 ≡ Some Unwritable)
+    × (change_found (SetBit 2) grant.marks (2 ^ 32 + 60) ≡ None)
+    × (change_found (ClearBit 2) grant.marks (4 * 2 ^ 32 + 60) ≡ Some Writable)
+    × (change_found (ClearBit 2) grant.marks (6 * 2 ^ 32) ≡ None)
+    × (change_found (ClearBit 2) grant.marks (2 * 2 ^ 32) ≡ None)
+    × (change_found Load grant.marks 60 ≡ None)
 
 -- bits 31, 32 and 33 of a word of more than 32 bits
 abbrev pub WideBits : Type 0

@@ -1,6 +1,6 @@
 ghost use Rattle.std.specs.Prelude.{◌≡◌, ◌≤◌, length, map, IfOk, slice_get};
 ghost use Rattle.ob_core.specs.Limits.{most_lanes};
-ghost use Rattle.ob_core.specs.Opening.{new_lane};
+ghost use Rattle.ob_core.specs.Beginning.{new_lane};
 ghost use Rattle.ob_core.specs.Owed.{sum_owed};
 
 use crate::ask::Ask;
@@ -28,7 +28,7 @@ pub struct Lane {
 impl Lane {
     ghost use Rattle.std.specs.Prelude.{◌≡◌};
     ghost use Rattle.ob_core.specs.AskFault.{is_held, refusal_of};
-    ghost use Rattle.ob_core.specs.Opening.{new_lane};
+    ghost use Rattle.ob_core.specs.Beginning.{new_lane};
     ghost use Rattle.ob_core.specs.Owed.{owed_by};
     ghost use Rattle.ob_core.specs.Turn.{step_of, lane_after_nothing};
 

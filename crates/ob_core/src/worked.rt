@@ -19,7 +19,7 @@ fn worked_accounts()
     ensures owing_more_than_room { OwingMoreThanRoom }
 {}
 
-fn worked_shares()
+fn worked_parts()
     ensures bit_given { BitGiven }
     ensures bit_given_and_kept { BitGivenAndKept }
     ensures divided { Divided }

@@ -1,5 +1,5 @@
 ghost use Rattle.std.specs.Prelude.{◌≡◌, IfOk, IfSome, IsOkUnless};
-ghost use Rattle.ob_core.specs.Opening.{opening_fault, new_world};
+ghost use Rattle.ob_core.specs.Beginning.{start_fault, new_world};
 ghost use Rattle.ob_core.specs.Turn.{event_of, core_after, change_of};
 
 mod looks;
@@ -7,9 +7,9 @@ mod looks;
 use crate::ask::Turn;
 use crate::ask_fault::AskFault;
 use crate::event::Event;
+use crate::grant::find_fault;
 use crate::lane::{Lane, find_lane, make_lanes};
 use crate::lane_start::LaneStart;
-use crate::opening::find_fault;
 use crate::world_fault::WorldFault;
 use ob_types::{Change, WaterMark};
 use std::alloc::Global;
@@ -47,8 +47,8 @@ impl World {
     /// lane owes anything. The faults are asked in the order of `WorldFault`; `NoMemory` comes only
     /// where there is no other.
     pub fn new(alloc: Global, marks: WaterMark, starts: &[LaneStart]) -> Result<World, WorldFault>
-        ensures fault { IfSome (opening_fault starts.now) (λ fault. result ≡ Err fault) }
-        ensures no_memory { opening_fault starts.now ≡ None → IsOkUnless result WorldFault.NoMemory }
+        ensures fault { IfSome (start_fault starts.now) (λ fault. result ≡ Err fault) }
+        ensures no_memory { start_fault starts.now ≡ None → IsOkUnless result WorldFault.NoMemory }
         ensures ok { IfOk result (λ world. world ≡ new_world marks starts.now) }
     {
         if let Some(fault) = find_fault(starts) {

@@ -13,3 +13,4 @@ pub mod Replay
 pub mod Seen
 pub mod Settlements
 pub mod Worked
+pub mod Words

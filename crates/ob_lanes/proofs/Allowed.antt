@@ -9,7 +9,7 @@ use Rattle.atomic_table.specs.Table.{Step, step, Allows}
 use Rattle.atomic_table.specs.declared.shared.Seat.{Seat}
 use prog.Atomic.{either}
 use Rattle.ob_types.specs.Packed.{total_half}
-use Rattle.ob_core.specs.Opening.{Opening}
+use Rattle.ob_core.specs.Beginning.{Grant}
 use Rattle.ob_core.specs.Owed.{owed_by}
 use Rattle.ob_core.proofs.FoundLemmas.{total_half-packed}
 use Rattle.ob_types.specs.WaterMark.{Marks}
@@ -26,28 +26,28 @@ use Rattle.ob_lanes.specs.Told.{PackedTold, MakesOrReads}
 use Rattle.ob_lanes.specs.declared.facts.Facts.{Facts}
 use Rattle.ob_lanes.specs.declared.words.Words.TheInside.{Inside as WordsInside}
 use Rattle.ob_lanes.proofs.KeptAccounts.{word_fits}
-use Rattle.ob_lanes.proofs.Moves.{St, core, may_make, opening_known}
+use Rattle.ob_lanes.proofs.Moves.{St, core, may_make, grant_known}
 use Rattle.ob_lanes.proofs.Packs.{halves_packed, with_bit-halves, without_bit-halves}
 use Rattle.ob_lanes.proofs.Views.{slice_get_map}
 
 -- what a seat learns from what it finds
-packed_told : (opening : Opening) (s : St) (id : ℕ) (facts : Facts) → opening.bits < 2 ^ 32 → Ruled opening s
+packed_told : (grant : Grant) (s : St) (id : ℕ) (facts : Facts) → grant.bits < 2 ^ 32 → Ruled grant s
     → get_elem? s.views id ≡ some facts → PackedTold facts (get_or s.words 0 0)
-packed_told opening s id facts bits ruled at =
+packed_told grant s id facts bits ruled at =
     let here = slice_get_map (λ (f : Facts). f.lane) s.views id facts at in
-    let room : facts.opening.room ≡ opening.room =
-    ap (λ (o : Opening). o.room) (opening_known opening s id facts ruled at) in
+    let room : facts.grant.room ≡ grant.room =
+    ap (λ (o : Grant). o.room) (grant_known grant s id facts ruled at) in
     record {
-      no_less = owed_by-le-total opening (core opening s) id facts.lane ruled.accounts.bytes here;
-      no_more = omega (arith, total-le-outside opening (core opening s) id facts.lane ruled.accounts.bytes here, room);
-      fits = word_fits opening (core opening s) ruled.accounts bits;
-      shows = λ index. shown-held opening (core opening s) id facts.lane index ruled.accounts.bits here;
+      no_less = owed_by-le-total grant (core grant s) id facts.lane ruled.accounts.bytes here;
+      no_more = omega (arith, total-le-outside grant (core grant s) id facts.lane ruled.accounts.bytes here, room);
+      fits = word_fits grant (core grant s) ruled.accounts bits;
+      shows = λ index. shown-held grant (core grant s) id facts.lane index ruled.accounts.bits here;
     }
 
 module _ (words : WordsInside) (are : AreWords words) (value : WordsValue) (view_is : words_of words ≡ value)
     (seat : Seat (Unit {0}) Facts) where
-  abbrev opening : Opening
-  opening = words.table.shared.key
+  abbrev grant : Grant
+  grant = words.table.shared.key
 
   abbrev me : Knows
   me = seat.me
@@ -57,27 +57,27 @@ module _ (words : WordsInside) (are : AreWords words) (value : WordsValue) (view
   MayDo makes then =
       (seat.table_id ≡ words.table.shared.table_id)
       × (0 < words.table.shared.table_id.words)
-      × Allows (Ruled opening) words.table.shared.table_id.slots seat.id me 0 makes then
+      × Allows (Ruled grant) words.table.shared.table_id.slots seat.id me 0 makes then
 
   -- what is computed under the marks that the words tell is computed under those of their table
-  pub under_marks : (step : LaneStep) (marks : Marks) (found next : ℕ) → marks ≡ value.opening.marks
-      → next ≡ packed_after step marks found → next ≡ packed_after step opening.marks found
+  pub under_marks : (step : LaneStep) (marks : Marks) (found next : ℕ) → marks ≡ value.grant.marks
+      → next ≡ packed_after step marks found → next ≡ packed_after step grant.marks found
   under_marks step marks found next is computes =
-      let same = are.key ∙ ap (λ (v : WordsValue). v.opening) view_is in
-      computes ∙ ap (λ m. packed_after step m found) (is ∙ sym (ap (λ (o : Opening). o.marks) same))
+      let same = are.key ∙ ap (λ (v : WordsValue). v.grant) view_is in
+      computes ∙ ap (λ m. packed_after step m found) (is ∙ sym (ap (λ (o : Grant). o.marks) same))
 
   -- where the lane may make the step, and it makes of the word what the core says
   always : (step : LaneStep) → MayMake value seat step → (makes : ℕ → ℕ)
-      → ((found : ℕ) → found < 2 ^ 64 → makes found ≡ packed_after step opening.marks found)
+      → ((found : ℕ) → found < 2 ^ 64 → makes found ≡ packed_after step grant.marks found)
       → MayDo makes (Told step me)
   always step asked makes computes =
       let one = are.one in (
         asked.of.0 ∙ sym (ap (λ (v : WordsValue). v.table_id) view_is),
         omega (arith, one),
         λ s ruled homes at small.
-            let told = packed_told opening s seat.id me.0 are.bits_fit ruled at in
+            let told = packed_told grant s seat.id me.0 are.bits_fit ruled at in
             let found = get_or s.words 0 0 in
-            may_make opening s seat.id (makes found) me step are.room_fits ruled at asked.of.2 asked.may (computes found small) told,
+            may_make grant s seat.id (makes found) me step are.room_fits ruled at asked.of.2 asked.may (computes found small) told,
       )
 
   pub may_load : MayMake value seat Load → MayDo (λ n. n) (Told Load me)
@@ -85,25 +85,25 @@ module _ (words : WordsInside) (are : AreWords words) (value : WordsValue) (view
 
   -- an exchange is the step where it finds what it expects, and a read elsewhere
   module _ (step : LaneStep) (asked : MayMake value seat step) (expected next : ℕ)
-      (computes : next ≡ packed_after step opening.marks expected) where
-    by_case : (s : St) (ruled : Ruled opening s) (at : get_elem? s.views seat.id ≡ some me.0) (same : Bool)
+      (computes : next ≡ packed_after step grant.marks expected) where
+    by_case : (s : St) (ruled : Ruled grant s) (at : get_elem? s.views seat.id ≡ some me.0) (same : Bool)
         → eqb (get_or s.words 0 0) expected ≡ same
         → (new : Facts) × (act : Rattle.atomic_table.specs.Table.Act (Unit {0}))
         × Rattle.atomic_table.specs.Table.Valid s.homes me.1 act
-        × Ruled opening
+        × Ruled grant
         (Rattle.atomic_table.specs.Table.stepped s 0 (either same next (get_or s.words 0 0)) seat.id me.1 new act)
         × ToldTry step expected me (get_or s.words 0 0) (new, Rattle.atomic_table.specs.Table.carried_after me.1 act)
     by_case s ruled at true is =
         let found = get_or s.words 0 0 in
         let same : found ≡ expected = eqb-true found expected is in
-        let told = packed_told opening s seat.id me.0 are.bits_fit ruled at in
-        let t = may_make opening s seat.id next me step are.room_fits ruled at asked.of.2 asked.may
-        (computes ∙ ap (packed_after step opening.marks) (sym same)) told in
+        let told = packed_told grant s seat.id me.0 are.bits_fit ruled at in
+        let t = may_make grant s seat.id next me step are.room_fits ruled at asked.of.2 asked.may
+        (computes ∙ ap (packed_after step grant.marks) (sym same)) told in
         (t.0, t.1, t.2, t.3, record { made = λ _. t.4; read = λ other. absurd (other same) })
     by_case s ruled at false is =
         let found = get_or s.words 0 0 in
-        let told = packed_told opening s seat.id me.0 are.bits_fit ruled at in
-        let t = may_make opening s seat.id found me Load are.room_fits ruled at asked.of.2 tt (sym (halves_packed found)) told in
+        let told = packed_told grant s seat.id me.0 are.bits_fit ruled at in
+        let t = may_make grant s seat.id found me Load are.room_fits ruled at asked.of.2 tt (sym (halves_packed found)) told in
         (t.0, t.1, t.2, t.3, record { made = λ same. absurd (eqb-false found expected is same); read = λ _. t.4 })
 
     pub may_try : MayDo (λ n. either (eqb n expected) next n) (ToldTry step expected me)
@@ -116,7 +116,7 @@ module _ (words : WordsInside) (are : AreWords words) (value : WordsValue) (view
 
   -- an exchange that moves the total is told by how much
   pub may_move : (step_of : ℕ → LaneStep) (amount moved found next : ℕ) (marks : Marks)
-      → MayMake value seat (step_of amount) → marks ≡ value.opening.marks
+      → MayMake value seat (step_of amount) → marks ≡ value.grant.marks
       → next ≡ packed_after (step_of amount) marks found → moved ≡ amount
       → MayDo (λ n. either (eqb n found) next n) (ToldTry (step_of moved) found me)
   may_move step_of amount moved found next marks asked are_marks computes is =
@@ -154,11 +154,11 @@ module _ (words : WordsInside) (are : AreWords words) (value : WordsValue) (view
 
 -- by how much an exchange moves the total is read off its two values: a charge that a lane may make fits
 pub added_is : {value : WordsValue} (seat : Seat (Unit {0}) Facts) (amount found next : ℕ) (marks : Marks)
-    → value.opening.room < 4294967296 → MayMake value seat (Add amount) → PackedTold seat.me.0 found
+    → value.grant.room < 4294967296 → MayMake value seat (Add amount) → PackedTold seat.me.0 found
     → next ≡ packed_after (Add amount) marks found → total_half next - total_half found ≡ amount
 added_is seat amount found next marks room asked told computes =
     let nothing : owed_by seat.me.0.lane ≡ 0 = ap (λ debt. unwrap_or debt 0) asked.may.0 in
-    let same = ap (λ (o : Opening). o.room) asked.of.1 in
+    let same = ap (λ (o : Grant). o.room) asked.of.1 in
     let fits : total_half found + amount < 4294967296 = omega (arith, nothing, told.no_more, asked.may.2, room, same) in
     omega (arith, ap total_half computes ∙ total_half-packed _ _ fits)
 

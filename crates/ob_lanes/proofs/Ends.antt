@@ -6,8 +6,8 @@ use Rattle.atomic_table.specs.declared.shared.Seat.{Seat}
 use Rattle.ob_types.specs.Packed.{word_half, total_half}
 use Rattle.ob_core.specs.Bits.{is_set}
 use Rattle.ob_core.specs.declared.lane.Lane.{Lane}
-use Rattle.ob_core.specs.Opening.{Opening}
-use Rattle.ob_core.specs.Shares.{IsFree}
+use Rattle.ob_core.specs.Beginning.{Grant}
+use Rattle.ob_core.specs.Parts.{IsFree}
 use Rattle.ob_lanes.specs.InRun.{EndsRun, EndedIn}
 use Rattle.ob_lanes.specs.Ruled.{HasEnded}
 use Rattle.std.proofs.lemmas.List.Elements.{All-weaker}
@@ -23,7 +23,7 @@ use Rattle.ob_lanes.proofs.Views.{slice_get_map, made_at-here, spent-apart}
 abbrev lane_of : Facts → Lane
 lane_of facts = facts.lane
 
-module _ (opening : Opening) (seat : Seat (Unit {0}) Facts) (both : ℕ) (end : IsEnd opening seat both) where
+module _ (grant : Grant) (seat : Seat (Unit {0}) Facts) (both : ℕ) (end : IsEnd grant seat both) where
   abbrev facts : Facts
   facts = seat.me.0
 
@@ -36,7 +36,7 @@ module _ (opening : Opening) (seat : Seat (Unit {0}) Facts) (both : ℕ) (end : 
   pub held_shown : ShowsHeld facts.lane (word_half both)
   held_shown index held =
       ap (λ n. bit_at n index) (ap word_half (sym end.both_is))
-      ∙ shown-held opening (core opening end.state) seat.id facts.lane index end.ruled.accounts.bits at_lane held
+      ∙ shown-held grant (core grant end.state) seat.id facts.lane index end.ruled.accounts.bits at_lane held
 
   -- each lane that the seat has taken in stands in the run
   all_ended : facts.spent ≡ false → All (EndedIn end.ruled.run.moves seat.id) facts.taken
@@ -52,34 +52,34 @@ module _ (opening : Opening) (seat : Seat (Unit {0}) Facts) (both : ℕ) (end : 
       }) facts.taken
       (of_seat (λ (f : Facts). All (HasEnded views) f.taken) end.state seat.id facts end.ruled.taken end.at)
 
-  pub runs : (lane : RunningLane) → lane.words.opening ≡ opening → lane.lane ≡ facts.lane → lane.made ≡ facts.made
+  pub runs : (lane : RunningLane) → lane.words.grant ≡ grant → lane.lane ≡ facts.lane → lane.made ≡ facts.made
       → lane.seen ≡ facts.seen → lane.name ≡ facts.name → lane.taken ≡ facts.taken → facts.spent ≡ false → EndsRun lane (total_half both) (word_half both)
-  runs lane same_opening same_lane same_made same_seen same_name same_taken live =
-      let here = stands opening end.state seat.id facts end.ruled end.at in
+  runs lane same_grant same_lane same_made same_seen same_name same_taken live =
+      let here = stands grant end.state seat.id facts end.ruled end.at in
       record {
-        core = core opening end.state;
+        core = core grant end.state;
         moves = end.ruled.run.moves;
         seat = seat.id;
-        in_run = rw (same_opening, same_lane, same_made, same_name) here;
-        begins = rw same_seen (begins_seen opening end.state seat.id facts end.ruled end.at);
+        in_run = rw (same_grant, same_lane, same_made, same_name) here;
+        begins = rw same_seen (begins_seen grant end.state seat.id facts end.ruled end.at);
         ended = rw same_taken (all_ended live);
         total_is = ap total_half end.both_is;
         word_is = ap word_half end.both_is;
       }
 
-  -- no lane has raised a bit that the opening has not
-  pub foreign_clear : (index : ℕ) → 0 < index → bit_at opening.bits index ≡ 0 → bit_at (word_half both) index ≡ 0
+  -- no lane has raised a bit that the grant has not
+  pub foreign_clear : (index : ℕ) → 0 < index → bit_at grant.bits index ≡ 0 → bit_at (word_half both) index ≡ 0
   foreign_clear index user none =
       ap (λ n. bit_at n index) (ap word_half (sym end.both_is))
-      ∙ not_opened opening (core opening end.state) index end.ruled.accounts user none
+      ∙ not_opened grant (core grant end.state) index end.ruled.accounts user none
 
-  module _ (free : IsFree facts.lane) (whole : opening.room ≤ facts.lane.room) where
+  module _ (free : IsFree facts.lane) (whole : grant.room ≤ facts.lane.room) where
     pub none_left : total_half both ≡ 0
     none_left =
-        ap total_half (sym end.both_is) ∙ nothing_left opening (core opening end.state) seat.id facts.lane end.ruled.accounts at_lane
+        ap total_half (sym end.both_is) ∙ nothing_left grant (core grant end.state) seat.id facts.lane end.ruled.accounts at_lane
         free whole
 
-    pub mark_is_clear : 0 < opening.marks.low → is_set (word_half both) 0 ≡ false
+    pub mark_is_clear : 0 < grant.marks.low → is_set (word_half both) 0 ≡ false
     mark_is_clear positive =
         ap (λ n. is_set n 0) (ap word_half (sym end.both_is))
-        ∙ mark_clear opening (core opening end.state) seat.id facts.lane end.ruled.accounts at_lane free whole positive
+        ∙ mark_clear grant (core grant end.state) seat.id facts.lane end.ruled.accounts at_lane free whole positive

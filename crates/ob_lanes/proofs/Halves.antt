@@ -10,16 +10,16 @@ use Rattle.ob_core.specs.declared.lane.Lane.{Lane}
 use Rattle.ob_lanes.specs.Divided.{kept_lane, given_lane, both_lanes}
 use Rattle.ob_lanes.specs.Joined.{IsJoined}
 use Rattle.ob_lanes.specs.Split.{split_fault, are_held, IsSplit}
-use Rattle.ob_core.specs.Bits.{AreAmong, ShareOut}
-use Rattle.ob_core.specs.Shares.{IsFree, AreShares}
+use Rattle.ob_core.specs.Bits.{AreAmong, MakeUp}
+use Rattle.ob_core.specs.Parts.{IsFree, AreParts}
 use Rattle.ob_lanes.specs.declared.fault.SplitFault.TheVariants.{NoRoom, NotHeld}
 use Rattle.ob_lanes.proofs.HeldBits.{are_held-from_among, among-from_are_held, among-from_or, or-from_among}
 
 module _ (room bits : ℕ) (lane : Lane) (enough : room ≤ lane.room) (among : AreAmong bits lane.held) where
-  held_shared : ShareOut lane.held (bit_xor lane.held bits) bits
+  held_shared : MakeUp lane.held (bit_xor lane.held bits) bits
   held_shared i = omega (arith, bit_at_xor lane.held bits i, among i, bit_at-lt lane.held i)
 
-  raised_shared : ShareOut lane.raised (bit_xor lane.raised (bit_and lane.raised bits)) (bit_and lane.raised bits)
+  raised_shared : MakeUp lane.raised (bit_xor lane.raised (bit_and lane.raised bits)) (bit_and lane.raised bits)
   raised_shared i =
       omega (
         arith,
@@ -55,9 +55,9 @@ module _ (room bits : ℕ) (lane : Lane) (enough : room ≤ lane.room) (among : 
       )
 
   -- what the core asks of a division
-  shares : IsFree lane → AreAmong lane.raised lane.held
-      → AreShares lane (kept_lane room bits lane) (given_lane room bits lane)
-  shares free within = record {
+  parts : IsFree lane → AreAmong lane.raised lane.held
+      → AreParts lane (kept_lane room bits lane) (given_lane room bits lane)
+  parts free within = record {
     whole_free = free;
     first_free = record { debt = refl };
     second_free = record { debt = refl };
@@ -90,11 +90,11 @@ held_unless_refused room bits lane small fine =
     or-from_among bits lane.held (among-from_are_held bits lane.held small none.1)
 
 -- what the core asks of a division that is not refused
-pub are_shares : (room bits : ℕ) (lane : Lane) → bits < 2 ^ 32 → split_fault lane room bits ≡ None → IsFree lane
-    → AreAmong lane.raised lane.held → AreShares lane (kept_lane room bits lane) (given_lane room bits lane)
-are_shares room bits lane small fine free within =
+pub are_parts : (room bits : ℕ) (lane : Lane) → bits < 2 ^ 32 → split_fault lane room bits ≡ None → IsFree lane
+    → AreAmong lane.raised lane.held → AreParts lane (kept_lane room bits lane) (given_lane room bits lane)
+are_parts room bits lane small fine free within =
     let none = no_fault (nat_lt lane.room room) (are_held bits lane.held) fine in
-    shares room bits lane (grind (arith, nat_tests, none.0)) (among-from_are_held bits lane.held small none.1) free within
+    parts room bits lane (grind (arith, nat_tests, none.0)) (among-from_are_held bits lane.held small none.1) free within
 
 -- the same in the words of the caller
 pub split_told : (room bits : ℕ) (lane seated first second : Lane) → seated ≡ lane → room ≤ seated.room
@@ -119,7 +119,7 @@ apart_or a b i apart = omega (arith, bit_at_or a b i)
 -- what the core asks of a merger
 pub are_merged : (whole : ℕ) (lane other : Lane) → IsFree lane → IsFree other → AreAmong lane.raised lane.held
     → AreAmong other.raised other.held → lane.room + other.room ≤ whole
-    → ((i : ℕ) → bit_at lane.held i + bit_at other.held i ≤ 1) → AreShares (both_lanes whole lane other) lane other
+    → ((i : ℕ) → bit_at lane.held i + bit_at other.held i ≤ 1) → AreParts (both_lanes whole lane other) lane other
 are_merged whole lane other free other_free within other_within fits apart = record {
   whole_free = record { debt = refl };
   first_free = free;

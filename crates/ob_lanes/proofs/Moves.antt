@@ -14,7 +14,7 @@ use Rattle.ob_core.specs.Accounts.{AccountsHold}
 use Rattle.ob_core.specs.CoreState.{CoreState}
 use Rattle.ob_core.specs.CoreStep.{IsCoreStep, core_after_step}
 use Rattle.ob_core.specs.LaneStep.{CanMake, total_after, word_after}
-use Rattle.ob_core.specs.Opening.{Opening}
+use Rattle.ob_core.specs.Beginning.{Grant}
 use Rattle.ob_core.specs.declared.lane.Lane.{Lane}
 use Rattle.ob_core.specs.declared.lane_step.LaneStep.{LaneStep}
 use Rattle.ob_core.proofs.AccountsLemmas.{AccountsHold-step, total-le-room}
@@ -43,8 +43,8 @@ abbrev lane_of : Facts → Lane
 lane_of facts = facts.lane
 
 -- the core state that the word and the facts are
-abbrev pub core : Opening → St → CoreState
-core opening s = core_of opening s.words s.views
+abbrev pub core : Grant → St → CoreState
+core grant s = core_of grant s.words s.views
 
 -- what holds of each seat holds of the one
 pub of_seat : (P : Facts → Type 0) (s : St) (id : ℕ) (facts : Facts) → All P s.views → get_elem? s.views id ≡ some facts
@@ -54,21 +54,21 @@ of_seat P s id facts all at =
     subst P (get_or_from_slice_get s.views id facts facts here) (all id facts (slice_get_within s.views id facts here))
 
 -- each seat knows what the word was opened with
-pub opening_known : (opening : Opening) (s : St) (id : ℕ) (facts : Facts) → Ruled opening s
-    → get_elem? s.views id ≡ some facts → facts.opening ≡ opening
-opening_known opening s id facts ruled at = of_seat (λ f. f.opening ≡ opening) s id facts ruled.one_opening at
+pub grant_known : (grant : Grant) (s : St) (id : ℕ) (facts : Facts) → Ruled grant s
+    → get_elem? s.views id ≡ some facts → facts.grant ≡ grant
+grant_known grant s id facts ruled at = of_seat (λ f. f.grant ≡ grant) s id facts ruled.one_grant at
 
 -- the one run begins with all that a seat has seen
-pub begins_seen : (opening : Opening) (s : St) (id : ℕ) (facts : Facts) (ruled : Ruled opening s)
+pub begins_seen : (grant : Grant) (s : St) (id : ℕ) (facts : Facts) (ruled : Ruled grant s)
     → get_elem? s.views id ≡ some facts → BeginsWithAll ruled.run.moves facts.seen
-begins_seen opening s id facts ruled at =
+begins_seen grant s id facts ruled at =
     of_seat (λ f. BeginsWithAll ruled.run.moves f.seen) s id facts ruled.run.begins at
 
 -- each seat stands in the run that there is
-pub stands : (opening : Opening) (s : St) (id : ℕ) (facts : Facts) (ruled : Ruled opening s)
+pub stands : (grant : Grant) (s : St) (id : ℕ) (facts : Facts) (ruled : Ruled grant s)
     → get_elem? s.views id ≡ some facts
-    → IsInRun opening ruled.run.moves (core opening s) id facts.name facts.lane facts.made
-stands opening s id facts ruled at = record {
+    → IsInRun grant ruled.run.moves (core grant s) id facts.name facts.lane facts.made
+stands grant s id facts ruled at = record {
   leads = ruled.run.leads;
   is_lane = slice_get_map (λ (f : Facts). f.lane) s.views id facts at;
   is_named = ap (λ names. slice_get names id) (sym ruled.run.named)
@@ -77,25 +77,25 @@ stands opening s id facts ruled at = record {
 }
 
 -- what a seat has seen that makes a step now
-abbrev pub sees_now : (opening : Opening) (s : St) → Ruled opening s → ℕ → LaneStep → ℕ → List (List Move)
-sees_now opening s ruled id step found = (Steps id step found ∷ ruled.run.moves) ∷ []
+abbrev pub sees_now : (grant : Grant) (s : St) → Ruled grant s → ℕ → LaneStep → ℕ → List (List Move)
+sees_now grant s ruled id step found = (Steps id step found ∷ ruled.run.moves) ∷ []
 
 -- the seat is there, its lane may make the step, and that makes this of the word
-record Makes (opening : Opening) (s : St) (id : ℕ) (facts : Facts) (step : LaneStep) (words : List ℕ) : Type 0 where
+record Makes (grant : Grant) (s : St) (id : ℕ) (facts : Facts) (step : LaneStep) (words : List ℕ) : Type 0 where
   at : get_elem? s.views id ≡ some facts
   live : facts.spent ≡ false
   may : CanMake facts.lane step
   one : length words ≡ 1
-  room_fits : opening.room < 2 ^ 32
-  both : get_or words 0 0 ≡ packed_after step opening.marks (get_or s.words 0 0)
+  room_fits : grant.room < 2 ^ 32
+  both : get_or words 0 0 ≡ packed_after step grant.marks (get_or s.words 0 0)
 
-module _ (opening : Opening) (s : St) (id : ℕ) (facts : Facts) (step : LaneStep) (words : List ℕ)
-    (ruled : Ruled opening s) (t : Makes opening s id facts step words) where
+module _ (grant : Grant) (s : St) (id : ℕ) (facts : Facts) (step : LaneStep) (words : List ℕ)
+    (ruled : Ruled grant s) (t : Makes grant s id facts step words) where
   abbrev found : ℕ
   found = get_or s.words 0 0
 
   abbrev new : Facts
-  new = facts_after step found (sees_now opening s ruled id step found) facts
+  new = facts_after step found (sees_now grant s ruled id step found) facts
 
   at_lane : slice_get (map lane_of s.views) id ≡ Some facts.lane
   at_lane = slice_get_map lane_of s.views id facts t.at
@@ -103,17 +103,17 @@ module _ (opening : Opening) (s : St) (id : ℕ) (facts : Facts) (step : LaneSte
   -- the total stays within the whole room, so it never reaches the word
   small : total_after step (total_half found) < 4294967296
   small =
-      let accounts : AccountsHold opening (core_after_step (core opening s) id facts.lane step) =
-      AccountsHold-step opening (core opening s) id facts.lane step at_lane t.may ruled.accounts in
-      omega (arith, total-le-room opening (core_after_step (core opening s) id facts.lane step) accounts.bytes, t.room_fits)
+      let accounts : AccountsHold grant (core_after_step (core grant s) id facts.lane step) =
+      AccountsHold-step grant (core grant s) id facts.lane step at_lane t.may ruled.accounts in
+      omega (arith, total-le-room grant (core_after_step (core grant s) id facts.lane step) accounts.bytes, t.room_fits)
 
   total_is : total_half (get_or words 0 0) ≡ total_after step (total_half found)
   total_is = ap total_half t.both ∙ total_half-packed _ _ small
 
-  word_is : word_half (get_or words 0 0) ≡ word_after step opening.marks (total_half found) (word_half found)
+  word_is : word_half (get_or words 0 0) ≡ word_after step grant.marks (total_half found) (word_half found)
   word_is = ap word_half t.both ∙ word_half-packed _ _ small
 
-  is_step : IsCoreStep (core opening s) id step (core_of opening words (set s.views id new))
+  is_step : IsCoreStep (core grant s) id step (core_of grant words (set s.views id new))
   is_step = record {
     lane = facts.lane;
     is_lane = at_lane;
@@ -121,12 +121,12 @@ module _ (opening : Opening) (s : St) (id : ℕ) (facts : Facts) (step : LaneSte
     after = λ i. record {
       total = total_is i;
       word = word_is i;
-      marks = opening.marks;
+      marks = grant.marks;
       lanes = map-set lane_of s.views id new i;
     };
   }
 
-  has_run : HasRun opening (core_of opening words (set s.views id new)) (set s.views id new)
+  has_run : HasRun grant (core_of grant words (set s.views id new)) (set s.views id new)
   has_run =
       let run = ruled.run in
       let own = (record { step = step; found = found }) ∷ [] in
@@ -134,7 +134,7 @@ module _ (opening : Opening) (s : St) (id : ℕ) (facts : Facts) (step : LaneSte
       let Begun : Facts → Type 0 = λ f. BeginsWithAll (move ∷ run.moves) f.seen in
       record {
         moves = move ∷ run.moves;
-        leads = (core opening s, run.leads, (is_step, sym (halves_packed found)));
+        leads = (core grant s, run.leads, (is_step, sym (halves_packed found)));
         own = λ seat. ap (λ (made : List Made). made ++ cond (eqb id seat) own []) (run.own seat)
             ∙ sym (made_at-set s.views id facts new own t.at refl seat);
         named = map-same (λ (f : Facts). f.name) s.views id facts new t.at refl ∙ run.named;
@@ -157,48 +157,48 @@ module _ (opening : Opening) (s : St) (id : ℕ) (facts : Facts) (step : LaneSte
       (of_seat (λ (f : Facts). All (HasEnded s.views) f.taken) s id facts ruled.taken t.at))
       (all-ended-stay s.views (set s.views id new) spent_stay ruled.taken)
 
-  Ruled-step : Ruled opening (record { words = words; homes = s.homes; views = set s.views id new })
+  Ruled-step : Ruled grant (record { words = words; homes = s.homes; views = set s.views id new })
   Ruled-step = record {
     one_word = t.one;
-    one_opening =
-        All-set (λ (f : Facts). f.opening ≡ opening) s.views id new
-        (opening_known opening s id facts ruled t.at) ruled.one_opening;
-    accounts = accounts_after_step opening (core opening s) _ id step is_step ruled.accounts;
+    one_grant =
+        All-set (λ (f : Facts). f.grant ≡ grant) s.views id new
+        (grant_known grant s id facts ruled t.at) ruled.one_grant;
+    accounts = accounts_after_step grant (core grant s) _ id step is_step ruled.accounts;
     run = has_run;
     taken = all_taken;
   }
 
-  sees_step : Sees opening facts.seen step found new.name new.lane new.made new.seen
+  sees_step : Sees grant facts.seen step found new.name new.lane new.made new.seen
   unfolding Ruled-step has_run
   sees_step = record {
     seat = id;
     before = ruled.run.moves;
-    at = core opening s;
-    core = core_of opening words (set s.views id new);
+    at = core grant s;
+    core = core_of grant words (set s.views id new);
     leads = ruled.run.leads;
     total_found = refl;
     word_found = refl;
     seen_is = refl;
-    begins = begins_seen opening s id facts ruled t.at;
-    in_run = stands opening (record { words = words; homes = s.homes; views = set s.views id new }) id new Ruled-step
+    begins = begins_seen grant s id facts ruled t.at;
+    in_run = stands grant (record { words = words; homes = s.homes; views = set s.views id new }) id new Ruled-step
         (set_here s.views id new (slice_get_within s.views id facts (slice_get_elem s.views id facts t.at)));
   }
 
   knows_step : FactsSee step found facts new
   knows_step = subst (λ o. Sees o facts.seen step found new.name new.lane new.made new.seen)
-      (sym (opening_known opening s id facts ruled t.at)) sees_step
+      (sym (grant_known grant s id facts ruled t.at)) sees_step
 
 -- so a table may let the lane make a step that writes this into the word
-pub may_make : (opening : Opening) (s : St) (id value : ℕ) (me : Me (Unit {0}) Facts) (step : LaneStep)
-    → opening.room < 2 ^ 32 → Ruled opening s → get_elem? s.views id ≡ some me.0 → me.0.spent ≡ false
+pub may_make : (grant : Grant) (s : St) (id value : ℕ) (me : Me (Unit {0}) Facts) (step : LaneStep)
+    → grant.room < 2 ^ 32 → Ruled grant s → get_elem? s.views id ≡ some me.0 → me.0.spent ≡ false
     → CanMake me.0.lane step
-    → value ≡ packed_after step opening.marks (get_or s.words 0 0) → PackedTold me.0 (get_or s.words 0 0)
+    → value ≡ packed_after step grant.marks (get_or s.words 0 0) → PackedTold me.0 (get_or s.words 0 0)
     → (new : Facts) × (act : Act (Unit {0})) × Valid s.homes me.1 act
-    × Ruled opening (stepped s 0 value id me.1 new act)
+    × Ruled grant (stepped s 0 value id me.1 new act)
     × Told step me (get_or s.words 0 0) (new, carried_after me.1 act)
-may_make opening s id value me step room ruled at live may both tells =
+may_make grant s id value me step room ruled at live may both tells =
     let one = ruled.one_word in
-    let made : Makes opening s id me.0 step (set s.words 0 value) = record {
+    let made : Makes grant s id me.0 step (set s.words 0 value) = record {
       at = at;
       live = live;
       may = may;
@@ -206,14 +206,14 @@ may_make opening s id value me step room ruled at live may both tells =
       room_fits = room;
       both = get_or-set_same s.words 0 value 0 (omega (arith, one)) ∙ both;
     } in (
-      new opening s id me.0 step _ ruled made,
+      new grant s id me.0 step _ ruled made,
       keeps,
       tt,
-      Ruled-step opening s id me.0 step _ ruled made,
+      Ruled-step grant s id me.0 step _ ruled made,
       record {
         after = refl;
         slots = refl;
-        sees = knows_step opening s id me.0 step _ ruled made;
+        sees = knows_step grant s id me.0 step _ ruled made;
         tells = tells;
       },
     )

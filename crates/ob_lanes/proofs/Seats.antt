@@ -18,16 +18,16 @@ use Rattle.ob_lanes.specs.Ruled.{Ruled, HasEnded, core_of}
 use Rattle.ob_lanes.specs.Run.{own_steps}
 use Rattle.ob_lanes.specs.Split.{split_fault}
 use Rattle.ob_core.specs.Bits.{AreAmong}
-use Rattle.ob_core.specs.Opening.{Opening}
-use Rattle.ob_core.specs.Shares.{IsFree, AreShares, IsDivision, IsMerger, spent_lane}
+use Rattle.ob_core.specs.Beginning.{Grant}
+use Rattle.ob_core.specs.Parts.{IsFree, AreParts, IsDivision, IsMerger, spent_lane}
 use Rattle.ob_lanes.specs.declared.facts.Ended.{Ended}
 use Rattle.ob_lanes.specs.declared.facts.Facts.{Facts}
 use Rattle.ob_lanes.specs.declared.facts.Move.{Move}
 use Rattle.ob_lanes.specs.declared.facts.Move.TheVariants.{Divides, Merges}
-use Rattle.ob_lanes.proofs.Halves.{are_shares, are_merged}
+use Rattle.ob_lanes.proofs.Halves.{are_parts, are_merged}
 use Rattle.ob_core.proofs.LaneSums.{all_at, two-le-sum_by}
 use Rattle.ob_lanes.proofs.KeptAccounts.{accounts_after_division, accounts_after_merger}
-use Rattle.ob_lanes.proofs.Moves.{St, core, opening_known, begins_seen, of_seat}
+use Rattle.ob_lanes.proofs.Moves.{St, core, grant_known, begins_seen, of_seat}
 use Rattle.ob_lanes.proofs.Runs.{begins_all_more}
 use Rattle.ob_lanes.proofs.Views.{slice_get_elem, slice_get_map, made_at-kept, made_at-new, map-same}
 use Rattle.ob_lanes.proofs.Views.{spent-apart, ended-stays, all-ended-stay}
@@ -37,9 +37,9 @@ abbrev lane_of : Facts → Lane
 lane_of facts = facts.lane
 
 -- a lane raises only what it holds
-raised_among : (opening : Opening) (s : St) (id : ℕ) (facts : Facts) → Ruled opening s
+raised_among : (grant : Grant) (s : St) (id : ℕ) (facts : Facts) → Ruled grant s
     → get_elem? s.views id ≡ some facts → AreAmong facts.lane.raised facts.lane.held
-raised_among opening s id facts ruled at =
+raised_among grant s id facts ruled at =
     all_at (λ (l : Lane). AreAmong l.raised l.held) (map lane_of s.views) id facts.lane
     (slice_get_map lane_of s.views id facts at) ruled.accounts.bits.among
 
@@ -49,14 +49,14 @@ All-one P x holds zero d within = holds
 All-one P x holds (suc k) d within = absurd (omega arith)
 
 -- a move more leaves what all seats have seen
-begins_views : (opening : Opening) (s : St) (move : Move) (ruled : Ruled opening s)
+begins_views : (grant : Grant) (s : St) (move : Move) (ruled : Ruled grant s)
     → All (λ (f : Facts). BeginsWithAll (move ∷ ruled.run.moves) f.seen) s.views
-begins_views opening s move ruled =
+begins_views grant s move ruled =
     All-weaker (λ (f : Facts). BeginsWithAll ruled.run.moves f.seen)
     (λ (f : Facts). BeginsWithAll (move ∷ ruled.run.moves) f.seen)
     (λ f. begins_all_more move ruled.run.moves f.seen) s.views ruled.run.begins
 
-module _ (opening : Opening) (s : St) (id : ℕ) (facts : Facts) (room bits : ℕ) (ruled : Ruled opening s)
+module _ (grant : Grant) (s : St) (id : ℕ) (facts : Facts) (room bits : ℕ) (ruled : Ruled grant s)
     (at : get_elem? s.views id ≡ some facts)
     (live : facts.spent ≡ false) (free : IsFree facts.lane) (small : bits < 2 ^ 32) (fine : split_fault facts.lane room bits ≡ None) where
   abbrev kept : Facts
@@ -66,20 +66,20 @@ module _ (opening : Opening) (s : St) (id : ℕ) (facts : Facts) (room bits : �
   given = given_facts room bits facts
 
   abbrev Knows : Facts → Type 0
-  Knows f = f.opening ≡ opening
+  Knows f = f.grant ≡ grant
 
-  known : facts.opening ≡ opening
-  known = opening_known opening s id facts ruled at
+  known : facts.grant ≡ grant
+  known = grant_known grant s id facts ruled at
 
   abbrev halves : List Facts
   halves = set s.views id kept ++ given ∷ []
 
-  is_division : IsDivision (core opening s) id kept.lane given.lane (core_of opening s.words halves)
+  is_division : IsDivision (core grant s) id kept.lane given.lane (core_of grant s.words halves)
   is_division = record {
     lane = facts.lane;
     is_lane = slice_get_map lane_of s.views id facts at;
-    shares = are_shares room bits facts.lane small fine free (raised_among opening s id facts ruled at);
-    after = ap (λ lanes. record (core opening s) { lanes = lanes })
+    parts = are_parts room bits facts.lane small fine free (raised_among grant s id facts ruled at);
+    after = ap (λ lanes. record (core grant s) { lanes = lanes })
         (map-append lane_of (set s.views id kept) (given ∷ [])
         ∙ ap (λ l. l ++ given.lane ∷ []) (map-set lane_of s.views id kept));
   }
@@ -95,16 +95,16 @@ module _ (opening : Opening) (s : St) (id : ℕ) (facts : Facts) (room bits : �
       append-nil _ ∙ ruled.run.own seat
       ∙ sym (made_at-new (set s.views id kept) given refl seat ∙ made_at-kept s.views id facts kept at refl seat)
 
-  Ruled-division : Ruled opening (record { words = s.words; homes = s.homes; views = halves })
+  Ruled-division : Ruled grant (record { words = s.words; homes = s.homes; views = halves })
   Ruled-division = record {
     one_word = ruled.one_word;
-    one_opening =
-        All-append Knows (set s.views id kept) (given ∷ []) (All-set Knows s.views id kept known ruled.one_opening)
+    one_grant =
+        All-append Knows (set s.views id kept) (given ∷ []) (All-set Knows s.views id kept known ruled.one_grant)
         (All-one Knows given known);
-    accounts = accounts_after_division opening (core opening s) _ id kept.lane given.lane is_division ruled.accounts;
+    accounts = accounts_after_division grant (core grant s) _ id kept.lane given.lane is_division ruled.accounts;
     run = record {
       moves = Divides id kept.lane given.lane given.name ∷ ruled.run.moves;
-      leads = (core opening s, ruled.run.leads, is_division);
+      leads = (core grant s, ruled.run.leads, is_division);
       own = own_halves;
       named = map-append (λ (f : Facts). f.name) (set s.views id kept) (given ∷ [])
           ∙ ap (λ names. names ++ given.name ∷ [])
@@ -113,9 +113,9 @@ module _ (opening : Opening) (s : St) (id : ℕ) (facts : Facts) (room bits : �
           let move : Move = Divides id kept.lane given.lane given.name in
           let Begun : Facts → Type 0 = λ f. BeginsWithAll (move ∷ ruled.run.moves) f.seen in
           let begun : Begun facts =
-          begins_all_more move ruled.run.moves facts.seen (begins_seen opening s id facts ruled at) in
+          begins_all_more move ruled.run.moves facts.seen (begins_seen grant s id facts ruled at) in
           All-append Begun (set s.views id kept) (given ∷ [])
-          (All-set Begun s.views id kept begun (begins_views opening s move ruled))
+          (All-set Begun s.views id kept begun (begins_views grant s move ruled))
           (All-one Begun given begun);
     };
     taken =
@@ -128,13 +128,13 @@ module _ (opening : Opening) (s : St) (id : ℕ) (facts : Facts) (room bits : �
   }
 
 -- a seat that is free may be cut in two, where it has the room and the bits
-pub division_allowed : (opening : Opening) (id : ℕ) (facts : Facts) (room bits : ℕ) → facts.spent ≡ false → IsFree facts.lane → bits < 2 ^ 32
+pub division_allowed : (grant : Grant) (id : ℕ) (facts : Facts) (room bits : ℕ) → facts.spent ≡ false → IsFree facts.lane → bits < 2 ^ 32
     → split_fault facts.lane room bits ≡ None
-    → Splits (Ruled opening) id facts (kept_facts room bits facts) (given_facts room bits facts)
-division_allowed opening id facts room bits live free small fine s ruled at =
-    Ruled-division opening s id facts room bits ruled at live free small fine
+    → Splits (Ruled grant) id facts (kept_facts room bits facts) (given_facts room bits facts)
+division_allowed grant id facts room bits live free small fine s ruled at =
+    Ruled-division grant s id facts room bits ruled at live free small fine
 
-module _ (opening : Opening) (s : St) (id other : ℕ) (facts theirs : Facts) (ruled : Ruled opening s)
+module _ (grant : Grant) (s : St) (id other : ℕ) (facts theirs : Facts) (ruled : Ruled grant s)
     (at : get_elem? s.views id ≡ some facts) (their_at : get_elem? s.views other ≡ some theirs)
     (apart : other ≢ id) (live : facts.spent ≡ false) (their_live : theirs.spent ≡ false) (free : IsFree facts.lane) (their_free : IsFree theirs.lane) where
   abbrev lanes : List Lane
@@ -147,7 +147,7 @@ module _ (opening : Opening) (s : St) (id other : ℕ) (facts theirs : Facts) (r
   their_at_lane = slice_get_map lane_of s.views other theirs their_at
 
   -- the two lanes share what there is
-  rooms_fit : facts.lane.room + theirs.lane.room ≤ opening.room
+  rooms_fit : facts.lane.room + theirs.lane.room ≤ grant.room
   rooms_fit =
       omega (
         arith,
@@ -163,34 +163,34 @@ module _ (opening : Opening) (s : St) (id other : ℕ) (facts theirs : Facts) (r
         two-le-sum_by (λ (l : Lane). bit_at l.held i) lanes id other facts.lane theirs.lane
             (λ same. apart (sym same)) at_lane their_at_lane,
         ruled.accounts.bits.held i,
-        bit_at-lt opening.bits i,
+        bit_at-lt grant.bits i,
       )
 
   abbrev joined : Facts
   joined = both_facts facts theirs
 
-  joined_shares : AreShares joined.lane facts.lane theirs.lane
-  joined_shares = let known : facts.opening.room ≡ opening.room =
-      ap (λ (o : Opening). o.room) (opening_known opening s id facts ruled at) in
-      are_merged facts.opening.room facts.lane theirs.lane free their_free (raised_among opening s id facts ruled at)
-      (raised_among opening s other theirs ruled their_at) (omega (arith, rooms_fit)) bits_apart
+  joined_parts : AreParts joined.lane facts.lane theirs.lane
+  joined_parts = let known : facts.grant.room ≡ grant.room =
+      ap (λ (o : Grant). o.room) (grant_known grant s id facts ruled at) in
+      are_merged facts.grant.room facts.lane theirs.lane free their_free (raised_among grant s id facts ruled at)
+      (raised_among grant s other theirs ruled their_at) (omega (arith, rooms_fit)) bits_apart
 
   -- whatever is left behind, it has no lane to speak of
-  module _ (spent : Facts) (spent_opening : spent.opening ≡ theirs.opening) (spent_is : spent.lane ≡ spent_lane)
+  module _ (spent : Facts) (spent_grant : spent.grant ≡ theirs.grant) (spent_is : spent.lane ≡ spent_lane)
       (spent_made : spent.made ≡ theirs.made) (spent_seen : spent.seen ≡ []) (spent_name : spent.name ≡ theirs.name)
       (spent_taken : spent.taken ≡ []) (spent_spent : spent.spent ≡ true) where
     abbrev views : List Facts
     views = set (set s.views id joined) other spent
 
-    is_merger : IsMerger (core opening s) id other joined.lane (core_of opening s.words views)
+    is_merger : IsMerger (core grant s) id other joined.lane (core_of grant s.words views)
     is_merger = record {
       lane = facts.lane;
       other_lane = theirs.lane;
       is_lane = at_lane;
       is_other = their_at_lane;
       apart = apart;
-      shares = joined_shares;
-      after = ap (λ l. record (core opening s) { lanes = l })
+      parts = joined_parts;
+      after = ap (λ l. record (core grant s) { lanes = l })
           (map-set lane_of (set s.views id joined) other spent
           ∙ ap (λ l. set l other spent.lane) (map-set lane_of s.views id joined)
           ∙ ap (λ l. set (set lanes id joined.lane) other l) spent_is);
@@ -221,18 +221,18 @@ module _ (opening : Opening) (s : St) (id other : ℕ) (facts theirs : Facts) (r
       made = spent_made;
     }
 
-    Ruled-merger : Ruled opening (record { words = s.words; homes = s.homes; views = views })
+    Ruled-merger : Ruled grant (record { words = s.words; homes = s.homes; views = views })
     Ruled-merger = record {
       one_word = ruled.one_word;
-      one_opening =
-          All-set (λ (f : Facts). f.opening ≡ opening) (set s.views id joined) other spent (spent_opening
-          ∙ opening_known opening s other theirs ruled their_at)
-          (All-set (λ (f : Facts). f.opening ≡ opening) s.views id joined
-          (opening_known opening s id facts ruled at) ruled.one_opening);
-      accounts = accounts_after_merger opening (core opening s) _ id other joined.lane is_merger ruled.accounts;
+      one_grant =
+          All-set (λ (f : Facts). f.grant ≡ grant) (set s.views id joined) other spent (spent_grant
+          ∙ grant_known grant s other theirs ruled their_at)
+          (All-set (λ (f : Facts). f.grant ≡ grant) s.views id joined
+          (grant_known grant s id facts ruled at) ruled.one_grant);
+      accounts = accounts_after_merger grant (core grant s) _ id other joined.lane is_merger ruled.accounts;
       run = record {
         moves = Merges id other joined.lane ∷ ruled.run.moves;
-        leads = (core opening s, ruled.run.leads, is_merger);
+        leads = (core grant s, ruled.run.leads, is_merger);
         own = λ seat. append-nil _ ∙ ruled.run.own seat
             ∙ sym (made_at-kept (set s.views id joined) other theirs spent still spent_made seat
             ∙ made_at-kept s.views id facts joined at refl seat);
@@ -243,13 +243,13 @@ module _ (opening : Opening) (s : St) (id other : ℕ) (facts theirs : Facts) (r
             let Begun : Facts → Type 0 = λ f. BeginsWithAll (move ∷ ruled.run.moves) f.seen in
             let Begins : List Move → Type 0 = BeginsWith (move ∷ ruled.run.moves) in
             let mine : Begun facts =
-            begins_all_more move ruled.run.moves facts.seen (begins_seen opening s id facts ruled at) in
+            begins_all_more move ruled.run.moves facts.seen (begins_seen grant s id facts ruled at) in
             let theirs_too : Begun theirs =
-            begins_all_more move ruled.run.moves theirs.seen (begins_seen opening s other theirs ruled their_at) in
+            begins_all_more move ruled.run.moves theirs.seen (begins_seen grant s other theirs ruled their_at) in
             All-set Begun (set s.views id joined) other spent
             (subst (BeginsWithAll (move ∷ ruled.run.moves)) (sym spent_seen) (All-nil Begins))
             (All-set Begun s.views id joined (All-append Begins facts.seen theirs.seen mine theirs_too)
-            (begins_views opening s move ruled));
+            (begins_views grant s move ruled));
       };
       taken =
           let Taken : Facts → Type 0 = λ f. All (HasEnded views) f.taken in
@@ -266,11 +266,11 @@ module _ (opening : Opening) (s : St) (id other : ℕ) (facts theirs : Facts) (r
     }
 
 -- two seats that are free may become one
-pub merger_allowed : (opening : Opening) (id other : ℕ) (facts theirs spent : Facts) → facts.spent ≡ false
-    → theirs.spent ≡ false → IsFree facts.lane → IsFree theirs.lane → spent.opening ≡ theirs.opening → spent.made ≡ theirs.made → spent.name ≡ theirs.name
-    → Joins (Ruled opening) id facts other theirs (both_facts facts theirs) (spent_facts spent)
-merger_allowed opening id other facts theirs spent live their_live free their_free spent_opening spent_made spent_name s
+pub merger_allowed : (grant : Grant) (id other : ℕ) (facts theirs spent : Facts) → facts.spent ≡ false
+    → theirs.spent ≡ false → IsFree facts.lane → IsFree theirs.lane → spent.grant ≡ theirs.grant → spent.made ≡ theirs.made → spent.name ≡ theirs.name
+    → Joins (Ruled grant) id facts other theirs (both_facts facts theirs) (spent_facts spent)
+merger_allowed grant id other facts theirs spent live their_live free their_free spent_grant spent_made spent_name s
     ruled at apart then_at =
     let their_at = sym (set_else s.views id other (both_facts facts theirs) apart) ∙ then_at in
-    Ruled-merger opening s id other facts theirs ruled at their_at apart live their_live free their_free
-    (spent_facts spent) spent_opening refl spent_made refl spent_name refl refl
+    Ruled-merger grant s id other facts theirs ruled at their_at apart live their_live free their_free
+    (spent_facts spent) spent_grant refl spent_made refl spent_name refl refl

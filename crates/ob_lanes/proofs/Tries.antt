@@ -38,7 +38,7 @@ still_told found old new told =
 rest_after : (step : LaneStep) (found : ℕ) (old now new : Knows) → KeepsRest old now → Told step now found new
     → KeepsRest old new
 rest_after step found old now new rest told = record {
-  opening = ap (λ (f : Facts). f.opening) told.after ∙ rest.opening;
+  grant = ap (λ (f : Facts). f.grant) told.after ∙ rest.grant;
   name = ap (λ (f : Facts). f.name) told.after ∙ rest.name;
   splits = ap (λ (f : Facts). f.splits) told.after ∙ rest.splits;
   taken = ap (λ (f : Facts). f.taken) told.after ∙ rest.taken;
@@ -54,7 +54,7 @@ first_read found old now told = record {
   made = ap (λ (f : Facts). f.made) told.after;
   lane = ap (λ (f : Facts). f.lane) told.after;
   rest = rest_after Load found old old now
-      (record { opening = refl; name = refl; splits = refl; taken = refl; spent = refl; slots = refl }) told;
+      (record { grant = refl; name = refl; splits = refl; taken = refl; spent = refl; slots = refl }) told;
   hears = step_hears Load found old now told;
   tells = still_told found old now told;
 }

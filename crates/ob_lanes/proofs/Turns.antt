@@ -7,7 +7,7 @@ use Rattle.ob_core.specs.Bits.{is_set}
 use Rattle.ob_core.specs.CoreState.{CoreState}
 use Rattle.ob_core.specs.CoreStep.{IsCoreStep}
 use Rattle.ob_core.specs.Found.{change_found, value_found}
-use Rattle.ob_core.specs.Opening.{Opening, one_lane}
+use Rattle.ob_core.specs.Beginning.{Grant, one_lane}
 use Rattle.ob_core.specs.declared.lane_step.LaneStep.{LaneStep}
 use Rattle.ob_core.proofs.AccountsLemmas.{total-le-room}
 use Rattle.ob_core.proofs.FoundLemmas.{change_found-between}
@@ -30,27 +30,27 @@ turned_more true false changes turned = record { turns = (rw (← turned.now) re
 turned_more false true changes turned = record { turns = (rw (← turned.now) refl, turned.turns); now = refl }
 turned_more false false changes turned = turned
 
-module _ (opening : Opening) (mark : is_set opening.bits 0 ≡ false) (fits : opening.room < 2 ^ 32) where
+module _ (grant : Grant) (mark : is_set grant.bits 0 ≡ false) (fits : grant.room < 2 ^ 32) where
   -- the change of a step of a run is that between the words before and after it
   step_change : (earlier : List Move) (before after : CoreState) (seat : ℕ) (step : LaneStep) (found : ℕ)
-      → Leads (one_lane opening) earlier before → IsCoreStep before seat step after → found ≡ value_found before
-      → change_found step opening.marks found ≡ change_between before.word after.word
+      → Leads (one_lane grant) earlier before → IsCoreStep before seat step after → found ≡ value_found before
+      → change_found step grant.marks found ≡ change_between before.word after.word
   step_change earlier before after seat step found leads is finds =
-      let accounts = accounts_after_run opening earlier before mark leads in
+      let accounts = accounts_after_run grant earlier before mark leads in
       let small : before.total < 4294967296 =
-      omega (arith, total-le-room opening before accounts.bytes, fits) in
-      ap (λ n. change_found step opening.marks n) finds
+      omega (arith, total-le-room grant before accounts.bytes, fits) in
+      ap (λ n. change_found step grant.marks n) finds
       ∙ ap (λ marks. change_found step marks (value_found before)) (sym accounts.bytes.marks)
       ∙ change_found-between step before small
       ∙ sym (ap (λ (core : CoreState). change_between before.word core.word) is.after)
 
-  pub turned : (moves : List Move) (core : CoreState) → Leads (one_lane opening) moves core
-      → Turned (changes_of opening.marks moves) (is_writable core.word)
+  pub turned : (moves : List Move) (core : CoreState) → Leads (one_lane grant) moves core
+      → Turned (changes_of grant.marks moves) (is_writable core.word)
   turned [] core leads = record { turns = tt; now = ap (λ (c : CoreState). is_writable c.word) leads }
   turned (Steps seat step found ∷ earlier) core leads =
       let before = leads.0 in
       rw (step_change earlier before core seat step found leads.1 leads.2.0 leads.2.1)
-      (turned_more (is_writable before.word) (is_writable core.word) (changes_of opening.marks earlier)
+      (turned_more (is_writable before.word) (is_writable core.word) (changes_of grant.marks earlier)
       (turned earlier before leads.1))
   turned (Divides seat kept given name ∷ earlier) core leads =
       let early = turned earlier leads.0 leads.1 in

@@ -3,12 +3,12 @@ use Rattle.std.proofs.Common.{◌≡◌, ℕ, ◌<◌, ◌≤◌, List, [], ◌�
 use Rattle.ob_types.specs.Packed.{word_half, total_half}
 use Rattle.ob_core.specs.CoreState.{CoreState}
 use Rattle.ob_core.specs.CoreStep.{IsCoreStep}
-use Rattle.ob_core.specs.Opening.{Opening, one_lane}
+use Rattle.ob_core.specs.Beginning.{Grant, one_lane}
 use Rattle.ob_core.specs.declared.lane.Lane.{Lane}
 use Rattle.ob_core.specs.declared.lane_step.LaneStep.{LaneStep}
 use Rattle.ob_core.specs.declared.lane_step.LaneStep.TheVariants.{Add, SetBit, Load}
-use Rattle.ob_core.specs.Bits.{AreAmong, ShareOut}
-use Rattle.ob_core.specs.Shares.{AreShares, IsDivision}
+use Rattle.ob_core.specs.Bits.{AreAmong, MakeUp}
+use Rattle.ob_core.specs.Parts.{AreParts, IsDivision}
 use Rattle.std.proofs.lemmas.List.Elements.{All-nil}
 use Rattle.std.proofs.lemmas.Nat.Bits.{bit_at-zero}
 use Rattle.ob_lanes.specs.Begins.{BeginsWith, BeginsWithAll}
@@ -19,7 +19,7 @@ use Rattle.ob_lanes.specs.Sees.{Sees}
 use Rattle.ob_lanes.specs.declared.facts.Made.{Made}
 use Rattle.ob_lanes.specs.declared.facts.Move.{Move}
 use Rattle.ob_lanes.specs.declared.facts.Move.TheVariants.{Steps}
-use Rattle.ob_lanes.specs.Worked.{opening, half, met, first_run, meeting, with_bits, lone, bit_2_set, bit_2_run}
+use Rattle.ob_lanes.specs.Worked.{grant, half, met, first_run, meeting, with_bits, lone, bit_2_set, bit_2_run}
 use Rattle.ob_lanes.specs.Worked.{shows_bit_2, shows_mark, read_run, adds_60, adding_run}
 use Rattle.ob_lanes.proofs.Runs.{begins_itself, begins_one, begins_more}
 
@@ -33,12 +33,12 @@ abbrev pub begins_none : (run : List Move) → BeginsWithAll run []
 begins_none run = All-nil (BeginsWith run)
 
 -- a lane sees the step that it makes last in a run, if what it finds is the core state that the moves before it lead to
-seen_last : {opening : Opening} {had_seen : List (List Move)} {step : LaneStep} {found : ℕ} {name : List ℕ}
+seen_last : {grant : Grant} {had_seen : List (List Move)} {step : LaneStep} {found : ℕ} {name : List ℕ}
     {lane : Lane} {made : List Made} (seat : ℕ) (before : List Move) (at core : CoreState)
-    → Leads (one_lane opening) before at → total_half found ≡ at.total → word_half found ≡ at.word
+    → Leads (one_lane grant) before at → total_half found ≡ at.total → word_half found ≡ at.word
     → BeginsWithAll before had_seen
-    → IsInRun opening (Steps seat step found ∷ before) core seat name lane made
-    → Sees opening had_seen step found name lane made ((Steps seat step found ∷ before) ∷ [])
+    → IsInRun grant (Steps seat step found ∷ before) core seat name lane made
+    → Sees grant had_seen step found name lane made ((Steps seat step found ∷ before) ∷ [])
 seen_last seat before at core leads total word begins in_run = record {
   seat = seat;
   before = before;
@@ -106,19 +106,19 @@ charge_seen =
 
 -- the core states on the way
 abbrev pub way : ℕ → Lane → Lane → CoreState
-way total a b = record { total = total; word = 0; marks = opening.marks; lanes = a ∷ b ∷ [] }
+way total a b = record { total = total; word = 0; marks = grant.marks; lanes = a ∷ b ∷ [] }
 
 abbrev whole : Lane
 whole = record { room = 120; debt = None; held = 0; raised = 0 }
 
 -- no bit is shared out
-no_bits : ShareOut 0 0 0
+no_bits : MakeUp 0 0 0
 no_bits index = omega (arith, bit_at-zero index)
 
 none_among : AreAmong 0 0
 none_among index = omega arith
 
-halves : AreShares whole (half None) (half None)
+halves : AreParts whole (half None) (half None)
 halves = record {
   whole_free = record { debt = refl };
   first_free = record { debt = refl };
@@ -131,18 +131,18 @@ halves = record {
 }
 
 -- the lane is divided, and the first half adds 60
-first_adds : Leads (one_lane opening) first_run (way 60 (half (Some 60)) (half None))
+first_adds : Leads (one_lane grant) first_run (way 60 (half (Some 60)) (half None))
 first_adds =
     let may : 0 < 60 = omega arith in
     let room : 60 ≤ 60 = omega arith in
-    let divided : IsDivision (one_lane opening) 0 (half None) (half None) (way 0 (half None) (half None)) =
-    record { lane = whole; is_lane = refl; shares = halves; after = refl } in
+    let divided : IsDivision (one_lane grant) 0 (half None) (half None) (way 0 (half None) (half None)) =
+    record { lane = whole; is_lane = refl; parts = halves; after = refl } in
     let first : IsCoreStep (way 0 (half None) (half None)) 0 (Add 60) (way 60 (half (Some 60)) (half None)) =
     record { lane = half None; is_lane = refl; allowed = (refl, may, room); after = refl } in
-    (way 0 (half None) (half None), (one_lane opening, refl, divided), (first, refl))
+    (way 0 (half None) (half None), (one_lane grant, refl, divided), (first, refl))
 
 -- the second half adds 60, which raises
-pub meets : Leads (one_lane opening) meeting (met 1)
+pub meets : Leads (one_lane grant) meeting (met 1)
 meets =
     let may : 0 < 60 = omega arith in
     let room : 60 ≤ 60 = omega arith in
@@ -150,16 +150,16 @@ meets =
     record { lane = half None; is_lane = refl; allowed = (refl, may, room); after = refl } in
     (way 60 (half (Some 60)) (half None), first_adds, (second, refl))
 
-pub met_in_run : IsInRun opening meeting (met 1) 1 (0 ∷ []) (half (Some 60)) (one_step (Add 60) 60)
+pub met_in_run : IsInRun grant meeting (met 1) 1 (0 ∷ []) (half (Some 60)) (one_step (Add 60) 60)
 met_in_run = record { leads = meets; is_lane = refl; is_named = refl; is_made = refl }
 
-pub met_seen : Sees opening [] (Add 60) 60 (0 ∷ []) (half (Some 60)) (one_step (Add 60) 60) (meeting ∷ [])
+pub met_seen : Sees grant [] (Add 60) 60 (0 ∷ []) (half (Some 60)) (one_step (Add 60) 60) (meeting ∷ [])
 met_seen =
     seen_last 1 first_run (way 60 (half (Some 60)) (half None)) (met 1) first_adds refl refl (begins_none first_run)
     met_in_run
 
 -- the first half reads before the second adds, and behind it
-pub early_seen : Sees opening (first_run ∷ []) Load 60 [] (half (Some 60)) (one_step (Add 60) 0 ++ one_step Load 60)
+pub early_seen : Sees grant (first_run ∷ []) Load 60 [] (half (Some 60)) (one_step (Add 60) 0 ++ one_step Load 60)
     ((Steps 0 Load 60 ∷ first_run) ∷ [])
 early_seen =
     let here = way 60 (half (Some 60)) (half None) in
@@ -168,7 +168,7 @@ early_seen =
     seen_last 0 first_run here here first_adds refl refl (begins_one first_run first_run (begins_itself first_run))
     (record { leads = (here, first_adds, (read, refl)); is_lane = refl; is_named = refl; is_made = refl })
 
-pub late_seen : Sees opening (first_run ∷ []) Load shows_mark [] (half (Some 60))
+pub late_seen : Sees grant (first_run ∷ []) Load shows_mark [] (half (Some 60))
     (one_step (Add 60) 0 ++ one_step Load shows_mark) ((Steps 0 Load shows_mark ∷ meeting) ∷ [])
 late_seen =
     let read : IsCoreStep (met 1) 0 Load (met 1) =

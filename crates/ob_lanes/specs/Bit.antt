@@ -17,4 +17,4 @@ pub record IsBit (step : LaneStep) (old new : RunningLane) (change : Option Chan
   pub found : ℕ
   pub steps : HasMade step found old new
   pub lane : new.lane ≡ lane_after step old.lane
-  pub turn : change ≡ change_found step old.words.opening.marks found
+  pub turn : change ≡ change_found step old.words.grant.marks found

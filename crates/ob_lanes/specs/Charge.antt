@@ -23,7 +23,7 @@ pub record IsOneStep (step : LaneStep) (old new : RunningLane) (change : Option 
   pub are_reads : AreReads reads
   pub found : ℕ
   pub made : new.made ≡ old.made ++ reads ++ one_step step found
-  pub turn : change ≡ change_found step old.words.opening.marks found
+  pub turn : change ≡ change_found step old.words.grant.marks found
   pub sees : SeesStep step found old new
 
 -- a call has changed the debt of a lane to this one, and nothing else of it, on the same word; if the amount is above 0,

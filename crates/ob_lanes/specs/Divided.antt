@@ -1,7 +1,7 @@
 -- How the facts of a seat are cut in two, and those of two put together. No public clause cites it.
 use Rattle.std.specs.Prelude.{ℕ, ◌+◌, ◌-◌, min, true, [], ◌∷◌, ◌++◌, bit_and, bit_or, bit_xor, None}
 use Rattle.ob_core.specs.declared.lane.Lane.{Lane}
-use Rattle.ob_core.specs.Shares.{spent_lane}
+use Rattle.ob_core.specs.Parts.{spent_lane}
 use Rattle.ob_lanes.specs.declared.facts.Facts.{Facts}
 
 -- a lane without this room and these bits
@@ -45,7 +45,7 @@ given_facts room bits facts = record facts {
 -- what a seat knows that takes in another: it has seen what both have
 abbrev pub both_facts : Facts → Facts → Facts
 both_facts facts other = record facts {
-  lane = both_lanes facts.opening.room facts.lane other.lane;
+  lane = both_lanes facts.grant.room facts.lane other.lane;
   seen = facts.seen ++ other.seen;
   taken = facts.taken ++ (record { name = other.name; made = other.made }) ∷ other.taken;
 }
@@ -57,7 +57,7 @@ spent_facts facts = record facts { lane = spent_lane; seen = []; taken = []; spe
 -- nothing is known
 abbrev pub no_facts : Facts
 no_facts = record {
-  opening = record { marks = record { low = 0; high = 0 }; room = 0; bits = 0 };
+  grant = record { marks = record { low = 0; high = 0 }; room = 0; bits = 0 };
   lane = spent_lane;
   made = [];
   seen = [];

@@ -1,23 +1,23 @@
 -- The facts of a seat, and how its own steps change them.
 use Rattle.std.specs.Prelude.{ℕ, zero, suc, false, List, [], ◌∷◌, ◌++◌}
 use Rattle.ob_core.specs.LaneStep.{lane_after}
-use Rattle.ob_core.specs.Opening.{new_lane}
+use Rattle.ob_core.specs.Beginning.{new_lane}
 use Rattle.ob_core.specs.declared.lane.Lane.{Lane}
 use Rattle.ob_core.specs.declared.lane_step.LaneStep.{LaneStep}
-use Rattle.ob_core.specs.Opening.{Opening}
+use Rattle.ob_core.specs.Beginning.{Grant}
 use Rattle.ob_lanes.specs.declared.facts.Facts.{Facts}
 use Rattle.ob_lanes.specs.declared.facts.Made.{Made}
 use Rattle.ob_lanes.specs.declared.facts.Move.{Move}
 
 -- the lane that the one word is opened with: it has the whole room and all bits
-abbrev pub first_lane : Opening → Lane
-first_lane opening = new_lane (record { room = opening.room; bits = opening.bits })
+abbrev pub first_lane : Grant → Lane
+first_lane grant = new_lane (record { room = grant.room; bits = grant.bits })
 
 -- what the first seat knows
-abbrev pub first_facts : Opening → Facts
-first_facts opening = record {
-  opening = opening;
-  lane = first_lane opening;
+abbrev pub first_facts : Grant → Facts
+first_facts grant = record {
+  grant = grant;
+  lane = first_lane grant;
   made = [];
   seen = [];
   name = [];

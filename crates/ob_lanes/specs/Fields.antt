@@ -7,7 +7,7 @@ use Rattle.ob_lanes.specs.declared.running.Running.{Running}
 -- what a contract sees of a lane: what its seat knows
 abbrev pub view_of : Running → RunningLane
 view_of running = record {
-  words = record { table_id = running.seat.table_id; opening = running.seat.me.0.opening };
+  words = record { table_id = running.seat.table_id; grant = running.seat.me.0.grant };
   lane = running.seat.me.0.lane;
   made = running.seat.me.0.made;
   seen = running.seat.me.0.seen;
@@ -22,7 +22,7 @@ pub record IsBetweenCalls (running : Running) (debt : Option ℕ) : Type 0 where
   pub no_slot : running.seat.me.1 ≡ []
   pub room : running.seat.me.0.lane.room ≡ running.room
   pub held : running.seat.me.0.lane.held ≡ running.held
-  pub mark : is_set running.seat.me.0.opening.bits 0 ≡ false
-  pub ordered : running.seat.me.0.opening.marks.low ≤ running.seat.me.0.opening.marks.high
+  pub mark : is_set running.seat.me.0.grant.bits 0 ≡ false
+  pub ordered : running.seat.me.0.grant.marks.low ≤ running.seat.me.0.grant.marks.high
   pub live : running.seat.me.0.spent ≡ false
   pub debt_is : running.seat.me.0.lane.debt ≡ debt

@@ -1,7 +1,7 @@
 -- That a lane stands in a run: what it is and what it has made are no invention of its own.
 use Rattle.std.specs.Prelude.{◌≡◌, ◌≢◌, ℕ, List, All, Some, slice_get}
 use Rattle.ob_core.specs.CoreState.{CoreState}
-use Rattle.ob_core.specs.Opening.{Opening, one_lane}
+use Rattle.ob_core.specs.Beginning.{Grant, one_lane}
 use Rattle.ob_core.specs.declared.lane.Lane.{Lane}
 use Rattle.ob_lanes.specs.Begins.{BeginsWithAll}
 use Rattle.ob_lanes.specs.Names.{names_in}
@@ -11,11 +11,11 @@ use Rattle.ob_lanes.specs.declared.facts.Ended.{Ended}
 use Rattle.ob_lanes.specs.declared.facts.Made.{Made}
 use Rattle.ob_lanes.specs.declared.facts.Move.{Move}
 
--- these moves lead from the opening to this core state, in which the lane stands at this place, under this name, and these
+-- these moves lead from the beginning to this core state, in which the lane stands at this place, under this name, and these
 -- are its own steps among the moves
-pub record IsInRun (opening : Opening) (moves : List Move) (core : CoreState) (seat : ℕ) (name : List ℕ) (lane : Lane)
+pub record IsInRun (grant : Grant) (moves : List Move) (core : CoreState) (seat : ℕ) (name : List ℕ) (lane : Lane)
     (made : List Made) : Type 0 where
-  pub leads : Leads (one_lane opening) moves core
+  pub leads : Leads (one_lane grant) moves core
   pub is_lane : slice_get core.lanes seat ≡ Some lane
   pub is_named : slice_get (names_in moves) seat ≡ Some name
   pub is_made : own_steps seat moves ≡ made
@@ -33,7 +33,7 @@ pub record EndsRun (lane : RunningLane) (total word : ℕ) : Type 0 where
   pub core : CoreState
   pub moves : List Move
   pub seat : ℕ
-  pub in_run : IsInRun lane.words.opening moves core seat lane.name lane.lane lane.made
+  pub in_run : IsInRun lane.words.grant moves core seat lane.name lane.lane lane.made
   pub begins : BeginsWithAll moves lane.seen
   pub ended : All (EndedIn moves seat) lane.taken
   pub total_is : core.total ≡ total

@@ -2,7 +2,7 @@
 use Rattle.std.specs.Prelude.{◌≡◌, ℕ, ◌+◌, min, max}
 use Rattle.std.specs.Int.{bit_at}
 use Rattle.ob_core.specs.declared.lane.Lane.{Lane}
-use Rattle.ob_core.specs.Shares.{IsFree}
+use Rattle.ob_core.specs.Parts.{IsFree}
 
 -- a lane that is free has the rooms of two together, which are never more than the whole room, and the bits of both,
 -- raised as they were

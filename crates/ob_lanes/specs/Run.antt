@@ -1,10 +1,10 @@
--- The run: the moves that lead from the opening of the one word to a state of it, and whose own steps they are.
+-- The run: the moves that lead from the beginning of the one word to a state of it, and whose own steps they are.
 use Rattle.std.specs.Prelude.{◌≡◌, ◌==◌, ℕ, List, [], ◌∷◌, ◌++◌, if◌then◌else◌}
 use Rattle.ob_core.specs.CoreState.{CoreState}
 use Rattle.ob_core.specs.CoreStep.{IsCoreStep}
 use Rattle.ob_lanes.specs.Facts.{one_step}
 use Rattle.ob_core.specs.Found.{value_found}
-use Rattle.ob_core.specs.Shares.{IsDivision, IsMerger}
+use Rattle.ob_core.specs.Parts.{IsDivision, IsMerger}
 use Rattle.ob_lanes.specs.declared.facts.Made.{Made}
 use Rattle.ob_lanes.specs.declared.facts.Move.{Move}
 use Rattle.ob_lanes.specs.declared.facts.Move.TheVariants.{Steps, Divides, Merges}

@@ -6,12 +6,12 @@ use Rattle.ob_core.specs.declared.lane.Lane.{Lane}
 use Rattle.ob_lanes.specs.declared.facts.Ended.{Ended}
 use Rattle.ob_lanes.specs.declared.facts.Made.{Made}
 use Rattle.ob_lanes.specs.declared.facts.Move.{Move}
-use Rattle.ob_core.specs.Opening.{Opening}
+use Rattle.ob_core.specs.Beginning.{Grant}
 
 -- the one word: which it is, and what it was opened with
 pub record WordsValue : Type 0 where
   pub table_id : TableId
-  pub opening : Opening
+  pub grant : Grant
 
 -- a lane: the word that it steps on, what the core knows of it, its own steps in order, the runs that it has seen, its
 -- name, how many lanes it has split off, and those that it has taken in
@@ -26,7 +26,7 @@ pub record RunningLane : Type 0 where
 
 -- the room that is not the lane's
 abbrev pub room_outside : RunningLane → ℕ
-room_outside lane = lane.words.opening.room - lane.lane.room
+room_outside lane = lane.words.grant.room - lane.lane.room
 
 -- of the bits that a lane holds, the word shows exactly those that it has raised
 abbrev pub ShowsHeld : Lane → ℕ → Type 0

@@ -4,8 +4,8 @@ use Rattle.std.specs.Int.{bit_at}
 use Rattle.std.specs.List.{list_all, range_with_len}
 use Rattle.ob_core.specs.FirstFault.{first_fault}
 use Rattle.ob_core.specs.declared.lane.Lane.{Lane}
-use Rattle.ob_core.specs.Bits.{is_set, ShareOut}
-use Rattle.ob_core.specs.Shares.{IsFree}
+use Rattle.ob_core.specs.Bits.{is_set, MakeUp}
+use Rattle.ob_core.specs.Parts.{IsFree}
 use Rattle.ob_lanes.specs.declared.fault.SplitFault.{SplitFault}
 use Rattle.ob_lanes.specs.declared.fault.SplitFault.TheVariants.{NoRoom, NotHeld}
 
@@ -30,7 +30,7 @@ pub record IsSplit (room bits : ℕ) (lane first second : Lane) : Type 0 where
   pub second_free : IsFree second
   pub rooms : first.room + second.room ≡ lane.room
   pub second_room : second.room ≡ room
-  pub held : ShareOut lane.held first.held second.held
+  pub held : MakeUp lane.held first.held second.held
   pub second_held : second.held ≡ bits
-  pub raised : ShareOut lane.raised first.raised second.raised
+  pub raised : MakeUp lane.raised first.raised second.raised
   pub second_raised : (index : ℕ) → bit_at second.raised index ≡ min (bit_at lane.raised index) (bit_at bits index)

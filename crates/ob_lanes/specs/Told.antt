@@ -20,13 +20,13 @@ Knows = Me (Unit {0}) Facts
 -- bits, and of the bits that the lane holds it shows exactly the raised ones
 pub record PackedTold (facts : Facts) (found : ℕ) : Type 0 where
   pub no_less : owed_by facts.lane ≤ total_half found
-  pub no_more : total_half found + facts.lane.room ≤ owed_by facts.lane + facts.opening.room
+  pub no_more : total_half found + facts.lane.room ≤ owed_by facts.lane + facts.grant.room
   pub fits : word_half found < 4294967296
   pub shows : ShowsHeld facts.lane (word_half found)
 
 -- a seat has made this step, and sees the run up to it
 abbrev pub FactsSee : LaneStep → ℕ → Facts → Facts → Type 0
-FactsSee step found old new = Sees new.opening old.seen step found new.name new.lane new.made new.seen
+FactsSee step found old new = Sees new.grant old.seen step found new.name new.lane new.made new.seen
 
 -- the step leaves the lane as the core says, is one more of its own steps, and the last of a run that it sees then; and
 -- it tells what the value found tells
@@ -61,7 +61,7 @@ pub record ToldOfBit (bit_step : ℕ → LaneStep) (mask_of : ℕ → ℕ) (by :
 abbrev pub IsSeatOf : WordsValue → Seat (Unit {0}) Facts → Type 0
 IsSeatOf words seat =
     (seat.table_id ≡ words.table_id)
-    × (seat.me.0.opening ≡ words.opening)
+    × (seat.me.0.grant ≡ words.grant)
     × (seat.me.0.spent ≡ false)
 
 -- the seat is the same, whatever it knows

@@ -14,7 +14,7 @@ use Rattle.ob_lanes.specs.declared.facts.Move.{Move}
 -- a seat has the slots that it had, and of what it knows all that no step of its lane changes is as it was: what the
 -- word was opened with, its name, its splits, the lanes that it has taken in, and whether it was taken in itself
 pub record KeepsRest (old new : Knows) : Type 0 where
-  pub opening : new.0.opening ≡ old.0.opening
+  pub grant : new.0.grant ≡ old.0.grant
   pub name : new.0.name ≡ old.0.name
   pub splits : new.0.splits ≡ old.0.splits
   pub taken : new.0.taken ≡ old.0.taken

@@ -5,7 +5,7 @@ use Rattle.atomic_table.specs.Seated.{TableId}
 use Rattle.atomic_table.specs.Table.{step}
 use Rattle.ob_types.specs.declared.reply.Change.TheVariants.{Unwritable, Writable}
 use Rattle.ob_core.specs.CoreState.{CoreState}
-use Rattle.ob_core.specs.Opening.{Opening, one_lane}
+use Rattle.ob_core.specs.Beginning.{Grant, one_lane}
 use Rattle.ob_core.specs.Worked.{free_lane}
 use Rattle.ob_core.specs.declared.lane.Lane.{Lane}
 use Rattle.ob_core.specs.declared.lane_step.LaneStep.TheVariants.{Add, SetBit, Load}
@@ -30,8 +30,8 @@ use Rattle.ob_lanes.specs.declared.fault.SplitFault.TheVariants.{NoRoom, NotHeld
 -- ---- two lanes that meet
 
 -- marks of 50 and 100, a room of 120, and no bit
-abbrev pub opening : Opening
-opening = record { marks = record { low = 50; high = 100 }; room = 120; bits = 0 }
+abbrev pub grant : Grant
+grant = record { marks = record { low = 50; high = 100 }; room = 120; bits = 0 }
 
 -- a lane with half of the room
 abbrev pub half : Option ℕ → Lane
@@ -42,7 +42,7 @@ abbrev pub met : ℕ → CoreState
 met word = record {
   total = 120;
   word = word;
-  marks = opening.marks;
+  marks = grant.marks;
   lanes = half (Some 60) ∷ half (Some 60) ∷ [];
 }
 
@@ -56,7 +56,7 @@ meeting = Steps 1 (Add 60) 60 ∷ first_run
 
 -- this is a run, and the steps of each lane are its own
 abbrev pub Meets : Type 0
-Meets = Leads (one_lane opening) meeting (met 1)
+Meets = Leads (one_lane grant) meeting (met 1)
 
 abbrev pub OwnSteps : Type 0
 OwnSteps =
@@ -66,13 +66,13 @@ OwnSteps =
 
 -- no run has an add to above the high mark that leaves bit 0 clear
 abbrev pub RaisedNothing : Type 0
-RaisedNothing = Leads (one_lane opening) meeting (met 0) → ⊥
+RaisedNothing = Leads (one_lane grant) meeting (met 0) → ⊥
 
 -- in the run of both the second add alone has a change, and no run has two such changes one behind the other
 abbrev pub OneChange : Type 0
 OneChange =
-    (changes_of opening.marks meeting ≡ Unwritable ∷ [])
-    × (changes_of opening.marks first_run ≡ [])
+    (changes_of grant.marks meeting ≡ Unwritable ∷ [])
+    × (changes_of grant.marks first_run ≡ [])
     × TakeTurns (Writable ∷ Unwritable ∷ [])
     × (TakeTurns (Unwritable ∷ Unwritable ∷ []) → ⊥)
     × (TakeTurns (Writable ∷ []) → ⊥)
@@ -100,8 +100,8 @@ Splits =
 -- ---- the steps of one lane
 
 -- marks of 50 and 100, a room of 120, and bits 1 and 2
-abbrev pub with_bits : Opening
-with_bits = record opening { bits = 6 }
+abbrev pub with_bits : Grant
+with_bits = record grant { bits = 6 }
 
 -- a lane that has all of it, raised or not, with a debt or without
 abbrev pub lone : ℕ → Option ℕ → Lane
@@ -110,7 +110,7 @@ lone raised debt = record { room = 120; debt = debt; held = 6; raised = raised }
 -- the same on one word, whichever it is, with its own steps and what it has seen
 abbrev pub runs_alone : TableId → ℕ → Option ℕ → List Made → List (List Move) → RunningLane
 runs_alone id raised debt made seen = record {
-  words = record { table_id = id; opening = with_bits };
+  words = record { table_id = id; grant = with_bits };
   lane = lone raised debt;
   made = made;
   seen = seen;
@@ -166,7 +166,7 @@ ReadsBehind =
     HasMade Load shows_bit_2 (has_set id) (reads_then id (bit_2_set ++ one_step Load shows_bit_2) read_run)
     × (HasMade Load shows_bit_2 (has_set id) (reads_then id (one_step Load shows_bit_2 ++ bit_2_set) read_run) → ⊥)
     × (HasMade Load shows_bit_2 (has_set id) (reads_then id (one_step Load shows_bit_2) read_run) → ⊥)
-    × (HasMade Load shows_bit_2 (record (has_set id) { words = record { table_id = id; opening = opening } })
+    × (HasMade Load shows_bit_2 (record (has_set id) { words = record { table_id = id; grant = grant } })
     (reads_then id (bit_2_set ++ one_step Load shows_bit_2) read_run) → ⊥)
     × (HasMade Load shows_bit_2 (has_set id)
     (reads_then id (bit_2_set ++ one_step Load shows_bit_2) (Steps 0 Load shows_bit_2 ∷ [])) → ⊥)
@@ -229,7 +229,7 @@ OwesNothing =
 -- one of two lanes with half of the room each
 abbrev pub runs_beside : List ℕ → ℕ → TableId → Option ℕ → List Made → List (List Move) → RunningLane
 runs_beside name splits id debt made seen = record {
-  words = record { table_id = id; opening = opening };
+  words = record { table_id = id; grant = grant };
   lane = half debt;
   made = made;
   seen = seen;
@@ -306,12 +306,12 @@ JoinedInOne =
 -- and no lane has read such a bit
 abbrev pub SecondHalfInRun : Type 0
 SecondHalfInRun =
-    IsInRun opening meeting (met 1) 1 (0 ∷ []) (half (Some 60)) (one_step (Add 60) 60)
-    × ((moves : List Move) (seat : ℕ) (name : List ℕ) → IsInRun opening moves (met 1) seat name (half None) (one_step (Add 60) 60) → ⊥)
+    IsInRun grant meeting (met 1) 1 (0 ∷ []) (half (Some 60)) (one_step (Add 60) 60)
+    × ((moves : List Move) (seat : ℕ) (name : List ℕ) → IsInRun grant moves (met 1) seat name (half None) (one_step (Add 60) 60) → ⊥)
     × ((moves : List Move) (seat : ℕ) (name : List ℕ) →
-    IsInRun opening moves (met 3) seat name (half (Some 60)) (one_step (Add 60) 60) → ⊥)
+    IsInRun grant moves (met 3) seat name (half (Some 60)) (one_step (Add 60) 60) → ⊥)
     × ((moves : List Move) (seat : ℕ) (name : List ℕ) →
-    IsInRun opening moves (met 1) seat name (half (Some 60)) (one_step Load shows_bit_2) → ⊥)
+    IsInRun grant moves (met 1) seat name (half (Some 60)) (one_step Load shows_bit_2) → ⊥)
 
 -- a lane with all of the room that raised bit 2 ends with a total of 0 and a word of 4: not the other way round, with
 -- nothing owed, with bit 1 clear, and in a run that begins with what it has seen
@@ -328,7 +328,7 @@ EndsWithBit2 =
 
 -- what a lane with all of the room knows
 abbrev pub knows : ℕ → List Made → List (List Move) → Knows
-knows raised made seen = (record { opening = with_bits; lane = lone raised None; made = made; seen = seen; name = []; splits = 0; taken = []; spent = false }, [])
+knows raised made seen = (record { grant = with_bits; lane = lone raised None; made = made; seen = seen; name = []; splits = 0; taken = []; spent = false }, [])
 
 -- to set bit 34 of both tells of bit 2 of the word; to set bit 33 does not, nor to set it and keep no step, and nothing
 -- that is found shows bit 1, which the lane holds and has not raised

@@ -1,6 +1,6 @@
 //! What a lane knows of itself. No value of these is made: they stand in contracts and proofs alone.
 
-use crate::opening::Opening;
+use crate::grant::Grant;
 use ob_core::{Lane, LaneStep};
 use std::collections::LinkedList;
 
@@ -29,7 +29,7 @@ pub struct Ended {
 /// What a lane knows of itself, which no other lane changes.
 pub struct Facts {
     /// What its word was opened with.
-    pub opening: Opening,
+    pub grant: Grant,
     /// What the core knows of the lane: room, debt, held bits and raised bits.
     pub lane: Lane,
     /// Its own steps, in order. Neither a split nor a join is one.

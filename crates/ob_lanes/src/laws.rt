@@ -2,11 +2,7 @@
 
 ghost use Rattle.std.specs.Prelude.{◌≡◌, ◌<◌, ◌≤◌, ◌^◌, ◌⊎◌, ℕ, List, true, false};
 ghost use Rattle.ob_types.specs.Change.{is_writable};
-ghost use Rattle.ob_core.specs.Accounts.{AccountsHold};
-ghost use Rattle.ob_core.specs.Bits.{is_set};
-ghost use Rattle.ob_core.specs.CoreState.{CoreState};
-ghost use Rattle.ob_core.specs.Opening.{Opening, one_lane};
-ghost use Rattle.ob_core.specs.Shares.{IsFree};
+ghost use Rattle.ob_core.specs.Words.{AccountsHold, is_set, CoreState, Grant, one_lane, IsFree};
 ghost use Rattle.ob_lanes.specs.Begins.{BeginsWith};
 ghost use Rattle.ob_lanes.specs.Changes.{changes_of, writable_after, TakeTurns};
 ghost use Rattle.ob_lanes.specs.Run.{Leads};
@@ -18,29 +14,29 @@ use crate::lane::Lane;
 /// Wherever a run leads, the accounts hold: the total is the sum owed, the rooms add up to the whole room, and each
 /// user bit that the word shows is the doing of the one lane that holds it.
 pub fn every_run_keeps_the_accounts()
-    ensures kept { (opening : Opening) (moves : List Move) (core : CoreState) →
-        is_set opening.bits 0 ≡ false → Leads (one_lane opening) moves core → AccountsHold opening core }
+    ensures kept { (grant : Grant) (moves : List Move) (core : CoreState) →
+        is_set grant.bits 0 ≡ false → Leads (one_lane grant) moves core → AccountsHold grant core }
 {}
 
 /// Wherever a run leads, bit 0 is set if the total is above the high mark, and clear if it is below the low mark.
 pub fn the_mark_stands()
-    ensures above { (opening : Opening) (moves : List Move) (core : CoreState) →
-        is_set opening.bits 0 ≡ false → opening.marks.low ≤ opening.marks.high →
-        Leads (one_lane opening) moves core → opening.marks.high < core.total → is_set core.word 0 ≡ true }
-    ensures below { (opening : Opening) (moves : List Move) (core : CoreState) →
-        is_set opening.bits 0 ≡ false → opening.marks.low ≤ opening.marks.high →
-        Leads (one_lane opening) moves core → core.total < opening.marks.low → is_set core.word 0 ≡ false }
+    ensures above { (grant : Grant) (moves : List Move) (core : CoreState) →
+        is_set grant.bits 0 ≡ false → grant.marks.low ≤ grant.marks.high →
+        Leads (one_lane grant) moves core → grant.marks.high < core.total → is_set core.word 0 ≡ true }
+    ensures below { (grant : Grant) (moves : List Move) (core : CoreState) →
+        is_set grant.bits 0 ≡ false → grant.marks.low ≤ grant.marks.high →
+        Leads (one_lane grant) moves core → core.total < grant.marks.low → is_set core.word 0 ≡ false }
 {}
 
 /// What all lanes report along a run goes to and fro, and begins with `Unwritable`; the writers may go on behind it just
 /// if no bit of the word is set. The room fits 32 bits, as every room that a word is opened with.
 pub fn the_changes_of_every_run_take_turns()
-    ensures turns { (opening : Opening) (moves : List Move) (core : CoreState) →
-        is_set opening.bits 0 ≡ false → opening.room < 2 ^ 32 → Leads (one_lane opening) moves core →
-        TakeTurns (changes_of opening.marks moves) }
-    ensures now { (opening : Opening) (moves : List Move) (core : CoreState) →
-        is_set opening.bits 0 ≡ false → opening.room < 2 ^ 32 → Leads (one_lane opening) moves core →
-        is_writable core.word ≡ writable_after (changes_of opening.marks moves) }
+    ensures turns { (grant : Grant) (moves : List Move) (core : CoreState) →
+        is_set grant.bits 0 ≡ false → grant.room < 2 ^ 32 → Leads (one_lane grant) moves core →
+        TakeTurns (changes_of grant.marks moves) }
+    ensures now { (grant : Grant) (moves : List Move) (core : CoreState) →
+        is_set grant.bits 0 ≡ false → grant.room < 2 ^ 32 → Leads (one_lane grant) moves core →
+        is_writable core.word ≡ writable_after (changes_of grant.marks moves) }
 {}
 
 /// Of two runs that one run begins with, one begins with the other: what lanes have seen is in line.
@@ -53,8 +49,8 @@ pub fn runs_seen_by_one_are_in_line()
 /// low mark is at most the high one, so the laws above speak of the run that it stands in.
 pub fn every_lane_is_free(lane: &Lane)
     ensures free { IsFree lane.now.lane }
-    ensures mark { is_set lane.now.words.opening.bits 0 ≡ false }
-    ensures ordered { lane.now.words.opening.marks.low ≤ lane.now.words.opening.marks.high }
+    ensures mark { is_set lane.now.words.grant.bits 0 ≡ false }
+    ensures ordered { lane.now.words.grant.marks.low ≤ lane.now.words.grant.marks.high }
 {
     let _room = lane.running.room;
 }
@@ -62,8 +58,8 @@ pub fn every_lane_is_free(lane: &Lane)
 /// Of a charged lane, bit 0 is none of the bits that its word was opened with either, and the low mark is at most the
 /// high one.
 pub fn every_charged_lane_is_marked(charged: &Charged)
-    ensures mark { is_set charged.now.words.opening.bits 0 ≡ false }
-    ensures ordered { charged.now.words.opening.marks.low ≤ charged.now.words.opening.marks.high }
+    ensures mark { is_set charged.now.words.grant.bits 0 ≡ false }
+    ensures ordered { charged.now.words.grant.marks.low ≤ charged.now.words.grant.marks.high }
 {
     let _owed = charged.owed;
 }

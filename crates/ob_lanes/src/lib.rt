@@ -11,14 +11,14 @@ mod both;
 mod charged;
 mod facts;
 mod fault;
+mod grant;
 mod lane;
 mod laws;
 mod opened;
-mod opening;
+mod parts;
 mod plays;
 mod rule;
 mod running;
-mod shares;
 mod words;
 mod worked;
 

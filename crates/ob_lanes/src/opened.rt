@@ -2,8 +2,8 @@ ghost use Rattle.std.specs.Prelude.{◌≡◌, false, [], IfOk, IsOkUnless};
 ghost use Rattle.ob_core.specs.Bits.{is_set};
 ghost use Rattle.ob_lanes.specs.Facts.{first_lane};
 
+use crate::grant::Grant;
 use crate::lane::Lane;
-use crate::opening::Opening;
 use crate::running::Running;
 use crate::words::Words;
 use atomic_table::Table;
@@ -23,10 +23,10 @@ pub fn lanes(
 ) -> Result<(Words, Lane), Refusal>
     requires { is_set bits 0 ≡ false }
     ensures no_memory { IsOkUnless result Refusal.NoMemory }
-    ensures words { IfOk result (λ ok. ok.0.opening ≡ record { marks = marks; room = room; bits = bits }) }
+    ensures words { IfOk result (λ ok. ok.0.grant ≡ record { marks = marks; room = room; bits = bits }) }
     ensures lane { IfOk result (λ ok. ok.1 ≡ record {
       words = ok.0;
-      lane = first_lane ok.0.opening;
+      lane = first_lane ok.0.grant;
       made = [];
       seen = [];
       name = [];
@@ -34,9 +34,9 @@ pub fn lanes(
       taken = [];
     }) }
 {
-    let opening = Opening { marks, room, bits };
-    let (table, seat) = Table::of_words(alloc, &[0], &opening)?;
-    let words = Words { table, opening };
+    let grant = Grant { marks, room, bits };
+    let (table, seat) = Table::of_words(alloc, &[0], &grant)?;
+    let words = Words { table, grant };
     let running = Running {
         seat,
         room,

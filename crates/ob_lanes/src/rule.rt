@@ -1,5 +1,5 @@
 use crate::facts::Facts;
-use crate::opening::Opening;
+use crate::grant::Grant;
 use atomic_table::TableRule;
 
 /// The one word, with the word of bits in its high half and the total in its low half, as `ob_types::pack` lays them out.
@@ -8,7 +8,7 @@ pub const BOTH: usize = 0;
 /// What holds between any two steps.
 pub struct Rule;
 
-impl TableRule<(), Facts, Opening> for Rule {
+impl TableRule<(), Facts, Grant> for Rule {
     ghost use Rattle.ob_lanes.specs.Facts.{first_facts};
     ghost use Rattle.ob_lanes.specs.Ruled.{Ruled};
 

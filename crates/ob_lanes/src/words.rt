@@ -6,7 +6,7 @@ mod steps;
 mod tries;
 
 use crate::facts::Facts;
-use crate::opening::Opening;
+use crate::grant::Grant;
 use crate::rule::Rule;
 use atomic_table::Table;
 use std::alloc::Global;
@@ -18,8 +18,8 @@ use std::marker::Model;
 /// the one that its lane came from.
 #[derive(Drop)]
 pub struct Words {
-    pub(crate) table: Table<(), Facts, Opening, Rule, Global>,
-    pub(crate) opening: Opening,
+    pub(crate) table: Table<(), Facts, Grant, Rule, Global>,
+    pub(crate) grant: Grant,
 }
 
 impl Model for Words {

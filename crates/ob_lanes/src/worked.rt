@@ -33,7 +33,7 @@ fn worked_totals()
     ensures reads_nothing { ReadsNothing }
 {}
 
-fn worked_shares()
+fn worked_parts()
     ensures split_in_two { SplitInTwo }
     ensures joined_in_one { JoinedInOne }
 {}

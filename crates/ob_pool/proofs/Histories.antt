@@ -1,5 +1,6 @@
 -- What a finished history tells of those who made it.
 pub mod AcceptedCounts
+pub mod CountedRecords
 pub mod Ending
 pub mod Quiet
 pub mod Settled

@@ -1,4 +1,5 @@
 -- Plans, step by step.
 pub mod BadSteps
+pub mod Faultless
 pub mod PlannedSteps
 pub mod Rooms

@@ -2,3 +2,4 @@
 pub mod Plan
 pub mod HandOff
 pub mod PlansFault
+pub mod Checked

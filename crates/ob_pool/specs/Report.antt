@@ -2,6 +2,6 @@
 pub mod CarriedOut
 pub mod Counts
 pub mod Counted
-pub mod Kind
+pub mod Counting
 pub mod TellsOf
 pub mod HandedIn

@@ -7,6 +7,7 @@ ghost use Rattle.ob_types.specs.declared.refusal.Refusal.TheVariants.{HistoryFul
 ghost use Rattle.ob_shared.specs.Opened.{IsNameOf};
 ghost use Rattle.ob_pool.specs.Config.{AreWithin, first_history};
 ghost use Rattle.ob_pool.specs.DriveFault.{ComesOfWork, NamesOneOf, number_of};
+ghost use Rattle.ob_pool.specs.Planning.Checked.{AreChecked};
 ghost use Rattle.ob_pool.specs.Planning.PlansFault.{plans_fault};
 ghost use Rattle.ob_pool.specs.Report.TellsOf.{TellsOf, TellsOfSink};
 ghost use Rattle.ob_pool.specs.declared.fault.DriveFault.TheVariants.{Refused};
@@ -16,7 +17,7 @@ use crate::fault::DriveFault;
 use crate::gate::Gate;
 use crate::opening::open;
 use crate::plan::Plan;
-use crate::planning::{plans_fault, rooms_of};
+use crate::planning::{CheckedPlans, check};
 use crate::report::{Report, into_report};
 use crate::threads::{Context, run};
 use ob_lanes::lanes;
@@ -68,17 +69,20 @@ pub fn drive<R: Threads + Wait + Clock + Sync, G: Gate + Sync, S: Sink + Send>(
     ensures report { IfOk result (TellsOf (first_history config) plans.items) }
     ensures sink { IfOk result (TellsOfSink (S.content sink.old) (S.content sink.new)) }
 {
-    if let Some(fault) = plans_fault(config.estimate, config.task, &plans) {
-        return Err(fault);
-    }
-    let callers = plans.len() as u32 + 1;
+    let checked = match check(config.estimate, config.task, plans) {
+        Ok(checked) => checked,
+        Err(fault) => return Err(fault),
+    };
+    let callers = checked.plans.len() as u32 + 1;
     match Opening::new(alloc, config.marks, config.estimate, config.limit, callers) {
-        Ok(opening) => drive_open::<Brand, R, G, S>(rt, alloc, gate, plans, sink, config, opening),
+        Ok(opening) => drive_open::<Brand, R, G, S>(
+            rt, alloc, gate, checked, sink, config, opening,
+        ),
         Err(_) => Err(DriveFault::NoMemory),
     }
 }
 
-/// A drive over a shared buffer of this name. Its plans have no fault.
+/// A drive over a shared buffer of this name.
 fn drive_open<
     L: Named + Send + Sync,
     R: Threads + Wait + Clock + Sync,
@@ -88,26 +92,24 @@ fn drive_open<
     rt: &R,
     alloc: Global,
     gate: &G,
-    plans: Vec<Plan>,
+    checked: CheckedPlans,
     sink: &mut S,
     config: Config,
     opening: Opening,
 ) -> Result<Report, DriveFault>
     requires name { IsNameOf opening L.opened L.name L.parts }
     requires config { AreWithin config }
-    requires plans { plans_fault config.estimate config.task plans.items ≡ None }
+    requires checked { AreChecked checked }
     requires settings { opening.settings ≡ (first_history config).settings }
     requires limit { opening.limit ≡ config.limit }
-    requires callers { opening.callers ≡ length plans.items + 1 }
-    ensures planned { IfErr result (ComesOfWork (length plans.items)) }
-    ensures report { IfOk result (TellsOf (first_history config) plans.items) }
+    requires callers { opening.callers ≡ length checked.plans + 1 }
+    ensures planned { IfErr result (ComesOfWork (length checked.plans)) }
+    ensures report { IfOk result (TellsOf (first_history config) checked.plans) }
     ensures sink { IfOk result (TellsOfSink (S.content sink.old) (S.content sink.new)) }
 {
-    let count = plans.len() as u32;
-    let Some(room) = rooms_of(config.estimate, config.task, &plans) else {
-        unreachable!()
-    };
-    let (shared, jobs, share) = open::<L>(alloc, config.estimate, config.task, plans, opening)?;
+    let writers = checked.plans.len() as u32;
+    let (estimate, task, room) = (checked.estimate, checked.task, checked.room);
+    let (shared, jobs, share) = open::<L>(alloc, checked, opening)?;
     let Ok((words, lane)) = lanes(alloc, config.marks, room, 0) else {
         return Err(DriveFault::NoMemory);
     };
@@ -115,9 +117,9 @@ fn drive_open<
         alloc,
         shared,
         words,
-        estimate: config.estimate,
-        task: config.task,
-        writers: count,
+        estimate,
+        task,
+        writers,
         ended: AtomicBool::new(false),
     };
     let ((lane, dones), transported) = run(rt, gate, &context, lane, jobs, share, sink, config);

@@ -1,8 +1,9 @@
 //! What is wrong with plans, and the room that they need.
 
-ghost use Rattle.std.specs.Prelude.{◌≡◌, ◌<◌, ◌≤◌, length, IfSome, IsNone};
+ghost use Rattle.std.specs.Prelude.{◌≡◌, ◌<◌, ◌≤◌, length, IfErr, IfOk, IfSome, IsNone, Some};
 ghost use Rattle.ob_core.specs.Limits.{greatest_room, most_lanes};
 ghost use Rattle.ob_pool.specs.DriveFault.{NamesOneOf, number_of};
+ghost use Rattle.ob_pool.specs.Planning.Checked.{AreChecked, HaveRooms};
 ghost use Rattle.ob_pool.specs.Planning.HandOff.{charge_for, charge_of, room_of, rooms_of};
 ghost use Rattle.ob_pool.specs.Planning.Plan.{bad_step, is_planned};
 ghost use Rattle.ob_pool.specs.Planning.PlansFault.{bad_plan_from, plans_fault};
@@ -10,12 +11,13 @@ ghost use Rattle.ob_pool.specs.Planning.PlansFault.{bad_plan_from, plans_fault};
 use crate::fault::DriveFault;
 use crate::plan::Plan;
 use ob_types::{Command, Estimate, Message};
+use std::marker::Model;
 
 /// The most writers of one drive, each with a lane. Our own limit.
 const MOST_WRITERS: usize = 64;
 
 /// What a message is charged while it is handed off.
-pub fn charge_of(estimate: Estimate, task: u32, message: &Message) -> u64
+fn charge_of(estimate: Estimate, task: u32, message: &Message) -> u64
     ensures { result ≡ charge_of estimate task message.now }
 {
     let readable = match message {
@@ -26,8 +28,8 @@ pub fn charge_of(estimate: Estimate, task: u32, message: &Message) -> u64
     readable + u64::from(task)
 }
 
-/// What a command is charged.
-fn charge_for(estimate: Estimate, task: u32, command: &Command) -> u64
+/// What a command is charged while it is handed off.
+pub fn charge_for(estimate: Estimate, task: u32, command: &Command) -> u64
     ensures { result ≡ charge_for estimate task command.now }
 {
     match command {
@@ -37,7 +39,7 @@ fn charge_for(estimate: Estimate, task: u32, command: &Command) -> u64
 }
 
 /// The room that a plan needs.
-pub fn room_of(estimate: Estimate, task: u32, plan: &Plan) -> u64
+fn room_of(estimate: Estimate, task: u32, plan: &Plan) -> u64
     ensures { result ≡ room_of estimate task plan.now }
 {
     let commands = plan.commands.as_slice();
@@ -88,33 +90,80 @@ fn bad_plan(plans: &[Plan]) -> Option<DriveFault>
     None
 }
 
-/// The room that plans need together, or nothing where that is more than a word of 32 bits counts.
-pub fn rooms_of(estimate: Estimate, task: u32, plans: &[Plan]) -> Option<u32>
-    ensures fits { IfSome result (λ rooms. rooms ≡ rooms_of estimate task plans.now) }
-    ensures none { IsNone result → greatest_room < rooms_of estimate task plans.now }
-{
-    let mut rooms = 0u32;
-    for plan in plans {
-        let room = u32::try_from(room_of(estimate, task, plan)).ok()?;
-        rooms = rooms.checked_add(room)?;
-    }
-    Some(rooms)
+/// Plans that have no fault, with the room that they need.
+#[derive(Drop)]
+pub struct CheckedPlans {
+    /// How messages are counted.
+    pub estimate: Estimate,
+    /// The bytes that a hand-off adds to the estimate of a message.
+    pub task: u32,
+    /// The plans, one of each writer.
+    pub plans: Vec<Plan>,
+    /// The room of each plan, by its writer.
+    pub rooms: [u32; MOST_WRITERS],
+    /// The room of all plans together.
+    pub room: u32,
 }
 
-/// The first fault of plans, if there is one.
-pub fn plans_fault(estimate: Estimate, task: u32, plans: &[Plan]) -> Option<DriveFault>
-    ensures value { result ≡ plans_fault estimate task plans.now }
-    ensures early { IfSome result (λ fault. number_of fault ≤ 3) }
-    ensures named { IfSome result (NamesOneOf (length plans.now)) }
+impl Model for CheckedPlans {
+    ghost use Rattle.ob_pool.specs.Planning.Checked.{Checked};
+
+    ghost Value = { Checked };
+
+    ghost view = { λ checked. record {
+      estimate = checked.estimate;
+      task = checked.task;
+      plans = checked.plans.items;
+      rooms = checked.rooms;
+      room = checked.room;
+    } };
+}
+
+/// Plans with the room that they need, or their first fault. It takes no memory.
+pub fn check(estimate: Estimate, task: u32, plans: Vec<Plan>) -> Result<CheckedPlans, DriveFault>
+    ensures fault { IfErr result (λ fault. plans_fault estimate task plans.items ≡ Some fault) }
+    ensures early { IfErr result (λ fault. number_of fault ≤ 3) }
+    ensures named { IfErr result (NamesOneOf (length plans.items)) }
+    ensures estimate { IfOk result (λ checked. checked.estimate ≡ estimate) }
+    ensures task { IfOk result (λ checked. checked.task ≡ task) }
+    ensures plans { IfOk result (λ checked. checked.plans ≡ plans.items) }
+    ensures checked { IfOk result AreChecked }
 {
     if plans.is_empty() || plans.len() > MOST_WRITERS {
-        return Some(DriveFault::BadCount);
+        return Err(DriveFault::BadCount);
     }
-    if let Some(fault) = bad_plan(plans) {
-        return Some(fault);
+    if let Some(fault) = bad_plan(&plans) {
+        return Err(fault);
     }
-    match rooms_of(estimate, task, plans) {
-        Some(_) => None,
-        None => Some(DriveFault::TooMuchRoom),
+    match with_rooms(estimate, task, plans) {
+        Some(checked) => Ok(checked),
+        None => Err(DriveFault::TooMuchRoom),
     }
+}
+
+/// Plans with the room that they need, or nothing where that is more than a word of 32 bits counts.
+fn with_rooms(estimate: Estimate, task: u32, plans: Vec<Plan>) -> Option<CheckedPlans>
+    requires { length plans.items ≤ most_lanes }
+    ensures estimate { IfSome result (λ checked. checked.estimate ≡ estimate) }
+    ensures task { IfSome result (λ checked. checked.task ≡ task) }
+    ensures plans { IfSome result (λ checked. checked.plans ≡ plans.items) }
+    ensures rooms { IfSome result HaveRooms }
+    ensures none { IsNone result → greatest_room < rooms_of estimate task plans.items }
+{
+    let mut rooms = [0; MOST_WRITERS];
+    let mut all = 0u32;
+    let mut writer = 0;
+    for plan in &plans {
+        let room = u32::try_from(room_of(estimate, task, plan)).ok()?;
+        rooms[writer] = room;
+        all = all.checked_add(room)?;
+        writer += 1;
+    }
+    Some(CheckedPlans {
+        estimate,
+        task,
+        plans,
+        rooms,
+        room: all,
+    })
 }

@@ -1,4 +1,5 @@
 mod counting;
+mod counts;
 mod ending;
 
 pub use ending::into_report;

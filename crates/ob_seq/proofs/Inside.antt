@@ -6,7 +6,8 @@ pub mod Failures
 pub mod Fields
 pub mod Gathered
 pub mod Held
-pub mod Kept
+pub mod Rooms
+pub mod States
 pub mod Pieces
 pub mod Sending
 pub mod Skipped

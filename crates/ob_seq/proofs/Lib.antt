@@ -1,5 +1,5 @@
-mod Inside
+pub mod Inside
 pub mod Rows
-mod Simulating
-mod Word
-mod Words
+pub mod Simulating
+pub mod Word
+pub mod Words

@@ -31,35 +31,43 @@ use Rattle.ob_seq.specs.UserBit.{is_user_index}
 use Rattle.ob_seq.specs.Word.{word_after}
 use Rattle.ob_seq.specs.Closed.{is_closed}
 
--- whether a message is too much: the total would pass its greatest, or the most writes were accepted
-abbrev pub is_too_much : Estimate → List Row → ℕ → Bool
-is_too_much estimate rows size = nat_lt greatest_total (total rows + size) || nat_le most_writes (length rows)
+-- whether so many writes are all that a limit allows; without a limit they never are
+abbrev pub is_full : Option ℕ → ℕ → Bool
+is_full None count = false
+is_full (Some limit) count = nat_le limit count
+
+-- whether a message is too much under a limit on writes: the total would pass its greatest, or the limit is reached
+abbrev pub is_too_much_within : Option ℕ → Estimate → List Row → ℕ → Bool
+is_too_much_within limit estimate rows size = nat_lt greatest_total (total rows + size) || is_full limit (length rows)
 
 -- the refusal of progress: nothing is flushed, or the sum would pass the greatest progress
 abbrev pub refusal_of_progress : Option Row → ℕ → Option Refusal
 refusal_of_progress None n = Some NothingFlushed
 refusal_of_progress (Some row) n = if nat_lt greatest_progress (row.progress + n) then Some TooFar else None
 
--- the first refusal of a command to a buffer that is not closed, in the order in which they are asked, or none
-abbrev pub refusal_of : Estimate → List Row → Command → Option Refusal
-refusal_of estimate rows (Write message) =
+-- the first refusal of a command to a buffer that is not closed, in the order in which they are asked, or none, under a
+-- limit on writes
+abbrev pub refusal_within : Option ℕ → Estimate → List Row → Command → Option Refusal
+refusal_within limit estimate rows (Write message) =
     if is_oversize estimate message then Some Oversize
-    else (if is_too_much estimate rows (counted_bytes estimate message) then Some TooMuch else None)
-refusal_of estimate rows Flush = None
-refusal_of estimate rows Remove = None
-refusal_of estimate rows (RemoveWith cause) = None
-refusal_of estimate rows (RemoveBytes n) = if nat_lt (bytes_in (byte_run rows)) n then Some TooManyBytes else None
-refusal_of estimate rows (Progress n) = refusal_of_progress (front rows) n
-refusal_of estimate rows (Cancel id) = if nat_lt id.0 (length rows) then None else Some UnknownPromise
-refusal_of estimate rows (FailFlushed cause notify) = None
-refusal_of estimate rows (Close cause) = if is_some (front rows) then Some FlushedLeft else None
-refusal_of estimate rows (UserBit index writable) = if is_user_index index then None else Some BadIndex
-refusal_of estimate rows (SetMarks marks) = None
+    else (if is_too_much_within limit estimate rows (counted_bytes estimate message) then Some TooMuch else None)
+refusal_within limit estimate rows Flush = None
+refusal_within limit estimate rows Remove = None
+refusal_within limit estimate rows (RemoveWith cause) = None
+refusal_within limit estimate rows (RemoveBytes n) =
+    if nat_lt (bytes_in (byte_run rows)) n then Some TooManyBytes else None
+refusal_within limit estimate rows (Progress n) = refusal_of_progress (front rows) n
+refusal_within limit estimate rows (Cancel id) = if nat_lt id.0 (length rows) then None else Some UnknownPromise
+refusal_within limit estimate rows (FailFlushed cause notify) = None
+refusal_within limit estimate rows (Close cause) = if is_some (front rows) then Some FlushedLeft else None
+refusal_within limit estimate rows (UserBit index writable) = if is_user_index index then None else Some BadIndex
+refusal_within limit estimate rows (SetMarks marks) = None
 
--- the first refusal of a command after a history, or none: once the buffer is closed, each command is refused as that
-abbrev pub first_refusal : Estimate → List Command → Command → Option Refusal
-first_refusal estimate commands command =
-    if is_closed commands then Some Closed else refusal_of estimate (rows_after estimate commands) command
+-- the first refusal of a command after a history, or none, under a limit on writes: once the buffer is closed, each
+-- command is refused as that
+abbrev pub first_refusal_within : Option ℕ → Estimate → List Command → Command → Option Refusal
+first_refusal_within limit estimate commands command =
+    if is_closed commands then Some Closed else refusal_within limit estimate (rows_after estimate commands) command
 
 -- the state of the promise with this id, if a write was accepted under it
 abbrev pub promise_at : List Row → ℕ → Option PromiseState
@@ -123,20 +131,49 @@ abbrev pub unless_refused : Option Refusal → Reply → Result Reply Refusal
 unless_refused None reply = Ok reply
 unless_refused (Some refusal) reply = Err refusal
 
--- the answer to one more command: its first refusal, or its reply
+-- the answer to one more command under a limit on writes: its first refusal, or its reply
+abbrev pub answer_within : Option ℕ → Settings → List Command → Command → Result Reply Refusal
+answer_within limit settings commands command =
+    unless_refused (first_refusal_within limit settings.estimate commands command) (reply_of settings commands command)
+
+-- a command is accepted under a limit on writes, after a history, where its answer is a reply
+abbrev pub is_accepted_within : Option ℕ → Settings → List Command → Command → Bool
+is_accepted_within limit settings commands command = is_ok (answer_within limit settings commands command)
+
+-- whether commands that come after a history are accepted under a limit on writes, one after another
+abbrev pub are_accepted_within : Option ℕ → Settings → List Command → List Command → Bool
+are_accepted_within limit settings earlier [] = true
+are_accepted_within limit settings earlier (command ∷ commands) =
+    is_accepted_within limit settings earlier command
+    && are_accepted_within limit settings (earlier ++ command ∷ []) commands
+
+-- the limit on the writes of a buffer
+abbrev pub buffer_limit : Option ℕ
+buffer_limit = Some most_writes
+
+-- whether a message is too much for a buffer: the total would pass its greatest, or the most writes were accepted
+abbrev pub is_too_much : Estimate → List Row → ℕ → Bool
+is_too_much estimate rows size = is_too_much_within buffer_limit estimate rows size
+
+-- the first refusal of a command to a buffer that is not closed, in the order in which they are asked, or none
+abbrev pub refusal_of : Estimate → List Row → Command → Option Refusal
+refusal_of estimate rows command = refusal_within buffer_limit estimate rows command
+
+-- the first refusal of a command to a buffer after a history, or none
+abbrev pub first_refusal : Estimate → List Command → Command → Option Refusal
+first_refusal estimate commands command = first_refusal_within buffer_limit estimate commands command
+
+-- the answer of a buffer to one more command: its first refusal, or its reply
 abbrev pub answer_to : Settings → List Command → Command → Result Reply Refusal
-answer_to settings commands command =
-    unless_refused (first_refusal settings.estimate commands command) (reply_of settings commands command)
+answer_to settings commands command = answer_within buffer_limit settings commands command
 
 -- a command is accepted after a history where its answer is a reply
 abbrev pub is_accepted : Settings → List Command → Command → Bool
-is_accepted settings commands command = is_ok (answer_to settings commands command)
+is_accepted settings commands command = is_accepted_within buffer_limit settings commands command
 
 -- whether commands that come after a history are accepted, one after another
 abbrev pub are_accepted : Settings → List Command → List Command → Bool
-are_accepted settings earlier [] = true
-are_accepted settings earlier (command ∷ commands) =
-    is_accepted settings earlier command && are_accepted settings (earlier ++ command ∷ []) commands
+are_accepted settings earlier commands = are_accepted_within buffer_limit settings earlier commands
 
 -- the accepted commands once one more has this answer: a refused one has no effect
 abbrev pub commands_with : List Command → Command → Result Reply Refusal → List Command

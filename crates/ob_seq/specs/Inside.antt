@@ -1,41 +1,46 @@
--- How a buffer keeps what it holds. No public clause cites this module.
-use Rattle.std.specs.Prelude.{◌≡◌, ◌≤◌, List, map, take, drop, vec_len}
+-- How what waits to be sent, and what is gone, are kept. No public clause cites this module.
+use Rattle.std.specs.Prelude.{◌≡◌, ◌≤◌, ◌+◌, ℕ, List, length, sum_by, take, drop, vec_len, vec_capacity}
 use Rattle.std.specs.VecDeque.{deque_len}
 use Rattle.ob_types.specs.Limits.{greatest_overhead, greatest_unknown, most_writes}
-use Rattle.ob_seq.specs.Entry.{PendingEntry}
 use Rattle.ob_seq.specs.Pending.{Pending}
-use Rattle.ob_seq.specs.Steps.Held.{pending_total}
+use Rattle.ob_seq.specs.Unsent.{Unsent, whole}
 use Rattle.ob_seq.specs.declared.entry.Entry.{Entry}
 use Rattle.ob_seq.specs.declared.contents.Contents.TheInside.{Inside}
+use Rattle.ob_seq.specs.declared.whole.Whole.TheInside.{Inside as WholeInside}
 
--- what a contract sees of an entry
-abbrev pub pending_entry : Entry → PendingEntry
-pending_entry entry =
-    record { message = entry.message; size = entry.size; progress = entry.progress; voided = entry.voided }
-
--- what a contract sees of entries
-abbrev pub pending_entries : List Entry → List PendingEntry
-pending_entries entries = map pending_entry entries
+-- the bytes that entries count together
+abbrev pub counted : List Entry → ℕ
+counted entries = sum_by (λ entry. entry.size) entries
 
 -- the marks of the opening are kept beside those in force, and the entries are those in line and then those that no
 -- flush has reached
-abbrev pub pending_of : Inside → Pending
-pending_of inside = record {
+abbrev pub unsent_of : Inside → Unsent
+unsent_of inside = record {
   settings = record { marks = inside.opened; estimate = inside.estimate };
   marks = inside.marks;
-  line = take inside.flushed (pending_entries inside.entries.items);
-  unflushed = drop inside.flushed (pending_entries inside.entries.items);
-  promises = inside.promises.items;
+  line = take inside.flushed inside.entries.items;
+  unflushed = drop inside.flushed inside.entries.items;
   word = inside.word;
   closed = inside.closed;
 }
 
--- what every call keeps: the line is within the entries, each entry has a promise, the numbers fit, and the running
--- total is the sum of the pending sizes of both runs, the entries in line and those that no flush has reached
+-- what every call keeps: the line is within the entries, the numbers fit, and the running total is the sum of the
+-- pending sizes of the entries
 pub record IsSound (inside : Inside) : Type 0 where
   pub line_within : inside.flushed ≤ deque_len inside.entries
-  pub each_promised : deque_len inside.entries ≤ vec_len inside.promises
-  pub few_writes : vec_len inside.promises ≤ most_writes
-  pub total : inside.total ≡ pending_total (pending_of inside)
+  pub total : inside.total ≡ counted inside.entries.items
   pub small_overhead : inside.estimate.overhead ≤ greatest_overhead
   pub small_unknown : inside.estimate.unknown ≤ greatest_unknown
+
+-- what a buffer holds, by what waits and the outcomes of what is gone
+abbrev pub whole_of : WholeInside → Pending
+whole_of inside = whole inside.gone.items inside.contents
+
+-- how many messages wait
+abbrev pub waiting_count : Unsent → ℕ
+waiting_count unsent = length unsent.line + length unsent.unflushed
+
+-- what every call keeps of both: the writes are within the limit, and each message that waits has room for its outcome
+pub record IsRoomy (inside : WholeInside) : Type 0 where
+  pub few_writes : vec_len inside.gone + waiting_count inside.contents ≤ most_writes
+  pub room : vec_len inside.gone + waiting_count inside.contents ≤ vec_capacity inside.gone

@@ -6,7 +6,9 @@ pub mod Effect
 pub mod Entry
 pub mod Fitting
 pub mod Gathering
+pub mod Holding
 pub mod Inside
+pub mod Leaves
 pub mod Line
 pub mod Looks
 pub mod Mark
@@ -21,6 +23,7 @@ pub mod Settles
 pub mod State
 pub mod Steps
 pub mod Total
+pub mod Unsent
 pub mod UserBit
 pub mod Word
 pub mod Worked

@@ -1,7 +1,6 @@
--- What a contract sees of a buffer, and the history that it stands for.
-use Rattle.std.specs.Prelude.{◌≡◌, ℕ, Bool, true, not, List, [], map, Result, Option, IsErrOf, OnErr}
+-- The history that a buffer stands for.
+use Rattle.std.specs.Prelude.{◌≡◌, ℕ, Bool, true, not, List, [], Result, Option, IsErrOf, OnErr}
 use Rattle.ob_types.specs.Traits.{traits_of}
-use Rattle.ob_types.specs.WaterMark.{Marks}
 use Rattle.ob_types.specs.declared.command.Command.{Command}
 use Rattle.ob_types.specs.declared.message.Message.{Message}
 use Rattle.ob_types.specs.declared.promise.PromiseId.{PromiseId}
@@ -10,38 +9,17 @@ use Rattle.ob_types.specs.declared.reply.Reply.{Reply}
 use Rattle.ob_types.specs.declared.refusal.Refusal.{Refusal}
 use Rattle.ob_types.specs.declared.refusal.Refusal.TheVariants.{NoMemory}
 use Rattle.ob_seq.specs.Settings.{Settings}
-use Rattle.ob_seq.specs.MarksInForce.{marks_after}
-use Rattle.ob_seq.specs.Line.{line, unflushed}
-use Rattle.ob_seq.specs.Entry.{PendingEntry, entry_of}
-use Rattle.ob_seq.specs.Effect.{rows_after}
-use Rattle.ob_seq.specs.Closed.{is_closed}
-use Rattle.ob_seq.specs.Word.{word_after}
+use Rattle.ob_seq.specs.Leaves.{Leaves}
+pub use Rattle.ob_seq.specs.Holding.{Pending}
 use Rattle.ob_seq.specs.Answer.{answer_to, commands_with, is_accepted, are_accepted}
 use Rattle.ob_seq.specs.declared.look.Look.{Look}
 use Rattle.ob_seq.specs.Looks.{look_after, promise_after, current_after, front_promise_after, flushed_after}
 use Rattle.ob_seq.specs.Gathering.{gathered_after}
 
--- what a buffer holds: what it was opened with, the marks in force, the entries in line and those that no flush has
--- reached, each oldest first, the state of each promise that it ever gave, the word, and whether it is closed
-pub record Pending : Type 0 where
-  pub settings : Settings
-  pub marks : Marks
-  pub line : List PendingEntry
-  pub unflushed : List PendingEntry
-  pub promises : List PromiseState
-  pub word : ℕ
-  pub closed : Bool
-
--- a buffer stands for a history where each command of it was accepted, the buffer holds the marks in force, and what
--- the rows and the moments say, after them, and it is closed where one of them is a close
+-- a buffer stands for a history where each command of it was accepted, and the buffer is what they leave
 pub record StandsFor (buffer : Pending) (commands : List Command) : Type 0 where
   pub accepted : are_accepted buffer.settings [] commands ≡ true
-  pub closed : buffer.closed ≡ is_closed commands
-  pub marks : buffer.marks ≡ marks_after buffer.settings commands
-  pub line : buffer.line ≡ map entry_of (line (rows_after buffer.settings.estimate commands))
-  pub unflushed : buffer.unflushed ≡ map entry_of (unflushed (rows_after buffer.settings.estimate commands))
-  pub promises : buffer.promises ≡ map (λ row. row.promise) (rows_after buffer.settings.estimate commands)
-  pub word : buffer.word ≡ word_after buffer.settings commands
+  pub leaves : Leaves buffer commands
 
 -- whatever history the buffer stands for, the value is what this gives after it
 abbrev pub Gives : {A : Type 0} → Pending → (Settings → List Command → A) → A → Type 0

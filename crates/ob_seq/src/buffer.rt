@@ -11,7 +11,7 @@ mod look;
 mod looks;
 mod state;
 
-use crate::contents::Contents;
+use crate::whole::Whole;
 use ob_types::{Command, Estimate, Refusal, Reply, WaterMark};
 use std::alloc::Global;
 use std::marker::Model;
@@ -20,7 +20,7 @@ use std::marker::Model;
 /// `ChannelOutboundBuffer`), for one thread.
 #[derive(Debug, Drop)]
 pub struct Buffer {
-    contents: Contents,
+    contents: Whole,
 }
 
 /// Each buffer holds what some list of accepted commands leaves.
@@ -45,7 +45,7 @@ impl Buffer {
         ensures stands { StandsFor result [] }
     {
         Buffer {
-            contents: Contents::new(alloc, marks, estimate),
+            contents: Whole::new(alloc, marks, estimate),
         }
     }
 

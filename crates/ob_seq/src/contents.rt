@@ -1,33 +1,29 @@
-ghost use Rattle.std.specs.Prelude.{◌≡◌, ◌<◌, ◌≤◌, [], length};
-ghost use Rattle.ob_types.specs.Change.{change_between};
-ghost use Rattle.ob_types.specs.Limits.{greatest_overhead, greatest_unknown, most_writes};
-ghost use Rattle.ob_seq.specs.Pending.{StandsFor};
-ghost use Rattle.ob_seq.specs.Steps.Held.{front_id, pending_total, state_at};
+ghost use Rattle.std.specs.Prelude.{◌≡◌, ◌≤◌, [], false, length};
+ghost use Rattle.ob_types.specs.Limits.{greatest_overhead, greatest_unknown};
+ghost use Rattle.ob_seq.specs.Inside.{waiting_count};
+ghost use Rattle.ob_seq.specs.Steps.Held.{pending_total};
+ghost use Rattle.ob_seq.specs.Unsent.{whole};
 
-mod cancel;
-mod close;
+mod add;
 mod cut;
-mod fail_flushed;
 mod flush;
-mod progress;
-mod remove;
-mod remove_bytes;
-mod set_marks;
-mod settles;
-mod taking;
-mod user_bit;
+pub(crate) mod front;
+mod gather;
+mod promises;
+mod seen;
+mod shut;
+mod take;
 pub(crate) mod word;
-pub(crate) mod write;
 
 use crate::entry::Entry;
-use ob_types::{
-    Answer, Change, Command, Estimate, PromiseState, Refusal, Reply, Settlements, WaterMark,
-};
+pub use cut::Cut;
+use ob_types::{Estimate, WaterMark};
 use std::alloc::Global;
 use std::collections::VecDeque;
 use std::marker::Model;
 
-/// What a buffer holds. Its calls make the steps of `Buffer`'s; between them it may stand for no list of commands.
+/// What waits to be sent, each message with its promise. What is gone is no part of it, so no call knows an id: each
+/// does what the step of a buffer does, whatever outcomes are gone.
 ///
 /// No call goes over entries that it neither takes away, voids nor hands out, but for the one where it ends: the bytes
 /// that are pending are kept as they change, a flush moves the end of the line over the entries, and a removal takes
@@ -37,39 +33,43 @@ pub struct Contents {
     /// The marks of the opening. No call reads them: contracts judge a history by what its buffer was opened with.
     opened: WaterMark,
     /// The marks in force, by which the next moment and each look go.
-    pub(crate) marks: WaterMark,
+    marks: WaterMark,
     estimate: Estimate,
     /// What stands in line, and behind it what no flush has reached, each oldest first.
-    pub(crate) entries: VecDeque<Entry>,
+    entries: VecDeque<Entry>,
     /// How many of the entries stand in line.
-    pub(crate) flushed: usize,
-    /// The state of each promise, by its id.
-    pub(crate) promises: Vec<PromiseState>,
+    flushed: usize,
     /// The bytes that the entries count together.
-    pub(crate) total: u32,
-    pub(crate) word: u32,
-    pub(crate) closed: bool,
+    total: u32,
+    word: u32,
+    closed: bool,
 }
 
 impl Model for Contents {
-    ghost use Rattle.ob_seq.specs.Pending.{Pending};
+    ghost use Rattle.ob_seq.specs.Unsent.{Unsent};
 
-    ghost Value = { Pending };
+    ghost Value = { Unsent };
 
-    ghost use Rattle.ob_seq.specs.Inside.{pending_of, IsSound};
+    ghost use Rattle.ob_seq.specs.Inside.{unsent_of, IsSound};
 
-    ghost view = { pending_of };
+    ghost view = { unsent_of };
 
     ghost invariant = { IsSound };
 }
 
 impl Contents {
-    /// As `Buffer::new`.
+    /// Nothing, which takes no memory.
     pub fn new(alloc: Global, marks: WaterMark, estimate: Estimate) -> Contents
         requires overhead { estimate.overhead ≤ greatest_overhead }
         requires unknown { estimate.unknown ≤ greatest_unknown }
-        ensures settings { result.settings ≡ record { marks = marks; estimate = estimate } }
-        ensures stands { StandsFor result [] }
+        ensures { result ≡ record {
+          settings = record { marks = marks; estimate = estimate };
+          marks = marks;
+          line = [];
+          unflushed = [];
+          word = 0;
+          closed = false;
+        } }
     {
         Contents {
             opened: marks,
@@ -77,7 +77,6 @@ impl Contents {
             estimate,
             entries: VecDeque::new(alloc),
             flushed: 0,
-            promises: Vec::new(alloc),
             total: 0,
             word: 0,
             closed: false,
@@ -85,57 +84,77 @@ impl Contents {
     }
 
     /// How many entries stand in line.
-    fn line_count(&self) -> usize
+    pub fn line_count(&self) -> usize
         ensures { result ≡ length self.now.line }
     {
         self.flushed
     }
 
     /// How many entries no flush has reached.
-    fn unflushed_count(&self) -> usize
+    pub fn unflushed_count(&self) -> usize
         ensures { result ≡ length self.now.unflushed }
     {
         self.entries.len() - self.flushed
     }
 
-    /// The id of the front: the entries have the last promises.
-    pub(crate) fn front_id(&self) -> usize
-        ensures id { result ≡ front_id self.now }
-        ensures few { result ≤ most_writes }
+    /// How many entries there are.
+    pub fn count(&self) -> usize
+        ensures { result ≡ waiting_count self.now }
     {
-        self.promises.len() - self.entries.len()
+        self.entries.len()
     }
 
     /// The bytes that are pending.
-    fn total(&self) -> u32
-        ensures { result ≡ pending_total self.now }
+    pub fn total(&self) -> u32
+        ensures { result ≡ pending_total (whole [] self.now) }
     {
         self.total
     }
 
-    /// The state of the promise with this id.
-    fn state_at(&self, id: usize) -> PromiseState
-        requires { id < length self.now.promises }
-        ensures { result ≡ state_at self.now id }
+    /// Bit 0 is the mark, bit i the user bit i.
+    pub fn word(&self) -> u32
+        ensures { result ≡ self.now.word }
     {
-        self.promises[id]
+        self.word
     }
 
-    /// The reply of a call that found the word `before`.
-    fn reply(&self, answer: Answer, settled: Settlements, before: u32) -> Reply
-        ensures { result ≡ record { answer = answer; settled = settled; change = change_between before self.now.word } }
+    /// The marks in force.
+    pub fn marks(&self) -> WaterMark
+        ensures { result ≡ self.now.marks }
     {
-        Reply {
-            answer,
-            settled,
-            change: Change::between(before, self.word),
-        }
+        self.marks
     }
 
-    /// A reply's list of settlements, still empty.
-    fn no_settlements(&self) -> Settlements
-        ensures { result ≡ [] }
+    /// By what messages are counted.
+    pub fn estimate(&self) -> Estimate
+        ensures { result ≡ self.now.settings.estimate }
     {
-        Settlements::new(*self.entries.allocator())
+        self.estimate
+    }
+
+    /// Whether it is closed, so that each command is refused.
+    pub fn is_closed(&self) -> bool
+        ensures { result ≡ self.now.closed }
+    {
+        self.closed
+    }
+
+    /// Where its memory comes from.
+    pub fn allocator(&self) -> Global {
+        *self.entries.allocator()
+    }
+
+    /// Puts these marks in force.
+    pub fn set_marks(&mut self, marks: WaterMark)
+        ensures { self.new ≡ record self.old { marks = marks } }
+    {
+        self.marks = marks;
+    }
+
+    /// Puts this word in place of the other.
+    pub fn set_word(&mut self, word: u32)
+        ensures { self.new ≡ record self.old { word = word } }
+    {
+        self.word = word;
     }
 }

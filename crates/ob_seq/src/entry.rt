@@ -1,6 +1,6 @@
 use ob_types::Message;
 
-/// A message that waits to be sent.
+/// A message that waits to be sent, with its promise.
 #[derive(Debug, Drop)]
 pub struct Entry {
     /// What is left of the message.
@@ -9,6 +9,6 @@ pub struct Entry {
     pub progress: u64,
     /// The bytes that it counts: none once it was voided.
     pub size: u32,
-    /// Whether it was voided at its flush.
-    pub voided: bool,
+    /// Whether its promise was taken back: a flush voids it then. Else the promise waits until a flush fixes it.
+    pub taken_back: bool,
 }

@@ -2,7 +2,7 @@ ghost use Rattle.std.specs.Prelude.{◌≡◌};
 ghost use Rattle.std.specs.Iterator.{YieldsFirstRef, item_count};
 ghost use Rattle.std.specs.VecDeque.Iter.{deque_iter_rest};
 ghost use Rattle.ob_seq.specs.Entry.{messages_to_send};
-ghost use Rattle.ob_seq.specs.Inside.{pending_entries};
+ghost use Rattle.ob_seq.specs.Unsent.{pending_entries};
 
 use crate::entry::Entry;
 use ob_types::Message;
@@ -26,7 +26,7 @@ impl<'a> Model for Flushed<'a> {
 
     ghost use Rattle.std.specs.VecDeque.Iter.{deque_iter_rest};
     ghost use Rattle.ob_seq.specs.Entry.{messages_to_send};
-    ghost use Rattle.ob_seq.specs.Inside.{pending_entries};
+    ghost use Rattle.ob_seq.specs.Unsent.{pending_entries};
 
     ghost view = { λ flushed. messages_to_send (pending_entries (deque_iter_rest flushed.entries)) };
 }
@@ -49,7 +49,7 @@ impl<'a> Iterator for Flushed<'a> {
 
     fn next(&mut self) -> Option<&'a Message> {
         while let Some(entry) = self.entries.next() {
-            if !entry.voided {
+            if !entry.taken_back {
                 return Some(&entry.message);
             }
         }

@@ -14,3 +14,4 @@ pub mod Share
 pub mod Sight
 pub mod Told
 pub mod Worked
+pub mod Words

@@ -1,15 +1,8 @@
 ghost use Rattle.std.specs.Prelude.{◌≡◌, ◌↔◌, [], IsTrue, OnOk, OnErr};
 ghost use Rattle.std.specs.Sync.Mutex.{mutex_guard_value};
 ghost use Rattle.ob_seq.specs.Settles.{settled_by};
-ghost use Rattle.ob_history.specs.Beginning.{IsBeginning};
-ghost use Rattle.ob_history.specs.Call.{IsCall};
-ghost use Rattle.ob_history.specs.History.{IsReservation};
-ghost use Rattle.ob_history.specs.Legal.{IsBufferOf};
-ghost use Rattle.ob_history.specs.Own.{AreGivenSince};
-ghost use Rattle.ob_history.specs.Seen.{IsLookAt};
-ghost use Rattle.ob_shared.specs.Maker.{one_more};
-ghost use Rattle.ob_shared.specs.Opened.{IsAsOpened};
-ghost use Rattle.ob_shared.specs.Share.{share_after};
+ghost use Rattle.ob_history.specs.Words.{IsBeginning, IsCall, IsReservation, IsBufferOf, AreGivenSince, IsLookAt};
+ghost use Rattle.ob_shared.specs.Words.{one_more, IsAsOpened, share_after};
 
 use crate::locked::Locked;
 use crate::named::Named;

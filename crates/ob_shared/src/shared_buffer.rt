@@ -2,17 +2,11 @@ ghost use Rattle.std.specs.Prelude.{◌≡◌, ℕ, ◌≤◌, ◌↔◌, length
 ghost use Rattle.std.specs.List.{All};
 ghost use Rattle.ob_types.specs.declared.promise.PromiseId.{PromiseId};
 ghost use Rattle.ob_seq.specs.Settles.{times_settled};
-ghost use Rattle.ob_history.specs.Beginning.{IsBeginning};
-ghost use Rattle.ob_history.specs.History.{History};
-ghost use Rattle.ob_history.specs.Settlements.{settlements_in};
-ghost use Rattle.ob_shared.specs.Called.{IsKept};
-ghost use Rattle.ob_shared.specs.Finished.{HandsInAll, StandsIn, first_short};
-ghost use Rattle.ob_shared.specs.Foreign.{IsForeign};
-ghost use Rattle.ob_shared.specs.Handed.{HasNoLooks, LacksShare, made_by};
+ghost use Rattle.ob_history.specs.Words.{IsBeginning, History, settlements_in};
+ghost use Rattle.ob_shared.specs.Words.{IsKept, HandsInAll, StandsIn, first_short, IsForeign, HasNoLooks, LacksShare};
+ghost use Rattle.ob_shared.specs.Words.{made_by, IsAsOpened, IsCheckIn, IsToldFreely, IsUnknown, IsUnsettled};
+ghost use Rattle.ob_shared.specs.Words.{TellsOf};
 ghost use Rattle.ob_shared.specs.declared.finish_fault.FinishFault.TheVariants.{ForeignReceipt, ReceiptsMissing};
-ghost use Rattle.ob_shared.specs.Opened.{IsAsOpened};
-ghost use Rattle.ob_shared.specs.Sight.{IsCheckIn};
-ghost use Rattle.ob_shared.specs.Told.{IsToldFreely, IsUnknown, IsUnsettled, TellsOf};
 
 use crate::callers::Callers;
 use crate::desk::Desk;

@@ -6,10 +6,10 @@ ghost use Rattle.ob_pool.specs.Report.TellsOf.{TellsOf};
 ghost use Rattle.ob_pool.specs.Planning.PlansFault.{plans_fault};
 ghost use Rattle.ob_pool.specs.declared.fault.DriveFault.{DriveFault};
 ghost use Rattle.ob_tool.specs.Drive.Report.{ComesTo, WritesReport};
-ghost use Rattle.ob_tool.specs.Drive.Script.{drive_language, plans_in, plans_of};
+ghost use Rattle.ob_tool.specs.Drive.Script.{drive_grammar, plans_in, plans_of};
 ghost use Rattle.ob_tool.specs.Drive.Session.{HasKept};
 ghost use Rattle.ob_tool.specs.Drive.Text.{report_text};
-ghost use Rattle.ob_tool.specs.Tracing.Ending.{LinesEnd};
+ghost use Rattle.ob_tool.specs.Reading.Ending.{ReadingEnds};
 ghost use Rattle.ob_tool.specs.Tracing.Interprets.{GoesThrough};
 ghost use Rattle.ob_tool.specs.Cli.Options.{first_history};
 ghost use Rattle.ob_tool.specs.Outcome.{IsFaultOfDrive, IsWritingFault};
@@ -26,10 +26,11 @@ use crate::cli::options::Options;
 use crate::drive::plans::make_plans;
 use crate::drive::session::DriveSession;
 use crate::drive::text::push_report;
+use crate::reading::cursor::Cursor;
+use crate::reading::fault::LineFault;
 use crate::reading::script::read_script;
 use crate::script_fault::ScriptFault;
 use crate::tracing::interpret::MAX_READS;
-use crate::tracing::trace::trace_lines;
 use ob_pool::{Config, OpenGate, Report, drive};
 use ob_transport::Limits;
 use std::alloc::Global;
@@ -58,13 +59,13 @@ pub fn drive_script<H: AllocGlobal + Threads + Wait + Clock + Sync, R: Read, W: 
 ) -> Result<(), ScriptFault>
     // What was read has plans without a fault, and the text of a report on a drive of them is written and nothing else.
     ensures report { OnOk result (IfSome (R.remaining reader.old) (λ script.
-        WritesReport options (plans_of (script_lines drive_language script))
+        WritesReport options (plans_of (script_lines drive_grammar script))
         (W.contents writer.old) (W.contents writer.new))) }
-    ensures through { GoesThrough drive_language (R.remaining reader.old) (R.remaining reader.new) result }
+    ensures through { GoesThrough drive_grammar (R.remaining reader.old) (R.remaining reader.new) result }
 
     // A fault of the drive is the first that the plans have, or one that no plans have.
     ensures drive { (fault : DriveFault) → IsErrOf result (Drive fault) → IfSome (R.remaining reader.old) (λ script.
-        ComesTo options (plans_of (script_lines drive_language script)) fault) }
+        ComesTo options (plans_of (script_lines drive_grammar script)) fault) }
 
     // Without a report nothing is written, unless the writer fails.
     ensures unwritten { IfErr result (λ fault. fault ≢ ScriptFault.Write
@@ -76,16 +77,20 @@ pub fn drive_script<H: AllocGlobal + Threads + Wait + Clock + Sync, R: Read, W: 
     write_report(rt.alloc(), &report, writer)
 }
 
-/// Reads the lines of a drive script up to the first faulty one. Their trace is empty, so nothing is written.
+/// Reads the lines of a drive script up to the first faulty one.
 pub fn read_lines(alloc: Global, script: &[u8]) -> Result<DriveSession, ScriptFault>
     requires small { length script.now ≤ greatest_script }
-    ensures kept { IfOk result (λ session. HasKept session (script_lines drive_language script.now)) }
-    ensures ends { LinesEnd drive_language script.now (λ text. Unit {0}) result }
+    ensures kept { IfOk result (λ session. HasKept session (script_lines drive_grammar script.now)) }
+    ensures ends { ReadingEnds drive_grammar script.now result }
 {
     let mut session = DriveSession::new(alloc);
-    let mut waiting: Vec<u8> = Vec::new(alloc);
-    let mut nowhere: Vec<u8> = Vec::new(alloc);
-    trace_lines(alloc, &mut session, script, &mut waiting, &mut nowhere)?;
+    let mut cursor = Cursor::new(script);
+    while !cursor.is_at_end() {
+        let line = cursor.read::<DriveSession>()?;
+        if !session.keep(line)? {
+            return Err(cursor.fault(LineFault::Misplaced));
+        }
+    }
     Ok(session)
 }
 

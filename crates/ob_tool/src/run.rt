@@ -4,7 +4,7 @@ ghost use Rattle.ob_tool.specs.Tracing.Interprets.{Interprets};
 ghost use Rattle.ob_tool.specs.Cli.Options.{first_history};
 ghost use Rattle.ob_tool.specs.Run.Script.{run_language};
 
-pub mod block;
+pub mod blocks;
 pub mod line;
 pub mod session;
 pub mod text;

@@ -23,49 +23,49 @@ use Rattle.ob_history.specs.History.{History}
 use Rattle.ob_history.proofs.Histories.{accepted_with_next}
 use Rattle.ob_transport.specs.SentBytes.{bytes_sent_by, sent_bytes}
 use Rattle.ob_transport.specs.SentUnits.{sent_units, units_sent_by}
-use Rattle.ob_transport.specs.Step.{Step, steps_from}
+use Rattle.ob_transport.specs.Occasion.{Occasion, occasions_from}
 
-abbrev pub bytes_in_step : Step → List ℕ
-bytes_in_step step = bytes_sent_by step.rows step.command
+abbrev pub bytes_at : Occasion → List ℕ
+bytes_at occasion = bytes_sent_by occasion.rows occasion.command
 
-abbrev pub units_in_step : Step → ℕ
-units_in_step step = units_sent_by step.rows step.command
+abbrev pub units_at : Occasion → ℕ
+units_at occasion = units_sent_by occasion.rows occasion.command
 
--- the step of one more command comes behind the others
-steps_more : (estimate : Estimate) (rows : List Row) (commands : List Command) (command : Command) →
-    steps_from estimate rows (commands ++ command ∷ [])
-    ≡ steps_from estimate rows commands
+-- the occasion of one more command comes behind the others
+occasions_more : (estimate : Estimate) (rows : List Row) (commands : List Command) (command : Command) →
+    occasions_from estimate rows (commands ++ command ∷ [])
+    ≡ occasions_from estimate rows commands
     ++ record { rows = fold (effect estimate) rows commands; command = command } ∷ []
-steps_more estimate rows [] command = refl
-steps_more estimate rows (first ∷ commands) command =
+occasions_more estimate rows [] command = refl
+occasions_more estimate rows (first ∷ commands) command =
     ap (λ more. record { rows = rows; command = first } ∷ more)
-    (steps_more estimate (effect estimate rows first) commands command)
+    (occasions_more estimate (effect estimate rows first) commands command)
 
 module _ (settings : Settings) where
   -- what accepted commands send
   abbrev pub bytes_of : List Command → List ℕ
-  bytes_of commands = flat_map bytes_in_step (steps_from settings.estimate [] commands)
+  bytes_of commands = flat_map bytes_at (occasions_from settings.estimate [] commands)
 
   abbrev pub units_of : List Command → ℕ
-  units_of commands = sum_by units_in_step (steps_from settings.estimate [] commands)
+  units_of commands = sum_by units_at (occasions_from settings.estimate [] commands)
 
   pub bytes_more : (commands : List Command) (command : Command) →
       bytes_of (commands ++ command ∷ []) ≡ bytes_of commands
       ++ bytes_sent_by (rows_after settings.estimate commands) command
   bytes_more commands command =
-      let one : Step = record { rows = rows_after settings.estimate commands; command = command } in
-      ap (flat_map bytes_in_step) (steps_more settings.estimate [] commands command)
-      ∙ flat_map-append bytes_in_step (steps_from settings.estimate [] commands) (one ∷ [])
-      ∙ ap (λ more. bytes_of commands ++ more) (append-nil (bytes_in_step one))
+      let one : Occasion = record { rows = rows_after settings.estimate commands; command = command } in
+      ap (flat_map bytes_at) (occasions_more settings.estimate [] commands command)
+      ∙ flat_map-append bytes_at (occasions_from settings.estimate [] commands) (one ∷ [])
+      ∙ ap (λ more. bytes_of commands ++ more) (append-nil (bytes_at one))
 
   pub units_more : (commands : List Command) (command : Command) →
       units_of (commands ++ command ∷ [])
       ≡ units_of commands + units_sent_by (rows_after settings.estimate commands) command
   units_more commands command =
-      let one : Step = record { rows = rows_after settings.estimate commands; command = command } in
-      ap (sum_by units_in_step) (steps_more settings.estimate [] commands command)
-      ∙ sum_by-append units_in_step (steps_from settings.estimate [] commands) (one ∷ [])
-      ∙ ap (λ more. units_of commands + more) (sum_by-cons units_in_step one [] ∙ omega arith)
+      let one : Occasion = record { rows = rows_after settings.estimate commands; command = command } in
+      ap (sum_by units_at) (occasions_more settings.estimate [] commands command)
+      ∙ sum_by-append units_at (occasions_from settings.estimate [] commands) (one ∷ [])
+      ∙ ap (λ more. units_of commands + more) (sum_by-cons units_at one [] ∙ omega arith)
 
   -- an accepted command comes behind the others
   accepted_behind : (commands : List Command) (command : Command) →

@@ -18,6 +18,6 @@ pub mod SentBytes
 pub mod SentIn
 pub mod SentUnits
 pub mod Standing
-pub mod Step
+pub mod Occasion
 pub mod Taken
 pub mod Worked

@@ -6,7 +6,7 @@ use Rattle.ob_seq.specs.Row.{Row}
 use Rattle.ob_seq.specs.Settings.{Settings}
 use Rattle.ob_history.specs.declared.record.Record.{Record}
 use Rattle.ob_transport.specs.SentBy.{sent_by}
-use Rattle.ob_transport.specs.Step.{steps_in}
+use Rattle.ob_transport.specs.Occasion.{occasions_in}
 
 -- the bytes that one accepted command sends
 abbrev pub bytes_sent_by : List Row → Command → List ℕ
@@ -14,4 +14,4 @@ bytes_sent_by rows command = (sent_by rows command).bytes
 
 -- the sent bytes of a history: those that its accepted commands send, joined in order
 abbrev pub sent_bytes : Settings → List Record → List ℕ
-sent_bytes settings records = flat_map (λ step. bytes_sent_by step.rows step.command) (steps_in settings records)
+sent_bytes settings records = flat_map (λ occasion. bytes_sent_by occasion.rows occasion.command) (occasions_in settings records)

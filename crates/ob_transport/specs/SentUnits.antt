@@ -5,7 +5,7 @@ use Rattle.ob_seq.specs.Row.{Row}
 use Rattle.ob_seq.specs.Settings.{Settings}
 use Rattle.ob_history.specs.declared.record.Record.{Record}
 use Rattle.ob_transport.specs.SentBy.{sent_by}
-use Rattle.ob_transport.specs.Step.{steps_in}
+use Rattle.ob_transport.specs.Occasion.{occasions_in}
 
 -- the units that one accepted command sends
 abbrev pub units_sent_by : List Row → Command → ℕ
@@ -13,4 +13,4 @@ units_sent_by rows command = (sent_by rows command).units
 
 -- the sent units of a history: those that its accepted commands send, added up
 abbrev pub sent_units : Settings → List Record → ℕ
-sent_units settings records = sum_by (λ step. units_sent_by step.rows step.command) (steps_in settings records)
+sent_units settings records = sum_by (λ occasion. units_sent_by occasion.rows occasion.command) (occasions_in settings records)

@@ -8,7 +8,7 @@ use std::alloc::AllocError;
 
 /// What an accepted command answers, which promises it settled, and whether it turned writability.
 ///
-/// A reply is the one notice of the turn that it tells, and of its settlements: nothing tells them again. So it must
+/// A reply is the one notice of the change that it tells, and of its settlements: nothing tells them again. So it must
 /// be used, or let go with `let _ = ..`.
 #[must_use]
 #[derive(Debug, Drop)]

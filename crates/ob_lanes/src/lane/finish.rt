@@ -16,17 +16,17 @@ impl Lane {
     /// if the low mark is positive; at a low mark of 0 nothing ever clears it.
     pub fn finish(self, words: Words) -> Result<(u64, u32), (Words, Lane, RoomOut)>
         requires { self.words ≡ words }
-        ensures room_out { self.lane.room < words.opening.room →
+        ensures room_out { self.lane.room < words.grant.room →
             IsErrAnd result (λ refused. (refused.0 ≡ words) × (refused.1 ≡ self)) }
-        ensures whole { words.opening.room ≤ self.lane.room → IsOk result }
+        ensures whole { words.grant.room ≤ self.lane.room → IsOk result }
         ensures total { IfOk result (λ ok. ok.0 ≡ 0) }
-        ensures mark { 0 < words.opening.marks.low → IfOk result (λ ok. is_set ok.1 0 ≡ false) }
+        ensures mark { 0 < words.grant.marks.low → IfOk result (λ ok. is_set ok.1 0 ≡ false) }
         ensures held { IfOk result (λ ok. ShowsHeld self.lane ok.1) }
         ensures foreign { IfOk result (λ ok. (index : ℕ) → 0 < index →
-            bit_at words.opening.bits index ≡ 0 → bit_at ok.1 index ≡ 0) }
+            bit_at words.grant.bits index ≡ 0 → bit_at ok.1 index ≡ 0) }
         ensures run { IfOk result (λ ok. EndsRun self ok.0 ok.1) }
     {
-        if self.running.room < words.opening.room {
+        if self.running.room < words.grant.room {
             return Err((words, self, RoomOut));
         }
         let Lane { running } = self;

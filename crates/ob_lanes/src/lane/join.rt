@@ -14,7 +14,7 @@ impl Lane {
         requires words { self.words ≡ words.now }
         requires other { other.words ≡ words.now }
         ensures words { result.words ≡ self.words }
-        ensures lane { IsJoined self.words.opening.room self.lane other.lane result.lane }
+        ensures lane { IsJoined self.words.grant.room self.lane other.lane result.lane }
         ensures made { result.made ≡ self.made }
         ensures name { (result.name ≡ self.name) × (result.splits ≡ self.splits) }
         ensures taken { result.taken ≡ self.taken ++ (record { name = other.name; made = other.made }) ∷ other.taken }
@@ -24,7 +24,7 @@ impl Lane {
         let Lane { running: other } = other;
         words.merge_seats::<Brand>(&mut running.seat, other.seat);
         let rooms = running.room.saturating_add(other.room);
-        running.room = rooms.min(words.opening.room);
+        running.room = rooms.min(words.grant.room);
         running.held |= other.held;
         Lane { running }
     }

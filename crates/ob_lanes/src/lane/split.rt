@@ -23,7 +23,7 @@ impl Lane {
             IsErrAnd result (λ refused. (refused.0 ≡ self) × (refused.1 ≡ fault))) }
         ensures split { split_fault self.lane room bits ≡ None → IsOk result }
         ensures words { IfOk result (λ lanes. (lanes.0.words ≡ self.words) × (lanes.1.words ≡ self.words)) }
-        ensures shares { IfOk result (λ lanes. IsSplit room bits self.lane lanes.0.lane lanes.1.lane) }
+        ensures parts { IfOk result (λ lanes. IsSplit room bits self.lane lanes.0.lane lanes.1.lane) }
         ensures made { IfOk result (λ lanes. (lanes.0.made ≡ self.made) × (lanes.1.made ≡ [])) }
         ensures names { IfOk result (λ lanes. (lanes.0.name ≡ self.name) × (lanes.1.name ≡ self.splits ∷ self.name)) }
         ensures splits { IfOk result (λ lanes. (lanes.0.splits ≡ self.splits + 1) × (lanes.1.splits ≡ 0)) }

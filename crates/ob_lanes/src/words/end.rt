@@ -11,10 +11,10 @@ impl Words {
     /// Gives the memory back, and tells both as they were.
     pub(crate) fn end(self, seat: Seat<(), Facts>) -> u64
         requires words { IsSeatOf self seat }
-        ensures end { IsEnd self.opening seat result }
-        ensures bits { self.opening.bits < 2 ^ 32 }
+        ensures end { IsEnd self.grant seat result }
+        ensures bits { self.grant.bits < 2 ^ 32 }
     {
-        let Words { table, opening: _ } = self;
+        let Words { table, grant: _ } = self;
         let closed = table.close_with(seat);
         let both = closed.word(BOTH);
         closed.free();

@@ -1,18 +1,18 @@
 //! Seats that are cut in two and made one.
 ghost use Rattle.std.specs.Prelude.{◌≡◌, [], None};
-ghost use Rattle.ob_core.specs.Shares.{IsFree};
+ghost use Rattle.ob_core.specs.Parts.{IsFree};
 ghost use Rattle.ob_lanes.specs.Divided.{kept_facts, given_facts, both_facts};
 ghost use Rattle.ob_lanes.specs.Split.{split_fault};
 ghost use Rattle.ob_lanes.specs.Told.{IsSeatOf, IsSameSeat};
 
 use super::Words;
 use crate::facts::Facts;
-use crate::shares::{Divide, Merge, Share, Spent};
+use crate::parts::{Divide, Merge, Part, Spent};
 use atomic_table::Seat;
 
 impl Words {
     /// Gives this room and these bits to a new seat. Both are for the proof alone: no word changes.
-    pub(crate) fn divide_seat<S: Share>(
+    pub(crate) fn divide_seat<S: Part>(
         &self,
         seat: &mut Seat<(), Facts>,
         _room: u32,
@@ -20,7 +20,7 @@ impl Words {
     ) -> Seat<(), Facts>
         requires words { IsSeatOf self.now seat.old }
         requires free { IsFree seat.old.me.0.lane }
-        requires share { (S.room ≡ _room) × (S.bits ≡ _bits) }
+        requires part { (S.room ≡ _room) × (S.bits ≡ _bits) }
         requires fits { split_fault seat.old.me.0.lane S.room S.bits ≡ None }
         ensures seat { IsSameSeat seat.old seat.new }
         ensures kept { seat.new.me ≡ (kept_facts _room _bits seat.old.me.0, seat.old.me.1) }

@@ -14,10 +14,10 @@ use ob_types::WaterMark;
 
 impl Words {
     pub(crate) fn marks(&self) -> WaterMark
-        ensures marks { result ≡ self.now.opening.marks }
-        ensures room { self.now.opening.room < 4294967296 }
+        ensures marks { result ≡ self.now.grant.marks }
+        ensures room { self.now.grant.room < 4294967296 }
     {
-        self.opening.marks
+        self.grant.marks
     }
 
     /// Reads both.

@@ -1,11 +1,11 @@
 -- Counts of accepted commands, taken record by record.
 use Rattle.std.proofs.Common.{◌≡◌, ℕ, suc, ◌+◌, ◌*◌, ◌<◌, ◌≤◌, ◌^◌, Bool, true, false, List, [], ◌∷◌, ◌++◌, length, map}
-use Rattle.std.proofs.Common.{take, drop, cond, refl, sym, ap, ◌∙◌, arith}
-use Rattle.std.specs.Prelude.{◌&&◌, filter, count_by, slice_index_or, sum_by}
+use Rattle.std.proofs.Common.{cond, refl, ap, ◌∙◌, arith}
+use Rattle.std.specs.Prelude.{filter, sum_by}
 use Rattle.std.specs.List.{All, Contains}
-use Rattle.std.proofs.lemmas.List.{drop_more, length-map, map-append, take-append-drop}
+use Rattle.std.proofs.lemmas.List.{length-map, map-append}
 use Rattle.std.proofs.lemmas.List.Elements.{All-cons, All-nil, Contains-get_or, filter-append}
-use Rattle.std.proofs.lemmas.List.Sums.{sum_by-append, sum_by-cons, sum_by-le, length-filter, count_by-le-length}
+use Rattle.std.proofs.lemmas.List.Sums.{sum_by-append, sum_by-le, length-filter, count_by-le-length}
 use Rattle.ob_types.specs.Limits.{greatest_total}
 use Rattle.ob_types.specs.declared.command.Command.{Command}
 use Rattle.ob_types.specs.declared.command.Command.TheVariants.{Write, Flush, Remove, RemoveWith, RemoveBytes, Progress}
@@ -18,21 +18,6 @@ use Rattle.ob_pool.specs.Report.Counts.{removed_by, taken_of}
 -- what a record asked
 abbrev command_of : Record → Command
 command_of one = one.command
-
--- the accepted commands of a kind are the accepted records of that kind
-pub accepted_count : (kind : Command → Bool) (records : List Record) →
-    count_by (λ one. is_accepted one && kind one.command) records ≡ count_by kind (accepted_commands records)
-accepted_count kind [] = refl
-accepted_count kind (one ∷ records) =
-    sum_by-cons (λ (one : Record). cond (is_accepted one && kind one.command) 1 0) one records
-    ∙ ap (λ rest. cond (is_accepted one && kind one.command) 1 0 + rest) (accepted_count kind records)
-    ∙ by_reply (is_accepted one)
-  where
-    by_reply : (accepted : Bool) →
-        cond (accepted && kind one.command) 1 0 + count_by kind (accepted_commands records)
-        ≡ count_by kind (map command_of (cond accepted (one ∷ filter is_accepted records) (filter is_accepted records)))
-    by_reply true = sym (sum_by-cons (λ command. cond (kind command) 1 0) one.command (accepted_commands records))
-    by_reply false = omega arith
 
 -- the accepted commands of two lists of records
 pub accepted_of_both : (records more : List Record) →
@@ -80,23 +65,6 @@ taken_fits most records each =
   where
     by_count : (few many : ℕ) → taken_of records ≤ few * most → few ≤ many → taken_of records ≤ many * most
     by_count few many sum at_most = grind (arith, sum, at_most)
-
--- a number of accepted records of a kind is that of the accepted commands of the kind
-pub accepted_is : (kind : Command → Bool) (records : List Record) (n : ℕ) →
-    n ≡ count_by (λ one. is_accepted one && kind one.command) records → n ≡ count_by kind (accepted_commands records)
-accepted_is kind records n is = is ∙ accepted_count kind records
-
--- what was taken so far, with the next record, is within what is taken in all
-pub taken_within : (records : List Record) (index : ℕ) (one : Record) (taken more : ℕ) →
-    taken ≡ taken_of (take index records) → more ≡ taken_of (one ∷ []) → index < length records →
-    one ≡ slice_index_or records index one → taken_of records < 2 ^ 64 → taken + more < 2 ^ 64
-taken_within records index one taken more so_far here within is fits =
-    let whole = ap taken_of (take-append-drop index records) in
-    let both = taken_of_both (take index records) (drop index records) in
-    let rest = ap taken_of (drop_more records index one within
-    ∙ ap (λ first. first ∷ drop (index + 1) records) (sym is)) in
-    let first = taken_of_both (one ∷ []) (drop (index + 1) records) in
-    omega (arith, so_far, here, fits, whole, both, rest, first)
 
 removal_within : (most : ℕ) (command : Command) → ((n : ℕ) → command ≡ RemoveBytes n → n ≤ most) →
     removed_by command ≤ most

@@ -1,11 +1,10 @@
 -- Which promises of a history are settled, and how many.
 use Rattle.std.proofs.Common.{◌≡◌, ℕ, zero, suc, ◌+◌, ◌<◌, ◌≤◌, ◌↔◌, inl, inr, Bool, List, [], ◌∷◌, ◌++◌}
-use Rattle.std.proofs.Common.{length, take, drop, length-append, ◌^◌, cond, eqb, ltb, refl, sym, ap, ◌∙◌, arith}
+use Rattle.std.proofs.Common.{length, cond, eqb, ltb, refl, ap, ◌∙◌, arith}
 use Rattle.std.specs.Prelude.{◌==◌, nat_lt, count_by, slice_index_or, Option, Some, None}
 use Rattle.std.specs.List.{All, Contains, range_with_len}
 use Rattle.std.proofs.lemmas.Bool.{cases_lt}
 use Rattle.std.proofs.lemmas.Bool.Decides.{nat_tests}
-use Rattle.std.proofs.lemmas.List.{drop_more, take-append-drop}
 use Rattle.std.proofs.lemmas.List.Concat.{flat_map-append}
 use Rattle.std.proofs.lemmas.List.Elements.{All-head, All-tail, Contains-get_or}
 use Rattle.std.proofs.lemmas.List.Sums.{count_by-le-length, sum_by-cons, sum_by_push}
@@ -168,31 +167,6 @@ left_and_settled records once within =
       arith,
       open_or_settled (writes_of records) (settlements_in records) once,
       all_below (writes_of records) (settlements_in records) within,
-    )
-
--- what was counted so far, with the settlements of the next record, is within all settlements
-pub settled_fits : (kind : Outcome → Bool) (records : List Record) (index : ℕ) (one : Record) (count more : ℕ) →
-    count ≡ settled_as kind (take index records) →
-    more ≡ count_by (λ settlement. kind settlement.1) (settled_by one.reply) → index < length records →
-    one ≡ slice_index_or records index one → length (settlements_in records) < 2 ^ 64 → count + more < 2 ^ 64
-settled_fits kind records index one count more so_far here within is fits =
-    let is_kind = λ (settlement : PromiseId × Outcome). kind settlement.1 in
-    let rest = drop (index + 1) records in
-    let parts : records ≡ take index records ++ one ∷ rest =
-    sym (take-append-drop index records) ∙ ap (λ others. take index records ++ others)
-    (drop_more records index one within ∙ ap (λ first. first ∷ rest) (sym is)) in
-    let all = ap (λ others. length (settlements_in others)) parts
-    ∙ ap length (settlements_of_both (take index records) (one ∷ rest))
-    ∙ length-append (settlements_in (take index records)) (settlements_in (one ∷ rest)) in
-    omega (
-      arith,
-      so_far,
-      here,
-      fits,
-      all,
-      length-append (settled_by one.reply) (settlements_in rest),
-      count_by-le-length is_kind (settlements_in (take index records)),
-      count_by-le-length is_kind (settled_by one.reply),
     )
 
 -- what the numbers of a history come to

@@ -1,5 +1,5 @@
 -- What one writer is to do, and what it has done. No public clause cites this module.
-use Rattle.std.specs.Prelude.{◌≡◌, ◌+◌, ◌<◌, ◌≤◌, ℕ, suc, List, [], ◌∷◌, length, map, sum_by, Result, IfErr, IfOk, Vec}
+use Rattle.std.specs.Prelude.{◌≡◌, ◌+◌, ◌<◌, ◌≤◌, ℕ, suc, List, [], ◌∷◌, ◌++◌, length, map, sum_by, Result, IfErr, IfOk, Vec}
 use Rattle.std.specs.List.{All}
 use Rattle.ob_types.specs.declared.command.Command.{Command}
 use Rattle.ob_types.specs.declared.estimate.Estimate.{Estimate}
@@ -67,10 +67,12 @@ pub record IsBack (lane back : RunningLane) : Type 0 where
   pub words : back.words ≡ lane.words
   pub room : back.lane.room ≡ lane.lane.room
 
--- one call with a share answers with a share of which one record more was made, and with a receipt of its command
-pub record IsOneCall (share : ShareValue) (asked : Command) (answer : ShareValue × Receipt) : Type 0 where
-  pub made : answer.0.maker ≡ one_more share.maker
-  pub command : answer.1.command ≡ asked
+-- one call with a share leaves a share of which one record more was made, and a receipt of its command behind those
+-- that were there
+pub record IsOneCall (share : ShareValue) (asked : Command) (before after : List Receipt) (left : ShareValue)
+    : Type 0 where
+  pub made : left.maker ≡ one_more share.maker
+  pub commands : commands_in after ≡ commands_in before ++ asked ∷ []
 
 -- jobs of so many writers may begin: their lane steps on these words and has room for all of them together, and
 -- each has room for its plan
@@ -81,7 +83,7 @@ pub record MayBegin (used : WordsValue) (estimate : Estimate) (task writers : �
   pub roomy : All (IsRoomy estimate task) jobs
   pub numbered : All (IsNumbered writers) jobs
   pub room : room_for jobs ≤ lane.lane.room
-  pub whole : lane.lane.room ≤ lane.words.opening.room
+  pub whole : lane.lane.room ≤ lane.words.grant.room
 
 -- jobs of so many writers have been worked on: their lane is back, and they are done, or a fault of the work ended
 -- them

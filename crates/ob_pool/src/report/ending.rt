@@ -25,11 +25,11 @@ pub fn into_report<L: Named>(
     done: Done<L>,
 ) -> Result<Report, DriveFault>
     requires words { lane.words ≡ context.words }
-    requires whole { context.words.opening.room ≤ lane.lane.room }
-    requires no_bit { context.words.opening.bits ≡ 0 }
+    requires whole { context.words.grant.room ≤ lane.lane.room }
+    requires no_bit { context.words.grant.bits ≡ 0 }
     ensures fault { IfErr result (ComesOfWork 0) }
     ensures ended { IfOk result
-        (TellsEnd L.opened context.words.opening.marks context.writers (dones.items ++ done ∷ [])) }
+        (TellsEnd L.opened context.words.grant.marks context.writers (dones.items ++ done ∷ [])) }
 {
     let Context {
         shared,

@@ -1,20 +1,19 @@
 //! The job of one writer, who carries its plan out, command by command.
 
-ghost use Rattle.std.specs.Prelude.{◌≡◌, ◌<◌, ◌≤◌, ℕ, IfOk, IfErr};
+ghost use Rattle.std.specs.Prelude.{◌≡◌, ◌+◌, ◌<◌, ◌≤◌, IfOk, IfErr, vec_capacity, vec_len};
 ghost use Rattle.ob_pool.specs.DriveFault.{ComesOfWork};
 ghost use Rattle.ob_pool.specs.Threads.Job.{IsBack, IsNumbered, IsOneCall, IsRoomy, asked, done_by};
-ghost use Rattle.ob_pool.specs.Planning.HandOff.{charge_for, charge_of};
-ghost use Rattle.ob_types.specs.declared.command.Command.TheVariants.{Write};
+ghost use Rattle.ob_pool.specs.Planning.HandOff.{charge_for};
 
 use crate::fault::DriveFault;
 use crate::gate::{Gate, Stuck};
 use crate::plan::Plan;
-use crate::planning::charge_of;
+use crate::planning::charge_for;
 use crate::threads::context::Context;
 use ob_history::{Booked, Receipt};
 use ob_lanes::Lane;
-use ob_shared::{Done, Named, Share, SharedBuffer};
-use ob_types::{Command, Message, Refusal};
+use ob_shared::{Done, Named, Share};
+use ob_types::{Command, Refusal};
 use std::marker::Model;
 use std::sync::Wait;
 use std::time::Clock;
@@ -33,17 +32,6 @@ impl<L: Named> Model for Job<L> {
     ghost Value = { Job };
 
     ghost view = { λ job. record { maker = job.share.maker; plan = job.plan; room = job.room } };
-}
-
-/// Why a writer ended before its plan did.
-#[derive(Clone, Copy, Debug, PartialEq, Eq)]
-pub enum Halt {
-    /// The gate held it for too long.
-    Stuck,
-    /// The shared buffer took no record of a command, for the history is full.
-    HistoryFull,
-    /// The shared buffer took no record of a command, for memory was refused.
-    NoMemory,
 }
 
 impl<L: Named> Job<L> {
@@ -69,7 +57,6 @@ impl<L: Named> Job<L> {
             plan,
             room: _,
         } = self;
-        let writer = share.caller();
         let mut receipts = Vec::new(context.alloc);
         if receipts.reserve(plan.commands.len()).is_err() {
             return (lane, Err(DriveFault::NoMemory));
@@ -78,14 +65,12 @@ impl<L: Named> Job<L> {
         let mut share = share;
         let mut step = 0;
         'steps: for command in plan.commands {
-            let (same, end) = one_step(rt, gate, context, lane, share, step, command);
+            let kept = &mut receipts;
+            let (same, end) = one_step(rt, gate, context, lane, share, step, command, kept);
             lane = same;
             match end {
-                Ok((counted, receipt)) => {
-                    share = counted;
-                    receipts.push_reserved(receipt);
-                }
-                Err(halt) => return (lane, Err(fault_of(writer, halt))),
+                Ok(counted) => share = counted,
+                Err(fault) => return (lane, Err(fault)),
             }
             step += 1;
         }
@@ -100,7 +85,7 @@ impl<L: Named> Job<L> {
 }
 
 /// One step of a writer, with its gate before and after it. It reads whether the buffer is writable before it asks its
-/// gate.
+/// gate. The receipt goes behind the others.
 fn one_step<L: Named, R: Wait + Clock, G: Gate>(
     rt: &R,
     gate: &G,
@@ -109,22 +94,29 @@ fn one_step<L: Named, R: Wait + Clock, G: Gate>(
     share: Share<L>,
     step: usize,
     command: Command,
-) -> (Lane, Result<(Share<L>, Receipt), Halt>)
+    receipts: &mut Vec<Receipt>,
+) -> (Lane, Result<Share<L>, DriveFault>)
     requires words { lane.words ≡ context.now.words }
     requires room { charge_for context.now.estimate context.now.task command ≤ lane.lane.room }
+    requires numbered { share.maker.caller < context.now.writers }
+    requires place { vec_len receipts.old < vec_capacity receipts.old }
     ensures lane { IsBack lane result.0 }
-    ensures call { IfOk result.1 (IsOneCall share command) }
+    ensures call { IfOk result.1 (IsOneCall share command receipts.old.items receipts.new.items) }
+    ensures count { IfOk result.1 (λ share. vec_len receipts.new ≡ vec_len receipts.old + 1) }
+    ensures places { vec_capacity receipts.new ≡ vec_capacity receipts.old }
+    ensures fault { IfErr result.1 (ComesOfWork context.now.writers) }
 {
     let writer = share.caller();
     let mut share = share;
     // what a writer of a server would ask first; a plan is carried out whatever it is
     let _glance = share.read(&context.shared);
     if gate.before(rt, writer, step).is_err() {
-        return (lane, Err(Halt::Stuck));
+        return (lane, Err(DriveFault::Stuck { writer }));
     }
-    let (lane, end) = match command {
-        Command::Write(message) => write(rt, gate, context, lane, share, step, message),
-        other => (lane, one_call(rt, &context.shared, share, other)),
+    let (lane, end) = if matches!(command, Command::Write(_)) {
+        charged_call(rt, gate, context, lane, share, step, command, receipts)
+    } else {
+        (lane, one_call(rt, context, share, command, receipts))
     };
     if end.is_ok() {
         gate.after(rt, writer, step);
@@ -132,65 +124,66 @@ fn one_step<L: Named, R: Wait + Clock, G: Gate>(
     (lane, end)
 }
 
-/// Hands a message to the buffer, with its charge in the lane meanwhile.
-fn write<L: Named, R: Wait + Clock, G: Gate>(
+/// One call of the shared buffer, with the charge of its command in the lane meanwhile.
+fn charged_call<L: Named, R: Wait + Clock, G: Gate>(
     rt: &R,
     gate: &G,
     context: &Context<L>,
     lane: Lane,
     share: Share<L>,
     step: usize,
-    message: Message,
-) -> (Lane, Result<(Share<L>, Receipt), Halt>)
+    command: Command,
+    receipts: &mut Vec<Receipt>,
+) -> (Lane, Result<Share<L>, DriveFault>)
     requires words { lane.words ≡ context.now.words }
-    requires room { charge_of context.now.estimate context.now.task message ≤ lane.lane.room }
+    requires room { charge_for context.now.estimate context.now.task command ≤ lane.lane.room }
+    requires numbered { share.maker.caller < context.now.writers }
+    requires place { vec_len receipts.old < vec_capacity receipts.old }
     ensures lane { IsBack lane result.0 }
-    ensures call { IfOk result.1 (IsOneCall share (Write message)) }
+    ensures call { IfOk result.1 (IsOneCall share command receipts.old.items receipts.new.items) }
+    ensures count { IfOk result.1 (λ share. vec_len receipts.new ≡ vec_len receipts.old + 1) }
+    ensures places { vec_capacity receipts.new ≡ vec_capacity receipts.old }
+    ensures fault { IfErr result.1 (ComesOfWork context.now.writers) }
 {
     let writer = share.caller();
-    let charge = charge_of(context.estimate, context.task, &message) as u32;
+    let charge = charge_for(context.estimate, context.task, &command) as u32;
     let Ok((mut charged, _change)) = lane.charge(rt, &context.words, charge) else {
         unreachable!()
     };
     let total = charged.total(&context.words);
     let end = match gate.during(rt, writer, step, total) {
-        Ok(()) => one_call(rt, &context.shared, share, Command::Write(message)),
-        Err(Stuck) => Err(Halt::Stuck),
+        Ok(()) => one_call(rt, context, share, command, receipts),
+        Err(Stuck) => Err(DriveFault::Stuck { writer }),
     };
     let (lane, _change) = charged.discharge(rt, &context.words);
     (lane, end)
 }
 
-/// One call of the shared buffer, from a desk of its own.
+/// One call of the shared buffer, from a desk of its own. The receipt goes behind the others.
 fn one_call<L: Named, R: Wait>(
     rt: &R,
-    shared: &SharedBuffer<L>,
+    context: &Context<L>,
     share: Share<L>,
     command: Command,
-) -> Result<(Share<L>, Receipt), Halt>
-    ensures { IfOk result (IsOneCall share command) }
+    receipts: &mut Vec<Receipt>,
+) -> Result<Share<L>, DriveFault>
+    requires numbered { share.maker.caller < context.now.writers }
+    requires place { vec_len receipts.old < vec_capacity receipts.old }
+    ensures call { IfOk result (IsOneCall share command receipts.old.items receipts.new.items) }
+    ensures count { IfOk result (λ share. vec_len receipts.new ≡ vec_len receipts.old + 1) }
+    ensures places { vec_capacity receipts.new ≡ vec_capacity receipts.old }
+    ensures fault { IfErr result (ComesOfWork context.now.writers) }
 {
-    let mut desk = shared.desk(rt, share);
+    let writer = share.caller();
+    let mut desk = context.shared.desk(rt, share);
     let answer = desk.call(command);
     let share = desk.leave();
     match answer {
-        Ok(receipt) => Ok((share, receipt)),
-        Err(Refusal::HistoryFull) => Err(Halt::HistoryFull),
-        Err(Refusal::NoMemory) => Err(Halt::NoMemory),
-        Err(_) => unreachable!(),
-    }
-}
-
-/// The fault of a drive whose writer ended so.
-fn fault_of(writer: u32, halt: Halt) -> DriveFault
-    ensures { (writers : ℕ) → writer < writers → ComesOfWork writers result }
-{
-    match halt {
-        Halt::Stuck => DriveFault::Stuck { writer },
-        Halt::HistoryFull => DriveFault::Refused {
-            writer,
-            refusal: Refusal::HistoryFull,
-        },
-        Halt::NoMemory => DriveFault::NoMemory,
+        Ok(receipt) => {
+            receipts.push_reserved(receipt);
+            Ok(share)
+        }
+        Err(Refusal::NoMemory) => Err(DriveFault::NoMemory),
+        Err(refusal) => Err(DriveFault::Refused { writer, refusal }),
     }
 }

@@ -60,7 +60,7 @@ fn both_halves<L: Named + Send + Sync, R: Threads + Wait + Clock + Sync, G: Gate
     requires some_other { 0 < vec_len others }
     requires ready { MayBegin context.now.words context.now.estimate context.now.task context.now.writers lane jobs.items }
     requires other_ready { MayBegin context.now.words context.now.estimate context.now.task context.now.writers other others.items }
-    requires whole { lane.lane.room + other.lane.room ≤ lane.words.opening.room }
+    requires whole { lane.lane.room + other.lane.room ≤ lane.words.grant.room }
     ensures words { result.0.words ≡ lane.words }
     ensures room { result.0.lane.room ≡ lane.lane.room + other.lane.room }
     ensures done { IfOk result.1 (λ dones. AreDone (jobs.items ++ others.items) dones.items) }

@@ -1,31 +1,30 @@
 -- Entries, as the code keeps them and as contracts see them.
-use Rattle.ob_seq.proofs.Words.{[], ◌≡◌, ℕ, ◌+◌, ◌<◌, List, ◌∷◌, length, take, drop, get_or, refl, sym, ap, ◌∙◌, sum_by}
+use Rattle.ob_seq.proofs.Words.{[], ◌≡◌, ℕ, ◌+◌, ◌<◌, List, ◌∷◌, length, map, take, drop, get_or, refl, sym, ap, ◌∙◌, sum_by}
 use Rattle.ob_seq.proofs.Words.{take-append-drop, sum_by-append, sum_by-cons, Entry, PendingEntry, pending_entry}
-use Rattle.ob_seq.proofs.Words.{pending_entries, sum_of}
+use Rattle.ob_seq.proofs.Words.{pending_entries, counted, Outcome, Unsent, whole, pending_total}
 use Rattle.std.proofs.lemmas.List.{get_or-map}
 
--- two parts of a list count together what the list counts
-pub sum_of_parts : (n : ℕ) (entries : List PendingEntry) →
-    sum_of (take n entries) + sum_of (drop n entries) ≡ sum_of entries
-sum_of_parts n entries =
-    rw (← sum_by-append (λ entry. entry.size) (take n entries) (drop n entries), take-append-drop n entries)
-
 -- what is counted of entries as contracts see them is counted of them as the code keeps them
-pub sum_seen : (f : PendingEntry → ℕ) (items : List Entry) →
-    sum_by f (pending_entries items) ≡ sum_by (λ entry. f (pending_entry entry)) items
-sum_seen f [] = refl
-sum_seen f (entry ∷ items) =
-    rw (sum_by-cons f (pending_entry entry) (pending_entries items), sum_seen f items)
-    (sym (sum_by-cons (λ e. f (pending_entry e)) entry items))
+pub sum_seen : (see : Entry → PendingEntry) (f : PendingEntry → ℕ) (items : List Entry) →
+    sum_by f (map see items) ≡ sum_by (λ entry. f (see entry)) items
+sum_seen see f [] = refl
+sum_seen see f (entry ∷ items) =
+    rw (sum_by-cons f (see entry) (map see items), sum_seen see f items)
+    (sym (sum_by-cons (λ e. f (see e)) entry items))
 
-sum_of_entries : (items : List Entry) → sum_of (pending_entries items) ≡ sum_by (λ entry. entry.size) items
-sum_of_entries items = sum_seen (λ entry. entry.size) items
+-- the bytes that are pending are those that both runs count
+pub total_of : (gone : List Outcome) (unsent : Unsent) →
+    pending_total (whole gone unsent) ≡ counted unsent.line + counted unsent.unflushed
+total_of gone unsent =
+    rw (
+      sum_seen pending_entry (λ entry. entry.size) unsent.line,
+      sum_seen _ (λ entry. entry.size) unsent.unflushed,
+    )
 
--- both runs count together what the entries count as the code keeps them
-pub both_runs : (n : ℕ) (items : List Entry) →
-    sum_of (take n (pending_entries items)) + sum_of (drop n (pending_entries items))
-    ≡ sum_by (λ entry. entry.size) items
-both_runs n items = sum_of_parts n (pending_entries items) ∙ sum_of_entries items
+-- two parts of a list count together what the list counts
+pub both_runs : (n : ℕ) (items : List Entry) → counted (take n items) + counted (drop n items) ≡ counted items
+both_runs n items =
+    rw (← sum_by-append (λ (entry : Entry). entry.size) (take n items) (drop n items), take-append-drop n items)
 
 -- the entry at a place
 pub entry_at : (items : List Entry) (i : ℕ) (entry : Entry) (d : PendingEntry) → i < length items →

@@ -1,10 +1,10 @@
 -- What a buffer holds, by the rows and by their parts.
-use Rattle.ob_seq.proofs.Words.{[], ◌≡◌, true, false, List, ◌∷◌, ◌++◌, length, map, sym, ap, ◌∙◌, refl, arith}
+use Rattle.ob_seq.proofs.Words.{[], ◌≡◌, false, List, ◌∷◌, ◌++◌, length, map, sym, ap, ◌∙◌, refl, arith}
 use Rattle.ob_seq.proofs.Words.{AllByRecursion, length-append, length-map, Marks, Command, PromiseState, Settings, Row}
 use Rattle.ob_seq.proofs.Words.{line, unflushed, total, effect, rows_after, is_close, is_closed, marks_after, Moment, moments_of}
-use Rattle.ob_seq.proofs.Words.{word_after, are_accepted, refusal_of, None, entry_of, Pending, StandsFor, pending_total}
+use Rattle.ob_seq.proofs.Words.{word_after, entry_of, Pending, Leaves, pending_total}
 use Rattle.ob_seq.proofs.Words.{unflushed_id, front_id, ℕ, ◌+◌, sum_by-cons, counted_size, sum_of, PendingEntry}
-use Rattle.ob_seq.proofs.Rows.History.{accepted_more, closed_more, rows_after_more}
+use Rattle.ob_seq.proofs.Rows.History.{closed_more, rows_after_more}
 use Rattle.ob_seq.proofs.Word.Marks.{IsQuiet, marks_more, marks_with, past_after, word_from, word_is_from}
 use Rattle.ob_seq.proofs.Word.Marks.{word_is_from_more}
 use Rattle.ob_seq.proofs.Rows.Order.{IsGone, IsStanding, IsFresh, layout_of}
@@ -41,18 +41,18 @@ pub record Held (buffer : Pending) (gone standing fresh : List Row) : Type 0 whe
   pub all_standing : AllByRecursion IsStanding standing
   pub all_fresh : AllByRecursion IsFresh fresh
 
--- what a buffer holds that stands for a history
-pub held_of : (buffer : Pending) (commands : List Command) → StandsFor buffer commands →
+-- what a buffer holds that commands leave
+pub held_of : (buffer : Pending) (commands : List Command) → Leaves buffer commands →
     (let layout = layout_of buffer.settings.estimate commands in
     Held buffer layout.gone layout.standing layout.fresh)
-held_of buffer commands stands =
+held_of buffer commands leaves =
     let l = layout_of buffer.settings.estimate commands in record {
-      line = rw (l.is, line_of_parts l.gone l.standing l.fresh l.all_gone l.all_standing l.all_fresh) at stands.line;
+      line = rw (l.is, line_of_parts l.gone l.standing l.fresh l.all_gone l.all_standing l.all_fresh) at leaves.line;
       unflushed = rw (
         l.is,
         unflushed_of_parts l.gone l.standing l.fresh l.all_gone l.all_standing l.all_fresh,
-      ) at stands.unflushed;
-      promises = rw l.is at stands.promises;
+      ) at leaves.unflushed;
+      promises = rw l.is at leaves.promises;
       all_gone = l.all_gone;
       all_standing = l.all_standing;
       all_fresh = l.all_fresh;
@@ -94,19 +94,17 @@ abbrev pub opening_with : Command → Pending → Settings × Marks
 opening_with command old = (old.settings, marks_with command old.marks)
 
 -- these are the marks in force after the history with the command
-opening_more : (buffer : Pending) (commands : List Command) (command : Command) → StandsFor buffer commands →
+opening_more : (buffer : Pending) (commands : List Command) (command : Command) → Leaves buffer commands →
     opening_with command buffer
     ≡ (buffer.settings, marks_after buffer.settings (commands ++ command ∷ []))
-opening_more buffer commands command stands = rw (stands.marks, marks_more buffer.settings commands command)
+opening_more buffer commands command leaves = rw (leaves.marks, marks_more buffer.settings commands command)
 
--- a buffer that holds the rows of a history, and has their word, stands for it
-stands_by_rows : (buffer : Pending) (settings : Settings) (commands : List Command) →
+-- a buffer that holds the rows of a history, and has their word, is what its commands leave
+left_by_rows : (buffer : Pending) (settings : Settings) (commands : List Command) →
     opening buffer ≡ (settings, marks_after settings commands) → buffer.closed ≡ is_closed commands →
-    are_accepted settings [] commands ≡ true → Holds buffer (rows_after settings.estimate commands) →
-    buffer.word ≡ word_after settings commands → StandsFor buffer commands
-stands_by_rows buffer settings commands opened closed accepted holds word =
+    Holds buffer (rows_after settings.estimate commands) → buffer.word ≡ word_after settings commands → Leaves buffer commands
+left_by_rows buffer settings commands opened closed holds word =
     let same = ap (λ (parts : Settings × Marks). parts.0) opened in record {
-      accepted = rw same accepted;
       closed = closed;
       marks = rw same (ap (λ (parts : Settings × Marks). parts.1) opened);
       line = rw same holds.line;
@@ -115,32 +113,30 @@ stands_by_rows buffer settings commands opened closed accepted holds word =
       word = rw same word;
     }
 
-module _ (old new : Pending) (commands : List Command) (command : Command) (stands : StandsFor old commands)
-    (unclosed : old.closed ≡ false)
-    (accepted : refusal_of old.settings.estimate (rows_after old.settings.estimate commands) command ≡ None) where
-  -- a buffer stands for the history with one more accepted command that holds the rows after it, and has their word
-  pub stands_more : opening new ≡ opening_with command old → new.closed ≡ is_close command →
+module _ (old new : Pending) (commands : List Command) (command : Command) (leaves : Leaves old commands)
+    (unclosed : old.closed ≡ false) where
+  -- a buffer is what the commands with one more leave that holds the rows after it, and has their word
+  pub left_by_more : opening new ≡ opening_with command old → new.closed ≡ is_close command →
       Holds new (effect old.settings.estimate (rows_after old.settings.estimate commands) command) →
-      new.word ≡ word_after old.settings (commands ++ command ∷ []) → StandsFor new (commands ++ command ∷ [])
-  stands_more opened closed holds =
-      let before = sym stands.closed ∙ unclosed in
-      stands_by_rows new old.settings (commands ++ command ∷ []) (opened ∙ opening_more old commands command stands)
+      new.word ≡ word_after old.settings (commands ++ command ∷ []) → Leaves new (commands ++ command ∷ [])
+  left_by_more opened closed holds =
+      let before = sym leaves.closed ∙ unclosed in
+      left_by_rows new old.settings (commands ++ command ∷ []) (opened ∙ opening_more old commands command leaves)
       (closed ∙ sym (closed_more commands command before))
-      (accepted_more old.settings commands command before stands.accepted accepted)
       (rw (rows_after_more old.settings.estimate commands command) holds)
 
   -- the same, by the parts of those rows
-  pub stands_after : (gone standing fresh : List Row) → opening new ≡ opening_with command old → new.closed ≡ is_close command →
+  pub left_by_parts : (gone standing fresh : List Row) → opening new ≡ opening_with command old → new.closed ≡ is_close command →
       Held new gone standing fresh →
       effect old.settings.estimate (rows_after old.settings.estimate commands) command ≡ gone ++ (standing ++ fresh) →
-      new.word ≡ word_after old.settings (commands ++ command ∷ []) → StandsFor new (commands ++ command ∷ [])
-  stands_after gone standing fresh opened closed held are =
-      stands_more opened closed (rw are (held_rows new gone standing fresh held))
+      new.word ≡ word_after old.settings (commands ++ command ∷ []) → Leaves new (commands ++ command ∷ [])
+  left_by_parts gone standing fresh opened closed held are =
+      left_by_more opened closed (rw are (held_rows new gone standing fresh held))
 
-module _ (buffer : Pending) (commands : List Command) (stands : StandsFor buffer commands) where
-  -- the word of a buffer that stands for a history, by what that leaves
+module _ (buffer : Pending) (commands : List Command) (leaves : Leaves buffer commands) where
+  -- the word of a buffer, by what its history leaves for it
   pub word_by_past : buffer.word ≡ word_from buffer.marks (past_after buffer.settings commands) []
-  word_by_past = stands.word ∙ word_is_from buffer.settings commands buffer.marks
+  word_by_past = leaves.word ∙ word_is_from buffer.settings commands buffer.marks
 
   -- and its word after one more command, by the moments of that
   pub word_at_end : (command : Command) (moments : List Moment) → IsQuiet command →
@@ -148,4 +144,4 @@ module _ (buffer : Pending) (commands : List Command) (stands : StandsFor buffer
       word_from buffer.marks (past_after buffer.settings commands) moments
       ≡ word_after buffer.settings (commands ++ command ∷ [])
   word_at_end command moments quiet same =
-      rw (stands.marks, ← same) (sym (word_is_from_more buffer.settings commands command quiet))
+      rw (leaves.marks, ← same) (sym (word_is_from_more buffer.settings commands command quiet))

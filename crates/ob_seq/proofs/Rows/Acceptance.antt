@@ -1,13 +1,13 @@
 -- An open history, and replies by their parts.
 use Rattle.ob_seq.proofs.Words.{◌≡◌, false, List, Option, Command, PromiseId, Outcome, Reply, Settings, is_closed}
-use Rattle.ob_seq.proofs.Words.{Pending, StandsFor}
+use Rattle.ob_seq.proofs.Words.{Pending, Leaves}
 use Rattle.ob_types.specs.declared.reply.Answer.{Answer}
 use Rattle.ob_types.specs.declared.reply.Change.{Change}
 
--- the history of a buffer that is not closed is not
+-- the commands that left a buffer that is not closed hold no close
 pub open_history : (settings : Settings) (commands : List Command) (command : Command) (buffer : Pending) →
-    StandsFor buffer commands → buffer.closed ≡ false → is_closed commands ≡ false
-open_history settings commands command buffer stands unclosed = cc
+    Leaves buffer commands → buffer.closed ≡ false → is_closed commands ≡ false
+open_history settings commands command buffer leaves unclosed = cc
 
 -- a reply by its parts
 abbrev pub reply_from : Answer → List (PromiseId × Outcome) → Option Change → Reply

@@ -1,14 +1,14 @@
 -- The front of the rows of a history, and what a command leaves behind rows that it lets stay.
 use Rattle.ob_seq.proofs.Words.{◌≡◌, ◌<◌, Bool, false, List, [], ◌∷◌, ◌++◌, length, ltb, refl, sym, ◌∙◌, cond, arith}
 use Rattle.ob_seq.proofs.Words.{Option, Some, None, is_some, nat_tests, length-map, change_between, Command, Reply, Row}
-use Rattle.ob_seq.proofs.Words.{is_in_line, front, line, effect, rows_after, moments_along, is_close, refusal_of}
-use Rattle.ob_seq.proofs.Words.{settlements_from, reply_of, entry_of, Pending, StandsFor, true, length-append, front_id}
+use Rattle.ob_seq.proofs.Words.{is_in_line, front, line, effect, rows_after, moments_along, is_close}
+use Rattle.ob_seq.proofs.Words.{settlements_from, reply_of, entry_of, Pending, Leaves, true, length-append, front_id}
 use Rattle.ob_seq.proofs.Words.{front_promise_after, position_or_len}
 use Rattle.ob_seq.specs.Answer.{answer_of}
 use Rattle.ob_seq.specs.Moment.{gives_notice}
 use Rattle.ob_seq.proofs.Rows.Acceptance.{same_reply}
 use Rattle.ob_seq.proofs.Rows.Along.{moments_past, settlements_past}
-use Rattle.ob_seq.proofs.Inside.Held.{Held, front_id_is, held_of, line_count, opening, opening_with, stands_after, word_at_end}
+use Rattle.ob_seq.proofs.Inside.Held.{Held, front_id_is, held_of, line_count, opening, opening_with, left_by_parts, word_at_end}
 use Rattle.ob_seq.proofs.Word.Marks.{IsQuiet, past_after, word_from}
 use Rattle.ob_seq.proofs.Rows.Order.{layout_of}
 use Rattle.ob_seq.proofs.Rows.Parts.{front_of_parts, index_of_parts}
@@ -34,11 +34,11 @@ fronted_by buffer commands gone (row ∷ standing) fresh rows_are held some =
     record { gone = gone; row = row; standing = standing; fresh = fresh; rows_are = rows_are; held = held }
 
 -- with something in line there is a front
-pub fronted : (buffer : Pending) (commands : List Command) → StandsFor buffer commands → 0 < length buffer.line →
+pub fronted : (buffer : Pending) (commands : List Command) → Leaves buffer commands → 0 < length buffer.line →
     Fronted buffer commands
-fronted buffer commands stands some =
+fronted buffer commands leaves some =
     let layout = layout_of buffer.settings.estimate commands in
-    let held = held_of buffer commands stands in
+    let held = held_of buffer commands leaves in
     fronted_by buffer commands layout.gone layout.standing layout.fresh layout.is held
     (rw (line_count buffer layout.gone layout.standing layout.fresh held) at some)
 
@@ -66,16 +66,16 @@ is_front [] = refl
 is_front (row ∷ rows) = front_step (is_in_line row) row (front rows) (line rows) (is_front rows)
 
 -- there is a front just where something is in line
-pub some_front : (buffer : Pending) (commands : List Command) → StandsFor buffer commands →
+pub some_front : (buffer : Pending) (commands : List Command) → Leaves buffer commands →
     is_some (front (rows_of buffer commands)) ≡ ltb 0 (length buffer.line)
-some_front buffer commands stands =
-    rw (stands.line, length-map (line (rows_of buffer commands)) entry_of) (is_front (rows_of buffer commands))
+some_front buffer commands leaves =
+    rw (leaves.line, length-map (line (rows_of buffer commands)) entry_of) (is_front (rows_of buffer commands))
 
 -- with nothing in line there is none
-pub no_front : (buffer : Pending) (commands : List Command) → StandsFor buffer commands → length buffer.line ≡ 0 →
+pub no_front : (buffer : Pending) (commands : List Command) → Leaves buffer commands → length buffer.line ≡ 0 →
     front (rows_of buffer commands) ≡ None
-no_front buffer commands stands none =
-    let fails = rw none at (some_front buffer commands stands) in grind arith
+no_front buffer commands leaves none =
+    let fails = rw none at (some_front buffer commands leaves) in grind arith
 
 -- rows without a front are all passed
 none_in_line : (rows : List Row) → front rows ≡ None → position_or_len is_in_line rows ≡ length rows
@@ -83,24 +83,24 @@ none_in_line [] none = refl
 none_in_line (row ∷ rows) none = let rest = none_in_line rows in grind arith
 
 -- and so there is no promise of it
-pub no_front_promise : (buffer : Pending) (commands : List Command) → StandsFor buffer commands →
+pub no_front_promise : (buffer : Pending) (commands : List Command) → Leaves buffer commands →
     length buffer.line ≡ 0 → front_promise_after buffer.settings commands ≡ None
-no_front_promise buffer commands stands none =
+no_front_promise buffer commands leaves none =
     let rows = rows_of buffer commands in
-    let past = none_in_line rows (no_front buffer commands stands none) in
+    let past = none_in_line rows (no_front buffer commands leaves none) in
     let fails : ltb (length rows) (length rows) ≡ false = grind (arith, nat_tests) in
     rw (past, fails)
 
--- a buffer stands for the history with one more command, and the reply is the one to it
+-- a buffer is what the commands with one more leave, and the reply is the one to it
 abbrev pub Carries : Pending → List Command → Command → Pending → Reply → Type 0
 Carries old commands command new reply =
-    StandsFor new (commands ++ command ∷ []) × (reply ≡ reply_of old.settings commands command)
+    Leaves new (commands ++ command ∷ []) × (reply ≡ reply_of old.settings commands command)
 
 -- a buffer carries a command out that holds the rows after it and has the word after its moments
-pub carried : (old new : Pending) (commands : List Command) (command : Command) → StandsFor old commands →
+pub carried : (old new : Pending) (commands : List Command) (command : Command) → Leaves old commands →
     old.closed ≡ false → (same was now : List Row) → rows_of old commands ≡ same ++ was →
     effect old.settings.estimate (rows_of old commands) command ≡ same ++ now →
-    refusal_of old.settings.estimate (rows_of old commands) command ≡ None → IsQuiet command →
+    IsQuiet command →
     opening new ≡ opening_with command old → new.closed ≡ is_close command →
     (gone standing fresh : List Row) → same ++ now ≡ gone ++ (standing ++ fresh) → Held new gone standing fresh →
     new.word ≡ word_from old.marks (past_after old.settings commands)
@@ -108,14 +108,14 @@ pub carried : (old new : Pending) (commands : List Command) (command : Command) 
     {reply : Reply} → reply.answer ≡ answer_of (rows_of old commands) command →
     reply.settled ≡ settlements_from (length same) was now → reply.change ≡ change_between old.word new.word →
     Carries old commands command new reply
-carried old new commands command stands unclosed same was now rows_are after_is accepted quiet opened closed gone
+carried old new commands command leaves unclosed same was now rows_are after_is quiet opened closed gone
     standing fresh parts held word answers settles changes =
     let notice = gives_notice command in
     let after = effect old.settings.estimate (rows_of old commands) command in
     let moments = moments_past (rows_of old commands) after same was now rows_are after_is notice in
     let settled = settlements_past (rows_of old commands) after same was now rows_are after_is in
-    let end = word ∙ word_at_end old commands stands command (moments_along notice same was now) quiet moments in (
-      stands_after old new commands command stands unclosed accepted gone standing fresh opened closed held
+    let end = word ∙ word_at_end old commands leaves command (moments_along notice same was now) quiet moments in (
+      left_by_parts old new commands command leaves unclosed gone standing fresh opened closed held
           (after_is ∙ parts) end,
-      same_reply answers (settles ∙ sym settled) (changes ∙ rw (end, stands.word) refl),
+      same_reply answers (settles ∙ sym settled) (changes ∙ rw (end, leaves.word) refl),
     )

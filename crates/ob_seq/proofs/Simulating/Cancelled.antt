@@ -1,4 +1,4 @@
--- A buffer with a promise taken back stands for the history with the cancellation.
+-- A buffer with a promise taken back is what the commands with the cancellation leave.
 use Rattle.ob_seq.proofs.Words.{[], ◌≡◌, ℕ, zero, suc, ◌+◌, ◌<◌, Bool, true, List, ◌∷◌, ◌++◌, length, map, get_or, refl}
 use Rattle.ob_seq.proofs.Words.{sym, ◌∙◌, cond, append-nil, arith, filter, slice_set, nat_tests, length-map}
 use Rattle.ob_seq.proofs.Words.{slice_get-map, Cancel, Cancelled, PromiseId, PromiseState, Waiting, Settled, is_waiting}
@@ -57,27 +57,27 @@ after_is old id state is = let same = set-get_or old.promises id Waiting in grin
 -- the cancellation simulates the command
 pub cancel_simulates : (id : PromiseId) (old : Pending) → Simulates (Cancel id) old (cancel_step id.0 old)
 cancel_simulates id old =
-    simulates_by (rw (after_is old id.0 (state_at old id.0) refl)) (λ commands stands. rw (stands.promises, length-map))
-    (λ commands stands unclosed none.
+    simulates_by (rw (after_is old id.0 (state_at old id.0) refl)) (λ commands leaves. rw (leaves.promises, length-map))
+    (λ commands leaves unclosed none.
     let rows : List Row = rows_after old.settings.estimate commands in
     let state : PromiseState = state_at old id.0 in
-    let count : length old.promises ≡ length rows = rw (stands.promises, length-map) in
+    let count : length old.promises ≡ length rows = rw (leaves.promises, length-map) in
     let some : id.0 < length old.promises = grind (arith, nat_tests) in
-    let here : state_of rows id.0 ≡ state = rw stands.promises in
+    let here : state_of rows id.0 ≡ state = rw leaves.promises in
     let settled = settlements_of_back id.0 0 id.0 (omega arith) rows (omega arith) in
     rw (after_is old id.0 state refl) record {
       opened = refl;
       closed = unclosed;
       holds = record {
-        line = rw (entries_of_back is_in_line (λ row. refl) id.0 rows) stands.line;
-        unflushed = rw (entries_of_back (λ row. is_unflushed row.place) (λ row. refl) id.0 rows) stands.unflushed;
-        promises = rw (promises_of_back id.0 rows, stands.promises);
+        line = rw (entries_of_back is_in_line (λ row. refl) id.0 rows) leaves.line;
+        unflushed = rw (entries_of_back (λ row. is_unflushed row.place) (λ row. refl) id.0 rows) leaves.unflushed;
+        promises = rw (promises_of_back id.0 rows, leaves.promises);
       };
-      word = stands.word
+      word = leaves.word
           ∙ sym (word_after_same old.settings commands (Cancel id) (λ index. refl) (moments_of_back id.0 [] rows));
       answer = rw (
         ← slice_get-map promise_of rows id.0,
-        ← stands.promises,
+        ← leaves.promises,
         slice_get-get_or old.promises id.0 Waiting some,
       );
       settled = rw (settled, here) (grind arith);

@@ -1,9 +1,9 @@
--- A buffer after its close stands for the history with the close.
+-- A buffer after its close is what the commands with the close leave.
 use Rattle.ob_seq.proofs.Words.{◌≡◌, ℕ, suc, false, List, [], ◌∷◌, ◌++◌, length, map, take, drop, refl, sym, ap, ◌∙◌}
 use Rattle.ob_seq.proofs.Words.{append_assoc, append-nil, arith, None, AllByRecursion, nat_tests, length-map}
 use Rattle.ob_seq.proofs.Words.{map-append, Marks, Command, Close, Cause, Count, Row, is_unflushed, unflushed}
 use Rattle.ob_seq.proofs.Words.{counted_size, total, failed, closed_row, Moment, moment_of, moments_along, outcome_of}
-use Rattle.ob_seq.proofs.Words.{refusal_of, settlement, settlements_from, entry_of, Pending, StandsFor, closed_pending}
+use Rattle.ob_seq.proofs.Words.{refusal_of, settlement, settlements_from, entry_of, Pending, Leaves, closed_pending}
 use Rattle.ob_seq.proofs.Words.{closing_reply, failures, unflushed_id}
 use Rattle.std.proofs.lemmas.List.{drop_at, nil_from_length, take_at}
 use Rattle.ob_seq.specs.Steps.Close.{closing_step}
@@ -54,10 +54,10 @@ silent_word cause marks past (row ∷ fresh) passed moments =
     (rw append_assoc at (silent_word cause marks past fresh (passed ++ next ∷ []) (moments ++ one)))
     ∙ silent_more marks past (counted_size row) sum moments
 
-module _ (cause : Cause) (old : Pending) (commands : List Command) (stands : StandsFor old commands) where
+module _ (cause : Cause) (old : Pending) (commands : List Command) (leaves : Leaves old commands) where
   -- a close is refused where something is in line
   refusal_is : (closing_step cause old).refusal ≡ refusal_of old.settings.estimate (rows_of old commands) (Close cause)
-  refusal_is = rw (some_front old commands stands)
+  refusal_is = rw (some_front old commands leaves)
 
   -- and else the closed buffer carries it out
   closed_stands : old.closed ≡ false → (closing_step cause old).refusal ≡ None →
@@ -66,7 +66,7 @@ module _ (cause : Cause) (old : Pending) (commands : List Command) (stands : Sta
       let layout = layout_of old.settings.estimate commands in
       let gone = layout.gone in
       let fresh = layout.fresh in
-      let parts = held_of old commands stands in
+      let parts = held_of old commands leaves in
       let nothing : length old.line ≡ 0 = grind (arith, nat_tests) in
       let size = line_count old gone layout.standing fresh parts in
       let none = nil_from_length layout.standing (sym size ∙ nothing) in
@@ -88,18 +88,18 @@ module _ (cause : Cause) (old : Pending) (commands : List Command) (stands : Sta
       let all_gone = each_append IsGone gone closed held.all_gone all_closed in
       let stay = stay_by (closed_row cause) IsGone (closed_gone cause) gone held.all_gone in
       let silent = silent_word cause old.marks (past_after old.settings commands) fresh gone [] in
-      carried old (closed_pending cause old) commands (Close cause) stands unclosed gone fresh closed rows_are
-      (rw (rows_are, map-append (closed_row cause) gone fresh, stay)) (sym refusal_is ∙ accepted) (λ index. refl) refl
+      carried old (closed_pending cause old) commands (Close cause) leaves unclosed gone fresh closed rows_are
+      (rw (rows_are, map-append (closed_row cause) gone fresh, stay)) (λ index. refl) refl
       refl (gone ++ closed) [] [] (sym (append-nil (gone ++ closed))) (assumption (held.line, promised, all_gone))
-      (word_by_past old commands stands ∙ sym silent)
-      (ap Count (ap length stands.unflushed ∙ length-map (unflushed (rows_of old commands)) entry_of))
+      (word_by_past old commands leaves ∙ sym silent)
+      (ap Count (ap length leaves.unflushed ∙ length-map (unflushed (rows_of old commands)) entry_of))
       (rw (left, id_is) (sym (settlements_of_closed cause (length gone) fresh held.all_fresh))) refl
 
 -- the close simulates the command
 pub closing_simulates : (cause : Cause) (old : Pending) → Simulates (Close cause) old (closing_step cause old)
 closing_simulates cause old = record {
   refusal = refusal_is cause old;
-  reply = λ commands stands unclosed none. (closed_stands cause old commands stands unclosed none).1;
-  after = λ commands stands unclosed none. (closed_stands cause old commands stands unclosed none).0;
+  reply = λ commands leaves unclosed none. (closed_stands cause old commands leaves unclosed none).1;
+  after = λ commands leaves unclosed none. (closed_stands cause old commands leaves unclosed none).0;
   settings = refl;
 }

@@ -17,7 +17,7 @@ use Rattle.ob_seq.specs.Steps.Step.{Step, Makes, answer_by, held_by}
 use Rattle.ob_seq.specs.Steps.RemoveBytes.{bytes_step}
 use Rattle.ob_seq.specs.Steps.Progress.{progressed_entry}
 use Rattle.ob_seq.proofs.Inside.Blocks.{few_entries}
-use Rattle.ob_seq.proofs.Simulating.BytesRemoved.{bytes_removed_stand, run_is}
+use Rattle.ob_seq.proofs.Simulating.BytesRemoved.{bytes_removed_left, run_is}
 use Rattle.ob_seq.proofs.Simulating.Cancelled.{cancel_simulates}
 use Rattle.ob_seq.proofs.Simulating.Closing.{closing_simulates}
 use Rattle.ob_seq.proofs.Simulating.Failing.{failing_simulates}
@@ -26,8 +26,10 @@ use Rattle.ob_seq.proofs.Simulating.Removed.{removal, removal_simulates, removal
 use Rattle.ob_seq.proofs.Simulating.Simulation.{Simulates, simulates_by}
 use Rattle.ob_seq.proofs.Inside.Skipped.{skipped_opening}
 use Rattle.ob_seq.proofs.Inside.Times.{settings_of_times}
-use Rattle.ob_seq.proofs.Word.UserBits.{bit_changed_stands, reply_of_bit}
+use Rattle.ob_seq.proofs.Word.UserBits.{bit_changed_left, reply_of_bit}
 use Rattle.ob_seq.proofs.Simulating.Written.{write_simulates}
+use Rattle.ob_seq.proofs.Rows.Acceptance.{open_history}
+use Rattle.ob_seq.proofs.Rows.History.{accepted_more}
 use Rattle.ob_seq.proofs.Rows.Along.{moments_past, settlements_past, moment_of_same, moments_in_one, settlement_same}
 use Rattle.ob_seq.proofs.Rows.Along.{settlements_in_one}
 use Rattle.ob_seq.proofs.Inside.Held.{word_at_end, held_of, held_rows, fresh_count, word_by_past}
@@ -40,13 +42,13 @@ use Rattle.ob_seq.proofs.Rows.Fronts.{fronted}
 -- the flush simulates the command
 flush_simulates : (old : Pending) → Simulates Flush old (flush_step old)
 flush_simulates old =
-    simulates_by (settings_of_times next_flushed (λ before. refl) (length old.unflushed) old) (λ commands stands. refl)
-    (λ commands stands unclosed none.
+    simulates_by (settings_of_times next_flushed (λ before. refl) (length old.unflushed) old) (λ commands leaves. refl)
+    (λ commands leaves unclosed none.
     let rows : List Row = rows_after old.settings.estimate commands in
     let layout : Layout rows = layout_of old.settings.estimate commands in
     let passed : List Row = layout.gone ++ layout.standing in
     let reached : List Row = map reached_row layout.fresh in
-    let held = held_of old commands stands in
+    let held = held_of old commands leaves in
     let count = fresh_count old layout.gone layout.standing layout.fresh held in
     let rows_are : rows ≡ passed ++ layout.fresh = rw append_assoc layout.is in
     let effect_is : map flushed_row rows ≡ layout.gone ++ (layout.standing ++ reached) =
@@ -54,13 +56,13 @@ flush_simulates old =
     layout.all_standing layout.all_fresh in
     let behind : map flushed_row rows ≡ passed ++ reached = rw append_assoc effect_is in
     let moments = moments_past rows (map flushed_row rows) passed layout.fresh reached rows_are behind true in
-    let all = all_reached layout.fresh old layout.gone layout.standing (past_after old.settings commands) [] held (word_by_past old commands stands) in
+    let all = all_reached layout.fresh old layout.gone layout.standing (past_after old.settings commands) [] held (word_by_past old commands leaves) in
     rw count record {
       opened = all.2;
       closed = all.3 ∙ unclosed;
       holds = rw (effect_is, ← append-nil (layout.standing ++ reached)) (held_rows _ _ _ _ all.0);
-      word = all.1 ∙ word_at_end old commands stands Flush _ (λ index. refl) moments;
-      answer = ap Count (sym count ∙ rw (stands.unflushed, length-map));
+      word = all.1 ∙ word_at_end old commands leaves Flush _ (λ index. refl) moments;
+      answer = ap Count (sym count ∙ rw (leaves.unflushed, length-map));
       settled = sym (settlements_past rows (map flushed_row rows) passed layout.fresh reached rows_are behind
           ∙ settlements_of_reached (length passed) layout.fresh);
       change = refl;
@@ -79,10 +81,10 @@ some_line n old none = grind (arith, nat_tests)
 progress_simulates : (n : ℕ) (old : Pending) → Simulates (Progress n) old (progress_step n old)
 progress_simulates n old =
     simulates_by refl
-    (λ commands stands. rw stands.line (progress_refusal n old (rows_after old.settings.estimate commands)))
-    (λ commands stands unclosed none.
+    (λ commands leaves. rw leaves.line (progress_refusal n old (rows_after old.settings.estimate commands)))
+    (λ commands leaves unclosed none.
     let rows : List Row = rows_after old.settings.estimate commands in
-    let f = fronted old commands stands (some_line n old none) in
+    let f = fronted old commands leaves (some_line n old none) in
     let told : Row = progressed_row n f.row in
     let behind : List Row = f.standing ++ f.fresh in
     let after : List Row = with_front (progressed_row n) rows in
@@ -103,7 +105,7 @@ progress_simulates n old =
         all_standing = (progressed_stands n f.row f.held.all_standing.0, f.held.all_standing.1);
         all_fresh = f.held.all_fresh;
       });
-      word = stands.word ∙ sym (word_after_same old.settings commands (Progress n) (λ index. refl) moments);
+      word = leaves.word ∙ sym (word_after_same old.settings commands (Progress n) (λ index. refl) moments);
       answer = refl;
       settled = sym (settlements_in_one rows after f.gone f.row told behind f.rows_are effect_is
           ∙ settlement_same (length f.gone) (outcome_of f.row.promise));
@@ -115,11 +117,11 @@ bytes_simulate : (n : ℕ) (old : Pending) → Simulates (RemoveBytes n) old (by
 bytes_simulate n old =
     let cut : Cut = whole_cut n (blocks_left old.line) in
     let few = few_entries n old.line in record {
-      refusal = λ commands stands. rw (run_is old commands stands);
-      reply = λ commands stands unclosed none.
-          (bytes_removed_stand old commands n stands cut (grind arith) unclosed few).1;
-      after = λ commands stands unclosed none.
-          (bytes_removed_stand old commands n stands cut (grind arith) unclosed few).0;
+      refusal = λ commands leaves. rw (run_is old commands leaves);
+      reply = λ commands leaves unclosed none.
+          (bytes_removed_left old commands n leaves cut (grind arith) unclosed few).1;
+      after = λ commands leaves unclosed none.
+          (bytes_removed_left old commands n leaves cut (grind arith) unclosed few).0;
       settings =
           ap (λ (parts : Settings × Marks). parts.0)
           (skipped_opening cut.rest (times cut.whole (front_taken true Success) old))
@@ -130,11 +132,11 @@ bytes_simulate n old =
 bit_simulates : (index : ℕ) (writable : Bool) (old : Pending) →
     Simulates (UserBit index writable) old (bit_step index writable old)
 bit_simulates index writable old = record {
-  refusal = λ commands stands. refl;
-  reply = λ commands stands unclosed none.
-      reply_of_bit old commands index writable stands unclosed (grind (arith, nat_tests)) (grind (arith, nat_tests));
-  after = λ commands stands unclosed none.
-      bit_changed_stands old commands index writable stands unclosed (grind (arith, nat_tests))
+  refusal = λ commands leaves. refl;
+  reply = λ commands leaves unclosed none.
+      reply_of_bit old commands index writable leaves unclosed (grind (arith, nat_tests)) (grind (arith, nat_tests));
+  after = λ commands leaves unclosed none.
+      bit_changed_left old commands index writable leaves unclosed (grind (arith, nat_tests))
       (grind (arith, nat_tests));
   settings = refl;
 }
@@ -160,20 +162,33 @@ module _ (command : Command) (old : Pending) where
   answer_is : (commands : List Command) → StandsFor old commands →
       answer_by old step ≡ answer_to old.settings commands command
   answer_is commands stands =
-      let refused = (simulated command old).refusal commands stands in
-      let same = (simulated command old).reply commands stands in
+      let closed = stands.leaves.closed in
+      let refused = (simulated command old).refusal commands stands.leaves in
+      let same = (simulated command old).reply commands stands.leaves in
       grind arith
 
   -- a call settles as many promises as its step
   pub settles : Settles old command (settled_by_step old step)
   settles commands stands = rw (answer_is commands stands)
 
+  -- where the buffer is open and its step is not refused, it then stands for the history with the command
+  goes_on : (commands : List Command) → StandsFor old commands → old.closed ≡ false → step.refusal ≡ None →
+      StandsFor step.after (commands ++ command ∷ [])
+  goes_on commands stands unclosed none =
+      let simulates = simulated command old in
+      let there = open_history old.settings commands command old stands.leaves unclosed in
+      let refused = sym (simulates.refusal commands stands.leaves) ∙ none in record {
+        accepted = rw simulates.settings
+            (accepted_more old.settings commands command there stands.accepted refused);
+        leaves = simulates.after commands stands.leaves unclosed none;
+      }
+
   follows : (result : Result Reply Refusal) → (¬ IsErrOf result NoMemory → result ≡ answer_by old step) →
       Follows old command result (held_by old step result)
   follows (Ok reply) same commands stands =
       let said = same (λ wants. absurd (cc)) in
       let opened : (old.closed ≡ false) × (step.refusal ≡ None) = grind arith in
-      (simulated command old).after commands stands opened.0 opened.1
+      goes_on commands stands opened.0 opened.1
   follows (Err refusal) same commands stands = stands
 
   module _ {new : Pending} {result : Result Reply Refusal} (made : Makes old step result new) where

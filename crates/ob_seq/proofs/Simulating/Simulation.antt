@@ -1,21 +1,21 @@
 -- What it is for a step to simulate a command, and how many promises a step settles.
-use Rattle.ob_seq.proofs.Words.{[], ◌≡◌, false, List, ◌∷◌, ◌++◌, arith, sym, ◌∙◌, None, Command, change_between}
+use Rattle.ob_seq.proofs.Words.{[], ◌≡◌, false, List, ◌∷◌, ◌++◌, arith, ◌∙◌, None, Command, change_between}
 use Rattle.ob_seq.proofs.Words.{refusal_of, reply_of, rows_after, effect, is_close, word_after, settlements_of, Pending}
-use Rattle.ob_seq.proofs.Words.{StandsFor, settled_by_step}
+use Rattle.ob_seq.proofs.Words.{Leaves, settled_by_step}
 use Rattle.ob_seq.specs.Answer.{answer_of}
 use Rattle.ob_seq.specs.Steps.Step.{Step, settled_open}
 use Rattle.ob_seq.proofs.Rows.Acceptance.{same_reply}
-use Rattle.ob_seq.proofs.Inside.Held.{Holds, opening, opening_with, stands_more}
+use Rattle.ob_seq.proofs.Inside.Held.{Holds, opening, opening_with, left_by_more}
 
--- whatever history a buffer stands for, its step is refused as the definition says, and else replies as it says and
--- leaves what stands for the history with the command
+-- whatever commands left a buffer, its step is refused as the definition says, and else replies as it says and gives
+-- what the commands with this one leave
 pub record Simulates (command : Command) (old : Pending) (step : Step) : Type 0 where
-  pub refusal : (commands : List Command) → StandsFor old commands →
+  pub refusal : (commands : List Command) → Leaves old commands →
       step.refusal ≡ refusal_of old.settings.estimate (rows_after old.settings.estimate commands) command
-  pub reply : (commands : List Command) → StandsFor old commands → old.closed ≡ false → step.refusal ≡ None →
+  pub reply : (commands : List Command) → Leaves old commands → old.closed ≡ false → step.refusal ≡ None →
       step.reply ≡ reply_of old.settings commands command
-  pub after : (commands : List Command) → StandsFor old commands → old.closed ≡ false → step.refusal ≡ None →
-      StandsFor step.after (commands ++ command ∷ [])
+  pub after : (commands : List Command) → Leaves old commands → old.closed ≡ false → step.refusal ≡ None →
+      Leaves step.after (commands ++ command ∷ [])
   pub settings : step.after.settings ≡ old.settings
 
 -- a step of a buffer that is not closed does what the definition says of the command after this history
@@ -31,18 +31,18 @@ pub record Does (command : Command) (old : Pending) (step : Step) (commands : Li
 
 -- so it simulates the command
 pub simulates_by : {command : Command} {old : Pending} {step : Step} → step.after.settings ≡ old.settings →
-    ((commands : List Command) → StandsFor old commands →
+    ((commands : List Command) → Leaves old commands →
     step.refusal ≡ refusal_of old.settings.estimate (rows_after old.settings.estimate commands) command) →
-    ((commands : List Command) → StandsFor old commands → old.closed ≡ false → step.refusal ≡ None →
+    ((commands : List Command) → Leaves old commands → old.closed ≡ false → step.refusal ≡ None →
     Does command old step commands) → Simulates command old step
 simulates_by {command = command} {old = old} {step = step} settings refusal does = record {
   refusal = refusal;
-  reply = λ commands stands unclosed none.
-      let done = does commands stands unclosed none in
-      same_reply done.answer done.settled (done.change ∙ rw (stands.word, done.word));
-  after = λ commands stands unclosed none.
-      let done = does commands stands unclosed none in
-      stands_more old step.after commands command stands unclosed (sym (refusal commands stands) ∙ none)
+  reply = λ commands leaves unclosed none.
+      let done = does commands leaves unclosed none in
+      same_reply done.answer done.settled (done.change ∙ rw (leaves.word, done.word));
+  after = λ commands leaves unclosed none.
+      let done = does commands leaves unclosed none in
+      left_by_more old step.after commands command leaves unclosed
       done.opened done.closed done.holds done.word;
   settings = settings;
 }

@@ -3,14 +3,14 @@ use Rattle.ob_seq.proofs.Words.{bit_step, [], ◌≡◌, ℕ, zero, suc, ◌^◌
 use Rattle.ob_seq.proofs.Words.{reverse, sym, ◌∙◌, cond, eqb, append-nil, arith, Option, Some, None, filter_map}
 use Rattle.ob_seq.proofs.Words.{slice_get, unwrap_or, cons_option, nat_tests, reverse-append, filter_map-append}
 use Rattle.ob_seq.proofs.Words.{bit_at_or, same_from_bits, pow-lt, Command, UserBit, Settings, rows_after, bit_request}
-use Rattle.ob_seq.proofs.Words.{mark_after, user_bit, word_after, reply_of, Pending, StandsFor}
+use Rattle.ob_seq.proofs.Words.{mark_after, user_bit, word_after, reply_of, Pending, Leaves}
 use Rattle.std.specs.Int.{bit_not, w32}
 use Rattle.std.proofs.lemmas.Nat.Bits.{bit_at_and, bit_at_not, bit_at-pow_same, bit_at-pow_other}
 use Rattle.ob_seq.specs.Steps.UserBit.{bit_changed, with_user_bit}
 use Rattle.ob_seq.proofs.Rows.Acceptance.{open_history}
 use Rattle.ob_seq.proofs.Rows.Along.{moments_of_same, settlements_of_same}
 use Rattle.ob_seq.proofs.Word.Digits.{digit_of, user_bits_even, word_digits, word_of, word_of_digits}
-use Rattle.ob_seq.proofs.Rows.History.{rows_after_more, accepted_more, closed_more}
+use Rattle.ob_seq.proofs.Rows.History.{rows_after_more, closed_more}
 use Rattle.ob_seq.proofs.Word.Marks.{mark_after_same, marks_more}
 
 -- the user bits after one more command
@@ -51,29 +51,28 @@ digits_change settings commands at writable some (suc i) =
     rw (filter_map-append (bit_request (suc i)) commands (UserBit at writable ∷ []))
     (bit_by (filter_map (bit_request (suc i)) commands) (eqb at (suc i)) (not writable))
 
-module _ (buffer : Pending) (commands : List Command) (at : ℕ) (writable : Bool) (stands : StandsFor buffer commands)
+module _ (buffer : Pending) (commands : List Command) (at : ℕ) (writable : Bool) (leaves : Leaves buffer commands)
     (unclosed : buffer.closed ≡ false) (some : 1 ≤ at) (few : at ≤ 31) where
   changed_word :
       with_user_bit at writable buffer.word ≡ word_after buffer.settings (commands ++ UserBit at writable ∷ [])
   changed_word =
-      rw (stands.word, word_is buffer.settings commands, word_is buffer.settings (commands ++ UserBit at writable ∷ []))
+      rw (leaves.word, word_is buffer.settings commands, word_is buffer.settings (commands ++ UserBit at writable ∷ []))
       (changed_number writable _ _ at (omega arith) (digits_change buffer.settings commands at writable some))
 
-  -- the buffer with the user bit changed stands for the history with it
-  pub bit_changed_stands : StandsFor (bit_changed at writable buffer) (commands ++ UserBit at writable ∷ [])
-  bit_changed_stands =
+  -- the buffer with the user bit changed is what the commands with that leave
+  pub bit_changed_left : Leaves (bit_changed at writable buffer) (commands ++ UserBit at writable ∷ [])
+  bit_changed_left =
       let command : Command = UserBit at writable in
-      let there = open_history buffer.settings commands command buffer stands unclosed in
+      let there = open_history buffer.settings commands command buffer leaves unclosed in
       let stay = rows_after_more buffer.settings.estimate commands command in record {
-        accepted = accepted_more buffer.settings commands command there stands.accepted (grind (arith, nat_tests));
         closed = unclosed ∙ sym (closed_more commands command there);
-        marks = stands.marks ∙ sym (marks_more buffer.settings commands command);
-        line = rw stay stands.line;
-        unflushed = rw stay stands.unflushed;
-        promises = rw stay stands.promises;
+        marks = leaves.marks ∙ sym (marks_more buffer.settings commands command);
+        line = rw stay leaves.line;
+        unflushed = rw stay leaves.unflushed;
+        promises = rw stay leaves.promises;
         word = changed_word;
       }
 
   -- its reply
   pub reply_of_bit : (bit_step at writable buffer).reply ≡ reply_of buffer.settings commands (UserBit at writable)
-  reply_of_bit = rw (changed_word, stands.word, settlements_of_same (rows_after buffer.settings.estimate commands))
+  reply_of_bit = rw (changed_word, leaves.word, settlements_of_same (rows_after buffer.settings.estimate commands))

@@ -1,12 +1,11 @@
-ghost use Rattle.std.specs.Prelude.{◌≡◌, ◌++◌, ◌∷◌, [], List, nat_le, nat_lt, ◌||◌, ◌&&◌, IfOk, IfErr, IsOk, OnOk};
+ghost use Rattle.std.specs.Prelude.{◌≡◌, [], List, IfOk, IfErr, IsOk};
 ghost use Rattle.ob_types.specs.declared.command.Command.{Command};
 ghost use Rattle.ob_seq.specs.Gathering.{gathered_after};
 ghost use Rattle.ob_seq.specs.Pending.{AreGathered, StandsFor};
 
 use crate::buffer::Buffer;
 use bytes::Bytes;
-use ob_types::{Message, Refusal};
-use std::alloc::AllocError;
+use ob_types::Refusal;
 
 impl Buffer {
     /// The flushed blocks in front that can be sent at once (Netty's `nioBuffers`): those that hold a byte, up to the
@@ -23,36 +22,6 @@ impl Buffer {
         ensures frugal { (commands : List Command) → StandsFor self.now commands
             → gathered_after self.now.settings commands max_count max_bytes ≡ [] → IsOk result }
     {
-        let contents = &self.contents;
-        let mut gathered = Vec::new(*contents.entries.allocator());
-        let mut room = u64::from(max_bytes);
-        for place in 0..contents.flushed {
-            let Message::Block(bytes) = &contents.entries[place].message else {
-                break;
-            };
-            let length = bytes.len() as u64;
-            if length > 0 {
-                if !has_room(gathered.len(), max_count, length, room) {
-                    break;
-                }
-                push_copy(&mut gathered, bytes)?;
-                room = room.saturating_sub(length);
-            }
-        }
-        Ok(gathered)
+        self.contents.gather(max_count, max_bytes)
     }
-}
-
-/// Adds a block that shares its memory with this one.
-fn push_copy(gathered: &mut Vec<Bytes>, bytes: &Bytes) -> Result<(), AllocError>
-    ensures { OnOk result (gathered.new.items ≡ gathered.old.items ++ bytes.now ∷ []) }
-{
-    Ok(gathered.push(bytes.clone()?)?)
-}
-
-/// Whether one more block goes along with so many others, which left this much room: the first does in any case.
-fn has_room(count: usize, max_count: u32, length: u64, room: u64) -> bool
-    ensures { result ≡ (nat_lt count max_count && (nat_le count 0 || nat_le length room)) }
-{
-    count < max_count as usize && (count == 0 || length <= room)
 }

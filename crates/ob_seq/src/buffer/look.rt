@@ -12,12 +12,15 @@ impl Buffer {
         ensures { Shows self.now result }
     {
         let contents = &self.contents;
+        let marks = contents.marks();
+        let word = contents.word();
+        let total = contents.total();
         Look {
-            total: contents.total,
-            word: contents.word,
-            size: contents.flushed as u32,
-            before_unwritable: before_unwritable(contents.marks, contents.word, contents.total),
-            before_writable: before_writable(contents.marks, contents.word, contents.total),
+            total,
+            word,
+            size: contents.line_count() as u32,
+            before_unwritable: before_unwritable(marks, word, total),
+            before_writable: before_writable(marks, word, total),
             current_progress: contents.current_progress(),
         }
     }

@@ -16,8 +16,8 @@ impl Buffer {
     {
         let contents = &self.contents;
         let at = id.0 as usize;
-        if at < contents.promises.len() {
-            Some(contents.promises[at])
+        if at < contents.promise_count() {
+            Some(contents.state_at(at))
         } else {
             None
         }
@@ -28,11 +28,7 @@ impl Buffer {
     pub fn current(&self) -> Option<&Message>
         ensures { IsCurrent self.now (option_copied result) }
     {
-        let contents = &self.contents;
-        if contents.flushed == 0 {
-            return None;
-        }
-        Some(&contents.entries[0].message)
+        self.contents.current()
     }
 
     /// The promise of the first flushed message, which is the one that `current` shows; none exactly if `current` is none.
@@ -42,7 +38,7 @@ impl Buffer {
         ensures { IsFrontPromise self.now result }
     {
         let contents = &self.contents;
-        if contents.flushed == 0 {
+        if contents.line_count() == 0 {
             return None;
         }
         Some(PromiseId(contents.front_id() as u32))
@@ -53,8 +49,7 @@ impl Buffer {
     pub fn flushed(&self) -> Flushed<'_>
         ensures { AreFlushed self.now result }
     {
-        let contents = &self.contents;
-        Flushed::new(contents.entries.range(..contents.flushed))
+        self.contents.to_send()
     }
 
     /// How many promises a command would settle: the number of settlements in its reply, and 0 where it would be

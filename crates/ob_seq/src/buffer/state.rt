@@ -5,7 +5,7 @@ ghost use Rattle.ob_seq.specs.State.{writable_after, empty_after, closed_after, 
 
 use crate::buffer::Buffer;
 use crate::contents::word;
-use crate::contents::write::MAX_WRITES;
+use crate::whole::write::MAX_WRITES;
 
 impl Buffer {
     /// Whether writers may go on: whether neither the mark nor a user bit is set, so that the word is 0 (Netty's
@@ -13,7 +13,7 @@ impl Buffer {
     pub fn is_writable(&self) -> bool
         ensures { Gives self.now writable_after result }
     {
-        self.contents.word == 0
+        self.contents.word() == 0
     }
 
     /// Whether no message is flushed and not yet removed, voided ones too (Netty's `isEmpty`). As in Netty, messages
@@ -21,14 +21,14 @@ impl Buffer {
     pub fn is_empty(&self) -> bool
         ensures { Gives self.now empty_after result }
     {
-        self.contents.flushed == 0
+        self.contents.line_count() == 0
     }
 
     /// Whether a close was accepted: from then on each command is refused as `Closed`. It takes no memory.
     pub fn is_closed(&self) -> bool
         ensures { Gives self.now closed_after result }
     {
-        self.contents.closed
+        self.contents.is_closed()
     }
 
     /// Whether the user bit of this index is clear (Netty's `getUserDefinedWritability`). The indexes are 1 to 31; of
@@ -40,7 +40,7 @@ impl Buffer {
         if index == 0 || index > 31 {
             return true;
         }
-        !word::has_bit(contents.word, index)
+        !word::has_bit(contents.word(), index)
     }
 
     /// How many more writes can be accepted: 1048576 less those that were accepted from the opening on, and 0 once the
@@ -49,9 +49,9 @@ impl Buffer {
         ensures { Gives self.now writes_left_after result }
     {
         let contents = &self.contents;
-        if contents.closed {
+        if contents.is_closed() {
             return 0;
         }
-        (MAX_WRITES - contents.promises.len()) as u32
+        (MAX_WRITES - contents.promise_count()) as u32
     }
 }

@@ -1,6 +1,7 @@
 ghost use Rattle.std.specs.Prelude.{◌≡◌, ◌≤◌, length, drop, IfSome};
 ghost use Rattle.ob_seq.specs.Entry.{blocks_left};
 ghost use Rattle.ob_seq.specs.Steps.RemoveBytes.{cut_of, first_length};
+ghost use Rattle.ob_seq.specs.Unsent.{pending_entries};
 
 use crate::contents::Contents;
 use ob_types::Message;
@@ -17,10 +18,10 @@ pub struct Cut {
 impl Contents {
     /// Where the removal of so many bytes ends, or nothing where the blocks in front hold fewer. It goes over the
     /// entries that such a removal takes away, and one more.
-    pub(crate) fn find_cut(&self, n: u64) -> Option<Cut>
-        ensures value { result ≡ cut_of n (blocks_left self.now.line) }
+    pub fn find_cut(&self, n: u64) -> Option<Cut>
+        ensures value { result ≡ cut_of n (blocks_left (pending_entries self.now.line)) }
         ensures within { IfSome result (λ cut. cut.whole ≤ length self.now.line) }
-        ensures rest { IfSome result (λ cut. cut.rest ≤ first_length (drop cut.whole self.now.line)) }
+        ensures rest { IfSome result (λ cut. cut.rest ≤ first_length (drop cut.whole (pending_entries self.now.line))) }
     {
         let mut whole = 0;
         let mut rest = n;

@@ -6,7 +6,7 @@ use crate::tests::story::{Begins, Player, Story, play_each};
 use crate::tests::trace::{push_answer, push_either, push_look, push_refusal, push_settled};
 use crate::tests::words::{NoAnswer, Words, number_in};
 use ob_history::{As, Booked, Receipt, Recorded, Seen};
-use ob_rows::HISTORY;
+use ob_stories::HISTORY;
 use ob_types::{Command, PromiseId};
 use std::alloc::Global;
 use std::test::Fail;

@@ -3,8 +3,8 @@
 use crate::tests::run::Single;
 use crate::tests::story::{Begins, Player, Story, play_each};
 use crate::tests::words::{NoAnswer, Words};
-use ob_rows::LIMITS;
 use ob_seq::Buffer;
+use ob_stories::LIMITS;
 use ob_types::{Answer, Cause, Message, Outcome, PromiseId, Refusal};
 use std::alloc::Global;
 use std::test::Fail;

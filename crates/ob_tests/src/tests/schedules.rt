@@ -5,7 +5,7 @@ use crate::tests::story::{Begins, Player, Story, play_each};
 use crate::tests::trace::{push_change, push_words};
 use crate::tests::words::{NoAnswer, Words};
 use ob_core::{Ask, Event, LaneStart, Turn, World, WorldFault, play};
-use ob_rows::CORE;
+use ob_stories::CORE;
 use ob_types::{Change, WaterMark};
 use std::alloc::{AllocError, Global};
 use std::test::Fail;

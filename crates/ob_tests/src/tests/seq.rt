@@ -2,8 +2,8 @@
 
 use crate::tests::run::Single;
 use crate::tests::story::play_each;
-use ob_rows::{LOOKS, RUN};
 use ob_seq::Buffer;
+use ob_stories::{LOOKS, RUN};
 use std::test::Fail;
 
 #[test]

@@ -12,9 +12,9 @@ use crate::tests::story::{Again, Player, Story};
 use crate::tests::trace::{push_change, push_refusal, push_settled, push_settlements};
 use crate::tests::words::{MOST, NoAnswer, Words};
 use ob_history::{As, Booked, Receipt};
-use ob_rows::{PASSES, SCARCE, SIX};
 use ob_seq::Look;
 use ob_shared::{Done, Named, Opening};
+use ob_stories::{PASSES, SCARCE, SIX};
 use ob_transport::{
     Limits, Pass, PassFault, ScriptSink, SinkFault, SinkStep, Stop, book, drain, pass,
 };

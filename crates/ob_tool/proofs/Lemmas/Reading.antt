@@ -1,4 +1,5 @@
 -- The lines of a script, and their numbers.
+pub mod Cursor
 pub mod Line
 pub mod Lines
 pub mod Numbers

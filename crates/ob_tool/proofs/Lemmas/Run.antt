@@ -1,3 +1,4 @@
 -- Scripts of `run`.
+pub mod Blocks
 mod Rows
 pub mod Session

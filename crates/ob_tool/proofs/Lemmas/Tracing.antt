@@ -1,2 +1,3 @@
 -- Traces.
+pub mod Hex
 pub mod Trace

@@ -1,11 +1,11 @@
 -- What the program makes of a script, by what it is asked for.
 use Rattle.std.specs.Prelude.{ℕ, List, [], Option, None, Some}
 use Rattle.std.specs.Io.KnownBytes.{Appends, Keeps}
-use Rattle.ob_tool.specs.Turns.Script.{core_language}
+use Rattle.ob_tool.specs.Turns.Script.{core_grammar, core_language}
 use Rattle.ob_tool.specs.Drive.Report.{WritesReport}
-use Rattle.ob_tool.specs.Drive.Script.{drive_language, plans_of}
+use Rattle.ob_tool.specs.Drive.Script.{drive_grammar, plans_of}
 use Rattle.ob_tool.specs.Cli.Options.{first_history}
-use Rattle.ob_tool.specs.Run.Script.{run_language}
+use Rattle.ob_tool.specs.Run.Script.{run_grammar, run_language}
 use Rattle.ob_tool.specs.Reading.Script.{script_fault, script_lines}
 use Rattle.ob_tool.specs.Tracing.Trace.{trace_of, trace_of_first}
 use Rattle.ob_tool.specs.declared.reading.fault.LineFault.{LineFault}
@@ -15,13 +15,13 @@ use Rattle.ob_tool.specs.declared.cli.request.Request.TheVariants.{Run, Core, Dr
 
 -- the fault that ends the script
 abbrev pub requested_fault : Request → List ℕ → Option (ℕ × LineFault)
-requested_fault (Run options) script = script_fault (run_language (first_history options)) script
-requested_fault (Core marks) script = script_fault (core_language marks) script
-requested_fault (Drive options) script = script_fault drive_language script
+requested_fault (Run options) script = script_fault run_grammar script
+requested_fault (Core marks) script = script_fault core_grammar script
+requested_fault (Drive options) script = script_fault drive_grammar script
 
 -- a drive writes its report and nothing else, and where a line is faulty it writes nothing
 abbrev pub WritesDrive : Options → List ℕ → Option (ℕ × LineFault) → Option (List ℕ) → Option (List ℕ) → Type 0
-WritesDrive options script None old new = WritesReport options (plans_of (script_lines drive_language script)) old new
+WritesDrive options script None old new = WritesReport options (plans_of (script_lines drive_grammar script)) old new
 WritesDrive options script (Some fault) old new = Keeps old new
 
 -- what is asked for is written and nothing else, where this fault, if any, ends the script: the trace, or what a drive

@@ -8,7 +8,7 @@ use Rattle.ob_types.specs.declared.message.Message.TheVariants as message
 use Rattle.ob_seq.specs.Pieces.{greatest}
 use Rattle.ob_transport.specs.declared.script.SinkStep.{SinkStep}
 use Rattle.ob_tool.specs.Drive.Table.{drive_table}
-use Rattle.ob_tool.specs.Tracing.Language.{Language}
+use Rattle.ob_tool.specs.Reading.Grammar.{Grammar}
 use Rattle.ob_tool.specs.Reading.Line.{line_reading}
 use Rattle.ob_tool.specs.declared.drive.line.DriveLine.{DriveLine}
 use Rattle.ob_tool.specs.declared.drive.line.DriveLine.TheVariants as line
@@ -99,11 +99,6 @@ is_drive_misplaced before (line.Sink step) = false
 is_drive_misplaced before (line.Then most) = is_some (first_told after_of before)
 is_drive_misplaced before (line.Turns count) = is_some (first_told passes_of before)
 
--- the language of `drive`: all lines are read before anything is done, so none has a trace
-abbrev pub drive_language : Language DriveLine
-drive_language = record {
-  reading = λ line. line_reading drive_table line;
-  is_misplaced = is_drive_misplaced;
-  line_text = λ before line. [];
-  last_text = λ lines. [];
-}
+-- the grammar of `drive`
+abbrev pub drive_grammar : Grammar DriveLine
+drive_grammar = record { reading = λ line. line_reading drive_table line; is_misplaced = is_drive_misplaced }

@@ -1,6 +1,6 @@
 -- What a whole script says: its lines up to the first faulty one, and that one's fault.
 use Rattle.std.specs.Prelude.{ℕ, suc, List, [], ◌∷◌, ◌++◌, map, Option, None, Some, Result, Ok, Err, if◌then◌else◌}
-use Rattle.ob_tool.specs.Tracing.Language.{Language}
+use Rattle.ob_tool.specs.Reading.Grammar.{Grammar}
 use Rattle.ob_tool.specs.Reading.Lines.{lines_of}
 use Rattle.ob_tool.specs.declared.reading.fault.LineFault.{LineFault}
 use Rattle.ob_tool.specs.declared.reading.fault.LineFault.TheVariants.{Misplaced}
@@ -22,24 +22,24 @@ first_fault number (Ok line ∷ readings) = first_fault (suc number) readings
 first_fault number (Err fault ∷ readings) = Some (number, fault)
 
 -- what a line says behind these lines: one that is misplaced there has that fault
-abbrev pub placed : {L : Type 0} → Language L → List L → L → Result L LineFault
-placed language before line = if language.is_misplaced before line then Err Misplaced else Ok line
+abbrev pub placed : {L : Type 0} → Grammar L → List L → L → Result L LineFault
+placed grammar before line = if grammar.is_misplaced before line then Err Misplaced else Ok line
 
 -- what each line says behind those before it; nothing is asked of the lines behind one that cannot be read
-abbrev pub all_placed : {L : Type 0} → Language L → List L → List (Result L LineFault) → List (Result L LineFault)
-all_placed language before [] = []
-all_placed language before (Ok line ∷ readings) =
-    placed language before line ∷ all_placed language (before ++ line ∷ []) readings
-all_placed language before (Err fault ∷ readings) = Err fault ∷ []
+abbrev pub all_placed : {L : Type 0} → Grammar L → List L → List (Result L LineFault) → List (Result L LineFault)
+all_placed grammar before [] = []
+all_placed grammar before (Ok line ∷ readings) =
+    placed grammar before line ∷ all_placed grammar (before ++ line ∷ []) readings
+all_placed grammar before (Err fault ∷ readings) = Err fault ∷ []
 
 -- what each line of a script says, where these lines stand before it
-abbrev pub readings_behind : {L : Type 0} → Language L → List L → List ℕ → List (Result L LineFault)
-readings_behind language before script = all_placed language before (map language.reading (lines_of script))
+abbrev pub readings_behind : {L : Type 0} → Grammar L → List L → List ℕ → List (Result L LineFault)
+readings_behind grammar before script = all_placed grammar before (map grammar.reading (lines_of script))
 
 -- the lines of a script that are carried out: those before the first faulty one
-abbrev pub script_lines : {L : Type 0} → Language L → List ℕ → List L
-script_lines language script = before_fault (readings_behind language [] script)
+abbrev pub script_lines : {L : Type 0} → Grammar L → List ℕ → List L
+script_lines grammar script = before_fault (readings_behind grammar [] script)
 
 -- the fault that ends a script, with the number of its line, from 1 on, if there is one
-abbrev pub script_fault : {L : Type 0} → Language L → List ℕ → Option (ℕ × LineFault)
-script_fault language script = first_fault 1 (readings_behind language [] script)
+abbrev pub script_fault : {L : Type 0} → Grammar L → List ℕ → Option (ℕ × LineFault)
+script_fault grammar script = first_fault 1 (readings_behind grammar [] script)

@@ -11,7 +11,8 @@ use Rattle.ob_history.specs.Call.{history_after}
 use Rattle.ob_history.specs.History.{History}
 use Rattle.ob_history.specs.Seen.{seen_now}
 use Rattle.ob_tool.specs.Run.Call.{told_after}
-use Rattle.ob_tool.specs.Tracing.Language.{Language}
+use Rattle.ob_tool.specs.Tracing.Language.{Language, Texts}
+use Rattle.ob_tool.specs.Reading.Grammar.{Grammar}
 use Rattle.ob_tool.specs.Reading.Line.{line_reading}
 use Rattle.ob_tool.specs.Run.Table.{run_table}
 use Rattle.ob_tool.specs.Run.Text.{command_text, gathered_text, look_text}
@@ -51,11 +52,17 @@ line_trace history (line.Gather max_count max_bytes) =
 abbrev pub history_after_lines : History → List RunLine → History
 history_after_lines history lines = fold history_after_line history lines
 
--- the language of `run` on the buffer of a history: no line is misplaced, and nothing comes behind the lines
-abbrev pub run_language : History → Language RunLine
-run_language history = record {
-  reading = λ line. line_reading run_table line;
-  is_misplaced = λ before line. false;
+-- the grammar of `run`: no line is misplaced
+abbrev pub run_grammar : Grammar RunLine
+run_grammar = record { reading = λ line. line_reading run_table line; is_misplaced = λ before line. false }
+
+-- what `run` tells of the lines, on the buffer of a history: nothing comes behind them
+abbrev pub run_texts : History → Texts RunLine
+run_texts history = record {
   line_text = λ before line. line_trace (history_after_lines history before) line;
   last_text = λ lines. [];
 }
+
+-- the language of `run` on the buffer of a history
+abbrev pub run_language : History → Language RunLine
+run_language history = record { grammar = run_grammar; texts = run_texts history }

@@ -8,7 +8,6 @@ use Rattle.ob_types.specs.declared.message.Message.TheVariants as message
 use Rattle.ob_types.specs.declared.refusal.Refusal.{Refusal}
 use Rattle.ob_tool.specs.Reading.Numbers.{any_32, any_64, any_mark, up_to}
 use Rattle.ob_tool.specs.Reading.Table.{LineKind, Table, row, row_if}
-use Rattle.ob_tool.specs.declared.reading.range.Range.{Range}
 use Rattle.ob_tool.specs.declared.run.words.RunWord.{RunWord}
 use Rattle.ob_tool.specs.declared.run.words.RunWord.TheVariants as word
 use Rattle.ob_tool.specs.declared.run.line.RunLine.{RunLine}

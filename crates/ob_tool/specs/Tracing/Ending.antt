@@ -24,13 +24,13 @@ EndsWith whole of_first fault Shows (Err (Drive other)) = ⊥
 abbrev pub Ends : {T L : Type 0} → Language L → List ℕ → (List ℕ → Type 0) → Result T ScriptFault → Type 0
 Ends language script Shows result =
     EndsWith (trace_of language script) (λ count. trace_of_first count language script)
-    (script_fault language script) Shows result
+    (script_fault language.grammar script) Shows result
 
 -- the work on the lines of a script, before the text behind their trace
 abbrev pub LinesEnd : {T L : Type 0} → Language L → List ℕ → (List ℕ → Type 0) → Result T ScriptFault → Type 0
 LinesEnd language script Shows result =
     EndsWith (trace_of_lines language script) (λ count. trace_of_first count language script)
-    (script_fault language script) Shows result
+    (script_fault language.grammar script) Shows result
 
 -- what a writer held at the start, and then this text, is what it holds and what waits to be written
 abbrev pub HasTraced : Option (List ℕ) → Option (List ℕ) → List ℕ → List ℕ → Type 0

@@ -2,7 +2,7 @@
 use Rattle.std.specs.Prelude.{ℕ, ◌||◌, Bool, true, false, not, List, [], ◌∷◌, ◌++◌, length, is_some, if◌then◌else◌}
 use Rattle.ob_types.specs.WaterMark.{Marks}
 use Rattle.ob_core.specs.CoreState.{CoreState}
-use Rattle.ob_core.specs.Opening.{new_core, opening_fault}
+use Rattle.ob_core.specs.Beginning.{new_core, start_fault}
 use Rattle.ob_core.specs.Owed.{sum_owed}
 use Rattle.ob_core.specs.Run.{core_after_all}
 use Rattle.ob_core.specs.Turn.{event_of, core_after, change_of}
@@ -10,7 +10,8 @@ use Rattle.ob_core.specs.declared.ask.Turn.{Turn}
 use Rattle.ob_core.specs.declared.lane_start.LaneStart.{LaneStart}
 use Rattle.ob_tool.specs.Turns.Table.{core_table}
 use Rattle.ob_tool.specs.Turns.Text.{turn_text, lane_text, end_text}
-use Rattle.ob_tool.specs.Tracing.Language.{Language}
+use Rattle.ob_tool.specs.Tracing.Language.{Language, Texts}
+use Rattle.ob_tool.specs.Reading.Grammar.{Grammar}
 use Rattle.ob_tool.specs.Reading.Line.{line_reading}
 use Rattle.ob_tool.specs.declared.turns.line.CoreLine.{CoreLine}
 use Rattle.ob_tool.specs.declared.turns.line.CoreLine.TheVariants as line
@@ -41,7 +42,7 @@ has_turn lines = has_any (turns_of lines)
 
 -- a line is misplaced: a lane behind a turn, a lane with which those before it make no world, or a turn before any lane
 abbrev pub is_core_misplaced : List CoreLine → CoreLine → Bool
-is_core_misplaced before (line.Lane start) = has_turn before || is_some (opening_fault (lanes_of before ++ start ∷ []))
+is_core_misplaced before (line.Lane start) = has_turn before || is_some (start_fault (lanes_of before ++ start ∷ []))
 is_core_misplaced before (line.Turn turn) = not (has_lane before)
 
 -- the core after the turns of these lines, which begins with their lanes
@@ -63,11 +64,14 @@ abbrev pub core_last_text : Marks → List CoreLine → List ℕ
 core_last_text marks lines =
     let core = core_behind marks lines in if has_lane lines then end_text (sum_owed core.lanes) else []
 
+-- the grammar of `core`
+abbrev pub core_grammar : Grammar CoreLine
+core_grammar = record { reading = λ line. line_reading core_table line; is_misplaced = is_core_misplaced }
+
+-- what `core` tells of the lines, with these marks
+abbrev pub core_texts : Marks → Texts CoreLine
+core_texts marks = record { line_text = core_line_text marks; last_text = core_last_text marks }
+
 -- the language of `core` with these marks
 abbrev pub core_language : Marks → Language CoreLine
-core_language marks = record {
-  reading = λ line. line_reading core_table line;
-  is_misplaced = is_core_misplaced;
-  line_text = core_line_text marks;
-  last_text = core_last_text marks;
-}
+core_language marks = record { grammar = core_grammar; texts = core_texts marks }

@@ -11,8 +11,9 @@ use std::alloc::{AllocError, Global};
 pub fn make_plans(alloc: Global, lines: &[WriterLine]) -> Result<Vec<Plan>, AllocError>
     ensures { IfOk result (λ plans. plans.items ≡ plans_in lines.now) }
 {
-    let mut plans = Vec::new(alloc);
-    for writer in 0..count_writers(lines) {
+    let count = count_writers(lines);
+    let mut plans = Vec::with_capacity(alloc, count as usize)?;
+    for writer in 0..count {
         plans.push(plan(alloc, lines, writer)?)?;
     }
     Ok(plans)
@@ -67,6 +68,7 @@ fn block_write(alloc: Global, writer: u8, size: u64) -> Result<Command, AllocErr
 fn push_copies(plan: &mut Vec<Command>, command: &Command, count: u32) -> Result<(), AllocError>
     ensures { OnOk result (plan.new.items ≡ plan.old.items ++ replicate count command.now) }
 {
+    plan.reserve(count as usize)?;
     for _ in 0..count {
         plan.push(command.copy()?)?;
     }

@@ -1,14 +1,14 @@
-ghost use Rattle.std.specs.Prelude.{◌≡◌, List, []};
+ghost use Rattle.std.specs.Prelude.{◌≡◌, ◌++◌, List, [], ◌∷◌, true, not, IfOk};
 ghost use Rattle.ob_transport.specs.Script.{new_script};
-ghost use Rattle.ob_tool.specs.Drive.Script.{drive_language, most_after, most_passes, steps_of};
+ghost use Rattle.ob_tool.specs.Drive.Script.{drive_grammar, most_after, most_passes, steps_of};
 ghost use Rattle.ob_tool.specs.Drive.Session.{HasKept};
 ghost use Rattle.ob_tool.specs.declared.drive.line.DriveLine.{DriveLine};
 
 use crate::drive::line::{DriveLine, WriterLine};
 use crate::drive::words::DriveWord;
 use crate::reading::fault::LineFault;
+use crate::reading::grammar::Grammar;
 use crate::reading::line::read_line;
-use crate::tracing::interpreter::Interpreter;
 use ob_transport::{ScriptSink, SinkStep};
 use std::alloc::{AllocError, Global};
 
@@ -58,25 +58,15 @@ impl DriveSession {
     {
         ScriptSink::new(self.steps, self.after.unwrap_or(ALL))
     }
-}
 
-impl Interpreter for DriveSession {
-    type Line = DriveLine;
-
-    ghost language = { λ session. drive_language };
-
-    ghost HasDone = { λ session lines. HasKept session lines };
-
-    fn read(&self, line: &[u8]) -> Result<DriveLine, LineFault> {
-        read_line::<DriveWord>(line)
-    }
-
-    fn carry_out(
-        &mut self,
-        _alloc: Global,
-        line: DriveLine,
-        _text: &mut String,
-    ) -> Result<bool, AllocError> {
+    /// Keeps what a line tells, or answers `false` where the line is misplaced. It fails for want of memory alone. Of
+    /// itself nothing is said then, nor after a misplaced line.
+    pub fn keep(&mut self, line: DriveLine) -> Result<bool, AllocError>
+        ensures fits { IfOk result (λ fits. (before : List DriveLine) → HasKept self.old before
+            → fits ≡ not (drive_grammar.is_misplaced before line)) }
+        ensures done { IfOk result (λ fits. fits ≡ true → (before : List DriveLine) → HasKept self.old before
+            → HasKept self.new (before ++ line ∷ [])) }
+    {
         match line {
             DriveLine::Writer(own) => self.writers.push(own)?,
             DriveLine::Sink(step) => self.steps.push(step)?,
@@ -95,8 +85,14 @@ impl Interpreter for DriveSession {
         }
         Ok(true)
     }
+}
 
-    fn push_last(&self, _text: &mut String) -> Result<(), AllocError> {
-        Ok(())
+impl Grammar for DriveSession {
+    type Line = DriveLine;
+
+    ghost grammar = { drive_grammar };
+
+    fn read(line: &[u8]) -> Result<DriveLine, LineFault> {
+        read_line::<DriveWord>(line)
     }
 }

@@ -1,4 +1,4 @@
-ghost use Rattle.std.specs.Prelude.{◌≡◌, ◌+◌, ◌-◌, ◌*◌, ◌<◌, ◌^◌, IsTrue, nat_lt, Some, None, if◌then◌else◌};
+ghost use Rattle.std.specs.Prelude.{◌≡◌, ◌+◌, ◌-◌, ◌*◌, ◌<◌, ◌≤◌, ◌^◌, IsTrue, length, nat_lt, Some, None, if◌then◌else◌};
 ghost use Rattle.std.specs.Option.{SomeIff};
 ghost use Rattle.std.specs.List.{list_all};
 ghost use Rattle.std.specs.Char.{is_ascii_digit};
@@ -76,8 +76,36 @@ fn has_digits_alone(word: &[u8]) -> bool
     word.iter().all(|byte| byte.is_ascii_digit())
 }
 
+/// The most digits of which each number has 64 bits.
+const SHORT: usize = 19;
+
 /// The number that the digits write, or nothing where it is 2^64 or more.
 fn value_of(word: &[u8]) -> Option<u64>
+    requires { IsTrue (list_all is_ascii_digit word.now) }
+    ensures { result ≡ (if nat_lt (digits_value 10 word.now) (2 ^ 64) then Some (digits_value 10 word.now) else None) }
+{
+    if word.len() <= SHORT {
+        return Some(short_value(word));
+    }
+    long_value(word)
+}
+
+/// The number that a few digits write.
+fn short_value(word: &[u8]) -> u64
+    requires digits { IsTrue (list_all is_ascii_digit word.now) }
+    requires few { length word.now ≤ 19 }
+    ensures value { result ≡ digits_value 10 word.now }
+    ensures small { digits_value 10 word.now < 2 ^ 64 }
+{
+    let mut value: u64 = 0;
+    for byte in word {
+        value = value * 10 + u64::from(*byte - b'0');
+    }
+    value
+}
+
+/// The number that any digits write, or nothing where it is 2^64 or more.
+fn long_value(word: &[u8]) -> Option<u64>
     requires { IsTrue (list_all is_ascii_digit word.now) }
     ensures { result ≡ (if nat_lt (digits_value 10 word.now) (2 ^ 64) then Some (digits_value 10 word.now) else None) }
 {

@@ -5,12 +5,13 @@ ghost use Rattle.ob_history.specs.Seen.{seen_now};
 ghost use Rattle.ob_tool.specs.Cli.Options.{first_history};
 ghost use Rattle.ob_seq.specs.Writes.{writes_in};
 ghost use Rattle.ob_tool.specs.Run.Script.{block_write, call_text, history_after_line, history_after_lines, line_trace};
-ghost use Rattle.ob_tool.specs.Run.Script.{run_language};
+ghost use Rattle.ob_tool.specs.Run.Script.{run_grammar, run_texts};
 
 use crate::cli::options::Options;
 use crate::reading::fault::LineFault;
+use crate::reading::grammar::Grammar;
 use crate::reading::line::read_line;
-use crate::run::block::block;
+use crate::run::blocks::Blocks;
 use crate::run::line::RunLine;
 use crate::run::text::{push_gathered, push_look, push_refusal, push_reply};
 use crate::run::words::RunWord;
@@ -27,6 +28,7 @@ pub struct RunSession {
     pub recorded: Recorded,
     /// The first byte of the next block: how many writes were accepted, modulo 256.
     pub next_byte: u8,
+    pub blocks: Blocks,
     ghost counted: { next_byte ≡ writes_in (accepted_commands recorded.records) % 256 },
 }
 
@@ -41,6 +43,7 @@ impl RunSession {
             options,
             recorded,
             next_byte: 0,
+            blocks: Blocks::new(),
         }
     }
 
@@ -68,10 +71,12 @@ impl RunSession {
     }
 
     /// The write of a script's block of so many bytes.
-    fn block_write(&self, alloc: Global, size: u64) -> Result<Command, AllocError>
-        ensures { IfOk result (λ command. command ≡ block_write self.now.recorded size) }
+    fn block_write(&mut self, alloc: Global, size: u64) -> Result<Command, AllocError>
+        ensures options { self.new.options ≡ self.old.options }
+        ensures same { self.new.recorded ≡ self.old.recorded }
+        ensures value { IfOk result (λ command. command ≡ block_write self.old.recorded size) }
     {
-        let bytes = block(alloc, self.next_byte, size)?;
+        let bytes = self.blocks.block(alloc, self.next_byte, size)?;
         Ok(Command::Write(Message::Block(bytes)))
     }
 
@@ -134,16 +139,20 @@ impl RunSession {
     }
 }
 
-impl Interpreter for RunSession {
+impl Grammar for RunSession {
     type Line = RunLine;
 
-    ghost language = { λ session. run_language (first_history session.options) };
+    ghost grammar = { run_grammar };
 
-    ghost HasDone = { λ session lines. session.recorded ≡ history_after_lines (first_history session.options) lines };
-
-    fn read(&self, line: &[u8]) -> Result<RunLine, LineFault> {
+    fn read(line: &[u8]) -> Result<RunLine, LineFault> {
         read_line::<RunWord>(line)
     }
+}
+
+impl Interpreter for RunSession {
+    ghost texts = { λ session. run_texts (first_history session.options) };
+
+    ghost HasDone = { λ session lines. session.recorded ≡ history_after_lines (first_history session.options) lines };
 
     fn carry_out(
         &mut self,

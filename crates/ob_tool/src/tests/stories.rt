@@ -1,7 +1,7 @@
-//! Stories of `ob_rows`, and some that the program alone can play: each is a script with its trace, or with a fault.
+//! Stories of `ob_stories`, and some that the program alone can play: each is a script with its trace, or with a fault.
 
 use crate::tests::play::{Host, leaves};
-use ob_rows::{CORE, DRIVES, FULL, RUN};
+use ob_stories::{CORE, DRIVES, FULL, RUN};
 use std::alloc::{AllocError, Global};
 use std::test::Fail;
 

@@ -22,8 +22,8 @@ pub fn interpret<I: Interpreter, R: Read, W: Write>(
     interpreter: I,
 ) -> Result<(), ScriptFault>
     requires fresh { I.HasDone interpreter [] }
-    ensures { Interprets (I.language interpreter) (R.remaining reader.old) (R.remaining reader.new)
-        (W.contents writer.old) (W.contents writer.new) result }
+    ensures { Interprets (record { grammar = I.grammar; texts = I.texts interpreter })
+        (R.remaining reader.old) (R.remaining reader.new) (W.contents writer.old) (W.contents writer.new) result }
 {
     let script = read_script(alloc, reader, MAX_READS)?;
     write_trace(alloc, &script, writer, interpreter)
@@ -38,7 +38,7 @@ fn write_trace<I: Interpreter, W: Write>(
 ) -> Result<(), ScriptFault>
     requires small { length script.now ≤ greatest_script }
     requires fresh { I.HasDone interpreter [] }
-    ensures { Ends (I.language interpreter) script.now
+    ensures { Ends (record { grammar = I.grammar; texts = I.texts interpreter }) script.now
         (Appends (W.contents writer.old) (W.contents writer.new)) result }
 {
     let mut interpreter = interpreter;

@@ -1,6 +1,6 @@
-ghost use Rattle.std.specs.Prelude.{◌≡◌, ◌++◌, OnOk, string_bytes};
-ghost use Rattle.std.specs.Fmt.{decimal};
-ghost use Rattle.ob_tool.specs.Tracing.Text.{change_text, word_text, words_text};
+ghost use Rattle.std.specs.Prelude.{◌≡◌, ◌<◌, ◌/◌, ◌%◌, ◌++◌, [], ◌∷◌, false, OnOk, string_bytes};
+ghost use Rattle.std.specs.Fmt.{decimal, digit_glyph};
+ghost use Rattle.ob_tool.specs.Tracing.Text.{change_text, eight_hex, word_text, words_text};
 
 use ob_types::Change;
 use std::alloc::AllocError;
@@ -18,11 +18,12 @@ pub fn push_words(text: &mut String, total: u32, word: u32) -> Result<(), AllocE
 fn push_word(text: &mut String, word: u32) -> Result<(), AllocError>
     ensures { OnOk result (string_bytes text.new ≡ string_bytes text.old ++ word_text word) }
 {
-    // while a buffer is writable its word is 0, and a fixed text needs no formatting
+    // while a buffer is writable its word is 0
     if word == 0 {
         return text.push_str(" w=00000000");
     }
-    write!(text, " w={word:08x}")
+    text.push_str(" w=")?;
+    push_eight_hex(text, word)
 }
 
 /// Adds a number in decimal digits.
@@ -41,4 +42,35 @@ pub fn push_change(text: &mut String, change: Option<Change>) -> Result<(), Allo
         Some(Change::Unwritable) => text.push_str(" -"),
         Some(Change::Writable) => text.push_str(" +"),
     }
+}
+
+/// Adds a number in eight hexadecimal digits. They need no formatting.
+fn push_eight_hex(text: &mut String, number: u32) -> Result<(), AllocError>
+    ensures { OnOk result (string_bytes text.new ≡ string_bytes text.old ++ eight_hex number) }
+{
+    push_two_hex(text, (number / 16777216) as u8)?;
+    push_two_hex(text, (number / 65536 % 256) as u8)?;
+    push_two_hex(text, (number / 256 % 256) as u8)?;
+    push_two_hex(text, (number % 256) as u8)
+}
+
+/// Adds a byte in two hexadecimal digits.
+fn push_two_hex(text: &mut String, byte: u8) -> Result<(), AllocError>
+    ensures { OnOk result (string_bytes text.new ≡ string_bytes text.old
+        ++ digit_glyph false (byte / 16) ∷ digit_glyph false (byte % 16) ∷ []) }
+{
+    text.push(hex_digit(byte / 16))?;
+    text.push(hex_digit(byte % 16))
+}
+
+/// A hexadecimal digit.
+fn hex_digit(digit: u8) -> char
+    requires { digit < 16 }
+    ensures value { result ≡ digit_glyph false digit }
+    ensures ascii { result < 128 }
+{
+    if digit < 10 {
+        return char::from(b'0' + digit);
+    }
+    char::from(b'a' + (digit - 10))
 }

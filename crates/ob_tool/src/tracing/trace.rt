@@ -6,8 +6,8 @@ ghost use Rattle.ob_tool.specs.Reading.Script.{greatest_script, script_lines};
 ghost use Rattle.ob_tool.specs.Tracing.Ending.{HasTraced};
 ghost use Rattle.ob_tool.specs.declared.script_fault.ScriptFault.TheVariants.{Write};
 
+use crate::reading::cursor::Cursor;
 use crate::reading::fault::LineFault;
-use crate::reading::lines::first_line;
 use crate::script_fault::ScriptFault;
 use crate::tracing::interpreter::Interpreter;
 use std::alloc::{AllocError, Global};
@@ -28,7 +28,7 @@ pub fn trace_script<I: Interpreter, W: io::Write>(
     requires small { length script.now ≤ greatest_script }
     requires fresh { I.HasDone interpreter.old [] }
     requires empty { waiting.old.items ≡ [] }
-    ensures { Ends (I.language interpreter.old) script.now
+    ensures { Ends (record { grammar = I.grammar; texts = I.texts interpreter.old }) script.now
         (HasTraced (W.contents writer.old) (W.contents writer.new) waiting.new.items) result }
 {
     trace_lines(alloc, interpreter, script, waiting, writer)?;
@@ -49,35 +49,19 @@ pub fn trace_lines<I: Interpreter, W: io::Write>(
     requires small { length script.now ≤ greatest_script }
     requires fresh { I.HasDone interpreter.old [] }
     requires empty { waiting.old.items ≡ [] }
-    ensures lines { LinesEnd (I.language interpreter.old) script.now
+    ensures lines { LinesEnd (record { grammar = I.grammar; texts = I.texts interpreter.old }) script.now
         (HasTraced (W.contents writer.old) (W.contents writer.new) waiting.new.items) result }
-    ensures done { OnOk result (I.HasDone interpreter.new (script_lines (I.language interpreter.old) script.now)) }
-    ensures language { OnOk result (I.language interpreter.new ≡ I.language interpreter.old) }
+    ensures done { OnOk result (I.HasDone interpreter.new (script_lines I.grammar script.now)) }
+    ensures texts { OnOk result (I.texts interpreter.new ≡ I.texts interpreter.old) }
 {
-    let mut rest = script;
-    let mut number = 0u32;
+    let mut cursor = Cursor::new(script);
     let mut text = String::new(alloc);
-    while !rest.is_empty() {
-        let (line, others) = first_line(rest);
-        match interpreter.read(line) {
-            Err(fault) => {
-                return Err(ScriptFault::Line {
-                    line: number + 1,
-                    fault,
-                });
-            }
-            Ok(line) => {
-                if !trace_line(alloc, interpreter, line, &mut text, waiting)? {
-                    return Err(ScriptFault::Line {
-                        line: number + 1,
-                        fault: LineFault::Misplaced,
-                    });
-                }
-            }
+    while !cursor.is_at_end() {
+        let line = cursor.read::<I>()?;
+        if !trace_line(alloc, interpreter, line, &mut text, waiting)? {
+            return Err(cursor.fault(LineFault::Misplaced));
         }
         spill(waiting, writer)?;
-        number += 1;
-        rest = others;
     }
     Ok(())
 }
@@ -90,13 +74,13 @@ fn trace_line<I: Interpreter>(
     text: &mut String,
     waiting: &mut Vec<u8>,
 ) -> Result<bool, AllocError>
-    ensures language { I.language interpreter.new ≡ I.language interpreter.old }
+    ensures texts { I.texts interpreter.new ≡ I.texts interpreter.old }
     ensures fits { IfOk result (λ fits. (before : List I.Line) → I.HasDone interpreter.old before
-        → fits ≡ not ((I.language interpreter.old).is_misplaced before line)) }
+        → fits ≡ not (I.grammar.is_misplaced before line)) }
     ensures done { IfOk result (λ fits. fits ≡ true → (before : List I.Line) → I.HasDone interpreter.old before
         → I.HasDone interpreter.new (before ++ line ∷ [])) }
     ensures text { IfOk result (λ fits. fits ≡ true → (before : List I.Line) → I.HasDone interpreter.old before
-        → waiting.new.items ≡ waiting.old.items ++ (I.language interpreter.old).line_text before line) }
+        → waiting.new.items ≡ waiting.old.items ++ (I.texts interpreter.old).line_text before line) }
     ensures kept { result ≢ Ok true → waiting.new.items ≡ waiting.old.items }
 {
     text.clear();
@@ -114,7 +98,7 @@ fn trace_last<I: Interpreter>(
     waiting: &mut Vec<u8>,
 ) -> Result<(), AllocError>
     ensures text { OnOk result ((lines : List I.Line) → I.HasDone interpreter.now lines
-        → waiting.new.items ≡ waiting.old.items ++ (I.language interpreter.now).last_text lines) }
+        → waiting.new.items ≡ waiting.old.items ++ (I.texts interpreter.now).last_text lines) }
     ensures kept { OnErr result (waiting.new.items ≡ waiting.old.items) }
 {
     let mut text = String::new(alloc);

@@ -1,13 +1,14 @@
 ghost use Rattle.std.specs.Prelude.{◌≡◌, ◌++◌, ◌||◌, [], ◌∷◌, None, Some, true, false, not, is_some, length};
 ghost use Rattle.std.specs.Prelude.{option_map, IfOk, OnOk, string_bytes};
 ghost use Rattle.std.specs.Option.{option_map_or};
-ghost use Rattle.ob_core.specs.Opening.{new_core, opening_fault};
+ghost use Rattle.ob_core.specs.Beginning.{new_core, start_fault};
 ghost use Rattle.ob_core.specs.Turn.{core_after};
-ghost use Rattle.ob_tool.specs.Turns.Script.{core_language, turn_trace};
+ghost use Rattle.ob_tool.specs.Turns.Script.{core_grammar, core_texts, turn_trace};
 ghost use Rattle.ob_tool.specs.Turns.Session.{HasPlayed};
 ghost use Rattle.ob_tool.specs.Turns.Text.{lane_text};
 
 use crate::reading::fault::LineFault;
+use crate::reading::grammar::Grammar;
 use crate::reading::line::read_line;
 use crate::tracing::interpreter::Interpreter;
 use crate::turns::line::CoreLine;
@@ -52,7 +53,7 @@ impl CoreSession {
     ) -> Result<bool, AllocError>
         ensures marks { self.new.marks ≡ self.old.marks }
         ensures fits { IfOk result (λ fits.
-            fits ≡ not (self.old.turned || is_some (opening_fault (self.old.starts.items ++ start ∷ [])))) }
+            fits ≡ not (self.old.turned || is_some (start_fault (self.old.starts.items ++ start ∷ [])))) }
         ensures starts { IfOk result (λ fits. fits ≡ true
             → self.new.starts.items ≡ self.old.starts.items ++ start ∷ []) }
         ensures core { IfOk result (λ fits. fits ≡ true
@@ -105,16 +106,20 @@ impl CoreSession {
     }
 }
 
-impl Interpreter for CoreSession {
+impl Grammar for CoreSession {
     type Line = CoreLine;
 
-    ghost language = { λ session. core_language session.marks };
+    ghost grammar = { core_grammar };
 
-    ghost HasDone = { λ session lines. HasPlayed session lines };
-
-    fn read(&self, line: &[u8]) -> Result<CoreLine, LineFault> {
+    fn read(line: &[u8]) -> Result<CoreLine, LineFault> {
         read_line::<CoreWord>(line)
     }
+}
+
+impl Interpreter for CoreSession {
+    ghost texts = { λ session. core_texts session.marks };
+
+    ghost HasDone = { λ session lines. HasPlayed session lines };
 
     fn carry_out(
         &mut self,

@@ -6,12 +6,12 @@ use Rattle.ob_core.specs.Accounts.{IsWithinRoom}
 use Rattle.ob_core.specs.Bits.{AreAmong}
 use Rattle.ob_core.specs.Worked.{first_lane, second_lane}
 use Rattle.ob_core.specs.declared.lane.Lane.{Lane}
-use Rattle.ob_core.proofs.BitLemmas.{ShareOut-and}
+use Rattle.ob_core.proofs.BitLemmas.{MakeUp-and}
 use Rattle.ob_core.proofs.worked.worked_accounts.Goals as goal
 
 -- bits 1 and 2 are those of both lanes
 both_bits : (i : ℕ) → bit_at 2 i + bit_at 4 i ≡ bit_at 6 i
-both_bits i = ShareOut-and w32 6 4 (omega arith) (omega arith) i
+both_bits i = MakeUp-and w32 6 4 (omega arith) (omega arith) i
 
 within_first : IsWithinRoom (first_lane 2)
 within_first = omega arith

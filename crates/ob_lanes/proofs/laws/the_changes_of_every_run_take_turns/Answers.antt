@@ -3,6 +3,6 @@ use Rattle.ob_lanes.proofs.laws.the_changes_of_every_run_take_turns.Goals as goa
 
 pub returns : goal.returns
 returns c = record {
-  turns = λ opening moves core mark fits leads. (turned opening mark fits moves core leads).turns;
-  now = λ opening moves core mark fits leads. (turned opening mark fits moves core leads).now;
+  turns = λ grant moves core mark fits leads. (turned grant mark fits moves core leads).turns;
+  now = λ grant moves core mark fits leads. (turned grant mark fits moves core leads).now;
 }

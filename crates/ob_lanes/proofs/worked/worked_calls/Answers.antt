@@ -39,10 +39,10 @@ last-one (read ∷ other ∷ more) step found = last-one (other ∷ more) step f
 
 -- the change is that of what the last step found
 turn_of_last : (old new : RunningLane) (change : Option Change) → IsOneStep (Add 60) old new change
-    → change ≡ change_found (Add 60) old.words.opening.marks (last_found new.made)
+    → change ≡ change_found (Add 60) old.words.grant.marks (last_found new.made)
 turn_of_last old new change one =
     let last = ap last_found one.made ∙ last-one (old.made ++ one.reads) (Add 60) one.found in
-    one.turn ∙ ap (change_found (Add 60) old.words.opening.marks) (sym last)
+    one.turn ∙ ap (change_found (Add 60) old.words.grant.marks) (sym last)
 
 -- a lane that is as it was but for a debt of 60 and the step of that, and has seen these runs, was charged
 charged : (old : RunningLane) (made : List Made) (seen : List (List Move)) (change : Option Change)

@@ -6,7 +6,7 @@ use Rattle.std.proofs.lemmas.List.{append-nil, same_from_push}
 use Rattle.atomic_table.specs.Seated.{TableId}
 use Rattle.ob_core.specs.CoreState.{CoreState}
 use Rattle.ob_core.specs.Found.{value_found}
-use Rattle.ob_core.specs.Opening.{one_lane}
+use Rattle.ob_core.specs.Beginning.{one_lane}
 use Rattle.ob_core.specs.Owed.{owed_by}
 use Rattle.ob_core.specs.declared.lane.Lane.{Lane}
 use Rattle.ob_core.specs.declared.lane_step.LaneStep.TheVariants.{Load}
@@ -15,7 +15,7 @@ use Rattle.ob_lanes.specs.Facts.{one_step}
 use Rattle.ob_lanes.specs.Run.{Leads, own_steps}
 use Rattle.ob_lanes.specs.declared.facts.Move.{Move}
 use Rattle.ob_lanes.specs.declared.facts.Move.TheVariants.{Steps, Divides, Merges}
-use Rattle.ob_lanes.specs.Worked.{opening, half, met, with_bits, lone, bit_2_run, first_run, has_set, shows_bit_2}
+use Rattle.ob_lanes.specs.Worked.{grant, half, met, with_bits, lone, bit_2_run, first_run, has_set, shows_bit_2}
 use Rattle.ob_lanes.specs.declared.facts.Made.{Made}
 use Rattle.ob_lanes.proofs.KeptAccounts.{accounts_after_run, not_opened}
 use Rattle.ob_lanes.proofs.WorkedRuns.{alone, set_in_run, met_in_run}
@@ -36,7 +36,7 @@ all_owe (suc zero) is_lane =
 all_owe (suc (suc seat)) is_lane = absurd (cc)
 
 -- no lane has read a bit that was not opened
-unread : (moves : List Move) (core : CoreState) (seat : ℕ) → Leads (one_lane opening) moves core
+unread : (moves : List Move) (core : CoreState) (seat : ℕ) → Leads (one_lane grant) moves core
     → own_steps seat moves ≡ one_step Load shows_bit_2 → ⊥
 unread [] core seat leads made = absurd (cc)
 unread (Divides at kept given name ∷ earlier) core seat leads made =
@@ -53,10 +53,10 @@ unread (Steps other step found ∷ earlier) core seat leads made =
         let read = (same_from_push (own_steps seat earlier) [] (record { step = step; found = found })
         (record { step = Load; found = shows_bit_2 }) made).1 in
         let both : shows_bit_2 ≡ value_found leads.0 = sym (ap (λ (m : Made). m.found) read) ∙ leads.2.1 in
-        let holds = accounts_after_run opening earlier leads.0 refl leads.1 in
-        let fits : leads.0.total ≤ 120 = total-le-room opening leads.0 holds.bytes in
+        let holds = accounts_after_run grant earlier leads.0 refl leads.1 in
+        let fits : leads.0.total ≤ 120 = total-le-room grant leads.0 holds.bytes in
         let word : 4 ≡ leads.0.word = omega (arith, both, fits) in
-        let clear : bit_at leads.0.word 2 ≡ 0 = not_opened opening leads.0 2 holds (omega arith) refl in
+        let clear : bit_at leads.0.word 2 ≡ 0 = not_opened grant leads.0 2 holds (omega arith) refl in
         let wrong : ◌≡◌ {A = ℕ} 1 0 = ap (λ n. bit_at n 2) word ∙ clear in
         absurd (omega (arith, wrong))
 
@@ -65,7 +65,7 @@ returns-clause-second_half_in_run c = (
   met_in_run,
   (λ moves seat name stands. all_owe seat stands.is_lane),
   (λ moves seat name stands.
-      let holds = accounts_after_run opening moves (met 3) refl stands.leads in
+      let holds = accounts_after_run grant moves (met 3) refl stands.leads in
       let wrong : ◌≡◌ {A = ℕ} 0 1 = holds.bits.shown 1 (omega arith) in
       absurd (omega (arith, wrong))),
   (λ moves seat name stands. unread moves (met 1) seat stands.leads stands.is_made),
@@ -90,7 +90,7 @@ only_set moves later core seat leads same = no_bits_here later core (subst (λ m
         let start = leads.1.1 in
         let room : ◌≡◌ {A = ℕ} 120 120 = refl in
         let lane_is = ap (λ (c : CoreState). slice_get c.lanes 0) start in
-        let rooms = division.shares.held 2 in
+        let rooms = division.parts.held 2 in
         let is_lane = division.is_lane in
         held_wrong division.lane (sym is_lane ∙ lane_is) (sym rooms)
     no_bits_here (move ∷ later) core leads = no_bits_here later leads.0 leads.1

@@ -1,5 +1,5 @@
 use Rattle.std.proofs.Common.{◌≡◌, None, List, [], ◌∷◌, ◌++◌, length, length-append, refl, ap, arith}
-use Rattle.ob_lanes.specs.Worked.{opening, half, met, meeting}
+use Rattle.ob_lanes.specs.Worked.{grant, half, met, meeting}
 use Rattle.ob_lanes.specs.declared.facts.Move.{Move}
 use Rattle.ob_lanes.specs.declared.facts.Move.TheVariants.{Steps, Divides}
 use Rattle.ob_core.specs.declared.lane_step.LaneStep.TheVariants.{Add}
@@ -13,7 +13,7 @@ returns-clause-meets c = meets
 
 pub returns-clause-raised_nothing : goal.returns-clause-raised_nothing
 returns-clause-raised_nothing c leads =
-    let accounts = accounts_after_run opening meeting (met 0) refl leads in
+    let accounts = accounts_after_run grant meeting (met 0) refl leads in
     absurd (cc (accounts.mark.above (omega arith) (omega arith)))
 
 -- in the run of both the division comes first

@@ -6,7 +6,7 @@ use Rattle.ob_types.specs.declared.reply.Change.TheVariants.{Unwritable}
 use Rattle.ob_core.specs.Bits.{with_bit}
 use Rattle.ob_core.specs.Found.{change_found}
 use Rattle.ob_core.specs.declared.lane_step.LaneStep.TheVariants.{SetBit}
-use Rattle.ob_core.proofs.BitLemmas.{ShareOut-and}
+use Rattle.ob_core.proofs.BitLemmas.{MakeUp-and}
 use Rattle.ob_lanes.specs.Begins.{BeginsWith}
 use Rattle.ob_lanes.specs.Worked.{with_bits, bit_2_run, shows_bit_2}
 use Rattle.ob_lanes.specs.declared.facts.Facts.{Facts}
@@ -50,7 +50,7 @@ returns-clause-reads_behind c id = (
   record { words = refl; made = refl; same = record { name = refl; splits = refl; taken = refl }; sees = read_seen },
   (λ has. let wrong : ◌≡◌ {A = ℕ} shows_bit_2 0 = ap first_found has.made in absurd (omega (arith, wrong))),
   (λ has. let wrong : ◌≡◌ {A = ℕ} shows_bit_2 0 = ap first_found has.made in absurd (omega (arith, wrong))),
-  (λ has. let wrong : ◌≡◌ {A = ℕ} 6 0 = ap (λ w. w.opening.bits) has.words in absurd (omega (arith, wrong))),
+  (λ has. let wrong : ◌≡◌ {A = ℕ} 6 0 = ap (λ w. w.grant.bits) has.words in absurd (omega (arith, wrong))),
   (λ has.
       let sees = has.sees in
       let begins = All-head (BeginsWith sees.before) bit_2_run [] sees.begins in
@@ -64,8 +64,8 @@ returns-clause-shows_bit_2 c = (
   (λ i held.
       omega (
         arith,
-        ShareOut-and w32 13 4 (omega arith) (omega arith) i,
-        ShareOut-and w32 15 6 (omega arith) (omega arith) i,
+        MakeUp-and w32 13 4 (omega arith) (omega arith) i,
+        MakeUp-and w32 15 6 (omega arith) (omega arith) i,
         bit_at-lt 15 i,
         held,
       )),

@@ -15,7 +15,7 @@ use Rattle.ob_lanes.proofs.worked.worked_totals.Goals as goal
 
 -- a lane reads the total of what it finds, if it sees that and is as it was but for the step
 reads : (old : RunningLane) (found : ℕ) (seen : List (List Move))
-    → Sees old.words.opening old.seen Load found old.name old.lane (old.made ++ one_step Load found) seen
+    → Sees old.words.grant old.seen Load found old.name old.lane (old.made ++ one_step Load found) seen
     → owed_by old.lane ≤ total_half found → total_half found ≤ owed_by old.lane + room_outside old
     → IsTotalRead old (total_half found) (record old { made = old.made ++ one_step Load found; seen = seen })
 reads old found seen sees least most = record {

@@ -3,7 +3,7 @@ use Rattle.std.specs.List.{All}
 use Rattle.std.proofs.lemmas.List.Elements.{All-contains, Contains-push}
 use Rattle.std.proofs.lemmas.Result.{IfErr-weaker, IfOk-at_ok, IfOk-weaker}
 use Rattle.ob_types.specs.WaterMark.{Marks}
-use Rattle.ob_core.specs.Opening.{Opening}
+use Rattle.ob_core.specs.Beginning.{Grant}
 use Rattle.ob_seq.specs.Settings.{Settings}
 use Rattle.ob_history.specs.Beginning.{IsBeginning}
 use Rattle.ob_history.specs.Legal.{IsLegal}
@@ -41,7 +41,7 @@ transported g c =
 -- all have handed in what they were asked
 have_ended : (g : _) (c : goal.After-into_report g) (report : Report) →
     HaveHandedIn report.recorded.records (c.in_ok-dones.field-0.items ++ c.in_ok-transported.field-0 ∷ []) →
-    HaveEnded report.recorded.records c.in_ok-dones.field-0.items c.in_ok-transported.field-0 c.args.plans.items
+    HaveEnded report.recorded.records c.in_ok-dones.field-0.items c.in_ok-transported.field-0 c.args.checked.plans
 have_ended g c report handed =
     let share = ap (λ (its : ShareValue). its.maker) c.in_ok-shared.ensures.share in
     let done = transported g c in
@@ -55,30 +55,30 @@ have_ended g c report handed =
 
 pub run-lane-requires-clause-ready : goal.run-lane-requires-clause-ready
 run-lane-requires-clause-ready g c = λ κs lives.
-    let count : c.len-count.result ≡ length c.args.plans.items = search rules in
+    let count : c.len-writers.result ≡ length c.args.checked.plans = search rules in
     record {
       words = search rules;
-      roomy = c.in_ok-shared.ensures.roomy;
+      roomy = search rules;
       numbered = subst (λ writers. All (IsNumbered writers) c.in_ok-shared.jobs.items) (sym count)
-          (all_numbered c.in_ok-shared.jobs.items c.args.plans.items c.in_ok-shared.ensures.asked);
+          (all_numbered c.in_ok-shared.jobs.items c.args.checked.plans c.in_ok-shared.ensures.asked);
       room = search rules;
       whole = search rules;
     }
 
 pub returns-in_err-transported-clause-planned : goal.returns-in_err-transported-clause-planned
 returns-in_err-transported-clause-planned g c =
-    IfErr-weaker c.from_residual-in_err-transported.result (ComesOfWork 0) (ComesOfWork (length c.args.plans.items))
-    (comes_of_more (length c.args.plans.items)) (search rules)
+    IfErr-weaker c.from_residual-in_err-transported.result (ComesOfWork 0) (ComesOfWork (length c.args.checked.plans))
+    (comes_of_more (length c.args.checked.plans)) (search rules)
 
 pub returns-clause-planned : goal.returns-clause-planned
 returns-clause-planned g c =
-    IfErr-weaker c.into_report.result (ComesOfWork 0) (ComesOfWork (length c.args.plans.items))
-    (comes_of_more (length c.args.plans.items)) c.into_report.ensures.fault
+    IfErr-weaker c.into_report.result (ComesOfWork 0) (ComesOfWork (length c.args.checked.plans))
+    (comes_of_more (length c.args.checked.plans)) c.into_report.ensures.fault
 
 pub returns-clause-report : goal.returns-clause-report
 returns-clause-report g c =
     let opened = c.requires.name.opened in
-    let count : c.len-count.result ≡ length c.args.plans.items = search rules in
+    let count : c.len-writers.result ≡ length c.args.checked.plans = search rules in
     IfOk-weaker c.into_report.result _ _ (λ report ended. record {
       legal = ended.opened.legal;
       settings = ended.opened.settings ∙ ap (λ (opened : Opened). opened.settings) opened ∙ c.requires.settings;
@@ -87,7 +87,7 @@ returns-clause-report g c =
       callers = callers_told _ _ _ _ (have_ended g c report ended.handed);
       counts = subst (λ writers. IsCounted writers report) count ended.counts;
       rest = subst (λ (marks : Marks). AreAtRest marks report.hand)
-          (ap (λ (opening : Opening). opening.marks) c.in-Ok.ensures.words) ended.rest;
+          (ap (λ (grant : Grant). grant.marks) c.in-Ok.ensures.words) ended.rest;
     }) c.into_report.ensures.ended
 
 pub returns-clause-sink : goal.returns-clause-sink
@@ -97,8 +97,9 @@ returns-clause-sink g c =
     let all = c.in_ok-dones.field-0.items ++ done ∷ [] in
     let before = g.S.Sink.content c.args.sink.now in
     let after = g.S.Sink.content c.run-lane.new.sink in
-    let planned = steps_are_planned c.args.config.estimate c.args.config.task c.args.plans.items c.requires.plans in
-    let none = no_failing_step c.args.plans.items planned in
+    let planned = steps_are_planned c.args.checked.estimate c.args.checked.task c.args.checked.plans
+    c.requires.checked.faultless in
+    let none = no_failing_step c.args.checked.plans planned in
     let failed = (transported g c).failings in
     IfOk-weaker c.into_report.result _ _ (λ report ended.
     let records = report.recorded.records in
@@ -107,9 +108,9 @@ returns-clause-sink g c =
     let seen = All-contains (λ (one : Handed). IsBeginning one.sight.seen records) all done ended.handed.saw here in
     let own = All-contains (HandsInAll records) all done ended.handed.own here in
     let legal = subst (λ (its : Settings). IsLegal its records) ended.opened.settings ended.opened.legal in
-    let quiet = others_send_nothing settings records c.args.plans.items (all_carried _ _ _ _ ends) planned
+    let quiet = others_send_nothing settings records c.args.checked.plans (all_carried _ _ _ _ ends) planned
     (callers_told _ _ _ _ ends) in
-    let whole = taken_whole settings records done.receipts (length c.args.plans.items) before after legal
+    let whole = taken_whole settings records done.receipts (length c.args.checked.plans) before after legal
     (taken_further settings done.sight.seen records done.receipts before after seen (transported g c).taken)
     (own ∙ ap (λ (caller : ℕ). records_of caller records) ends.last) quiet in
     record {

@@ -1,6 +1,8 @@
-use Rattle.std.proofs.Common.{◌≡◌, ◌∷◌, length, ap, arith, rules}
+use Rattle.std.proofs.Common.{◌≡◌, ◌∷◌, drop, length, take, ap, ◌∙◌, arith, rules}
+use Rattle.std.specs.Prelude.{slice_index_or, vec_len}
 use Rattle.ob_shared.specs.Share.{ShareValue}
 use Rattle.ob_pool.proofs.Jobs.Shares.{asked_more, next_share, roomy_more, rooms_more}
+use Rattle.ob_pool.proofs.Plans.Rooms.{next_room}
 use Rattle.ob_pool.proofs.opening.jobs_of.Goals as goal
 
 pub loop-plan-preserved : goal.loop-plan-preserved
@@ -13,10 +15,14 @@ loop-plan-preserved g c =
     let count = c.push_reserved.ensures.len in
     let pushed = c.push_reserved.ensures.items in
     let mine = next_share _ _ _ _ _ _ _ rest kept.shares begin split count in
+    let checked = c.args.checked in
+    let room = next_room checked.estimate checked.task c.checked.inside.rooms (vec_len c.loop-plan.jobs) 0 _ _ rest kept.ahead begin in
+    let its = ap (λ writer. slice_index_or c.checked.inside.rooms writer 0) c.len-in-loop-plan.ensures ∙ room.0 in
     record {
       asked = asked_more _ _ _ _ _ _ rest _ kept.asked begin (ap (λ (share : ShareValue). share.maker) mine.0) count pushed;
       shares = mine.1;
-      roomy = roomy_more c.args.estimate c.args.task _ _ _ kept.roomy c.room_of-room.ensures pushed;
-      room = rooms_more c.args.estimate c.args.task _ _ _ _ rest _ kept.room begin c.room_of-room.ensures pushed;
+      ahead = ap (λ writer. take (length rest) (drop writer c.checked.inside.rooms)) count ∙ room.1;
+      roomy = roomy_more checked.estimate checked.task _ _ _ kept.roomy its pushed;
+      room = rooms_more checked.estimate checked.task _ _ _ _ rest _ kept.room begin its pushed;
       places = omega (arith, kept.places, count, ap length begin, c.push_reserved.ensures.capacity);
     }

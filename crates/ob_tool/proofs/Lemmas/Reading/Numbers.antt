@@ -4,11 +4,12 @@ use Rattle.std.proofs.Common.{Result, Ok, Err, length, take, drop, drop-cons, ad
 use Rattle.std.proofs.Common.{inl, inr}
 use Rattle.std.specs.List.{list_all}
 use Rattle.std.specs.Char.{is_ascii_digit, digit_value}
-use Rattle.std.specs.Str.Parse.{digits_value}
+use Rattle.std.specs.Str.Parse.{AllDigits, digits_value}
 use Rattle.ob_tool.specs.Reading.Numbers.{before_numbers, number_in, numbers_in}
 use Rattle.ob_tool.specs.declared.reading.range.Range.{Range}
 use Rattle.ob_tool.specs.declared.reading.fault.LineFault.{LineFault}
-use Rattle.std.proofs.lemmas.Int.Digits.{digits_value_more}
+use Rattle.std.proofs.Math.Nat.{pow-le-pow_right}
+use Rattle.std.proofs.lemmas.Int.Digits.{digits_value-lt, digits_value_more}
 use Rattle.std.proofs.lemmas.Str.Parse.{digits_value-take-le}
 use Rattle.std.proofs.lemmas.List.Folds.{list_all_at}
 use Rattle.std.proofs.lemmas.Bool.{cases_Bool, both_ways}
@@ -66,3 +67,29 @@ pub numbers_in-drop : (ranges : List Range) (i : ℕ) (d : Range) (word : List �
     → numbers_in (drop i ranges) (word ∷ words)
     ≡ before_numbers (number_in (get_or ranges i d) word) (numbers_in (drop (i + 1) ranges) words)
 numbers_in-drop ranges i d word words h = rw (drop-cons ranges i d h, add-one) refl
+
+-- a word of digits alone has digits in base 10 alone
+all_digits : (word : List ℕ) → list_all is_ascii_digit word ≡ true → AllDigits 10 word
+all_digits [] all = tt
+all_digits (byte ∷ word) all = elim (cases_Bool (is_ascii_digit byte)) [
+  | inl is ↦ let digit = digit_value-digit byte is in (omega (arith, digit.2), all_digits word (simp is at all))
+  | inr fails ↦ absurd (both_ways (list_all is_ascii_digit (byte ∷ word)) (simp fails refl) all)
+]
+
+-- at most 19 digits write a number of 64 bits
+pub few_digits-small : (word : List ℕ) → list_all is_ascii_digit word ≡ true → length word ≤ 19
+    → digits_value 10 word < 2 ^ 64
+few_digits-small word all few =
+    let small = digits_value-lt 10 word (all_digits word all) in
+    let most : 10 ^ length word ≤ 10 ^ 19 = pow-le-pow_right (lit≤ tt) few in
+    omega (arith, small, most)
+
+-- so one more of them fits too
+pub few_digits-more : (word : List ℕ) (i value : ℕ) → list_all is_ascii_digit word ≡ true → length word ≤ 19
+    → i < length word → value ≡ digits_value 10 (take i word)
+    → value * 10 + (get_or word i 0 - 48) < 2 ^ 64
+few_digits-more word i value all few h e =
+    let small = few_digits-small word all few in
+    let more = value_more word i value all h e in
+    let within = digits_value-take-le 10 word (i + 1) (lit≤ tt) in
+    omega arith

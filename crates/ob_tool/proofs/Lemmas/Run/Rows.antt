@@ -28,12 +28,12 @@ limited =
     (record { marks = record { low = 32768; high = 65536 }; estimate = record { overhead = 96; unknown = 8 } }) 3)
 
 -- the lines of a script
-the_lines : script_lines language (codes "b 304\nb 0\nf\nrm\n")
+the_lines : script_lines language.grammar (codes "b 304\nb 0\nf\nrm\n")
     ≡ Block 304 ∷ Block 0 ∷ Command Flush ∷ Command Remove ∷ []
 the_lines = refl
 
 -- and of another, with the greatest numbers
-the_greatest_numbers : script_lines language
+the_greatest_numbers : script_lines language.grammar
     (codes "r 18446744073709551615\no 4294967295\nrc 4294967295\np 18446744073709551615\nx 4294967295\n")
     ≡ Command (Write (Region 18446744073709551615)) ∷ Command (Write (Other 4294967295)) ∷ Command
     (RemoveWith (record { 0 = 4294967295 }))
@@ -41,11 +41,11 @@ the_greatest_numbers : script_lines language
 the_greatest_numbers = refl
 
 -- the fault of a script
-the_fault : script_fault language (codes "b 1\nb\n") ≡ Some (2, TooFewWords)
+the_fault : script_fault language.grammar (codes "b 1\nb\n") ≡ Some (2, TooFewWords)
 the_fault = refl
 
 -- an id of more than 32 bits
-too_great_an_id : script_fault language (codes "f\nx 4294967296") ≡ Some (2, OutOfRange)
+too_great_an_id : script_fault language.grammar (codes "f\nx 4294967296") ≡ Some (2, OutOfRange)
 too_great_an_id = refl
 
 -- a script of no bytes has an empty trace
@@ -141,5 +141,5 @@ unfolding user_bits digits padded_integral char_count
 marks_lowered_while_open = refl
 
 -- a low mark above the high one is misplaced
-a_low_mark_above_the_high_one : script_fault language (codes "b 304\nm 0 100\n?\nb 0\nm 5 4\n") ≡ Some (5, Misplaced)
+a_low_mark_above_the_high_one : script_fault language.grammar (codes "b 304\nm 0 100\n?\nb 0\nm 5 4\n") ≡ Some (5, Misplaced)
 a_low_mark_above_the_high_one = refl

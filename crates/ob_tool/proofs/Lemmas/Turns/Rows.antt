@@ -17,11 +17,11 @@ empty_script : trace_of language [] ≡ []
 empty_script = refl
 
 -- a turn before the first lane
-no_lane : script_fault language (codes "k 0") ≡ Some (1, Misplaced)
+no_lane : script_fault language.grammar (codes "k 0") ≡ Some (1, Misplaced)
 no_lane = refl
 
 -- a lane after a turn
-late_lane : script_fault language (codes "lane 9 0\nw 0\nlane 9 0")
+late_lane : script_fault language.grammar (codes "lane 9 0\nw 0\nlane 9 0")
     ≡ Some (3, Misplaced)
 late_lane = refl
 

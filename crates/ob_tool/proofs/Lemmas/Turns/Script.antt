@@ -4,7 +4,7 @@ use Rattle.std.proofs.Common.{Err, IfOk, refl, ap, sym}
 use Rattle.std.specs.Prelude.{option_map}
 use Rattle.ob_types.specs.WaterMark.{Marks}
 use Rattle.ob_core.specs.CoreState.{CoreState, WorldState}
-use Rattle.ob_core.specs.Opening.{new_core}
+use Rattle.ob_core.specs.Beginning.{new_core}
 use Rattle.ob_core.specs.Owed.{sum_owed}
 use Rattle.ob_core.specs.Run.{core_after_all}
 use Rattle.ob_core.specs.Turn.{core_after}

@@ -3,8 +3,8 @@ use Rattle.ob_core.proofs.laws.accounts.a_free_lane_with_the_whole_room_ends_at_
 
 pub returns : goal.returns
 returns c = record {
-  total = λ opening core index lane accounts is_lane free whole.
-      nothing_left opening core index lane accounts is_lane free whole;
-  mark = λ opening core index lane accounts is_lane free whole positive.
-      mark_clear opening core index lane accounts is_lane free whole positive;
+  total = λ grant core index lane accounts is_lane free whole.
+      nothing_left grant core index lane accounts is_lane free whole;
+  mark = λ grant core index lane accounts is_lane free whole positive.
+      mark_clear grant core index lane accounts is_lane free whole positive;
 }

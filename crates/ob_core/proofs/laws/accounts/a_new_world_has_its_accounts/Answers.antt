@@ -1,4 +1,4 @@
-use Rattle.ob_core.proofs.OpeningLemmas.{AccountsHold-new}
+use Rattle.ob_core.proofs.BeginningLemmas.{AccountsHold-new}
 use Rattle.ob_core.proofs.laws.accounts.a_new_world_has_its_accounts.Goals as goal
 
 pub returns : goal.returns

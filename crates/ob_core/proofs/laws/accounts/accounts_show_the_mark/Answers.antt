@@ -3,8 +3,8 @@ use Rattle.ob_core.proofs.laws.accounts.accounts_show_the_mark.Goals as goal
 
 pub returns : goal.returns
 returns c = record {
-  above = λ opening core accounts ordered above.
-      set_above opening core accounts.bytes.marks accounts.mark ordered above;
-  below = λ opening core accounts ordered below.
-      clear_below opening core accounts.bytes.marks accounts.mark ordered below;
+  above = λ grant core accounts ordered above.
+      set_above grant core accounts.bytes.marks accounts.mark ordered above;
+  below = λ grant core accounts ordered below.
+      clear_below grant core accounts.bytes.marks accounts.mark ordered below;
 }

@@ -5,6 +5,6 @@ use Rattle.ob_core.proofs.laws.accounts.each_step_keeps_the_accounts.Goals as go
 
 pub returns : goal.returns
 returns c = record {
-  kept = λ opening old new index step made accounts. subst (AccountsHold opening) (sym made.after)
-      (AccountsHold-step opening old index made.lane step made.is_lane made.allowed accounts);
+  kept = λ grant old new index step made accounts. subst (AccountsHold grant) (sym made.after)
+      (AccountsHold-step grant old index made.lane step made.is_lane made.allowed accounts);
 }

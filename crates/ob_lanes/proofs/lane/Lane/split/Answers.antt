@@ -29,8 +29,8 @@ returns-clause-refused c =
     not_refused c.args.room c.args.bits lane (omega (arith, room, has_room)) (rw held c.if-self-bits.false) in
     rw fine tt
 
-pub returns-clause-shares : goal.returns-clause-shares
-returns-clause-shares c =
+pub returns-clause-parts : goal.returns-clause-parts
+returns-clause-parts c =
     let seats = c.divide_seat.ensures in
     let mine = c.self.inside.running.seat.me.0.lane in
     let room = c.self.invariant.room in

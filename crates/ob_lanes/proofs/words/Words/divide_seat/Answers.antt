@@ -5,7 +5,7 @@ use Rattle.ob_lanes.proofs.words.Words.divide_seat.Goals as goal
 pub split_seat-requires : goal.split_seat-requires
 split_seat-requires g c =
     let seat = c.args.seat.now in
-    let small : g.S.Share.bits < 2 ^ 32 = omega (arith, c.requires.share.1, c.ranges._bits.fits) in (
+    let small : g.S.Part.bits < 2 ^ 32 = omega (arith, c.requires.part.1, c.ranges._bits.fits) in (
       cc,
       omega (arith, c.self.invariant.one),
       division_allowed c.self.inside.table.shared.key seat.id seat.me.0 _ _

@@ -25,7 +25,7 @@ run_all-unreachable-requires g t c =
 pub run_all-both_halves-requires-clause-ready : goal.run_all-both_halves-requires-clause-ready
 run_all-both_halves-requires-clause-ready g t c = λ κs lives.
     let parts = rooms_of_parts _ _ _ _ c.in-Ok.ensures.items c.in-Ok.ensures.tail in
-    let shares = c.in-Ok-split.ensures.shares in
+    let shares = c.in-Ok-split.ensures.parts in
     record {
       words = search rules;
       roomy = (parts_alike (IsRoomy c.args.context.now.estimate c.args.context.now.task) _ _ _ _ c.in-Ok.ensures.items c.in-Ok.ensures.tail c.requires.roomy).0;

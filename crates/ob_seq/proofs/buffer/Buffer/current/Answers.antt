@@ -1,21 +1,17 @@
-use Rattle.ob_seq.proofs.Words.{◌∙◌, ◌≡◌, ◌<◌, length, ap, arith, Some, PendingEntry}
-use Rattle.ob_seq.proofs.Inside.Fields.{in_line, line_count}
-use Rattle.ob_seq.proofs.Rows.Fronts.{fronted, front_is, no_front}
+use Rattle.ob_seq.proofs.Words.{◌∙◌, ◌≡◌, List, [], ◌∷◌, map, refl, ap, arith, Row, line, front, rows_after, entry_of, slice_get}
+use Rattle.ob_seq.proofs.Words.{PendingEntry, unread_part, Option, Message}
+use Rattle.std.specs.Prelude.{option_map}
 use Rattle.ob_seq.proofs.buffer.Buffer.current.Goals as goal
 
-pub returns-then-contents-eq0 : goal.returns-then-contents-eq0
-returns-then-contents-eq0 c commands stands =
-    let now = c.args.self.now in
-    let same = c.contents.view_is ∙ c.self.view_is in
-    let count = line_count now c.contents.inside same c.contents.invariant in
-    let none : length now.line ≡ 0 = omega (arith, count, c.if-contents-eq0.true) in
-    rw (no_front now commands stands none)
+-- what is left of the first entry is the unread part of the front
+abbrev first_message : List PendingEntry → Option Message
+first_message entries = option_map (λ (entry : PendingEntry). entry.message) (slice_get entries 0)
+
+first_message_is : (rows : List Row) → first_message (map entry_of (line rows)) ≡ option_map unread_part (front rows)
+first_message_is [] = refl
+first_message_is (row ∷ rows) = let same = first_message_is rows in grind arith
 
 pub returns : goal.returns
-returns c commands stands =
-    let now = c.args.self.now in
-    let same = c.contents.view_is ∙ c.self.view_is in
-    let some : 0 < c.contents.inside.flushed = omega (arith, c.if-contents-eq0.false) in
-    let f = fronted now commands stands (omega (arith, line_count now c.contents.inside same c.contents.invariant)) in
-    let here = in_line now c.contents.inside same c.contents.invariant 0 c.index.result.now some c.index.ensures in
-    rw (front_is now commands f) (ap (λ (entry : PendingEntry). Some entry.message) (rw f.held.line at here))
+returns c = rw (← c.self.view_is) (λ commands stands.
+    c.current.ensures ∙ ap first_message stands.leaves.line
+    ∙ first_message_is (rows_after c.self.inside.contents.settings.estimate commands))

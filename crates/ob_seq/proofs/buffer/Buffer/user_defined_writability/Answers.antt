@@ -9,5 +9,5 @@ returns c commands stands =
     let some : 0 < index = omega (arith, c.if-index-eq0.false) in
     let few : index ≤ 31 = c.if-index-gt31.false in
     let known : is_user_index index ≡ true = grind (arith, nat_tests) in
-    let word = ap (λ (held : Pending). held.word) (c.contents.view_is ∙ c.self.view_is) ∙ stands.word in
+    let word = c.word.ensures ∙ ap (λ (held : Pending). held.word) c.self.view_is ∙ stands.leaves.word in
     rw (c.has_bit.ensures, word, user_bit_shows c.args.self.now.settings commands index some few, known)

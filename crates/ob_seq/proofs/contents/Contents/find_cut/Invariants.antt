@@ -1,10 +1,10 @@
-use Rattle.ob_seq.proofs.Words.{◌≡◌, ◌≤◌, ◌-◌, drop, length, blocks_left}
+use Rattle.ob_seq.proofs.Words.{◌≡◌, ◌≤◌, ◌-◌, drop, length, blocks_left, pending_entries}
 use Rattle.ob_seq.proofs.Inside.Pieces.{cut_from}
 use Rattle.ob_seq.proofs.contents.Contents.find_cut.Given as goal
 
 abbrev pub invariant-loop-whole : goal.invariant-loop-whole
 invariant-loop-whole l = record {
-  so_far : cut_from 0 l.n (blocks_left l.self.line) ≡ cut_from l.whole l.rest (blocks_left (drop l.whole l.self.line));
+  so_far : cut_from 0 l.n (blocks_left (pending_entries l.self.line)) ≡ cut_from l.whole l.rest (blocks_left (drop l.whole (pending_entries l.self.line)));
   within : l.whole ≤ length l.self.line;
 }
 

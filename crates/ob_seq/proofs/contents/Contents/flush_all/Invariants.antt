@@ -1,5 +1,5 @@
-use Rattle.ob_seq.proofs.Words.{◌≡◌, next_flushed, times}
+use Rattle.ob_seq.proofs.Words.{◌≡◌, List, next_flushed, times, whole, Outcome}
 use Rattle.ob_seq.proofs.contents.Contents.flush_all.Given as goal
 
 abbrev pub invariant-loop : goal.invariant-loop
-invariant-loop l = l.self ≡ times l.counter next_flushed l.fn.self
+invariant-loop l = (gone : List Outcome) → whole gone l.self ≡ times l.counter next_flushed (whole gone l.fn.self)

@@ -1,21 +1,20 @@
-use Rattle.std.proofs.Common.{◌≡◌, ◌+◌, ◌≤◌, take, drop, length}
-use Rattle.ob_tool.specs.Reading.Script.{before_fault, first_fault, readings_behind, script_fault, script_lines}
+use Rattle.std.proofs.Common.{◌≡◌, take, length}
+use Rattle.ob_tool.specs.Reading.Cursor.{StandsAt}
+use Rattle.ob_tool.specs.Reading.Script.{script_lines}
 use Rattle.ob_tool.specs.Tracing.Ending.{HasTraced}
 use Rattle.ob_tool.specs.Tracing.Trace.{trace_of_first}
 use Rattle.ob_tool.proofs.tracing.trace.trace_lines.Given as goal
 
-abbrev pub invariant-loop-rest : goal.invariant-loop-rest
-invariant-loop-rest g l =
-    let language = g.I.Interpreter.language l.fn.interpreter in
-    let before = take l.number (script_lines language l.script) in record {
-      same : g.I.Interpreter.language l.interpreter ≡ language;
-      done : g.I.Interpreter.HasDone l.interpreter before;
+abbrev pub invariant-loop-cursor : goal.invariant-loop-cursor
+invariant-loop-cursor g l =
+    let grammar = g.I.Grammar.grammar in
+    let texts = g.I.Interpreter.texts l.fn.interpreter in record {
+      same : g.I.Interpreter.texts l.interpreter ≡ texts;
+      done : g.I.Interpreter.HasDone l.interpreter (take l.cursor.count (script_lines grammar l.script));
       traced : HasTraced (g.W.Write.contents l.fn.writer) (g.W.Write.contents l.writer) l.waiting.items
-          (trace_of_first l.number language l.script);
-      left : drop l.number (script_lines language l.script) ≡ before_fault (readings_behind language before l.rest);
-      fault : script_fault language l.script ≡ first_fault (l.number + 1) (readings_behind language before l.rest);
-      few : l.number + length l.rest ≤ length l.script;
+          (trace_of_first l.cursor.count (record { grammar = grammar; texts = texts }) l.script);
+      stands : StandsAt grammar l.script l.cursor.count l.cursor.rest.now;
     }
 
-abbrev pub decreases-loop-rest : goal.decreases-loop-rest
-decreases-loop-rest g l = length l.rest
+abbrev pub decreases-loop-cursor : goal.decreases-loop-cursor
+decreases-loop-cursor g l = length l.cursor.rest.now

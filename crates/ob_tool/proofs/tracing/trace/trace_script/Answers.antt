@@ -1,5 +1,5 @@
 use Rattle.std.proofs.Common.{◌∙◌, ◌++◌, ap, sym, subst, List, length}
-use Rattle.ob_tool.specs.Tracing.Language.{Language}
+use Rattle.ob_tool.specs.Tracing.Language.{Language, Texts}
 use Rattle.ob_tool.specs.Reading.Script.{script_lines}
 use Rattle.ob_tool.specs.Tracing.Ending.{HasTraced}
 use Rattle.ob_tool.specs.Tracing.Trace.{trace_of_first, trace_of_lines}
@@ -8,9 +8,9 @@ use Rattle.ob_tool.proofs.tracing.trace.trace_script.Goals as goal
 
 pub returns-in-Err : goal.returns-in-Err
 returns-in-Err g c =
-    let language = g.I.Interpreter.language c.args.interpreter.now in
+    let language : Language _ = record { grammar = g.I.Grammar.grammar; texts = g.I.Interpreter.texts c.args.interpreter.now } in
     let script = c.args.script.now in
-    let count = length (script_lines language script) in
+    let count = length (script_lines language.grammar script) in
     let start = g.W.Write.contents c.args.writer.now in
     let held = g.W.Write.contents c.trace_lines.new.writer in
     let lines = c.in_ok-trace_lines.ensures.lines in (
@@ -22,14 +22,14 @@ returns-in-Err g c =
 
 pub returns-in-Ok : goal.returns-in-Ok
 returns-in-Ok g c =
-    let language = g.I.Interpreter.language c.args.interpreter.now in
+    let language : Language _ = record { grammar = g.I.Grammar.grammar; texts = g.I.Interpreter.texts c.args.interpreter.now } in
     let script = c.args.script.now in
     let start = g.W.Write.contents c.args.writer.now in
     let held = g.W.Write.contents c.trace_lines.new.writer in
     let waits = c.trace_lines.new.waiting.items in
     let ended = c.in_ok-trace_lines.ensures in
-    let told = c.in-Ok.ensures.text (script_lines language script) ended.done
-    ∙ ap (λ (l : Language _). waits ++ l.last_text (script_lines language script)) ended.language in
+    let told = c.in-Ok.ensures.text (script_lines language.grammar script) ended.done
+    ∙ ap (λ (texts : Texts _). waits ++ texts.last_text (script_lines language.grammar script)) ended.texts in
     let grown =
     HasTraced-more start held waits (trace_of_lines language script) _ c.trace_last.new.waiting.items ended.lines.0
     told in (

@@ -1,0 +1,19 @@
+-- Plans that were found to have no fault.
+use Rattle.std.proofs.Common.{◌≡◌, ℕ, true, false, List, sym, ap, ◌∙◌, subst}
+use Rattle.std.specs.Prelude.{IsSome, None}
+use Rattle.ob_types.specs.declared.command.Command.{Command}
+use Rattle.ob_types.specs.declared.estimate.Estimate.{Estimate}
+use Rattle.ob_pool.specs.Planning.Checked.{AreChecked, Checked}
+use Rattle.ob_pool.specs.Planning.PlansFault.{plans_fault}
+
+-- plans that were checked for an estimate and what a hand-off adds have no fault under these
+pub no_fault : (checked : Checked) (estimate : Estimate) (task : ℕ) (plans : List (List Command)) →
+    checked.estimate ≡ estimate → checked.task ≡ task → checked.plans ≡ plans → AreChecked checked →
+    IsSome (plans_fault estimate task plans) → ⊥
+no_fault checked estimate task plans same_estimate same_task same_plans are some =
+    let none : plans_fault estimate task plans ≡ None =
+    sym (ap (λ (its : Estimate). plans_fault its checked.task checked.plans) same_estimate
+    ∙ ap (λ its. plans_fault estimate its checked.plans) same_task
+    ∙ ap (plans_fault estimate task) same_plans) ∙ are.faultless in
+    let found : false ≡ true = subst IsSome none some in
+    absurd (cc)

@@ -1,0 +1,8 @@
+use Rattle.ob_pool.proofs.Plans.Faultless.{no_fault}
+use Rattle.ob_pool.proofs.driving.drive.Goals as goal
+
+pub returns-in-Ok-new-clause-unasked : goal.returns-in-Ok-new-clause-unasked
+returns-in-Ok-new-clause-unasked g c =
+    let config = c.args.config in
+    λ some. absurd (no_fault c.in-Ok.checked config.estimate config.task c.args.plans.items c.in-Ok.ensures.estimate
+    c.in-Ok.ensures.task c.in-Ok.ensures.plans c.in-Ok.ensures.checked some)

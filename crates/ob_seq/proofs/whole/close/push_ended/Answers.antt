@@ -1,0 +1,43 @@
+use Rattle.ob_seq.proofs.Words.{◌≡◌, ◌<◌, ◌+◌, ◌++◌, ◌∷◌, [], List, false, length, get_or, map, take, take_more, map-append, append_assoc, refl, sym, ap, ◌∙◌, arith}
+use Rattle.ob_seq.proofs.Words.{Entry, ended, Failed, Block, Cause, Outcome, ℕ}
+use Rattle.std.proofs.lemmas.List.{nil_from_length, get_or-map}
+use Rattle.ob_seq.proofs.whole.close.push_ended.Goals as goal
+
+none : Entry
+none = record { message = Block []; progress = 0; size = 0; taken_back = false }
+
+-- whether an entry was taken back, where nothing is in line
+back : (line unflushed : List Entry) (place : ℕ) → length line ≡ 0 → place < length unflushed →
+    get_or (map (λ entry. entry.taken_back) (line ++ unflushed)) place false
+    ≡ (get_or unflushed place none).taken_back
+back line unflushed place nothing within =
+    let empty : line ≡ [] = nil_from_length line nothing in
+    rw empty (get_or-map (λ (entry : Entry). entry.taken_back) unflushed place none false within)
+
+-- one more outcome
+more : (cause : Cause) (before after : List Outcome) (unflushed : List Entry) (place : ℕ) (one : Outcome) →
+    place < length unflushed → one ≡ ended (Failed cause) (get_or unflushed place none) →
+    after ≡ (before ++ map (ended (Failed cause)) (take place unflushed)) ++ one ∷ [] →
+    after ≡ before ++ map (ended (Failed cause)) (take (place + 1) unflushed)
+more cause before after unflushed place one within is pushed =
+    let entry = get_or unflushed place none in
+    pushed ∙ rw (take_more unflushed place none within, map-append (ended (Failed cause)) (take place unflushed) (entry ∷ []), is, append_assoc)
+
+pub loop-place-preserved : goal.loop-place-preserved
+loop-place-preserved c =
+    let held = c.args.contents.now in
+    let place = c.loop-place.place in
+    let within : place < length held.unflushed =
+    omega (arith, c.loop-place-test.true, c.count-place-end.ensures, c.requires.unreached) in
+    let flag = c.is_taken_back.ensures ∙ back held.line held.unflushed place c.requires.unreached within in
+    let one : c.if-is_taken_back.push_reserved ≡ ended (Failed c.args.cause) (get_or held.unflushed place none) =
+    elim c.if-is_taken_back.branch [
+      | goal.then-is_taken_back w ↦ w.push_reserved-is ∙ rw (sym flag ∙ w.if-is_taken_back.true) refl
+      | goal.else-is_taken_back w ↦ w.push_reserved-is ∙ rw (sym flag ∙ w.if-is_taken_back.false) refl
+    ] in
+    let pushed = c.push_reserved.ensures in record {
+      items = more c.args.cause c.args.gone.now.items c.push_reserved.new.self.items held.unflushed place _ within one
+          (pushed.items ∙ ap (λ all. all ++ c.if-is_taken_back.push_reserved ∷ []) c.loop-place.invariant.items);
+      len = omega (arith, pushed.len, c.loop-place.invariant.len);
+      capacity = pushed.capacity ∙ c.loop-place.invariant.capacity;
+    }

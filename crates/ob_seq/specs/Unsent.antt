@@ -1,0 +1,63 @@
+-- What waits to be sent, each message with its promise. No public clause cites this module.
+use Rattle.std.specs.Prelude.{ℕ, Bool, false, List, ◌++◌, map, if◌then◌else◌}
+use Rattle.ob_types.specs.WaterMark.{Marks}
+use Rattle.ob_types.specs.declared.promise.Outcome.{Outcome}
+use Rattle.ob_types.specs.declared.promise.Outcome.TheVariants.{Cancelled}
+use Rattle.ob_types.specs.declared.promise.PromiseState.{PromiseState}
+use Rattle.ob_types.specs.declared.promise.PromiseState.TheVariants.{Waiting, Fixed, Settled}
+use Rattle.ob_seq.specs.Entry.{PendingEntry}
+use Rattle.ob_seq.specs.Pending.{Pending}
+use Rattle.ob_seq.specs.Settings.{Settings}
+use Rattle.ob_seq.specs.declared.entry.Entry.{Entry}
+
+-- what was opened, the marks in force, the entries in line and those that no flush has reached, each oldest first and
+-- with whether its promise was taken back, the word, and whether it is closed
+pub record Unsent : Type 0 where
+  pub settings : Settings
+  pub marks : Marks
+  pub line : List Entry
+  pub unflushed : List Entry
+  pub word : ℕ
+  pub closed : Bool
+
+-- an entry in line as a contract sees it: it was voided where its promise was taken back
+abbrev pub pending_entry : Entry → PendingEntry
+pending_entry entry =
+    record { message = entry.message; size = entry.size; progress = entry.progress; voided = entry.taken_back }
+
+-- entries in line as a contract sees them
+abbrev pub pending_entries : List Entry → List PendingEntry
+pending_entries entries = map pending_entry entries
+
+-- an entry that no flush has reached as a contract sees it: none is voided
+abbrev pub unreached_entry : Entry → PendingEntry
+unreached_entry entry =
+    record { message = entry.message; size = entry.size; progress = entry.progress; voided = false }
+
+-- the state of the promise of an entry in line
+abbrev pub fixed_state : Entry → PromiseState
+fixed_state entry = if entry.taken_back then Settled Cancelled else Fixed
+
+-- the state of the promise of an entry that no flush has reached
+abbrev pub waiting_state : Entry → PromiseState
+waiting_state entry = if entry.taken_back then Settled Cancelled else Waiting
+
+-- the states of the promises of all entries, oldest first
+abbrev pub states_of : Unsent → List PromiseState
+states_of unsent = map fixed_state unsent.line ++ map waiting_state unsent.unflushed
+
+-- what a buffer holds whose messages that are gone had these outcomes, and that has this to be sent
+abbrev pub whole : List Outcome → Unsent → Pending
+whole gone unsent = record {
+  settings = unsent.settings;
+  marks = unsent.marks;
+  line = pending_entries unsent.line;
+  unflushed = map unreached_entry unsent.unflushed;
+  promises = map Settled gone ++ states_of unsent;
+  word = unsent.word;
+  closed = unsent.closed;
+}
+
+-- how the promise of an entry ends that leaves with this outcome: it was settled before where it was taken back
+abbrev pub ended : Outcome → Entry → Outcome
+ended outcome entry = if entry.taken_back then Cancelled else outcome

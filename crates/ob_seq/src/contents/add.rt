@@ -1,0 +1,32 @@
+ghost use Rattle.std.specs.Prelude.{◌≡◌, ◌+◌, ◌≤◌, [], List, OnOk, OnErr};
+ghost use Rattle.ob_types.specs.Limits.{greatest_total};
+ghost use Rattle.ob_types.specs.declared.promise.Outcome.{Outcome};
+ghost use Rattle.ob_seq.specs.Steps.Held.{pending_total};
+ghost use Rattle.ob_seq.specs.Steps.Write.{written};
+ghost use Rattle.ob_seq.specs.Unsent.{whole};
+
+use crate::contents::{Contents, word};
+use crate::entry::Entry;
+use ob_types::Message;
+use std::alloc::AllocError;
+
+impl Contents {
+    /// Adds a message for which there is room. The growth comes before any change.
+    pub fn add(&mut self, message: Message, size: u32) -> Result<(), AllocError>
+        requires fits { pending_total (whole [] self.old) + size ≤ greatest_total }
+        ensures ok { OnOk result ((gone : List Outcome) →
+            whole gone self.new ≡ written (whole gone self.old) message size) }
+        ensures err { OnErr result (self.new ≡ self.old) }
+    {
+        self.entries.reserve(1)?;
+        self.entries.push_back_reserved(Entry {
+            message,
+            progress: 0,
+            size,
+            taken_back: false,
+        });
+        self.total += size;
+        self.word = word::after_rise(self.marks, self.word, size, self.total);
+        Ok(())
+    }
+}

@@ -1,0 +1,66 @@
+ghost use Rattle.std.specs.Prelude.{◌≡◌, ◌+◌, ◌<◌, ◌≤◌, List, length};
+ghost use Rattle.ob_types.specs.Limits.{greatest_progress};
+ghost use Rattle.ob_types.specs.declared.promise.Outcome.{Outcome};
+ghost use Rattle.ob_seq.specs.ByteRun.{block_bytes};
+ghost use Rattle.ob_seq.specs.Steps.Held.{first_progress, front_changed};
+ghost use Rattle.ob_seq.specs.Steps.Progress.{progressed_entry};
+ghost use Rattle.ob_seq.specs.Steps.RemoveBytes.{first_length, front_skipped, skipped_entry};
+ghost use Rattle.ob_seq.specs.Unsent.{pending_entries, pending_entry, whole};
+
+use crate::contents::Contents;
+use crate::entry::Entry;
+use ob_types::Message;
+
+/// The most progress of one message, in bytes: `Long.MAX_VALUE`. Our own limit.
+pub const MAX_PROGRESS: u64 = 9223372036854775807;
+
+impl Contents {
+    /// The progress of the front, or 0.
+    pub fn current_progress(&self) -> u64
+        ensures { result ≡ first_progress (pending_entries self.now.line) }
+    {
+        if self.flushed == 0 {
+            return 0;
+        }
+        self.entries[0].progress
+    }
+
+    /// Tells of so many more bytes of progress of the front.
+    pub fn tell_front(&mut self, n: u64)
+        requires some { 0 < length self.old.line }
+        requires fits { first_progress (pending_entries self.old.line) + n ≤ greatest_progress }
+        ensures { (gone : List Outcome) →
+            whole gone self.new ≡ front_changed (progressed_entry n) (whole gone self.old) }
+    {
+        tell(&mut self.entries[0], n);
+    }
+
+    /// Skips so many bytes of the front; 0 of them need no front.
+    pub fn skip_in_front(&mut self, n: u64)
+        requires { n ≤ first_length (pending_entries self.old.line) }
+        ensures { (gone : List Outcome) → whole gone self.new ≡ front_skipped n (whole gone self.old) }
+    {
+        if n > 0 {
+            skip(&mut self.entries[0], n);
+        }
+    }
+}
+
+/// Adds to the progress of an entry.
+fn tell(entry: &mut Entry, n: u64)
+    requires { entry.old.progress + n ≤ greatest_progress }
+    ensures { pending_entry entry.new ≡ progressed_entry n (pending_entry entry.old) }
+{
+    entry.progress += n;
+}
+
+/// Skips so many bytes of a block, and adds them to its progress.
+fn skip(entry: &mut Entry, n: u64)
+    requires { n ≤ length (block_bytes entry.old.message) }
+    ensures { pending_entry entry.new ≡ skipped_entry n (pending_entry entry.old) }
+{
+    if let Message::Block(bytes) = &mut entry.message {
+        bytes.advance(n as usize);
+    }
+    entry.progress = entry.progress.saturating_add(n).min(MAX_PROGRESS);
+}

@@ -1,0 +1,51 @@
+ghost use Rattle.std.specs.Prelude.{◌≡◌, ◌++◌, ◌∷◌, [], nat_le, nat_lt, ◌||◌, ◌&&◌, IfOk, IfErr, IsOk, OnOk};
+ghost use Rattle.ob_seq.specs.Entry.{blocks_left};
+ghost use Rattle.ob_seq.specs.Gathering.{first_blocks, with_bytes};
+ghost use Rattle.ob_seq.specs.Unsent.{pending_entries};
+
+use crate::contents::Contents;
+use bytes::Bytes;
+use ob_types::{Message, Refusal};
+use std::alloc::AllocError;
+
+impl Contents {
+    /// The blocks in front that `Buffer::gather` gives. It takes memory for the list alone.
+    pub fn gather(&self, max_count: u32, max_bytes: u32) -> Result<Vec<Bytes>, Refusal>
+        ensures blocks { IfOk result (λ blocks. blocks.items
+            ≡ first_blocks max_count max_bytes (with_bytes (blocks_left (pending_entries self.now.line)))) }
+        ensures no_memory { IfErr result (λ refusal. refusal ≡ Refusal.NoMemory) }
+        ensures frugal { first_blocks max_count max_bytes (with_bytes (blocks_left (pending_entries self.now.line))) ≡ []
+            → IsOk result }
+    {
+        let mut gathered = Vec::new(*self.entries.allocator());
+        let mut room = u64::from(max_bytes);
+        for place in 0..self.flushed {
+            let Message::Block(bytes) = &self.entries[place].message else {
+                break;
+            };
+            let length = bytes.len() as u64;
+            if length > 0 {
+                if !has_room(gathered.len(), max_count, length, room) {
+                    break;
+                }
+                push_copy(&mut gathered, bytes)?;
+                room = room.saturating_sub(length);
+            }
+        }
+        Ok(gathered)
+    }
+}
+
+/// Adds a block that shares its memory with this one.
+fn push_copy(gathered: &mut Vec<Bytes>, bytes: &Bytes) -> Result<(), AllocError>
+    ensures { OnOk result (gathered.new.items ≡ gathered.old.items ++ bytes.now ∷ []) }
+{
+    Ok(gathered.push(bytes.clone()?)?)
+}
+
+/// Whether one more block goes along with so many others, which left this much room: the first does in any case.
+fn has_room(count: usize, max_count: u32, length: u64, room: u64) -> bool
+    ensures { result ≡ (nat_lt count max_count && (nat_le count 0 || nat_le length room)) }
+{
+    count < max_count as usize && (count == 0 || length <= room)
+}

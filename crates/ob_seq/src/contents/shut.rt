@@ -1,0 +1,24 @@
+ghost use Rattle.std.specs.Prelude.{◌≡◌, ◌++◌, List, length, map};
+ghost use Rattle.ob_types.specs.declared.promise.Cause.{Cause};
+ghost use Rattle.ob_types.specs.declared.promise.Outcome.{Outcome};
+ghost use Rattle.ob_types.specs.declared.promise.Outcome.TheVariants.{Failed};
+ghost use Rattle.ob_seq.specs.Inside.{waiting_count};
+ghost use Rattle.ob_seq.specs.Steps.Close.{closed_pending};
+ghost use Rattle.ob_seq.specs.Unsent.{ended, whole};
+
+use crate::contents::Contents;
+
+impl Contents {
+    /// Takes all entries away, and closes, where nothing is in line.
+    pub fn shut(&mut self)
+        requires { length self.old.line ≡ 0 }
+        ensures none { waiting_count self.new ≡ 0 }
+        ensures closed { (gone : List Outcome) (cause : Cause) →
+            whole (gone ++ map (ended (Failed cause)) self.old.unflushed) self.new
+            ≡ closed_pending cause (whole gone self.old) }
+    {
+        self.entries.clear();
+        self.total = 0;
+        self.closed = true;
+    }
+}

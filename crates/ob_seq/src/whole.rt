@@ -1,0 +1,167 @@
+ghost use Rattle.std.specs.Prelude.{◌≡◌, ◌<◌, ◌≤◌, [], length};
+ghost use Rattle.ob_types.specs.Change.{change_between};
+ghost use Rattle.ob_types.specs.Limits.{greatest_overhead, greatest_unknown, most_writes};
+ghost use Rattle.ob_seq.specs.Pending.{StandsFor};
+ghost use Rattle.ob_seq.specs.Steps.Held.{first_progress, front_id, pending_total, state_at, unflushed_id};
+
+mod cancel;
+mod close;
+mod fail_flushed;
+mod flush;
+mod progress;
+mod remove;
+mod remove_bytes;
+mod seen;
+mod set_marks;
+mod settles;
+mod taking;
+mod user_bit;
+pub(crate) mod write;
+
+use crate::contents::Contents;
+use ob_types::{
+    Answer, Change, Command, Estimate, Outcome, PromiseState, Refusal, Reply, Settlements,
+    WaterMark,
+};
+use std::alloc::Global;
+use std::marker::Model;
+
+/// All that a buffer holds: what waits to be sent, and the outcomes of what is gone. Its calls make the steps of
+/// `Buffer`'s; between them it may stand for no list of commands.
+#[derive(Debug, Drop)]
+pub struct Whole {
+    contents: Contents,
+    /// The outcomes of the messages that are gone, oldest first. A write takes the room for its own.
+    gone: Vec<Outcome>,
+}
+
+impl Model for Whole {
+    ghost use Rattle.ob_seq.specs.Pending.{Pending};
+
+    ghost Value = { Pending };
+
+    ghost use Rattle.ob_seq.specs.Inside.{whole_of, IsRoomy};
+
+    ghost view = { whole_of };
+
+    ghost invariant = { IsRoomy };
+}
+
+impl Whole {
+    /// As `Buffer::new`.
+    pub fn new(alloc: Global, marks: WaterMark, estimate: Estimate) -> Whole
+        requires overhead { estimate.overhead ≤ greatest_overhead }
+        requires unknown { estimate.unknown ≤ greatest_unknown }
+        ensures settings { result.settings ≡ record { marks = marks; estimate = estimate } }
+        ensures stands { StandsFor result [] }
+    {
+        Whole {
+            contents: Contents::new(alloc, marks, estimate),
+            gone: Vec::new(alloc),
+        }
+    }
+
+    /// How many entries stand in line.
+    pub fn line_count(&self) -> usize
+        ensures count { result ≡ length self.now.line }
+        ensures few { result ≤ most_writes }
+    {
+        self.contents.line_count()
+    }
+
+    /// How many entries no flush has reached.
+    pub fn unflushed_count(&self) -> usize
+        ensures count { result ≡ length self.now.unflushed }
+        ensures few { result ≤ most_writes }
+    {
+        self.contents.unflushed_count()
+    }
+
+    /// How many promises were given.
+    pub fn promise_count(&self) -> usize
+        ensures count { result ≡ length self.now.promises }
+        ensures few { result ≤ most_writes }
+    {
+        self.gone.len() + self.contents.count()
+    }
+
+    /// The id of the front: the entries have the last promises.
+    pub fn front_id(&self) -> usize
+        ensures id { result ≡ front_id self.now }
+        ensures few { result ≤ most_writes }
+    {
+        self.gone.len()
+    }
+
+    /// The id of the first promise of an unflushed message, or of the next one where there is none.
+    pub fn first_unflushed(&self) -> usize
+        ensures { result ≡ unflushed_id self.now }
+    {
+        self.gone.len() + self.contents.line_count()
+    }
+
+    /// The bytes that are pending.
+    pub fn total(&self) -> u32
+        ensures { result ≡ pending_total self.now }
+    {
+        self.contents.total()
+    }
+
+    /// Bit 0 is the mark, bit i the user bit i.
+    pub fn word(&self) -> u32
+        ensures { result ≡ self.now.word }
+    {
+        self.contents.word()
+    }
+
+    /// The marks in force.
+    pub fn marks(&self) -> WaterMark
+        ensures { result ≡ self.now.marks }
+    {
+        self.contents.marks()
+    }
+
+    /// The progress of the front, or 0.
+    pub fn current_progress(&self) -> u64
+        ensures { result ≡ first_progress self.now.line }
+    {
+        self.contents.current_progress()
+    }
+
+    /// Whether it is closed, so that each command is refused.
+    pub fn is_closed(&self) -> bool
+        ensures { result ≡ self.now.closed }
+    {
+        self.contents.is_closed()
+    }
+
+    /// The state of the promise with this id.
+    pub fn state_at(&self, id: usize) -> PromiseState
+        requires { id < length self.now.promises }
+        ensures { result ≡ state_at self.now id }
+    {
+        let gone = self.gone.len();
+        if id < gone {
+            return PromiseState::Settled(self.gone[id]);
+        }
+        self.contents.state_at(id - gone)
+    }
+
+    /// The reply of a call that found the word `before`.
+    fn reply(&self, answer: Answer, settled: Settlements, before: u32) -> Reply
+        ensures { result ≡ record { answer = answer; settled = settled; change = change_between before self.now.word } }
+    {
+        Reply {
+            answer,
+            settled,
+            change: Change::between(before, self.word()),
+        }
+    }
+
+    /// A reply's list of settlements, still empty.
+    fn no_settlements(&self) -> Settlements
+        ensures { result ≡ [] }
+    {
+        Settlements::new(self.contents.allocator())
+    }
+}

@@ -1,0 +1,76 @@
+ghost use Rattle.std.specs.Prelude.{◌≡◌, ◌+◌, ◌<◌, ◌≤◌, ◌++◌, length, drop, map, IsErrOf, IsOk, IfOk, vec_len, vec_capacity};
+ghost use Rattle.ob_types.specs.Limits.{inline_settlements};
+ghost use Rattle.ob_types.specs.declared.promise.Outcome.TheVariants.{Failed};
+ghost use Rattle.ob_seq.specs.Inside.{waiting_count};
+ghost use Rattle.ob_seq.specs.Unsent.{ended};
+ghost use Rattle.ob_seq.specs.Steps.Step.{Makes};
+ghost use Rattle.ob_seq.specs.Steps.Close.{closed_pending, closing_step, failures};
+ghost use Rattle.ob_seq.specs.Steps.Held.{unflushed_id};
+
+use crate::contents::Contents;
+use crate::whole::Whole;
+use ob_types::{Answer, Cause, Outcome, PromiseId, Refusal, Reply, Settlements};
+use std::alloc::AllocError;
+
+impl Whole {
+    /// The step of `Buffer::close`.
+    pub fn close(&mut self, cause: Cause) -> Result<Reply, Refusal>
+        ensures makes { Makes self.old (closing_step cause self.old) result self.new }
+        ensures frugal { IsErrOf result Refusal.NoMemory
+            → inline_settlements < length (closing_step cause self.old).reply.settled }
+    {
+        if self.is_closed() {
+            return Err(Refusal::Closed);
+        }
+        if self.line_count() > 0 {
+            return Err(Refusal::FlushedLeft);
+        }
+        let settled = self.failures(cause)?;
+        let count = self.unflushed_count();
+        self.close_with(cause);
+        Ok(self.reply(Answer::Count(count as u32), settled, self.word()))
+    }
+
+    /// Fails the unflushed promises that still wait, takes all entries away, and closes, where nothing is in line.
+    fn close_with(&mut self, cause: Cause)
+        requires { length self.old.line ≡ 0 }
+        ensures { self.new ≡ closed_pending cause self.old }
+    {
+        push_ended(&mut self.gone, &self.contents, cause);
+        self.contents.shut();
+    }
+
+    /// What the unflushed promises settle when they fail. The first four need no memory.
+    fn failures(&self, cause: Cause) -> Result<Settlements, AllocError>
+        ensures value { IfOk result
+            (λ settled. settled ≡ failures cause (unflushed_id self.now) (drop (unflushed_id self.now) self.now.promises)) }
+        ensures frugal { length (failures cause (unflushed_id self.now) (drop (unflushed_id self.now) self.now.promises))
+            ≤ inline_settlements → IsOk result }
+    {
+        let first = self.first_unflushed();
+        let mut settled = self.no_settlements();
+        for id in first..self.promise_count() {
+            if self.state_at(id).is_waiting() {
+                settled.push(PromiseId(id as u32), Outcome::Failed(cause))?;
+            }
+        }
+        Ok(settled)
+    }
+}
+
+/// Adds the outcomes of entries that no flush has reached when a close fails them, for which there is room.
+fn push_ended(gone: &mut Vec<Outcome>, contents: &Contents, cause: Cause)
+    requires unreached { length contents.now.line ≡ 0 }
+    requires room { vec_len gone.old + waiting_count contents.now ≤ vec_capacity gone.old }
+    ensures items { gone.new.items ≡ gone.old.items ++ map (ended (Failed cause)) contents.now.unflushed }
+    ensures len { vec_len gone.new ≡ vec_len gone.old + waiting_count contents.now }
+    ensures capacity { vec_capacity gone.new ≡ vec_capacity gone.old }
+{
+    for place in 0..contents.count() {
+        gone.push_reserved(if contents.is_taken_back(place) {
+            Outcome::Cancelled
+        } else {
+            Outcome::Failed(cause)
+        });
+    }
+}

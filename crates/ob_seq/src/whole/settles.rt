@@ -1,0 +1,102 @@
+ghost use Rattle.std.specs.Prelude.{◌≡◌, ◌<◌, ◌≤◌, not, count_by, length, take, drop};
+ghost use Rattle.ob_types.specs.Waiting.{is_waiting};
+ghost use Rattle.ob_types.specs.declared.promise.Cause.{Cause};
+ghost use Rattle.ob_types.specs.declared.promise.Outcome.{Outcome};
+ghost use Rattle.ob_seq.specs.Steps.RemoveBytes.{bytes_step};
+ghost use Rattle.ob_seq.specs.Steps.Cancel.{cancel_step};
+ghost use Rattle.ob_seq.specs.Steps.Close.{closing_step};
+ghost use Rattle.ob_seq.specs.Steps.Remove.{removal_step};
+ghost use Rattle.ob_seq.specs.Steps.Step.{settled_by_step, settled_open};
+ghost use Rattle.ob_seq.specs.Steps.OfCommand.{step_of};
+ghost use Rattle.ob_seq.specs.Steps.Held.{is_first_voided, unflushed_id};
+
+use crate::whole::Whole;
+use ob_types::{Command, PromiseId};
+
+impl Whole {
+    /// How many promises the step of a command would settle.
+    pub fn settles(&self, command: &Command) -> u32
+        ensures { result ≡ settled_by_step self.now (step_of command.now self.now) }
+    {
+        if self.is_closed() {
+            return 0;
+        }
+        match command {
+            Command::Write(_) => 0,
+            Command::Flush => 0,
+            Command::Remove => self.removal_settles(),
+            Command::RemoveWith(_) => self.removal_settles(),
+            Command::RemoveBytes(n) => self.bytes_settle(*n),
+            Command::Progress(_) => 0,
+            Command::Cancel(id) => self.cancel_settles(*id),
+            Command::FailFlushed(_, _) => self.unvoided(self.line_count()),
+            Command::Close(_) => self.closing_settles(),
+            Command::UserBit(_, _) => 0,
+            Command::SetMarks(_) => 0,
+        }
+    }
+
+    /// How many promises a removal of the front would settle: none where it was voided, or where nothing is in line.
+    fn removal_settles(&self) -> u32
+        ensures { (outcome : Outcome) → result ≡ settled_open (removal_step outcome self.now) }
+    {
+        if self.line_count() == 0 || self.is_front_voided() {
+            return 0;
+        }
+        1
+    }
+
+    /// Whether the front was voided.
+    fn is_front_voided(&self) -> bool
+        requires { 0 < length self.now.line }
+        ensures { result ≡ is_first_voided self.now.line }
+    {
+        self.contents.is_taken_back(0)
+    }
+
+    /// How many promises a cancellation would settle: none where the promise does not wait, or is unknown.
+    fn cancel_settles(&self, id: PromiseId) -> u32
+        ensures { result ≡ settled_open (cancel_step id.0 self.now) }
+    {
+        let at = id.0 as usize;
+        if at < self.promise_count() && self.state_at(at).is_waiting() {
+            return 1;
+        }
+        0
+    }
+
+    /// How many promises a removal of so many bytes would settle: none where the blocks in front hold fewer.
+    fn bytes_settle(&self, n: u64) -> u32
+        ensures { result ≡ settled_open (bytes_step n self.now) }
+    {
+        match self.contents.find_cut(n) {
+            Some(cut) => self.unvoided(cut.whole),
+            None => 0,
+        }
+    }
+
+    /// How many promises a close would settle: none where a flushed message is left.
+    fn closing_settles(&self) -> u32
+        ensures { (cause : Cause) → result ≡ settled_open (closing_step cause self.now) }
+    {
+        if self.line_count() > 0 {
+            return 0;
+        }
+        self.unflushed_waiting()
+    }
+
+    /// How many promises of unflushed messages still wait.
+    fn unflushed_waiting(&self) -> u32
+        ensures { result ≡ count_by is_waiting (drop (unflushed_id self.now) self.now.promises) }
+    {
+        self.contents.waiting_count() as u32
+    }
+
+    /// How many of the first so many in line were not voided.
+    fn unvoided(&self, count: usize) -> u32
+        requires { count ≤ length self.now.line }
+        ensures { result ≡ count_by (λ entry. not entry.voided) (take count self.now.line) }
+    {
+        self.contents.to_send_count(count) as u32
+    }
+}

@@ -1,0 +1,70 @@
+//! How entries are taken away from the front of the line.
+
+ghost use Rattle.std.specs.Prelude.{◌≡◌, ◌<◌, ◌≤◌, length, take, option_to_list, option_map, slice_index_or, IsOk, IfOk};
+ghost use Rattle.ob_types.specs.Limits.{inline_settlements, most_writes};
+ghost use Rattle.ob_seq.specs.Entry.{PendingEntry};
+ghost use Rattle.ob_seq.specs.Steps.RemoveBytes.{entry_settlements};
+ghost use Rattle.ob_seq.specs.Steps.Held.{front_id, times};
+ghost use Rattle.ob_seq.specs.Steps.Remove.{front_settlement, front_taken};
+
+use crate::whole::Whole;
+use ob_types::{Outcome, PromiseId, Settlements};
+use std::alloc::AllocError;
+
+impl Whole {
+    /// What the first so many in line settle when they are taken away with this outcome. The first four need no
+    /// memory.
+    pub(crate) fn settlements(
+        &self,
+        count: usize,
+        outcome: Outcome,
+    ) -> Result<Settlements, AllocError>
+        requires { count ≤ length self.now.line }
+        ensures value { IfOk result
+            (λ settled. settled ≡ entry_settlements outcome (front_id self.now) (take count self.now.line)) }
+        ensures frugal { length (entry_settlements outcome (front_id self.now) (take count self.now.line))
+            ≤ inline_settlements → IsOk result }
+    {
+        let first = self.front_id();
+        let mut settled = self.no_settlements();
+        for place in 0..count {
+            if !self.is_voided(place) {
+                settled.push(PromiseId((first + place) as u32), outcome)?;
+            }
+        }
+        Ok(settled)
+    }
+
+    /// Whether the entry at this place in line was voided.
+    pub(crate) fn is_voided(&self, place: usize) -> bool
+        requires { place < length self.now.line }
+        ensures few { place ≤ most_writes }
+        ensures voided { (other : PendingEntry) → result ≡ (slice_index_or self.now.line place other).voided }
+    {
+        self.contents.is_taken_back(place)
+    }
+
+    /// Takes the first so many in line away, as `take_front`.
+    pub(crate) fn take_first(&mut self, count: usize, outcome: Outcome, notice: bool)
+        requires { count ≤ length self.old.line }
+        ensures { self.new ≡ times count (front_taken notice outcome) self.old }
+    {
+        for _ in 0..count {
+            self.take_front(outcome, notice);
+        }
+    }
+
+    /// Takes the front away, settles its promise unless it was voided, and answers which one it settled. Without
+    /// notice the word stays.
+    pub(crate) fn take_front(&mut self, outcome: Outcome, notice: bool) -> Option<PromiseId>
+        requires { 0 < length self.old.line }
+        ensures settled { option_to_list (option_map (λ id. (id, outcome)) result) ≡ front_settlement self.old outcome }
+        ensures taken { self.new ≡ front_taken notice outcome self.old }
+    {
+        let id = self.front_id();
+        let settled = self.contents.take_front(notice);
+        self.gone
+            .push_reserved(if settled { outcome } else { Outcome::Cancelled });
+        settled.then_some(PromiseId(id as u32))
+    }
+}
