@@ -16,11 +16,11 @@ SCARCE_ROWS = [
 
 
 def story(name, about):
-    """Returns the words of the command line, the script and the trace of the row that begins so in a text of `ob_rows`.
+    """Returns the words of the command line, the script and the trace of the row that begins so in a text of `ob_stories`.
 
     A line behind a colon is asked of the libraries alone. The lines of a report are parted by commas.
     """
-    with open(f"{TOP}/crates/ob_rows/src/{name}.rt", encoding="utf-8") as file:
+    with open(f"{TOP}/crates/ob_stories/src/{name}.rt", encoding="utf-8") as file:
         (told,) = [it for it in file.read().split("\n# ")[1:] if it.startswith(about)]
     words, *lines = told.split("\n$ ", 1)[1].split("\n")
     script, trace = [], []
