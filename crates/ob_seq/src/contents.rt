@@ -2,6 +2,7 @@ ghost use Rattle.std.specs.Prelude.{◌≡◌, ◌≤◌, [], false, length};
 ghost use Rattle.ob_types.specs.Limits.{greatest_overhead, greatest_unknown};
 ghost use Rattle.ob_seq.specs.Inside.{waiting_count};
 ghost use Rattle.ob_seq.specs.Steps.Held.{pending_total};
+ghost use Rattle.ob_seq.specs.Steps.UserBit.{with_user_bit};
 ghost use Rattle.ob_seq.specs.Unsent.{whole};
 
 mod add;
@@ -9,6 +10,7 @@ mod cut;
 mod flush;
 pub(crate) mod front;
 mod gather;
+mod marks;
 mod promises;
 mod seen;
 mod shut;
@@ -118,13 +120,6 @@ impl Contents {
         self.word
     }
 
-    /// The marks in force.
-    pub fn marks(&self) -> WaterMark
-        ensures { result ≡ self.now.marks }
-    {
-        self.marks
-    }
-
     /// By what messages are counted.
     pub fn estimate(&self) -> Estimate
         ensures { result ≡ self.now.settings.estimate }
@@ -151,10 +146,11 @@ impl Contents {
         self.marks = marks;
     }
 
-    /// Puts this word in place of the other.
-    pub fn set_word(&mut self, word: u32)
-        ensures { self.new ≡ record self.old { word = word } }
+    /// Sets the user bit of this index, or clears it if it is to be writable.
+    pub fn set_user_bit(&mut self, index: u32, writable: bool)
+        requires { index ≤ 31 }
+        ensures { self.new ≡ record self.old { word = with_user_bit index writable self.old.word } }
     {
-        self.word = word;
+        self.word = word::with_user_bit(self.word, index, writable);
     }
 }

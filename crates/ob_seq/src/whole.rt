@@ -1,6 +1,7 @@
 ghost use Rattle.std.specs.Prelude.{◌≡◌, ◌<◌, ◌≤◌, [], length};
 ghost use Rattle.ob_types.specs.Change.{change_between};
 ghost use Rattle.ob_types.specs.Limits.{greatest_overhead, greatest_unknown, most_writes};
+ghost use Rattle.ob_seq.specs.Looks.{before_unwritable, before_writable};
 ghost use Rattle.ob_seq.specs.Pending.{StandsFor};
 ghost use Rattle.ob_seq.specs.Steps.Held.{first_progress, front_id, pending_total, state_at, unflushed_id};
 
@@ -114,11 +115,18 @@ impl Whole {
         self.contents.word()
     }
 
-    /// The marks in force.
-    pub fn marks(&self) -> WaterMark
-        ensures { result ≡ self.now.marks }
+    /// How many bytes more make it unwritable, else 0.
+    pub fn before_unwritable(&self) -> u32
+        ensures { result ≡ before_unwritable self.now.marks self.now.word (pending_total self.now) }
     {
-        self.contents.marks()
+        self.contents.before_unwritable()
+    }
+
+    /// How many bytes fewer bring it below the low mark, if it is unwritable and not below, else 0.
+    pub fn before_writable(&self) -> u32
+        ensures { result ≡ before_writable self.now.marks self.now.word (pending_total self.now) }
+    {
+        self.contents.before_writable()
     }
 
     /// The progress of the front, or 0.

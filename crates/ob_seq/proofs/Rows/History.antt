@@ -1,7 +1,7 @@
 -- One more command at the end of a history.
 use Rattle.ob_seq.proofs.Words.{[], ◌≡◌, List, ◌∷◌, ◌++◌, append_assoc, append-nil, true, false, arith, None}
-use Rattle.ob_seq.proofs.Words.{Estimate, Command, Settings, effect, rows_after, first_refusal}
-use Rattle.ob_seq.proofs.Words.{refusal_of, is_accepted, are_accepted, is_close, is_closed}
+use Rattle.ob_seq.proofs.Words.{Estimate, Command, Settings, effect, rows_after, is_close, is_closed, ℕ, Option}
+use Rattle.ob_seq.specs.Answer.{first_refusal_within, refusal_within, is_accepted_within, are_accepted_within}
 use Rattle.std.proofs.lemmas.Bool.{and_parts}
 use Rattle.std.proofs.lemmas.List.Folds.{list_any-append}
 use Rattle.std.proofs.lemmas.List.Sums.{fold-append}
@@ -17,27 +17,27 @@ pub closed_more : (commands : List Command) (command : Command) → is_closed co
 closed_more commands command unclosed = let more = list_any-append is_close commands (command ∷ []) in grind arith
 
 -- a command with no refusal is accepted
-pub accepted_by : (settings : Settings) (commands : List Command) (command : Command) →
-    first_refusal settings.estimate commands command ≡ None → is_accepted settings commands command ≡ true
-accepted_by settings commands command none = rw none
+pub accepted_by : (limit : Option ℕ) (settings : Settings) (commands : List Command) (command : Command) →
+    first_refusal_within limit settings.estimate commands command ≡ None → is_accepted_within limit settings commands command ≡ true
+accepted_by limit settings commands command none = rw none
 
-pub accepted_from_more : (settings : Settings) (earlier commands : List Command) (command : Command) →
-    are_accepted settings earlier commands ≡ true → is_accepted settings (earlier ++ commands) command ≡ true →
-    are_accepted settings earlier (commands ++ command ∷ []) ≡ true
-accepted_from_more settings earlier [] command all last = rw (rw append-nil at last)
-accepted_from_more settings earlier (first ∷ commands) command all last =
+pub accepted_from_more : (limit : Option ℕ) (settings : Settings) (earlier commands : List Command) (command : Command) →
+    are_accepted_within limit settings earlier commands ≡ true → is_accepted_within limit settings (earlier ++ commands) command ≡ true →
+    are_accepted_within limit settings earlier (commands ++ command ∷ []) ≡ true
+accepted_from_more limit settings earlier [] command all last = rw (rw append-nil at last)
+accepted_from_more limit settings earlier (first ∷ commands) command all last =
     let next = earlier ++ first ∷ [] in
-    let both = and_parts (is_accepted settings earlier first) (are_accepted settings next commands) all in
+    let both = and_parts (is_accepted_within limit settings earlier first) (are_accepted_within limit settings next commands) all in
     rw (
       both.0,
-      accepted_from_more settings next commands command both.1
+      accepted_from_more limit settings next commands command both.1
           (rw (append_assoc earlier (first ∷ []) commands) last),
     )
 
 -- a history goes on with a command that is not refused
-pub accepted_more : (settings : Settings) (commands : List Command) (command : Command) → is_closed commands ≡ false →
-    are_accepted settings [] commands ≡ true →
-    refusal_of settings.estimate (rows_after settings.estimate commands) command ≡ None →
-    are_accepted settings [] (commands ++ command ∷ []) ≡ true
-accepted_more settings commands command unclosed all last =
-    accepted_from_more settings [] commands command all (accepted_by settings commands command (rw unclosed last))
+pub accepted_more : (limit : Option ℕ) (settings : Settings) (commands : List Command) (command : Command) → is_closed commands ≡ false →
+    are_accepted_within limit settings [] commands ≡ true →
+    refusal_within limit settings.estimate (rows_after settings.estimate commands) command ≡ None →
+    are_accepted_within limit settings [] (commands ++ command ∷ []) ≡ true
+accepted_more limit settings commands command unclosed all last =
+    accepted_from_more limit settings [] commands command all (accepted_by limit settings commands command (rw unclosed last))

@@ -3,7 +3,7 @@ use Rattle.ob_seq.proofs.Words.{[], ◌≡◌, ℕ, zero, suc, ◌+◌, ◌<◌,
 use Rattle.ob_seq.proofs.Words.{sym, ◌∙◌, cond, append-nil, arith, filter, slice_set, nat_tests, length-map}
 use Rattle.ob_seq.proofs.Words.{slice_get-map, Cancel, Cancelled, PromiseId, PromiseState, Waiting, Settled, is_waiting}
 use Rattle.ob_seq.proofs.Words.{Row, is_unflushed, is_in_line, rows_after, cancelled, with_cancelled, moments_along}
-use Rattle.ob_seq.proofs.Words.{outcome_of, settlement, settlements_from, entry_of, Pending, promise_set}
+use Rattle.ob_seq.proofs.Words.{Option, outcome_of, settlement, settlements_from, entry_of, Pending, promise_set}
 use Rattle.std.proofs.lemmas.List.{set-get_or}
 use Rattle.std.proofs.lemmas.Option.{slice_get-get_or}
 use Rattle.ob_seq.specs.Steps.Cancel.{cancel_step}
@@ -55,8 +55,9 @@ after_is : (old : Pending) (id : ℕ) (state : PromiseState) → state_at old id
 after_is old id state is = let same = set-get_or old.promises id Waiting in grind arith
 
 -- the cancellation simulates the command
-pub cancel_simulates : (id : PromiseId) (old : Pending) → Simulates (Cancel id) old (cancel_step id.0 old)
-cancel_simulates id old =
+pub cancel_simulates : (limit : Option ℕ) (id : PromiseId) (old : Pending) →
+    Simulates limit (Cancel id) old (cancel_step id.0 old)
+cancel_simulates limit id old =
     simulates_by (rw (after_is old id.0 (state_at old id.0) refl)) (λ commands leaves. rw (leaves.promises, length-map))
     (λ commands leaves unclosed none.
     let rows : List Row = rows_after old.settings.estimate commands in

@@ -4,7 +4,7 @@ use Rattle.ob_seq.proofs.Words.{append_assoc, append-nil, arith, None, AllByRecu
 use Rattle.ob_seq.proofs.Words.{map-append, Marks, Command, Close, Cause, Count, Row, is_unflushed, unflushed}
 use Rattle.ob_seq.proofs.Words.{counted_size, total, failed, closed_row, Moment, moment_of, moments_along, outcome_of}
 use Rattle.ob_seq.proofs.Words.{refusal_of, settlement, settlements_from, entry_of, Pending, Leaves, closed_pending}
-use Rattle.ob_seq.proofs.Words.{closing_reply, failures, unflushed_id}
+use Rattle.ob_seq.proofs.Words.{Option, closing_reply, failures, unflushed_id}
 use Rattle.std.proofs.lemmas.List.{drop_at, nil_from_length, take_at}
 use Rattle.ob_seq.specs.Steps.Close.{closing_step}
 use Rattle.ob_seq.proofs.Inside.Failures.{failure}
@@ -96,8 +96,9 @@ module _ (cause : Cause) (old : Pending) (commands : List Command) (leaves : Lea
       (rw (left, id_is) (sym (settlements_of_closed cause (length gone) fresh held.all_fresh))) refl
 
 -- the close simulates the command
-pub closing_simulates : (cause : Cause) (old : Pending) → Simulates (Close cause) old (closing_step cause old)
-closing_simulates cause old = record {
+pub closing_simulates : (limit : Option ℕ) (cause : Cause) (old : Pending) →
+    Simulates limit (Close cause) old (closing_step cause old)
+closing_simulates limit cause old = record {
   refusal = refusal_is cause old;
   reply = λ commands leaves unclosed none. (closed_stands cause old commands leaves unclosed none).1;
   after = λ commands leaves unclosed none. (closed_stands cause old commands leaves unclosed none).0;

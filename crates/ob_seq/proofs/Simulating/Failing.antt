@@ -1,7 +1,7 @@
 -- A buffer whose line was taken away as failed is what the commands with the failing leave.
 use Rattle.ob_seq.proofs.Words.{◌≡◌, Bool, false, List, [], length, map, refl, sym, ap, ◌∙◌, append-nil, length-map}
 use Rattle.ob_seq.proofs.Words.{Command, FailFlushed, Cause, Failed, Count, line, failed_row, entry_of, Pending}
-use Rattle.ob_seq.proofs.Words.{Leaves, entry_settlements, failing_step, front_id, front_taken}
+use Rattle.ob_seq.proofs.Words.{ℕ, Option, Leaves, entry_settlements, failing_step, front_id, front_taken}
 use Rattle.ob_seq.specs.Steps.FailFlushed.{failing_reply, line_failed}
 use Rattle.ob_seq.proofs.Rows.Fronts.{Carries, rows_of}
 use Rattle.ob_seq.proofs.Inside.Held.{held_of, line_count}
@@ -28,9 +28,9 @@ failed_line cause notice old commands leaves unclosed =
     (ap (entry_settlements (Failed cause) (front_id old)) held.line) refl
 
 -- the failing simulates the command
-pub failing_simulates : (cause : Cause) (notice : Bool) (old : Pending) →
-    Simulates (FailFlushed cause notice) old (failing_step cause notice old)
-failing_simulates cause notice old = record {
+pub failing_simulates : (limit : Option ℕ) (cause : Cause) (notice : Bool) (old : Pending) →
+    Simulates limit (FailFlushed cause notice) old (failing_step cause notice old)
+failing_simulates limit cause notice old = record {
   refusal = λ commands leaves. refl;
   reply = λ commands leaves unclosed none. (failed_line cause notice old commands leaves unclosed).1;
   after = λ commands leaves unclosed none. (failed_line cause notice old commands leaves unclosed).0;

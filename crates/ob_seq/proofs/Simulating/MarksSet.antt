@@ -1,12 +1,13 @@
 -- A buffer with other marks in force is what the commands with the marks that were set leave.
-use Rattle.ob_seq.proofs.Words.{true, refl, sym, ◌∙◌, Marks, SetMarks, rows_after, Pending, marks_step}
+use Rattle.ob_seq.proofs.Words.{ℕ, Option, true, refl, sym, ◌∙◌, Marks, SetMarks, rows_after, Pending, marks_step}
 use Rattle.ob_seq.proofs.Simulating.Simulation.{Simulates, simulates_by}
 use Rattle.ob_seq.proofs.Rows.Along.{moments_of_same, settlements_of_same}
 use Rattle.ob_seq.proofs.Word.Marks.{word_after_same}
 
 -- marks that are set simulate the command: the rows stay, so there is no moment and no settlement
-pub marks_simulate : (marks : Marks) (old : Pending) → Simulates (SetMarks marks) old (marks_step marks old)
-marks_simulate marks old =
+pub marks_simulate : (limit : Option ℕ) (marks : Marks) (old : Pending) →
+    Simulates limit (SetMarks marks) old (marks_step marks old)
+marks_simulate limit marks old =
     simulates_by refl (λ commands leaves. refl) (λ commands leaves unclosed none.
     let rows = rows_after old.settings.estimate commands in record {
       opened = refl;

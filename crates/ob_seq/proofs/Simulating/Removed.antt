@@ -3,9 +3,9 @@ use Rattle.ob_seq.proofs.Words.{◌≡◌, ℕ, Bool, true, false, List, [], ◌
 use Rattle.ob_seq.proofs.Words.{◌+◌, append_assoc, append-nil, arith, None, is_some, AllByRecursion, nat_tests}
 use Rattle.ob_seq.proofs.Words.{change_between, Estimate, Command, Remove, RemoveWith, Outcome, Success, Failed, Cause}
 use Rattle.ob_seq.proofs.Words.{Reply, Yes, Row, front, effect, taken_row, with_front, moments_along, is_close}
-use Rattle.ob_seq.proofs.Words.{refusal_of, entry_of, Pending, Leaves, front_taken, front_id, entry_settlements}
-use Rattle.ob_seq.proofs.Words.{marks_set_by, times}
-use Rattle.ob_seq.specs.Answer.{answer_of}
+use Rattle.ob_seq.proofs.Words.{entry_of, Pending, Leaves, front_taken, front_id, entry_settlements}
+use Rattle.ob_seq.proofs.Words.{Option, marks_set_by, times}
+use Rattle.ob_seq.specs.Answer.{answer_of, refusal_within}
 use Rattle.ob_seq.specs.Moment.{gives_notice}
 use Rattle.ob_seq.specs.Steps.Remove.{front_removed, removal_reply, removal_step}
 use Rattle.ob_seq.specs.Steps.RemoveBytes.{front_skipped}
@@ -67,7 +67,8 @@ pub record IsRemoval (command : Command) (outcome : Outcome) : Type 0 where
   pub plain : IsPlain command true
   pub effect_is : (estimate : Estimate) (rows : List Row) →
       effect estimate rows command ≡ with_front (taken_row outcome) rows
-  pub accepted : (estimate : Estimate) (rows : List Row) → refusal_of estimate rows command ≡ None
+  pub accepted : (limit : Option ℕ) (estimate : Estimate) (rows : List Row) →
+      refusal_within limit estimate rows command ≡ None
   pub answer : (rows : List Row) → answer_of rows command ≡ Yes (is_some (front rows))
 
 pub removal : IsRemoval Remove Success
@@ -106,10 +107,10 @@ module _ (command : Command) (outcome : Outcome) (is : IsRemoval command outcome
       by_line layout.gone layout.standing layout.fresh layout.is (held_of old commands leaves)
 
 -- the removal simulates the command
-pub removal_simulates : (command : Command) (outcome : Outcome) → IsRemoval command outcome → (old : Pending) →
-    Simulates command old (removal_step outcome old)
-removal_simulates command outcome is old = record {
-  refusal = λ commands leaves. sym (is.accepted old.settings.estimate (rows_of old commands));
+pub removal_simulates : (limit : Option ℕ) (command : Command) (outcome : Outcome) → IsRemoval command outcome →
+    (old : Pending) → Simulates limit command old (removal_step outcome old)
+removal_simulates limit command outcome is old = record {
+  refusal = λ commands leaves. sym (is.accepted limit old.settings.estimate (rows_of old commands));
   reply = λ commands leaves unclosed none. (removed command outcome is old commands leaves unclosed).1;
   after = λ commands leaves unclosed none. (removed command outcome is old commands leaves unclosed).0;
   settings = grind arith;

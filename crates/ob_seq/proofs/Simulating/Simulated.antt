@@ -1,21 +1,22 @@
 -- Each command is simulated by its step.
 use Rattle.ob_seq.proofs.Words.{◌≡◌, ℕ, Bool, true, refl, ap, ◌∙◌, arith, None, nat_tests, Marks, Command, Write, Flush}
 use Rattle.ob_seq.proofs.Words.{Remove, RemoveWith, RemoveBytes, Progress, Cancel, FailFlushed, Close, UserBit, SetMarks, Success}
-use Rattle.ob_seq.proofs.Words.{Failed, Refusal, Cut, blocks_left, Pending, Settings, bit_step, front_taken, step_of}
-use Rattle.ob_seq.proofs.Words.{times, whole_cut, false, List, ◌<◌, length, Reply, answer_to}
-use Rattle.ob_seq.proofs.Words.{StandsFor, SparesMemory, settled_by_step, ◌++◌, map, sym, append_assoc, append-nil}
+use Rattle.ob_seq.proofs.Words.{Failed, Refusal, Cut, blocks_left, Pending, Settings, bit_step, front_taken, step_of, Option}
+use Rattle.ob_seq.proofs.Words.{times, whole_cut, false, List, ◌<◌, length, Reply, Leaves}
+use Rattle.ob_seq.proofs.Words.{SparesMemory, StandsFor, settled_by_step, ◌++◌, map, sym, append_assoc, append-nil}
 use Rattle.ob_seq.proofs.Words.{length-map, Count, Row, flushed_row, reached_row, rows_after, flush_step, next_flushed}
 use Rattle.ob_seq.proofs.Words.{[], ◌∷◌, map-append, counted_size, total, front, line, entry_of, progressed_row}
 use Rattle.ob_seq.proofs.Words.{with_front, outcome_of, first_changed, progress_step}
 use Rattle.std.specs.Prelude.{Result, Ok, Err, IsErrOf}
 use Rattle.ob_types.specs.Limits.{inline_settlements}
 use Rattle.ob_types.specs.declared.refusal.Refusal.TheVariants.{NoMemory}
-use Rattle.ob_seq.specs.Answer.{commands_with, refusal_of_progress}
+use Rattle.ob_seq.specs.Answer.{commands_with, refusal_of_progress, answer_within, are_accepted_within, buffer_limit}
 use Rattle.ob_seq.specs.Pending.{Follows, Obeys}
 use Rattle.ob_seq.specs.Settles.{Settles}
 use Rattle.ob_seq.specs.Steps.Step.{Step, Makes, answer_by, held_by}
 use Rattle.ob_seq.specs.Steps.RemoveBytes.{bytes_step}
 use Rattle.ob_seq.specs.Steps.Progress.{progressed_entry}
+use Rattle.ob_seq.specs.Steps.OfCommand.{step_within}
 use Rattle.ob_seq.proofs.Inside.Blocks.{few_entries}
 use Rattle.ob_seq.proofs.Simulating.BytesRemoved.{bytes_removed_left, run_is}
 use Rattle.ob_seq.proofs.Simulating.Cancelled.{cancel_simulates}
@@ -40,8 +41,8 @@ use Rattle.ob_seq.proofs.Rows.Reached.{all_reached, settlements_of_reached}
 use Rattle.ob_seq.proofs.Rows.Fronts.{fronted}
 
 -- the flush simulates the command
-flush_simulates : (old : Pending) → Simulates Flush old (flush_step old)
-flush_simulates old =
+flush_simulates : (limit : Option ℕ) (old : Pending) → Simulates limit Flush old (flush_step old)
+flush_simulates limit old =
     simulates_by (settings_of_times next_flushed (λ before. refl) (length old.unflushed) old) (λ commands leaves. refl)
     (λ commands leaves unclosed none.
     let rows : List Row = rows_after old.settings.estimate commands in
@@ -78,8 +79,8 @@ some_line : (n : ℕ) (old : Pending) → (progress_step n old).refusal ≡ None
 some_line n old none = grind (arith, nat_tests)
 
 -- progress simulates the command
-progress_simulates : (n : ℕ) (old : Pending) → Simulates (Progress n) old (progress_step n old)
-progress_simulates n old =
+progress_simulates : (limit : Option ℕ) (n : ℕ) (old : Pending) → Simulates limit (Progress n) old (progress_step n old)
+progress_simulates limit n old =
     simulates_by refl
     (λ commands leaves. rw leaves.line (progress_refusal n old (rows_after old.settings.estimate commands)))
     (λ commands leaves unclosed none.
@@ -113,8 +114,8 @@ progress_simulates n old =
     })
 
 -- the removal of bytes simulates the command
-bytes_simulate : (n : ℕ) (old : Pending) → Simulates (RemoveBytes n) old (bytes_step n old)
-bytes_simulate n old =
+bytes_simulate : (limit : Option ℕ) (n : ℕ) (old : Pending) → Simulates limit (RemoveBytes n) old (bytes_step n old)
+bytes_simulate limit n old =
     let cut : Cut = whole_cut n (blocks_left old.line) in
     let few = few_entries n old.line in record {
       refusal = λ commands leaves. rw (run_is old commands leaves);
@@ -129,9 +130,9 @@ bytes_simulate n old =
     }
 
 -- the user bit simulates the command
-bit_simulates : (index : ℕ) (writable : Bool) (old : Pending) →
-    Simulates (UserBit index writable) old (bit_step index writable old)
-bit_simulates index writable old = record {
+bit_simulates : (limit : Option ℕ) (index : ℕ) (writable : Bool) (old : Pending) →
+    Simulates limit (UserBit index writable) old (bit_step index writable old)
+bit_simulates limit index writable old = record {
   refusal = λ commands leaves. refl;
   reply = λ commands leaves unclosed none.
       reply_of_bit old commands index writable leaves unclosed (grind (arith, nat_tests)) (grind (arith, nat_tests));
@@ -141,57 +142,67 @@ bit_simulates index writable old = record {
   settings = refl;
 }
 
--- whatever command a buffer is given, its step is what the definition says
-pub simulated : (command : Command) (old : Pending) → Simulates command old (step_of command old)
-simulated (Write message) old = write_simulates message old
-simulated Flush old = flush_simulates old
-simulated Remove old = removal_simulates Remove Success removal old
-simulated (RemoveWith cause) old = removal_simulates (RemoveWith cause) (Failed cause) (removal_with cause) old
-simulated (RemoveBytes n) old = bytes_simulate n old
-simulated (Progress n) old = progress_simulates n old
-simulated (Cancel id) old = cancel_simulates id old
-simulated (FailFlushed cause notice) old = failing_simulates cause notice old
-simulated (Close cause) old = closing_simulates cause old
-simulated (UserBit index writable) old = bit_simulates index writable old
-simulated (SetMarks marks) old = marks_simulate marks old
+-- whatever command is given, its step is what the definition says, under each limit on writes
+pub simulated : (limit : Option ℕ) (command : Command) (old : Pending) →
+    Simulates limit command old (step_within limit command old)
+simulated limit (Write message) old = write_simulates limit message old
+simulated limit Flush old = flush_simulates limit old
+simulated limit Remove old = removal_simulates limit Remove Success removal old
+simulated limit (RemoveWith cause) old =
+    removal_simulates limit (RemoveWith cause) (Failed cause) (removal_with cause) old
+simulated limit (RemoveBytes n) old = bytes_simulate limit n old
+simulated limit (Progress n) old = progress_simulates limit n old
+simulated limit (Cancel id) old = cancel_simulates limit id old
+simulated limit (FailFlushed cause notice) old = failing_simulates limit cause notice old
+simulated limit (Close cause) old = closing_simulates limit cause old
+simulated limit (UserBit index writable) old = bit_simulates limit index writable old
+simulated limit (SetMarks marks) old = marks_simulate limit marks old
 
-module _ (command : Command) (old : Pending) where
+module _ (limit : Option ℕ) (command : Command) (old : Pending) where
   abbrev step : Step
-  step = step_of command old
+  step = step_within limit command old
 
-  answer_is : (commands : List Command) → StandsFor old commands →
-      answer_by old step ≡ answer_to old.settings commands command
-  answer_is commands stands =
-      let closed = stands.leaves.closed in
-      let refused = (simulated command old).refusal commands stands.leaves in
-      let same = (simulated command old).reply commands stands.leaves in
+  -- the step answers as the definition says after the commands that left what is held
+  pub answer_is : (commands : List Command) → Leaves old commands →
+      answer_by old step ≡ answer_within limit old.settings commands command
+  answer_is commands leaves =
+      let closed = leaves.closed in
+      let refused = (simulated limit command old).refusal commands leaves in
+      let same = (simulated limit command old).reply commands leaves in
       grind arith
 
+  -- where what is held is open and its step is not refused, the step leaves what the commands with this one leave, and
+  -- they are accepted
+  pub goes_on : (commands : List Command) → are_accepted_within limit old.settings [] commands ≡ true →
+      Leaves old commands → old.closed ≡ false → step.refusal ≡ None →
+      (are_accepted_within limit step.after.settings [] (commands ++ command ∷ []) ≡ true)
+      × Leaves step.after (commands ++ command ∷ [])
+  goes_on commands accepted leaves unclosed none =
+      let simulates = simulated limit command old in
+      let there = open_history old.settings commands command old leaves unclosed in
+      let refused = sym (simulates.refusal commands leaves) ∙ none in (
+        rw simulates.settings (accepted_more limit old.settings commands command there accepted refused),
+        simulates.after commands leaves unclosed none,
+      )
+
+module _ (command : Command) (old : Pending) where
+  abbrev own_step : Step
+  own_step = step_of command old
+
   -- a call settles as many promises as its step
-  pub settles : Settles old command (settled_by_step old step)
-  settles commands stands = rw (answer_is commands stands)
+  pub settles : Settles old command (settled_by_step old own_step)
+  settles commands stands = rw (answer_is buffer_limit command old commands stands.leaves)
 
-  -- where the buffer is open and its step is not refused, it then stands for the history with the command
-  goes_on : (commands : List Command) → StandsFor old commands → old.closed ≡ false → step.refusal ≡ None →
-      StandsFor step.after (commands ++ command ∷ [])
-  goes_on commands stands unclosed none =
-      let simulates = simulated command old in
-      let there = open_history old.settings commands command old stands.leaves unclosed in
-      let refused = sym (simulates.refusal commands stands.leaves) ∙ none in record {
-        accepted = rw simulates.settings
-            (accepted_more old.settings commands command there stands.accepted refused);
-        leaves = simulates.after commands stands.leaves unclosed none;
-      }
-
-  follows : (result : Result Reply Refusal) → (¬ IsErrOf result NoMemory → result ≡ answer_by old step) →
-      Follows old command result (held_by old step result)
+  follows : (result : Result Reply Refusal) → (¬ IsErrOf result NoMemory → result ≡ answer_by old own_step) →
+      Follows old command result (held_by old own_step result)
   follows (Ok reply) same commands stands =
       let said = same (λ wants. absurd (cc)) in
-      let opened : (old.closed ≡ false) × (step.refusal ≡ None) = grind arith in
-      goes_on commands stands opened.0 opened.1
+      let opened : (old.closed ≡ false) × (own_step.refusal ≡ None) = grind arith in
+      let on = goes_on buffer_limit command old commands stands.accepted stands.leaves opened.0 opened.1 in
+      record { accepted = on.0; leaves = on.1 }
   follows (Err refusal) same commands stands = stands
 
-  module _ {new : Pending} {result : Result Reply Refusal} (made : Makes old step result new) where
+  module _ {new : Pending} {result : Result Reply Refusal} (made : Makes old own_step result new) where
     -- some history is still stood for
     pub stays : ((commands : List Command) × StandsFor old commands) →
         (commands : List Command) × StandsFor new commands
@@ -199,19 +210,19 @@ module _ (command : Command) (old : Pending) where
 
     -- a call that makes its step obeys its command
     pub obeys : {told : Pending} → old ≡ told → Obeys told command result new
-    obeys is = let stay = (simulated command old).settings in rw (← is, made.after) record {
-      answer = λ other commands stands. made.answer other ∙ answer_is commands stands;
+    obeys is = let stay = (simulated buffer_limit command old).settings in rw (← is, made.after) record {
+      answer = λ other commands stands. made.answer other ∙ answer_is buffer_limit command old commands stands.leaves;
       stands = follows result made.answer;
       settings = grind arith;
       refused = grind arith;
-      no_memory_last = λ wants commands stands. rw (← answer_is commands stands, made.no_memory_last wants);
+      no_memory_last = λ wants commands stands. rw (← answer_is buffer_limit command old commands stands.leaves, made.no_memory_last wants);
     }
 
     -- and spares memory, where it wants it only if it settles more promises than want none
     pub spares : {told : Pending} → old ≡ told →
-        (IsErrOf result NoMemory → inline_settlements < length step.reply.settled) → SparesMemory told command result
+        (IsErrOf result NoMemory → inline_settlements < length own_step.reply.settled) → SparesMemory told command result
     spares is many = rw (← is) (λ commands stands few wants.
-        let count : settled_by_step old step ≡ length step.reply.settled = rw (made.no_memory_last wants) in
+        let count : settled_by_step old own_step ≡ length own_step.reply.settled = rw (made.no_memory_last wants) in
         let same = settles commands stands in
         let most = many wants in
         absurd (omega arith))

@@ -3,7 +3,8 @@ use Rattle.ob_seq.proofs.Words.{[], ◌≡◌, ℕ, ◌+◌, true, false, List, 
 use Rattle.ob_seq.proofs.Words.{nat_tests, map-append, length-map, filter-append, sum_by_push, Marks, counted_bytes}
 use Rattle.ob_seq.proofs.Words.{Message, Command, Write, entry_of, Row, new_row, without_skipped, is_unflushed}
 use Rattle.ob_seq.proofs.Words.{is_in_line, unflushed, total, rows_after, moment_of, moments_of, Pending, Leaves}
-use Rattle.ob_seq.proofs.Words.{pending_total, word_after_rise, write_step}
+use Rattle.ob_seq.proofs.Words.{pending_total, word_after_rise, Option}
+use Rattle.ob_seq.specs.Steps.Write.{write_step_within}
 use Rattle.ob_seq.proofs.Simulating.Simulation.{Does, Simulates, simulates_by}
 use Rattle.ob_seq.proofs.Rows.Along.{moments_past, settlements_past}
 use Rattle.ob_seq.proofs.Inside.Held.{promise_of, sum_of_rows, word_at_end, word_by_past}
@@ -25,9 +26,9 @@ rise_step : (marks : Marks) (word size sum : ℕ) →
 rise_step marks word size sum = grind (arith, nat_tests)
 
 -- the write does what the definition says of the command, whether it is refused or not
-pub write_does : (message : Message) (old : Pending) (commands : List Command) → Leaves old commands →
-    old.closed ≡ false → Does (Write message) old (write_step message old) commands
-write_does message old commands leaves unclosed =
+pub write_does : (limit : Option ℕ) (message : Message) (old : Pending) (commands : List Command) → Leaves old commands →
+    old.closed ≡ false → Does (Write message) old (write_step_within limit message old) commands
+write_does limit message old commands leaves unclosed =
     let rows : List Row = rows_after old.settings.estimate commands in
     let row : Row = new_row old.settings.estimate message in
     let size : ℕ = counted_bytes old.settings.estimate message in
@@ -57,11 +58,12 @@ write_does message old commands leaves unclosed =
     }
 
 -- and so it simulates the command
-pub write_simulates : (message : Message) (old : Pending) → Simulates (Write message) old (write_step message old)
-write_simulates message old =
+pub write_simulates : (limit : Option ℕ) (message : Message) (old : Pending) →
+    Simulates limit (Write message) old (write_step_within limit message old)
+write_simulates limit message old =
     simulates_by refl
     (λ commands leaves.
     let sum = pending_total_stands old commands leaves in
     let count : length old.promises ≡ length (rows_after old.settings.estimate commands) =
     rw (leaves.promises, length-map) in
-    grind (arith, nat_tests)) (λ commands leaves unclosed none. write_does message old commands leaves unclosed)
+    grind (arith, nat_tests)) (λ commands leaves unclosed none. write_does limit message old commands leaves unclosed)

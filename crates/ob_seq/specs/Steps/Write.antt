@@ -1,13 +1,14 @@
 -- A write as a step. No public clause cites this module.
-use Rattle.std.specs.Prelude.{ℕ, ◌+◌, ◌&&◌, Bool, false, [], ◌∷◌, ◌++◌, length, nat_le, nat_lt, if◌then◌else◌, Some}
-use Rattle.std.specs.Prelude.{None}
+use Rattle.std.specs.Prelude.{ℕ, ◌+◌, ◌&&◌, Bool, false, not, [], ◌∷◌, ◌++◌, length, nat_le, nat_lt, if◌then◌else◌}
+use Rattle.std.specs.Prelude.{Option, Some, None}
 use Rattle.ob_types.specs.Change.{change_between}
-use Rattle.ob_types.specs.Limits.{greatest_total, most_writes}
+use Rattle.ob_types.specs.Limits.{greatest_total}
 use Rattle.ob_types.specs.PendingSize.{counted_bytes, is_oversize}
 use Rattle.ob_types.specs.declared.message.Message.{Message}
 use Rattle.ob_types.specs.declared.promise.PromiseState.TheVariants.{Waiting}
 use Rattle.ob_types.specs.declared.refusal.Refusal.TheVariants.{Oversize, TooMuch}
 use Rattle.ob_types.specs.declared.reply.Answer.TheVariants.{Id}
+use Rattle.ob_seq.specs.Answer.{is_full, buffer_limit}
 use Rattle.ob_seq.specs.Pending.{Pending}
 use Rattle.ob_seq.specs.Steps.Step.{Step}
 use Rattle.ob_seq.specs.Steps.Word.{word_after_rise}
@@ -21,17 +22,25 @@ written old message size = record old {
   word = word_after_rise old.marks old.word size (pending_total old + size);
 }
 
--- whether a message is too much for what is held
-abbrev pub has_room : ℕ → Pending → Bool
-has_room size old = nat_le (pending_total old + size) greatest_total && nat_lt (length old.promises) most_writes
+-- whether so many bytes more are not too many
+abbrev pub has_bytes_left : ℕ → Pending → Bool
+has_bytes_left size old = nat_le (pending_total old + size) greatest_total
 
--- a write as a step
-abbrev pub write_step : Message → Pending → Step
-write_step message old =
+-- whether a message is not too much for what is held, under a limit on writes
+abbrev pub has_room_within : Option ℕ → ℕ → Pending → Bool
+has_room_within limit size old = has_bytes_left size old && not (is_full limit (length old.promises))
+
+-- whether a message is not too much for what a buffer holds
+abbrev pub has_room : ℕ → Pending → Bool
+has_room size old = has_room_within buffer_limit size old
+
+-- a write as a step, under a limit on writes
+abbrev pub write_step_within : Option ℕ → Message → Pending → Step
+write_step_within limit message old =
     let size = counted_bytes old.settings.estimate message in
     let after = written old message size in record {
       refusal = if is_oversize old.settings.estimate message then Some Oversize
-          else (if has_room size old then None else Some TooMuch);
+          else (if has_room_within limit size old then None else Some TooMuch);
       reply = record {
         answer = Id (record { 0 = length old.promises });
         settled = [];
@@ -39,3 +48,7 @@ write_step message old =
       };
       after = after;
     }
+
+-- a write to a buffer as a step
+abbrev pub write_step : Message → Pending → Step
+write_step message old = write_step_within buffer_limit message old

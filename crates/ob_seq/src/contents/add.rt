@@ -2,7 +2,7 @@ ghost use Rattle.std.specs.Prelude.{◌≡◌, ◌+◌, ◌≤◌, [], List, OnO
 ghost use Rattle.ob_types.specs.Limits.{greatest_total};
 ghost use Rattle.ob_types.specs.declared.promise.Outcome.{Outcome};
 ghost use Rattle.ob_seq.specs.Steps.Held.{pending_total};
-ghost use Rattle.ob_seq.specs.Steps.Write.{written};
+ghost use Rattle.ob_seq.specs.Steps.Write.{has_bytes_left, written};
 ghost use Rattle.ob_seq.specs.Unsent.{whole};
 
 use crate::contents::{Contents, word};
@@ -10,7 +10,17 @@ use crate::entry::Entry;
 use ob_types::Message;
 use std::alloc::AllocError;
 
+/// The most bytes that may be pending. Our own limit.
+const MAX_TOTAL: u64 = 4294967295;
+
 impl Contents {
+    /// Whether so many more bytes are not too many.
+    pub fn has_bytes_left(&self, size: u32) -> bool
+        ensures { result ≡ has_bytes_left size (whole [] self.now) }
+    {
+        u64::from(self.total()) + u64::from(size) <= MAX_TOTAL
+    }
+
     /// Adds a message for which there is room. The growth comes before any change.
     pub fn add(&mut self, message: Message, size: u32) -> Result<(), AllocError>
         requires fits { pending_total (whole [] self.old) + size ≤ greatest_total }

@@ -1,4 +1,4 @@
-ghost use Rattle.std.specs.Prelude.{◌≡◌, ◌+◌, ◌<◌, ◌≤◌, List, length};
+ghost use Rattle.std.specs.Prelude.{◌≡◌, ◌+◌, ◌<◌, ◌≤◌, List, length, nat_le};
 ghost use Rattle.ob_types.specs.Limits.{greatest_progress};
 ghost use Rattle.ob_types.specs.declared.promise.Outcome.{Outcome};
 ghost use Rattle.ob_seq.specs.ByteRun.{block_bytes};
@@ -12,7 +12,7 @@ use crate::entry::Entry;
 use ob_types::Message;
 
 /// The most progress of one message, in bytes: `Long.MAX_VALUE`. Our own limit.
-pub const MAX_PROGRESS: u64 = 9223372036854775807;
+const MAX_PROGRESS: u64 = 9223372036854775807;
 
 impl Contents {
     /// The progress of the front, or 0.
@@ -23,6 +23,15 @@ impl Contents {
             return 0;
         }
         self.entries[0].progress
+    }
+
+    /// Whether so many more bytes of progress of the front do not pass the limit.
+    pub fn has_progress_left(&self, n: u64) -> bool
+        ensures { result ≡ nat_le (first_progress (pending_entries self.now.line) + n) greatest_progress }
+    {
+        self.current_progress()
+            .checked_add(n)
+            .is_some_and(|sum| sum <= MAX_PROGRESS)
     }
 
     /// Tells of so many more bytes of progress of the front.

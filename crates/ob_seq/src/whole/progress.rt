@@ -3,7 +3,6 @@ ghost use Rattle.ob_types.specs.Limits.{greatest_progress};
 ghost use Rattle.ob_seq.specs.Steps.Step.{Makes};
 ghost use Rattle.ob_seq.specs.Steps.Progress.{progress_step};
 
-use crate::contents::front::MAX_PROGRESS;
 use crate::whole::Whole;
 use ob_types::{Answer, Refusal, Reply};
 
@@ -19,19 +18,10 @@ impl Whole {
         if self.line_count() == 0 {
             return Err(Refusal::NothingFlushed);
         }
-        if !has_room(self.contents.current_progress(), n) {
+        if !self.contents.has_progress_left(n) {
             return Err(Refusal::TooFar);
         }
         self.contents.tell_front(n);
         Ok(self.reply(Answer::Done, self.no_settlements(), self.word()))
     }
-}
-
-/// Whether so many more bytes of progress do not pass the limit.
-fn has_room(progress: u64, n: u64) -> bool
-    ensures { result ≡ nat_le (progress + n) greatest_progress }
-{
-    progress
-        .checked_add(n)
-        .is_some_and(|sum| sum <= MAX_PROGRESS)
 }

@@ -2,7 +2,6 @@ ghost use Rattle.std.specs.Prelude.{IsErrOf};
 ghost use Rattle.ob_seq.specs.Steps.Step.{Makes};
 ghost use Rattle.ob_seq.specs.Steps.UserBit.{bit_step};
 
-use crate::contents::word;
 use crate::whole::Whole;
 use ob_types::{Answer, Refusal, Reply};
 
@@ -19,8 +18,7 @@ impl Whole {
             return Err(Refusal::BadIndex);
         }
         let before = self.word();
-        self.contents
-            .set_word(word::with_user_bit(before, index, writable));
+        self.contents.set_user_bit(index, writable);
         Ok(self.reply(Answer::Done, self.no_settlements(), before))
     }
 }

@@ -8,9 +8,6 @@ use crate::whole::Whole;
 use ob_types::{Answer, Message, PromiseId, Refusal, Reply, pending_size};
 use std::alloc::AllocError;
 
-/// The most bytes that may be pending. Our own limit.
-const MAX_TOTAL: u64 = 4294967295;
-
 /// The most writes that a buffer accepts. Our own limit.
 pub const MAX_WRITES: usize = 1048576;
 
@@ -36,8 +33,7 @@ impl Whole {
     fn has_room_for(&self, size: u32) -> bool
         ensures { result ≡ has_room size self.now }
     {
-        let total = u64::from(self.total()) + u64::from(size);
-        total <= MAX_TOTAL && self.promise_count() < MAX_WRITES
+        self.contents.has_bytes_left(size) && self.promise_count() < MAX_WRITES
     }
 
     /// Adds a message for which there is room. It takes the room for its outcome too. Both growths come before any change.

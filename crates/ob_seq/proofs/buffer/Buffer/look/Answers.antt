@@ -30,6 +30,6 @@ seen_is held commands stands =
 
 pub returns : goal.returns
 returns c = rw (← c.self.view_is) (λ commands stands.
-    rw (c.before_unwritable.ensures, c.before_writable.ensures, c.current_progress.ensures, c.total-total.ensures)
-    (rw (c.line_count.ensures.count, c.marks-marks.ensures, c.word-word.ensures)
+    rw (c.before_unwritable.ensures, c.before_writable.ensures, c.current_progress.ensures, c.total.ensures)
+    (rw (c.line_count.ensures.count, c.word.ensures)
     (seen_is c.self.inside.contents commands stands)))
