@@ -6,6 +6,7 @@ pub mod Failures
 pub mod Fields
 pub mod Gathered
 pub mod Held
+pub mod Looked
 pub mod Rooms
 pub mod States
 pub mod Pieces

@@ -1,9 +1,9 @@
 -- How what waits to be sent, and what is gone, are kept. No public clause cites this module.
-use Rattle.std.specs.Prelude.{◌≡◌, ◌≤◌, ◌+◌, ℕ, List, length, sum_by, take, drop, vec_len, vec_capacity}
+use Rattle.std.specs.Prelude.{◌≡◌, ◌≤◌, ◌+◌, ℕ, List, sum_by, take, drop, vec_len, vec_capacity}
 use Rattle.std.specs.VecDeque.{deque_len}
 use Rattle.ob_types.specs.Limits.{greatest_overhead, greatest_unknown, most_writes}
 use Rattle.ob_seq.specs.Pending.{Pending}
-use Rattle.ob_seq.specs.Unsent.{Unsent, whole}
+use Rattle.ob_seq.specs.Unsent.{Unsent, whole, waiting_count}
 use Rattle.ob_seq.specs.declared.entry.Entry.{Entry}
 use Rattle.ob_seq.specs.declared.contents.Contents.TheInside.{Inside}
 use Rattle.ob_seq.specs.declared.whole.Whole.TheInside.{Inside as WholeInside}
@@ -35,10 +35,6 @@ pub record IsSound (inside : Inside) : Type 0 where
 -- what a buffer holds, by what waits and the outcomes of what is gone
 abbrev pub whole_of : WholeInside → Pending
 whole_of inside = whole inside.gone.items inside.contents
-
--- how many messages wait
-abbrev pub waiting_count : Unsent → ℕ
-waiting_count unsent = length unsent.line + length unsent.unflushed
 
 -- what every call keeps of both: the writes are within the limit, and each message that waits has room for its outcome
 pub record IsRoomy (inside : WholeInside) : Type 0 where

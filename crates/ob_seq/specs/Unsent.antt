@@ -1,5 +1,5 @@
--- What waits to be sent, each message with its promise. No public clause cites this module.
-use Rattle.std.specs.Prelude.{ℕ, Bool, false, List, ◌++◌, map, if◌then◌else◌}
+-- What waits to be sent, each message with its promise.
+use Rattle.std.specs.Prelude.{ℕ, ◌+◌, Bool, false, List, ◌++◌, length, map, if◌then◌else◌}
 use Rattle.ob_types.specs.WaterMark.{Marks}
 use Rattle.ob_types.specs.declared.promise.Outcome.{Outcome}
 use Rattle.ob_types.specs.declared.promise.Outcome.TheVariants.{Cancelled}
@@ -19,6 +19,10 @@ pub record Unsent : Type 0 where
   pub unflushed : List Entry
   pub word : ℕ
   pub closed : Bool
+
+-- how many messages wait
+abbrev pub waiting_count : Unsent → ℕ
+waiting_count unsent = length unsent.line + length unsent.unflushed
 
 -- an entry in line as a contract sees it: it was voided where its promise was taken back
 abbrev pub pending_entry : Entry → PendingEntry

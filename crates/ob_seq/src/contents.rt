@@ -1,9 +1,8 @@
 ghost use Rattle.std.specs.Prelude.{◌≡◌, ◌≤◌, [], false, length};
 ghost use Rattle.ob_types.specs.Limits.{greatest_overhead, greatest_unknown};
-ghost use Rattle.ob_seq.specs.Inside.{waiting_count};
 ghost use Rattle.ob_seq.specs.Steps.Held.{pending_total};
 ghost use Rattle.ob_seq.specs.Steps.UserBit.{with_user_bit};
-ghost use Rattle.ob_seq.specs.Unsent.{whole};
+ghost use Rattle.ob_seq.specs.Unsent.{whole, waiting_count};
 
 mod add;
 mod cut;

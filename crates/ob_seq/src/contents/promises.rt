@@ -2,9 +2,8 @@ ghost use Rattle.std.specs.Prelude.{◌≡◌, ◌+◌, ◌<◌, ◌≤◌, List
 ghost use Rattle.ob_types.specs.declared.promise.Outcome.{Outcome};
 ghost use Rattle.ob_types.specs.declared.promise.Outcome.TheVariants.{Cancelled};
 ghost use Rattle.ob_types.specs.declared.promise.PromiseState.TheVariants.{Settled};
-ghost use Rattle.ob_seq.specs.Inside.{waiting_count};
 ghost use Rattle.ob_seq.specs.Steps.Held.{promise_set, state_at};
-ghost use Rattle.ob_seq.specs.Unsent.{whole};
+ghost use Rattle.ob_seq.specs.Unsent.{whole, waiting_count};
 
 use crate::contents::Contents;
 use ob_types::{Outcome, PromiseState};

@@ -1,8 +1,7 @@
 ghost use Rattle.std.specs.Prelude.{◌≡◌, ◌+◌, ◌<◌, ◌≤◌, ◌++◌, length, drop, map, IsErrOf, IsOk, IfOk, vec_len, vec_capacity};
 ghost use Rattle.ob_types.specs.Limits.{inline_settlements};
 ghost use Rattle.ob_types.specs.declared.promise.Outcome.TheVariants.{Failed};
-ghost use Rattle.ob_seq.specs.Inside.{waiting_count};
-ghost use Rattle.ob_seq.specs.Unsent.{ended};
+ghost use Rattle.ob_seq.specs.Unsent.{ended, waiting_count};
 ghost use Rattle.ob_seq.specs.Steps.Step.{Makes};
 ghost use Rattle.ob_seq.specs.Steps.Close.{closed_pending, closing_step, failures};
 ghost use Rattle.ob_seq.specs.Steps.Held.{unflushed_id};

@@ -1,7 +1,7 @@
-use Rattle.ob_seq.proofs.Words.{◌≡◌, ℕ, List, sym, ap, ◌∙◌, blocks_left, first_blocks, with_bytes, Command, Pending, StandsFor}
+use Rattle.ob_seq.proofs.Words.{◌≡◌, ℕ, List, ap, ◌∙◌, blocks_left, first_blocks, with_bytes, Command, Pending, StandsFor}
 use Rattle.std.specs.Prelude.{Result, Ok, Err, IfOk}
 use Rattle.ob_seq.specs.Gathering.{gathered_after}
-use Rattle.ob_seq.proofs.Simulating.BytesRemoved.{run_is}
+use Rattle.ob_seq.proofs.Inside.Looked.{gathered_is}
 use Rattle.ob_seq.proofs.buffer.Buffer.gather.Goals as goal
 
 -- what is gathered from all in line is what is gathered after the history
@@ -10,7 +10,7 @@ gathered_there : (held now : Pending) → held ≡ now → (limit most : ℕ) (c
     first_blocks limit most (with_bytes (blocks_left held.line)) ≡ gathered_after now.settings commands limit most
 gathered_there held now same limit most commands stands =
     ap (λ (one : Pending). first_blocks limit most (with_bytes (blocks_left one.line))) same
-    ∙ ap (λ run. first_blocks limit most (with_bytes run)) (sym (run_is now commands stands.leaves))
+    ∙ gathered_is now limit most commands stands.leaves
 
 -- what holds of a value holds of it if that follows
 if_ok : {A E : Type 0} {P Q : A → Type 0} (result : Result A E) → ((value : A) → P value → Q value) →
