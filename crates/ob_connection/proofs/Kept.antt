@@ -1,0 +1,142 @@
+-- What the steps refuse, settle and keep, over what is held.
+use Rattle.ob_connection.proofs.Words.{◌≡◌, refl, sym, ap, ◌∙◌, arith, nat_tests, ℕ, zero, suc, ◌+◌, ◌-◌, ◌<◌, ◌≤◌, List, [], ◌∷◌, ◌++◌, Bool}
+use Rattle.ob_connection.proofs.Words.{true, false, length, map, take, drop, ltb, not, Option, Some, None, change_between, Outcome}
+use Rattle.ob_connection.proofs.Words.{PromiseState, Pending, Unsent, whole, waiting_count, Past, held, Connected, accepted_writes}
+use Rattle.ob_connection.proofs.Words.{most_ids, connection_limit, if◌then◌else◌, Refusal, Ok, Err, ◌⊎◌, inl, inr}
+use Rattle.std.specs.Prelude.{nat_le}
+use Rattle.std.specs.Bool.{then_some}
+use Rattle.std.proofs.Common.{length-append, replicate}
+use Rattle.std.proofs.lemmas.List.{length-map, length-replicate}
+use Rattle.ob_types.specs.Limits.{greatest_progress}
+use Rattle.ob_types.specs.PendingSize.{counted_bytes, is_oversize, pending_size_of}
+use Rattle.ob_types.specs.declared.estimate.Estimate.{Estimate}
+use Rattle.ob_types.specs.declared.message.Message.{Message}
+use Rattle.ob_types.specs.declared.promise.Outcome.TheVariants.{Success}
+use Rattle.ob_types.specs.declared.promise.PromiseId.{PromiseId}
+use Rattle.ob_types.specs.declared.promise.PromiseState.TheVariants.{Settled, Waiting}
+use Rattle.ob_types.specs.declared.refusal.Refusal.TheVariants.{NothingFlushed, TooFar, BadIndex, FlushedLeft}
+use Rattle.ob_types.specs.declared.refusal.Refusal.TheVariants.{UnknownPromise, Oversize, TooMuch}
+use Rattle.ob_types.specs.declared.reply.Answer.TheVariants.{Yes}
+use Rattle.ob_seq.specs.Steps.Held.{first_progress, front_id}
+use Rattle.ob_seq.specs.Steps.Progress.{progress_step}
+use Rattle.ob_seq.specs.Steps.Remove.{front_removed, front_settlement, front_taken, removal_reply}
+use Rattle.ob_seq.specs.Steps.UserBit.{bit_step}
+use Rattle.ob_seq.specs.Steps.Write.{has_bytes_left, has_room_within, write_step_within, written}
+use Rattle.ob_seq.specs.Unsent.{pending_entry, unreached_entry}
+use Rattle.ob_seq.proofs.Inside.Rooms.{promises_there}
+use Rattle.ob_connection.specs.Replies.{settled_if}
+use Rattle.ob_connection.proofs.Making.{nothing_turned}
+
+-- as many promises as ids
+pub ids_are : {connection : Connected} (past : Past connection) →
+    length (held past).promises ≡ accepted_writes connection
+ids_are {connection} past =
+    promises_there past.outcomes connection.unsent ∙ ap (λ n. n + waiting_count connection.unsent) past.count
+
+-- equal words turn alike
+pub same_change : {before before' after after' : ℕ} → before ≡ before' → after ≡ after' →
+    change_between before after ≡ change_between before' after'
+same_change before after = cc
+
+-- progress with nothing in line, too far, and within the limit
+pub no_progress : (n : ℕ) (now : Pending) → length now.line ≡ 0 → (progress_step n now).refusal ≡ Some NothingFlushed
+no_progress n now none = grind (arith, nat_tests)
+
+pub too_far : (n : ℕ) (now : Pending) → 0 < length now.line →
+    nat_le (first_progress now.line + n) greatest_progress ≡ false → (progress_step n now).refusal ≡ Some TooFar
+too_far n now some far = grind (arith, nat_tests)
+
+pub near : (n : ℕ) (now : Pending) → 0 < length now.line →
+    nat_le (first_progress now.line + n) greatest_progress ≡ true → (progress_step n now).refusal ≡ None
+near n now some within = grind (arith, nat_tests)
+
+-- a user bit of no index, and of one
+pub no_index : (index : ℕ) (writable : Bool) (now : Pending) → (index ≤ 0) ⊎ (31 < index) →
+    (bit_step index writable now).refusal ≡ Some BadIndex
+no_index index writable now out = grind (arith, nat_tests)
+
+pub an_index : (index : ℕ) (writable : Bool) (now : Pending) → 0 < index → index ≤ 31 →
+    (bit_step index writable now).refusal ≡ None
+an_index index writable now some few = grind (arith, nat_tests)
+
+-- the size of a message, and none of one that is too large
+pub oversize_is : (estimate : Estimate) (message : Message) (refusal : Refusal) →
+    pending_size_of estimate message ≡ Err refusal → (is_oversize estimate message ≡ true) × (refusal ≡ Oversize)
+oversize_is estimate message refusal is = grind arith
+
+pub size_is : (estimate : Estimate) (message : Message) (size : ℕ) → pending_size_of estimate message ≡ Ok size →
+    (is_oversize estimate message ≡ false) × (size ≡ counted_bytes estimate message)
+size_is estimate message size is = grind arith
+
+-- a write for which there is no room, and one for which there is
+pub no_room : (size : ℕ) (now : Pending) → (length now.promises ≡ most_ids) ⊎ (has_bytes_left size now ≡ false) →
+    has_room_within connection_limit size now ≡ false
+no_room size now (inl full) = grind (arith, nat_tests)
+no_room size now (inr heavy) = rw heavy refl
+
+pub some_room : (size : ℕ) (now : Pending) → length now.promises < most_ids → has_bytes_left size now ≡ true →
+    has_room_within connection_limit size now ≡ true
+some_room size now few light = grind (arith, nat_tests)
+
+pub too_much : (message : Message) (now : Pending) (size : ℕ) → size ≡ counted_bytes now.settings.estimate message →
+    is_oversize now.settings.estimate message ≡ false → has_room_within connection_limit size now ≡ false →
+    (write_step_within connection_limit message now).refusal ≡ Some TooMuch
+too_much message now size is fits none = grind arith
+
+pub accepted : (message : Message) (now : Pending) (size : ℕ) → size ≡ counted_bytes now.settings.estimate message →
+    is_oversize now.settings.estimate message ≡ false → has_room_within connection_limit size now ≡ true →
+    (write_step_within connection_limit message now).refusal ≡ None
+accepted message now size is fits some = grind arith
+
+-- one message more waits after a write
+pub added_waiting : (old new : Unsent) (message : Message) (size : ℕ) →
+    whole [] new ≡ written (whole [] old) message size → waiting_count new ≡ waiting_count old + 1
+added_waiting old new message size is =
+    let same = ap (λ (one : Pending). length one.promises) is in
+    let more = length-append (whole [] old).promises (Waiting ∷ []) in
+    omega (arith, promises_there [] old, promises_there [] new)
+
+-- the promise of the front is that of the first message that waits
+pub front_id_there : {connection : Connected} (past : Past connection) → front_id (held past) ≡ connection.gone
+front_id_there {connection} past =
+    let all = promises_there past.outcomes connection.unsent in
+    let line = length-map connection.unsent.line pending_entry in
+    let fresh = length-map connection.unsent.unflushed unreached_entry in
+    omega (arith, past.count)
+
+-- a removal with nothing in line
+no_line : (now : Pending) → length now.line ≡ 0 → ltb 0 (length now.line) ≡ false
+no_line now none = grind (arith, nat_tests)
+
+some_line : (now : Pending) → 0 < length now.line → ltb 0 (length now.line) ≡ true
+some_line now some = grind (arith, nat_tests)
+
+pub nothing_replied : (outcome : Outcome) (now : Pending) → length now.line ≡ 0 →
+    record { answer = Yes false; settled = []; change = None } ≡ removal_reply outcome now
+nothing_replied outcome now none = rw (no_line now none, nothing_turned) refl
+
+pub nothing_removed : (outcome : Outcome) (now : Pending) → length now.line ≡ 0 → now ≡ front_removed outcome now
+nothing_removed outcome now none = rw (no_line now none) refl
+
+-- and with some
+pub front_replied : (outcome : Outcome) (now : Pending) → 0 < length now.line →
+    record {
+      answer = Yes true;
+      settled = front_settlement now outcome;
+      change = change_between now.word (front_taken true outcome now).word;
+    } ≡ removal_reply outcome now
+front_replied outcome now some = rw (some_line now some) refl
+
+pub front_is_removed : (outcome : Outcome) (now : Pending) → 0 < length now.line →
+    front_taken true outcome now ≡ front_removed outcome now
+front_is_removed outcome now some = rw (some_line now some) refl
+
+pub settled_front : (voided settles : Bool) (id : ℕ) (outcome : Outcome) → settles ≡ not voided →
+    settled_if (then_some settles (id, outcome)) ≡ (if voided then [] else (record { 0 = id }, outcome) ∷ [])
+settled_front true settles id outcome is = rw is refl
+settled_front false settles id outcome is = rw is refl
+
+-- some outcomes of what is gone
+pub some_past : (connection : Connected) → Past connection
+some_past connection =
+    record { outcomes = replicate connection.gone Success; count = length-replicate connection.gone Success }

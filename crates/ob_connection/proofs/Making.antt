@@ -1,0 +1,87 @@
+-- Steps that are refused, and steps that are taken.
+use Rattle.ob_connection.proofs.Words.{◌≡◌, refl, sym, subst, List, Bool, true, false, Some, None, Result, Ok, Err, Refusal, Closed}
+use Rattle.ob_connection.proofs.Words.{NoMemory, Reply, PromiseState, Pending, Step, Makes, Past, held, Steps, Connected, told_by}
+use Rattle.ob_connection.proofs.Words.{first_of_step, change_between, ℕ, Option, arith}
+
+-- what an open connection refuses is what its step refuses
+first_where_open : (old : Pending) (step : Step) (value : Option Refusal) → old.closed ≡ false → step.refusal ≡ value →
+    first_of_step old step ≡ value
+first_where_open old step value unclosed is = rw (unclosed, is) refl
+
+-- a step that is refused
+makes_refused : (old : Pending) (step : Step) (refusal : Refusal) → ¬ (refusal ≡ NoMemory) →
+    first_of_step old step ≡ Some refusal → Makes old step (Err refusal) old
+makes_refused old step refusal other is = record {
+  answer = λ wanted. rw is refl;
+  after = refl;
+  no_memory_last = λ wants. absurd (other (cc));
+}
+
+-- a step that wants memory, and is not refused else
+makes_wanting : (old : Pending) (step : Step) → old.closed ≡ false → step.refusal ≡ None →
+    Makes old step (Err NoMemory) old
+makes_wanting old step unclosed none = record {
+  answer = λ wanted. absurd (wanted refl);
+  after = refl;
+  no_memory_last = λ wants. rw (unclosed, none) refl;
+}
+
+-- a step that is taken
+makes_taken : (old : Pending) (step : Step) (reply : Reply) (new : Pending) → old.closed ≡ false → step.refusal ≡ None →
+    reply ≡ step.reply → new ≡ step.after → Makes old step (Ok reply) new
+makes_taken old step reply new unclosed none same after = record {
+  answer = λ wanted. rw (unclosed, none, same) refl;
+  after = after;
+  no_memory_last = λ wants. absurd (cc);
+}
+
+module _ {A : Type 0} (step : Pending → Step) (tell : List PromiseState → A → Reply) {inside old : Connected}
+    (view : inside ≡ old) where
+  -- a call is refused if the connection is closed
+  pub closed : inside.unsent.closed ≡ true → Steps step old tell (Err Closed) old
+  closed is = subst (λ one. Steps step one tell (Err Closed) one) view (λ past.
+      (past, makes_refused (held past) (step (held past)) Closed (λ same. absurd (cc)) (rw is refl)))
+
+  module _ (unclosed : inside.unsent.closed ≡ false) where
+    -- or if its step is
+    pub refused : (refusal : Refusal) → ¬ (refusal ≡ NoMemory) →
+        ((past : Past inside) → (step (held past)).refusal ≡ Some refusal) → Steps step old tell (Err refusal) old
+    refused refusal other is = subst (λ one. Steps step one tell (Err refusal) one) view (λ past. (
+      past,
+      makes_refused (held past) (step (held past)) refusal other
+          (first_where_open (held past) (step (held past)) (Some refusal) unclosed (is past)),
+    ))
+
+    -- it wants memory if nothing else refuses it
+    pub wanting : (new : Connected) → new ≡ inside → ((past : Past inside) → (step (held past)).refusal ≡ None) →
+        Steps step old tell (Err NoMemory) new
+    wanting new same none =
+        subst (λ one. Steps step one tell (Err NoMemory) new) view
+        (subst (λ one. Steps step inside tell (Err NoMemory) one) (sym same) (λ past.
+        (past, makes_wanting (held past) (step (held past)) unclosed (none past))))
+
+    -- and else it takes its step
+    pub taken : {new : Connected} (value : A) → ((past : Past inside) → (step (held past)).refusal ≡ None) →
+        ((past : Past inside) → tell (held past).promises value ≡ (step (held past)).reply) →
+        ((past : Past inside) → (after : Past new) × (held after ≡ (step (held past)).after)) →
+        Steps step old tell (Ok value) new
+    taken {new} value none same after = subst (λ one. Steps step one tell (Ok value) new) view (λ past.
+        let there = after past in (
+          there.0,
+          makes_taken (held past) (step (held past)) (tell (held past).promises value) (held there.0) unclosed
+              (none past) (same past) there.1,
+        ))
+
+    -- a step that leaves all as it is
+    pub unchanged : (value : A) → ((past : Past inside) → (step (held past)).refusal ≡ None) →
+        ((past : Past inside) → tell (held past).promises value ≡ (step (held past)).reply) →
+        ((past : Past inside) → held past ≡ (step (held past)).after) → Steps step old tell (Ok value) old
+    unchanged value none same after = subst (λ one. Steps step one tell (Ok value) one) view (λ past. (
+      past,
+      makes_taken (held past) (step (held past)) (tell (held past).promises value) (held past) unclosed (none past)
+          (same past) (after past),
+    ))
+
+-- a word that stays turns nothing
+pub nothing_turned : (word : ℕ) → change_between word word ≡ None
+nothing_turned word = grind arith

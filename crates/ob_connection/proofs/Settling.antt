@@ -1,0 +1,163 @@
+-- What messages settle that are taken away, as an interval of ids and as the model lists it.
+use Rattle.ob_connection.proofs.Words.{◌≡◌, refl, sym, ap, ◌∙◌, arith, ℕ, zero, suc, ◌+◌, ◌-◌, ◌<◌, ◌≤◌, List, [], ◌∷◌, ◌++◌, Bool}
+use Rattle.ob_connection.proofs.Words.{true, false, length, map, take, drop, ltb, Option, Outcome, PromiseState, Pending, Unsent}
+use Rattle.ob_connection.proofs.Words.{whole, waiting_count, Past, held, Connected, change_between, Some, None, Refusal, cond, nat_tests}
+use Rattle.std.proofs.lemmas.List.{drop_at, length-map, nil_from_length, take_all}
+use Rattle.ob_types.specs.Waiting.{is_waiting}
+use Rattle.ob_types.specs.declared.promise.Cause.{Cause}
+use Rattle.ob_types.specs.declared.promise.Outcome.TheVariants.{Cancelled, Failed}
+use Rattle.ob_types.specs.declared.promise.PromiseState.TheVariants.{Settled}
+use Rattle.ob_types.specs.declared.refusal.Refusal.TheVariants.{FlushedLeft, TooManyBytes, UnknownPromise}
+use Rattle.ob_types.specs.declared.reply.Answer.TheVariants.{Count}
+use Rattle.ob_types.specs.declared.reply.Change.{Change}
+use Rattle.ob_seq.specs.Entry.{blocks_left}
+use Rattle.ob_seq.specs.Pieces.{bytes_in}
+use Rattle.ob_seq.specs.Steps.Cancel.{cancel_step}
+use Rattle.ob_seq.specs.Steps.Close.{closing_step, failures}
+use Rattle.ob_seq.specs.Steps.Held.{front_id, promise_set, state_at, unflushed_id}
+use Rattle.ob_seq.specs.Steps.RemoveBytes.{bytes_step, cut_of, entry_settlements, whole_cut}
+use Rattle.ob_seq.specs.Unsent.{fixed_state, pending_entries, pending_entry, states_of, unreached_entry, waiting_state}
+use Rattle.ob_seq.specs.declared.contents.cut.Cut.{Cut}
+use Rattle.ob_seq.specs.declared.entry.Entry.{Entry}
+use Rattle.ob_seq.proofs.Inside.Rooms.{fresh_states, promises_there, waits_behind}
+use Rattle.ob_seq.proofs.Rows.Acceptance.{same_reply}
+use Rattle.ob_connection.specs.Replies.{cancelled_reply, settled_from, taken_reply}
+use Rattle.ob_connection.specs.declared.replies.Taken.{Taken}
+use Rattle.ob_connection.proofs.Kept.{front_id_there, ids_are}
+use Rattle.ob_connection.proofs.Making.{nothing_turned}
+
+-- the promises of the first so many entries in line settle what the entries do
+settled_entries : (outcome : Outcome) (id count : ℕ) (line : List Entry) (rest : List PromiseState) →
+    count ≤ length line →
+    settled_from outcome id (take count (map fixed_state line ++ rest))
+    ≡ entry_settlements outcome id (take count (pending_entries line))
+settled_entries outcome id zero line rest few = refl
+settled_entries outcome id (suc count) [] rest few = absurd (omega arith)
+settled_entries outcome id (suc count) (entry ∷ line) rest few =
+    let more = settled_entries outcome (suc id) count line rest (omega arith) in
+    grind arith
+
+-- the promises of what waits
+waiting_promises : {connection : Connected} (past : Past connection) →
+    drop connection.gone (held past).promises ≡ states_of connection.unsent
+waiting_promises {connection} past =
+    drop_at (map {A = Outcome} {B = PromiseState} (λ outcome. Settled outcome) past.outcomes)
+    (states_of connection.unsent) connection.gone (length-map past.outcomes (λ outcome. Settled outcome) ∙ past.count)
+
+-- what was taken away from this number on, up to another
+abbrev pub taken_between : ℕ → ℕ → Outcome → Option Change → Taken
+taken_between from to outcome change =
+    record { count = to - from; change = change; from = from; to = to; outcome = outcome }
+
+-- so many in line that were taken away are told as the model tells them
+pub line_replied : {connection : Connected} (past : Past connection) (to count : ℕ) (outcome : Outcome)
+    (change told : Option Change) → to ≡ connection.gone + count → count ≤ length connection.unsent.line →
+    change ≡ told →
+    taken_reply (held past).promises (taken_between connection.gone to outcome change)
+    ≡ record {
+      answer = Count count;
+      settled = entry_settlements outcome (front_id (held past)) (take count (held past).line);
+      change = told;
+    }
+line_replied {connection} past to count outcome change told end few same =
+    let size : to - connection.gone ≡ count = omega arith in
+    same_reply (ap Count size)
+    (ap (λ n. settled_from outcome connection.gone (take n (drop connection.gone (held past).promises))) size
+    ∙ ap (λ states. settled_from outcome connection.gone (take count states)) (waiting_promises past)
+    ∙ settled_entries outcome connection.gone count connection.unsent.line
+    (map waiting_state connection.unsent.unflushed) few
+    ∙ ap (λ id. entry_settlements outcome id (take count (pending_entries connection.unsent.line)))
+    (sym (front_id_there past)))
+    same
+
+-- the promises of unflushed entries settle as failed what a close does
+settled_failures : (cause : Cause) (id : ℕ) (unflushed : List Entry) →
+    settled_from (Failed cause) id (map waiting_state unflushed) ≡ failures cause id (map waiting_state unflushed)
+settled_failures cause id [] = refl
+settled_failures cause id (entry ∷ unflushed) = let more = settled_failures cause (suc id) unflushed in grind arith
+
+-- so a close tells them as the model does
+pub close_replied : {connection : Connected} (past : Past connection) (to : ℕ) (cause : Cause)
+    (change told : Option Change) → to ≡ connection.gone + length connection.unsent.unflushed →
+    length connection.unsent.line ≡ 0 → change ≡ told →
+    taken_reply (held past).promises (taken_between connection.gone to (Failed cause) change)
+    ≡ record {
+      answer = Count (length (held past).unflushed);
+      settled = failures cause (unflushed_id (held past)) (drop (unflushed_id (held past)) (held past).promises);
+      change = told;
+    }
+close_replied {connection} past to cause change told end empty same =
+    let fresh = connection.unsent.unflushed in
+    let size : to - connection.gone ≡ length fresh = omega arith in
+    let seen = length-map fresh unreached_entry in
+    let none : connection.unsent.line ≡ [] = nil_from_length connection.unsent.line empty in
+    let states = length-map fresh waiting_state in
+    let id : connection.gone ≡ unflushed_id (held past) =
+    omega (arith, promises_there past.outcomes connection.unsent, past.count, seen, empty) in
+    same_reply (ap Count (size ∙ sym seen))
+    (ap (λ n. settled_from (Failed cause) connection.gone (take n (drop connection.gone (held past).promises))) size
+    ∙ ap (λ all. settled_from (Failed cause) connection.gone (take (length fresh) all)) (waiting_promises past)
+    ∙ ap (λ (line : List Entry). settled_from (Failed cause) connection.gone
+    (take (length fresh) (map fixed_state line ++ map waiting_state fresh))) none
+    ∙ ap (settled_from (Failed cause) connection.gone) (take_all (length fresh) (map waiting_state fresh) (omega arith))
+    ∙ settled_failures cause connection.gone fresh
+    ∙ ap (failures cause connection.gone) (sym (fresh_states past.outcomes connection.unsent))
+    ∙ ap (λ n. failures cause n (drop (unflushed_id (held past)) (held past).promises)) id)
+    same
+
+-- a close with something in line, and with nothing
+pub flushed_left : (cause : Cause) (now : Pending) → 0 < length now.line →
+    (closing_step cause now).refusal ≡ Some FlushedLeft
+flushed_left cause now some = let test : ltb 0 (length now.line) ≡ true = grind (arith, nat_tests) in rw test refl
+
+pub none_left : (cause : Cause) (now : Pending) → length now.line ≡ 0 → (closing_step cause now).refusal ≡ None
+none_left cause now none = let test : ltb 0 (length now.line) ≡ false = grind (arith, nat_tests) in rw test refl
+
+by_test : (few : Bool) (one : Cut) → (let found : Option Cut = cond few None (Some one) in None ≡ found) →
+    (let refusal : Option Refusal = cond few (Some TooManyBytes) None in refusal ≡ Some TooManyBytes)
+by_test few one none = grind arith
+
+by_found : (few : Bool) (one cut : Cut) → (let found : Option Cut = cond few None (Some one) in Some cut ≡ found) →
+    (let refusal : Option Refusal = cond few (Some TooManyBytes) None in refusal ≡ None) × (cut ≡ one)
+by_found few one cut some = grind arith
+
+-- a removal of bytes that finds no cut, and one that does
+pub no_cut : (n : ℕ) (now : Pending) → None ≡ cut_of n (blocks_left now.line) →
+    (bytes_step n now).refusal ≡ Some TooManyBytes
+no_cut n now none = by_test (ltb (bytes_in (blocks_left now.line)) n) (whole_cut n (blocks_left now.line)) none
+
+pub a_cut : (n : ℕ) (now : Pending) (cut : Cut) → Some cut ≡ cut_of n (blocks_left now.line) →
+    ((bytes_step n now).refusal ≡ None) × (cut ≡ whole_cut n (blocks_left now.line))
+a_cut n now cut some = by_found (ltb (bytes_in (blocks_left now.line)) n) (whole_cut n (blocks_left now.line)) cut some
+
+-- a cancellation of an id that no write has, and of one that a write has
+pub unknown : (id : ℕ) (now : Pending) → length now.promises ≤ id → (cancel_step id now).refusal ≡ Some UnknownPromise
+unknown id now past = let test : ltb id (length now.promises) ≡ false = grind (arith, nat_tests) in rw test refl
+
+pub known : (id : ℕ) (now : Pending) → id < length now.promises → (cancel_step id now).refusal ≡ None
+known id now within = let test : ltb id (length now.promises) ≡ true = grind (arith, nat_tests) in rw test refl
+
+pub cancel_replied : (id : ℕ) (now : Pending) (waits : Bool) → waits ≡ is_waiting (state_at now id) →
+    cancelled_reply id now.promises waits ≡ (cancel_step id now).reply
+cancel_replied id now waits is = rw (is, nothing_turned) refl
+
+pub cancelled_in_time : (id : ℕ) (now : Pending) → is_waiting (state_at now id) ≡ true →
+    promise_set id (Settled Cancelled) now ≡ (cancel_step id now).after
+cancelled_in_time id now is = rw is refl
+
+pub cancelled_late : (id : ℕ) (now : Pending) → is_waiting (state_at now id) ≡ false →
+    now ≡ (cancel_step id now).after
+cancelled_late id now is = rw is refl
+
+by_waiting : (now waits : Bool) → now ≡ waits → (now ≡ true → ⊥) → waits ≡ false
+by_waiting now true same never = absurd (never same)
+by_waiting now false same never = refl
+
+-- what is gone waits no more
+pub gone_waits_not : {connection : Connected} (past : Past connection) (id : ℕ) → id < connection.gone →
+    is_waiting (state_at (held past) id) ≡ false
+gone_waits_not {connection} past id early =
+    by_waiting (is_waiting (state_at (held past) id)) (is_waiting (state_at (held past) id)) refl (λ waits.
+    let behind = waits_behind past.outcomes connection.unsent id waits
+    (ltb id (length past.outcomes + length connection.unsent.line)) refl in
+    omega (arith, past.count))

@@ -1,0 +1,26 @@
+-- The words that the proofs of this crate speak, passed on from one place. Declares nothing.
+pub use Rattle.std.proofs.Common.{◌≡◌, refl, sym, ap, ◌∙◌, subst, arith, ℕ, zero, suc, ◌+◌, ◌-◌, ◌<◌, ◌≤◌, List, [], ◌∷◌, ◌++◌}
+pub use Rattle.std.proofs.Common.{Bool, true, false, length, map, take, drop, ltb, cond, append_assoc, append-nil, not, inl, inr, ◌⊎◌}
+pub use Rattle.std.specs.Prelude.{Option, Some, None, Result, Ok, Err, is_ok, IsErrOf, OnErr, IfOk, if◌then◌else◌, ⊤}
+pub use Rattle.std.proofs.lemmas.Bool.Decides.{nat_tests}
+pub use Rattle.ob_types.specs.Change.{change_between}
+pub use Rattle.ob_types.specs.declared.command.Command.{Command}
+pub use Rattle.ob_types.specs.declared.promise.Outcome.{Outcome}
+pub use Rattle.ob_types.specs.declared.promise.PromiseState.{PromiseState}
+pub use Rattle.ob_types.specs.declared.refusal.Refusal.{Refusal}
+pub use Rattle.ob_types.specs.declared.refusal.Refusal.TheVariants.{Closed, NoMemory}
+pub use Rattle.ob_types.specs.declared.reply.Reply.{Reply}
+pub use Rattle.ob_seq.specs.Answer.{answer_within}
+pub use Rattle.ob_seq.specs.Leaves.{Leaves}
+pub use Rattle.ob_seq.specs.Pending.{Pending}
+pub use Rattle.ob_seq.specs.Settings.{Settings}
+pub use Rattle.ob_seq.specs.Steps.OfCommand.{step_within}
+pub use Rattle.ob_seq.specs.Steps.Step.{Step, Makes, answer_by, held_by, first_of_step}
+pub use Rattle.ob_seq.specs.Unsent.{whole, Unsent, waiting_count}
+pub use Rattle.ob_connection.specs.Becoming.{Past, held, Becomes, Steps, Moves}
+pub use Rattle.ob_connection.specs.Connected.{Connected, accepted_writes}
+pub use Rattle.ob_connection.specs.Inside.{connected_of}
+pub use Rattle.ob_connection.specs.Limit.{connection_limit, most_ids}
+pub use Rattle.ob_connection.specs.Obeying.{Answers, Follows, Obeys, commands_with, promises_after}
+pub use Rattle.ob_connection.specs.Replies.{told_by}
+pub use Rattle.ob_connection.specs.Standing.{StandsFor, Gives}

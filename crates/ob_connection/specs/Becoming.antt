@@ -1,0 +1,39 @@
+-- What a call does to a connection, step by step. No public clause cites this module.
+use Rattle.std.specs.Prelude.{◌≡◌, List, length, Result}
+use Rattle.ob_types.specs.declared.command.Command.{Command}
+use Rattle.ob_types.specs.declared.promise.Outcome.{Outcome}
+use Rattle.ob_types.specs.declared.promise.PromiseState.{PromiseState}
+use Rattle.ob_types.specs.declared.refusal.Refusal.{Refusal}
+use Rattle.ob_types.specs.declared.reply.Reply.{Reply}
+use Rattle.ob_seq.specs.Pending.{Pending}
+use Rattle.ob_seq.specs.Steps.OfCommand.{step_within}
+use Rattle.ob_seq.specs.Steps.Step.{Step, Makes}
+use Rattle.ob_seq.specs.Unsent.{whole}
+use Rattle.ob_connection.specs.Connected.{Connected}
+use Rattle.ob_connection.specs.Limit.{connection_limit}
+use Rattle.ob_connection.specs.Replies.{told_by}
+
+-- outcomes of as many messages as are gone
+pub record Past (connection : Connected) : Type 0 where
+  pub outcomes : List Outcome
+  pub count : length outcomes ≡ connection.gone
+
+-- what is held with these outcomes
+abbrev pub held : {connection : Connected} → Past connection → Pending
+held {connection = connection} past = whole past.outcomes connection.unsent
+
+-- whatever outcomes the messages had that were gone, with some for those that are gone now this step was taken
+abbrev pub Becomes : (Pending → Pending) → Connected → Connected → Type 0
+Becomes step old new = (past : Past old) → (after : Past new) × (held after ≡ step (held past))
+
+-- and with some for those that are gone now this step was made, and the result says what it replies
+abbrev pub Steps : {A : Type 0} → (Pending → Step) → Connected → (List PromiseState → A → Reply) → Result A Refusal →
+    Connected → Type 0
+Steps step old tell result new =
+    (past : Past old) → (after : Past new)
+    × Makes (held past) (step (held past)) (told_by (tell (held past).promises) result) (held after)
+
+-- the same of the step of a command
+abbrev pub Moves : {A : Type 0} → Connected → Command → (List PromiseState → A → Reply) → Result A Refusal →
+    Connected → Type 0
+Moves old command tell result new = Steps (step_within connection_limit command) old tell result new

@@ -1,0 +1,13 @@
+-- How a connection is kept. No public clause cites this module.
+use Rattle.std.specs.Prelude.{◌≤◌}
+use Rattle.ob_connection.specs.Connected.{Connected, accepted_writes}
+use Rattle.ob_connection.specs.Limit.{most_ids}
+use Rattle.ob_connection.specs.declared.inner.Inner.TheInside.{Inside}
+
+-- what a contract sees of what is kept
+abbrev pub connected_of : Inside → Connected
+connected_of inside = record { unsent = inside.contents; gone = inside.gone }
+
+-- ids stay within 64 bits
+abbrev pub HasIds : Inside → Type 0
+HasIds inside = accepted_writes (connected_of inside) ≤ most_ids

@@ -1,0 +1,60 @@
+ghost use Rattle.std.specs.Prelude.{◌≡◌, ◌≤◌, List, []};
+ghost use Rattle.ob_types.specs.Limits.{greatest_overhead, greatest_unknown};
+ghost use Rattle.ob_types.specs.declared.command.Command.{Command};
+ghost use Rattle.ob_connection.specs.Standing.{StandsFor};
+
+mod commands;
+mod looks;
+mod state;
+
+use crate::inner::Inner;
+use ob_types::{Estimate, WaterMark};
+use std::alloc::Global;
+use std::marker::Model;
+
+/// What a server has written to one connection and the socket has not yet taken (Netty's `ChannelOutboundBuffer`), for
+/// one thread, and without end.
+///
+/// It answers each call as `ob_seq::Buffer` answers the command, but for the limit on writes: ids are 64 bits, so 2^64 - 1
+/// writes are accepted. Its memory follows what waits. Only a write takes memory.
+#[derive(Debug, Drop)]
+pub struct Connection {
+    inner: Inner,
+}
+
+/// Each connection holds what some list of accepted commands leaves.
+impl Model for Connection {
+    ghost use Rattle.std.specs.Prelude.{List};
+    ghost use Rattle.ob_types.specs.declared.command.Command.{Command};
+    ghost use Rattle.ob_connection.specs.Connected.{Connected};
+    ghost use Rattle.ob_connection.specs.Standing.{StandsFor};
+
+    ghost Value = { Connected };
+
+    ghost view = { λ connection. connection.inner };
+
+    ghost invariant = { λ connection. (commands : List Command) × StandsFor connection.inner commands };
+}
+
+impl Connection {
+    /// A connection with nothing written, which takes no memory. The overhead and the size of unknown messages are at
+    /// most 65535 bytes.
+    pub fn new(alloc: Global, marks: WaterMark, estimate: Estimate) -> Connection
+        requires overhead { estimate.overhead ≤ greatest_overhead }
+        requires unknown { estimate.unknown ≤ greatest_unknown }
+        ensures settings { result.unsent.settings ≡ record { marks = marks; estimate = estimate } }
+        ensures stands { StandsFor result [] }
+    {
+        Connection {
+            inner: Inner::new(alloc, marks, estimate),
+        }
+    }
+
+    /// Each connection stands for some list of accepted commands, so what its calls promise is promised of some list. It
+    /// does nothing.
+    pub fn stands_for_some_commands(&self)
+        ensures { (commands : List Command) × StandsFor self.now commands }
+    {
+        let _inner = &self.inner;
+    }
+}

@@ -1,0 +1,69 @@
+//! The looks at the state of a connection.
+
+ghost use Rattle.ob_connection.specs.Looks.{Shows, Tells};
+ghost use Rattle.ob_connection.specs.Standing.{Gives};
+ghost use Rattle.ob_seq.specs.State.{writable_after, empty_after, closed_after};
+
+use crate::connection::Connection;
+use crate::look::Look;
+use crate::status::Status;
+use ob_types::PromiseState;
+
+impl Connection {
+    /// What is pending now. It changes nothing, takes the same few steps whatever is pending, and no memory.
+    pub fn look(&self) -> Look
+        ensures { Shows self.now result }
+    {
+        let contents = self.inner.contents();
+        Look {
+            total: contents.total(),
+            word: contents.word(),
+            size: contents.line_count() as u64,
+            before_unwritable: contents.before_unwritable(),
+            before_writable: contents.before_writable(),
+            current_progress: contents.current_progress(),
+        }
+    }
+
+    /// Whether writers may go on: whether neither the mark nor a user bit is set, so that the word is 0 (Netty's
+    /// `isWritable`). A close leaves it as it was. It takes no memory.
+    pub fn is_writable(&self) -> bool
+        ensures { Gives self.now writable_after result }
+    {
+        self.inner.contents().word() == 0
+    }
+
+    /// Whether no message is flushed and not yet removed, voided ones too (Netty's `isEmpty`). As in Netty, messages that
+    /// no flush has reached are not asked for. It takes no memory.
+    pub fn is_empty(&self) -> bool
+        ensures { Gives self.now empty_after result }
+    {
+        self.inner.contents().line_count() == 0
+    }
+
+    /// Whether a close was accepted: from then on each command is refused as `Closed`. It takes no memory.
+    pub fn is_closed(&self) -> bool
+        ensures { Gives self.now closed_after result }
+    {
+        self.inner.contents().is_closed()
+    }
+
+    /// What has become of a promise, or nothing if no write was accepted under the id. It takes the same few steps whatever
+    /// is pending, and no memory.
+    pub fn promise(&self, id: u64) -> Option<Status>
+        ensures { Tells self.now id result }
+    {
+        if id >= self.inner.accepted_writes() {
+            return None;
+        }
+        if id < self.inner.gone() {
+            return Some(Status::SettledBefore);
+        }
+        let place = (id - self.inner.gone()) as usize;
+        Some(match self.inner.contents().state_at(place) {
+            PromiseState::Waiting => Status::Waiting,
+            PromiseState::Fixed => Status::Fixed,
+            PromiseState::Settled(outcome) => Status::Settled(outcome),
+        })
+    }
+}

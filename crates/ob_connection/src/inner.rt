@@ -1,0 +1,90 @@
+ghost use Rattle.std.specs.Prelude.{◌≡◌, ◌≤◌, [], false};
+ghost use Rattle.ob_types.specs.Change.{change_between};
+ghost use Rattle.ob_types.specs.Limits.{greatest_overhead, greatest_unknown};
+ghost use Rattle.ob_connection.specs.Connected.{accepted_writes};
+ghost use Rattle.ob_connection.specs.Limit.{most_ids};
+
+mod bits;
+mod cancel;
+mod flush;
+mod remove;
+mod take;
+mod write;
+
+use ob_seq::Contents;
+use ob_types::{Change, Estimate, WaterMark};
+use std::alloc::Global;
+use std::marker::Model;
+
+/// What waits, and how many messages are gone. Its calls make the steps of `Connection`'s; between them it may stand for
+/// no list of commands.
+#[derive(Debug, Drop)]
+pub struct Inner {
+    contents: Contents,
+    gone: u64,
+}
+
+impl Model for Inner {
+    ghost use Rattle.ob_connection.specs.Connected.{Connected};
+
+    ghost Value = { Connected };
+
+    ghost use Rattle.ob_connection.specs.Inside.{connected_of, HasIds};
+
+    ghost view = { connected_of };
+
+    ghost invariant = { HasIds };
+}
+
+impl Inner {
+    /// As `Connection::new`.
+    pub fn new(alloc: Global, marks: WaterMark, estimate: Estimate) -> Inner
+        requires overhead { estimate.overhead ≤ greatest_overhead }
+        requires unknown { estimate.unknown ≤ greatest_unknown }
+        ensures { result ≡ record {
+          unsent = record {
+            settings = record { marks = marks; estimate = estimate };
+            marks = marks;
+            line = [];
+            unflushed = [];
+            word = 0;
+            closed = false;
+          };
+          gone = 0;
+        } }
+    {
+        Inner {
+            contents: Contents::new(alloc, marks, estimate),
+            gone: 0,
+        }
+    }
+
+    /// What waits.
+    pub fn contents(&self) -> &Contents
+        ensures { result.now ≡ self.now.unsent }
+    {
+        &self.contents
+    }
+
+    /// How many messages are gone, which is the promise of the first that waits.
+    pub fn gone(&self) -> u64
+        ensures { result ≡ self.now.gone }
+    {
+        self.gone
+    }
+
+    /// How many writes were accepted, which is the id of the next one.
+    pub fn accepted_writes(&self) -> u64
+        ensures count { result ≡ accepted_writes self.now }
+        ensures within { result ≤ most_ids }
+    {
+        self.gone + self.contents.count() as u64
+    }
+
+    /// The change of writability since the word was this one.
+    fn change_since(&self, before: u32) -> Option<Change>
+        ensures { result ≡ change_between before self.now.unsent.word }
+    {
+        Change::between(before, self.contents.word())
+    }
+}

@@ -1,0 +1,60 @@
+//! Calls that move no message: progress, user bits and marks.
+
+ghost use Rattle.std.specs.Prelude.{◌≡◌, OnErr, IsErrOf};
+ghost use Rattle.ob_types.specs.declared.command.Command.TheVariants.{Progress, UserBit, SetMarks};
+ghost use Rattle.ob_connection.specs.Becoming.{Moves};
+ghost use Rattle.ob_connection.specs.Replies.{bit_reply, done_reply};
+
+use crate::inner::Inner;
+use ob_types::{Change, Refusal, WaterMark};
+
+impl Inner {
+    /// The step of `Connection::progress`.
+    pub fn progress(&mut self, n: u64) -> Result<(), Refusal>
+        ensures moves { Moves self.old (Progress n) done_reply result self.new }
+        ensures refused { OnErr result (self.new ≡ self.old) }
+        ensures frugal { ¬ IsErrOf result Refusal.NoMemory }
+    {
+        if self.contents.is_closed() {
+            return Err(Refusal::Closed);
+        }
+        if self.contents.line_count() == 0 {
+            return Err(Refusal::NothingFlushed);
+        }
+        if !self.contents.has_progress_left(n) {
+            return Err(Refusal::TooFar);
+        }
+        self.contents.tell_front(n);
+        Ok(())
+    }
+
+    /// The step of `Connection::user_bit`.
+    pub fn user_bit(&mut self, index: u32, writable: bool) -> Result<Option<Change>, Refusal>
+        ensures moves { Moves self.old (UserBit index writable) bit_reply result self.new }
+        ensures refused { OnErr result (self.new ≡ self.old) }
+        ensures frugal { ¬ IsErrOf result Refusal.NoMemory }
+    {
+        if self.contents.is_closed() {
+            return Err(Refusal::Closed);
+        }
+        if index == 0 || index > 31 {
+            return Err(Refusal::BadIndex);
+        }
+        let before = self.contents.word();
+        self.contents.set_user_bit(index, writable);
+        Ok(self.change_since(before))
+    }
+
+    /// The step of `Connection::set_marks`.
+    pub fn set_marks(&mut self, marks: WaterMark) -> Result<(), Refusal>
+        ensures moves { Moves self.old (SetMarks marks) done_reply result self.new }
+        ensures refused { OnErr result (self.new ≡ self.old) }
+        ensures frugal { ¬ IsErrOf result Refusal.NoMemory }
+    {
+        if self.contents.is_closed() {
+            return Err(Refusal::Closed);
+        }
+        self.contents.set_marks(marks);
+        Ok(())
+    }
+}

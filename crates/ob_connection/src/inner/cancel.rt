@@ -1,0 +1,32 @@
+ghost use Rattle.std.specs.Prelude.{◌≡◌, OnErr, IsErrOf};
+ghost use Rattle.ob_types.specs.declared.command.Command.TheVariants.{Cancel};
+ghost use Rattle.ob_connection.specs.Becoming.{Moves};
+ghost use Rattle.ob_connection.specs.Replies.{cancelled_reply};
+
+use crate::inner::Inner;
+use ob_types::Refusal;
+
+impl Inner {
+    /// The step of `Connection::cancel`.
+    pub fn cancel(&mut self, id: u64) -> Result<bool, Refusal>
+        ensures moves { Moves self.old (Cancel (record { 0 = id })) (cancelled_reply id) result self.new }
+        ensures refused { OnErr result (self.new ≡ self.old) }
+        ensures frugal { ¬ IsErrOf result Refusal.NoMemory }
+    {
+        if self.contents.is_closed() {
+            return Err(Refusal::Closed);
+        }
+        if id >= self.accepted_writes() {
+            return Err(Refusal::UnknownPromise);
+        }
+        if id < self.gone {
+            return Ok(false);
+        }
+        let place = (id - self.gone) as usize;
+        let waits = self.contents.state_at(place).is_waiting();
+        if waits {
+            self.contents.take_back(place);
+        }
+        Ok(waits)
+    }
+}

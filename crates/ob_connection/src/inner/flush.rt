@@ -1,0 +1,28 @@
+ghost use Rattle.std.specs.Prelude.{◌≡◌, OnErr, IsErrOf};
+ghost use Rattle.ob_types.specs.declared.command.Command.TheVariants.{Flush};
+ghost use Rattle.ob_connection.specs.Becoming.{Moves};
+ghost use Rattle.ob_connection.specs.Replies.{flushed_reply};
+
+use crate::inner::Inner;
+use crate::replies::Flushed;
+use ob_types::Refusal;
+
+impl Inner {
+    /// The step of `Connection::flush`.
+    pub fn flush(&mut self) -> Result<Flushed, Refusal>
+        ensures moves { Moves self.old Flush flushed_reply result self.new }
+        ensures refused { OnErr result (self.new ≡ self.old) }
+        ensures frugal { ¬ IsErrOf result Refusal.NoMemory }
+    {
+        if self.contents.is_closed() {
+            return Err(Refusal::Closed);
+        }
+        let before = self.contents.word();
+        let count = self.contents.unflushed_count() as u64;
+        self.contents.flush_all();
+        Ok(Flushed {
+            count,
+            change: self.change_since(before),
+        })
+    }
+}

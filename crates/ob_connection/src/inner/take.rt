@@ -1,0 +1,113 @@
+//! Calls that take several messages away.
+
+ghost use Rattle.std.specs.Prelude.{◌≡◌, ◌<◌, ◌≤◌, ◌+◌, ◌-◌, length, OnErr, IsErrOf};
+ghost use Rattle.ob_types.specs.declared.command.Command.TheVariants.{RemoveBytes, FailFlushed, Close};
+ghost use Rattle.ob_types.specs.Change.{change_between};
+ghost use Rattle.ob_types.specs.declared.promise.Outcome.{Outcome};
+ghost use Rattle.ob_types.specs.declared.promise.Outcome.TheVariants.{Success, Failed};
+ghost use Rattle.ob_seq.specs.Steps.Held.{times};
+ghost use Rattle.ob_seq.specs.Steps.Remove.{front_taken};
+ghost use Rattle.ob_connection.specs.Becoming.{Becomes, Moves};
+ghost use Rattle.ob_connection.specs.Obeying.{IsNext};
+ghost use Rattle.ob_connection.specs.Replies.{taken_reply};
+
+use crate::inner::Inner;
+use crate::replies::Taken;
+use ob_types::{Cause, Outcome, Refusal};
+
+impl Inner {
+    /// The step of `Connection::take_sent`.
+    pub fn take_sent(&mut self, n: u64) -> Result<Taken, Refusal>
+        ensures moves { Moves self.old (RemoveBytes n) taken_reply result self.new }
+        ensures next { IsNext self.old Success result }
+        ensures refused { OnErr result (self.new ≡ self.old) }
+        ensures frugal { ¬ IsErrOf result Refusal.NoMemory }
+    {
+        if self.contents.is_closed() {
+            return Err(Refusal::Closed);
+        }
+        let Some(cut) = self.contents.find_cut(n) else {
+            return Err(Refusal::TooManyBytes);
+        };
+        let (before, from) = (self.contents.word(), self.gone);
+        self.take_first(cut.whole, true);
+        self.contents.skip_in_front(cut.rest);
+        Ok(self.taken_since(before, from, Outcome::Success))
+    }
+
+    /// The step of `Connection::fail_flushed`.
+    pub fn fail_flushed(&mut self, cause: Cause, notify: bool) -> Result<Taken, Refusal>
+        ensures moves { Moves self.old (FailFlushed cause notify) taken_reply result self.new }
+        ensures next { IsNext self.old (Failed cause) result }
+        ensures refused { OnErr result (self.new ≡ self.old) }
+        ensures frugal { ¬ IsErrOf result Refusal.NoMemory }
+    {
+        if self.contents.is_closed() {
+            return Err(Refusal::Closed);
+        }
+        let (before, from) = (self.contents.word(), self.gone);
+        let count = self.contents.line_count();
+        self.take_first(count, notify);
+        Ok(self.taken_since(before, from, Outcome::Failed(cause)))
+    }
+
+    /// The step of `Connection::close`.
+    pub fn close(&mut self, cause: Cause) -> Result<Taken, Refusal>
+        ensures moves { Moves self.old (Close cause) taken_reply result self.new }
+        ensures next { IsNext self.old (Failed cause) result }
+        ensures refused { OnErr result (self.new ≡ self.old) }
+        ensures frugal { ¬ IsErrOf result Refusal.NoMemory }
+    {
+        if self.contents.is_closed() {
+            return Err(Refusal::Closed);
+        }
+        if self.contents.line_count() > 0 {
+            return Err(Refusal::FlushedLeft);
+        }
+        let (before, from) = (self.contents.word(), self.gone);
+        self.gone = self.accepted_writes();
+        self.contents.shut();
+        Ok(self.taken_since(before, from, Outcome::Failed(cause)))
+    }
+
+    /// Takes the first so many in line away. Without notice the word stays.
+    fn take_first(&mut self, count: usize, notice: bool)
+        requires { count ≤ length self.old.unsent.line }
+        ensures becomes { (outcome : Outcome) → Becomes (times count (front_taken notice outcome)) self.old self.new }
+        ensures gone { self.new.gone ≡ self.old.gone + count }
+    {
+        for _ in 0..count {
+            self.take_front(notice);
+        }
+    }
+
+    /// Takes the first in line away. Without notice the word stays.
+    fn take_front(&mut self, notice: bool)
+        requires { 0 < length self.old.unsent.line }
+        ensures becomes { (outcome : Outcome) → Becomes (front_taken notice outcome) self.old self.new }
+        ensures gone { self.new.gone ≡ self.old.gone + 1 }
+    {
+        self.contents.take_front(notice);
+        self.gone += 1;
+    }
+
+    /// What was taken away since the word and the number of messages that were gone were these.
+    fn taken_since(&self, before: u32, from: u64, outcome: Outcome) -> Taken
+        requires { from ≤ self.now.gone }
+        ensures { result ≡ record {
+          count = self.now.gone - from;
+          change = change_between before self.now.unsent.word;
+          from = from;
+          to = self.now.gone;
+          outcome = outcome;
+        } }
+    {
+        Taken {
+            count: self.gone - from,
+            change: self.change_since(before),
+            from,
+            to: self.gone,
+            outcome,
+        }
+    }
+}

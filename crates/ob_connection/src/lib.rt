@@ -1,0 +1,14 @@
+//! An outbound buffer for servers: a connection that no number of writes ends. It answers as `ob_seq`'s buffer does, and
+//! keeps what waits and nothing of what is gone but its number.
+#![tactic(auto)]
+
+mod connection;
+mod inner;
+mod look;
+mod replies;
+mod status;
+
+pub use connection::Connection;
+pub use look::Look;
+pub use replies::{Flushed, Removed, Taken, Written};
+pub use status::Status;

@@ -1,0 +1,52 @@
+//! What the calls of a connection answer.
+
+use ob_types::{Change, Outcome};
+
+/// What an accepted write answers. It must be used: nothing tells the change again.
+#[must_use]
+#[derive(Clone, Copy, Debug, PartialEq, Eq)]
+pub struct Written {
+    /// The promise of the message: ids count the accepted writes from 0.
+    pub id: u64,
+    /// Whether the write took the connection from writable to unwritable.
+    pub change: Option<Change>,
+}
+
+/// What a flush answers.
+#[must_use]
+#[derive(Clone, Copy, Debug, PartialEq, Eq)]
+pub struct Flushed {
+    /// How many messages it let the transport have, voided ones too.
+    pub count: u64,
+    /// Whether it took the connection from unwritable to writable: voided messages count nothing any more.
+    pub change: Option<Change>,
+}
+
+/// What the removal of the first flushed message answers.
+#[must_use]
+#[derive(Clone, Copy, Debug, PartialEq, Eq)]
+pub struct Removed {
+    /// Whether a message was flushed. If none was, nothing changed.
+    pub any: bool,
+    /// The promise that it settled, and its outcome: that of the message, unless it was cancelled before.
+    pub settled: Option<(u64, Outcome)>,
+    /// Whether it took the connection from unwritable to writable.
+    pub change: Option<Change>,
+}
+
+/// What a call answers that takes several messages away. It settles each promise from `from` on and below `to` that was
+/// not settled before, so all but those whose cancellation came in time, in this order and with this outcome.
+#[must_use]
+#[derive(Clone, Copy, Debug, PartialEq, Eq)]
+pub struct Taken {
+    /// How many messages it took away, voided ones too: `to` less `from`.
+    pub count: u64,
+    /// Whether it changed writability.
+    pub change: Option<Change>,
+    /// The promise of the first message that it took away.
+    pub from: u64,
+    /// The promise behind that of the last one.
+    pub to: u64,
+    /// The outcome of the promises that it settled.
+    pub outcome: Outcome,
+}
