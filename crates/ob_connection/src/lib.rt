@@ -4,11 +4,13 @@
 
 mod connection;
 mod inner;
+mod laws;
 mod look;
 mod replies;
 mod status;
 
 pub use connection::Connection;
+pub use laws::the_limit_is_out_of_reach;
 pub use look::Look;
 pub use replies::{Flushed, Removed, Taken, Written};
 pub use status::Status;

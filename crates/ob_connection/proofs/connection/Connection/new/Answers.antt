@@ -1,17 +1,44 @@
-use Rattle.ob_connection.proofs.Words.{[], refl, sym}
+use Rattle.ob_connection.proofs.Words.{[], false, refl, sym, Connected}
+use Rattle.ob_types.specs.WaterMark.{Marks}
+use Rattle.ob_types.specs.declared.estimate.Estimate.{Estimate}
 use Rattle.ob_seq.proofs.Word.Marks.{word_at_start}
+use Rattle.ob_seq.specs.Settings.{Settings}
 use Rattle.ob_connection.specs.Standing.{StandsFor}
 use Rattle.ob_connection.proofs.connection.Connection.new.Goals as goal
 
+-- a connection at its opening
+abbrev opened : Settings → Connected
+opened settings = record {
+  unsent = record {
+    settings = settings;
+    marks = settings.marks;
+    line = [];
+    unflushed = [];
+    word = 0;
+    closed = false;
+  };
+  gone = 0;
+}
+
+-- it stands for no commands
+begins : (settings : Settings) → StandsFor (opened settings) []
+begins settings = record {
+  accepted = refl;
+  past = [];
+  forgotten = refl;
+  leaves = record {
+    closed = refl;
+    marks = refl;
+    line = refl;
+    unflushed = refl;
+    promises = refl;
+    word = sym (word_at_start settings);
+  };
+}
+
 pub returns-clause-stands : goal.returns-clause-stands
-returns-clause-stands c =
-    let word = sym (word_at_start (record { marks = c.args.marks; estimate = c.args.estimate })) in
-    rw (c.new.ensures) record {
-      accepted = refl;
-      past = [];
-      forgotten = refl;
-      leaves = record { closed = refl; marks = refl; line = refl; unflushed = refl; promises = refl; word = word };
-    }
+returns-clause-stands c = rw c.new.ensures (begins (record { marks = c.args.marks; estimate = c.args.estimate }))
 
 pub invariant_of-result : goal.invariant_of-result
-invariant_of-result c = ?
+invariant_of-result c =
+    ([], rw c.new.ensures (begins (record { marks = c.args.marks; estimate = c.args.estimate })))

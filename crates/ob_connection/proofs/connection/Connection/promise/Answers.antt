@@ -1,0 +1,109 @@
+use Rattle.ob_connection.proofs.Words.{◌≡◌, ◌<◌, ◌≤◌, ◌+◌, ◌-◌, ◌++◌, ◌∷◌, [], ℕ, zero, suc, List, Bool, true, false, length, map, ltb, arith}
+use Rattle.ob_connection.proofs.Words.{nat_tests, sym, ap, ◌∙◌, refl, whole, Some, None, Option, Unsent, Past, held, Connected}
+use Rattle.ob_connection.proofs.Words.{accepted_writes, Command, Outcome, PromiseState, Pending, Settings, Leaves}
+use Rattle.std.proofs.Common.{get_or}
+use Rattle.std.specs.Prelude.{slice_get}
+use Rattle.std.proofs.lemmas.Option.{slice_get-get_or, slice_get-map}
+use Rattle.ob_types.specs.declared.promise.PromiseState.TheVariants.{Waiting, Fixed, Settled}
+use Rattle.ob_seq.specs.Effect.{rows_after}
+use Rattle.ob_seq.specs.Looks.{promise_after}
+use Rattle.ob_seq.specs.Steps.Held.{state_at}
+use Rattle.ob_seq.proofs.Inside.Held.{promise_of}
+use Rattle.ob_connection.specs.Looks.{status_of}
+use Rattle.ob_connection.specs.declared.status.Status.{Status}
+use Rattle.ob_connection.specs.declared.status.Status.TheVariants.{SettledBefore}
+use Rattle.ob_connection.proofs.Kept.{ids_are}
+use Rattle.ob_connection.proofs.connection.Connection.promise.Goals as goal
+
+-- what is told of a promise goes by its state in what is held
+told : (gone id : ℕ) (now : Pending) (commands : List Command) → Leaves now commands → id < length now.promises →
+    status_of gone id (promise_after now.settings commands (record { 0 = id }))
+    ≡ status_of gone id (Some (state_at now id))
+told gone id now commands leaves within =
+    ap (status_of gone id) (sym (slice_get-map promise_of (rows_after now.settings.estimate commands) id)
+    ∙ ap (λ states. slice_get states id) (sym leaves.promises) ∙ slice_get-get_or now.promises id Waiting within)
+
+-- the promise of a message that is gone is settled
+gone_settled : (past : List Outcome) (rest : List PromiseState) (id : ℕ) → id < length past →
+    (outcome : Outcome) × (get_or (map Settled past ++ rest) id Waiting ≡ Settled outcome)
+gone_settled [] rest id early = absurd (omega arith)
+gone_settled (outcome ∷ past) rest zero early = (outcome, refl)
+gone_settled (outcome ∷ past) rest (suc id) early = gone_settled past rest id (omega arith)
+
+before : (gone id : ℕ) (state : PromiseState) (outcome : Outcome) → state ≡ Settled outcome → id < gone →
+    Some SettledBefore ≡ status_of gone id (Some state)
+before gone id state outcome is early =
+    let test : ltb id gone ≡ true = grind (arith, nat_tests) in
+    rw (is, test) refl
+
+-- one that is not is told by its state
+abbrev late_status : PromiseState → Status
+late_status Waiting = Rattle.ob_connection.specs.declared.status.Status.TheVariants.Waiting
+late_status Fixed = Rattle.ob_connection.specs.declared.status.Status.TheVariants.Fixed
+late_status (Settled outcome) = Rattle.ob_connection.specs.declared.status.Status.TheVariants.Settled outcome
+
+behind : (gone id : ℕ) → gone ≤ id → (state : PromiseState) →
+    Some (late_status state) ≡ status_of gone id (Some state)
+behind gone id late Waiting = refl
+behind gone id late Fixed = refl
+behind gone id late (Settled outcome) = let test : ltb id gone ≡ false = grind (arith, nat_tests) in rw test refl
+
+told_late : (inner : Connected) (past : Past inner) (commands : List Command) → Leaves (held past) commands →
+    (id place : ℕ) (state : PromiseState) → inner.gone ≤ id → id < length (held past).promises →
+    place ≡ id - inner.gone → state ≡ state_at (held past) (length past.outcomes + place) →
+    Some (late_status state)
+    ≡ status_of inner.gone id (promise_after inner.unsent.settings commands (record { 0 = id }))
+told_late inner past commands leaves id place state late within at is =
+    let here : length past.outcomes + place ≡ id = omega (arith, past.count) in
+    ap (λ one. Some (late_status one)) (is ∙ ap (state_at (held past)) here)
+    ∙ behind inner.gone id late (state_at (held past) id) ∙ sym (told inner.gone id (held past) commands leaves within)
+
+pub returns-then-id-gone : goal.returns-then-id-gone
+returns-then-id-gone c = rw (← c.self.view_is) (λ commands stands.
+    let past : Past c.self.inside.inner = record { outcomes = stands.past; count = stands.forgotten } in
+    let now = held past in
+    let early : c.args.id < c.self.inside.inner.gone = omega (arith, c.gone.ensures, c.if-id-gone.true) in
+    let within : c.args.id < length now.promises =
+    omega (arith, ids_are past, c.accepted_writes.ensures.count, c.if-id-accepted_writes.false) in
+    let settled = gone_settled stands.past _ c.args.id (omega (arith, early, stands.forgotten)) in
+    before c.self.inside.inner.gone c.args.id (state_at now c.args.id) settled.0 settled.1 early
+    ∙ sym (told c.self.inside.inner.gone c.args.id now commands stands.leaves within))
+
+pub returns-in-Waiting : goal.returns-in-Waiting
+returns-in-Waiting c = rw (← c.self.view_is) (λ commands stands.
+    let inner = c.self.inside.inner in
+    let past : Past inner = record { outcomes = stands.past; count = stands.forgotten } in
+    let place = c.args.id - c.gone-2.result in
+    ap (λ one. Some (late_status one)) (sym c.in-Waiting.is)
+    ∙ told_late inner past commands stands.leaves c.args.id place c.state_at.result
+    (omega (arith, c.gone.ensures, c.if-id-gone.false))
+    (omega (arith, ids_are past, c.accepted_writes.ensures.count, c.if-id-accepted_writes.false))
+    (ap (λ gone. c.args.id - gone) c.gone-2.ensures)
+    (c.state_at.ensures stands.past
+    ∙ ap (λ (one : Unsent). state_at (whole stands.past one) (length stands.past + place)) c.contents.ensures))
+
+pub returns-in-Fixed : goal.returns-in-Fixed
+returns-in-Fixed c = rw (← c.self.view_is) (λ commands stands.
+    let inner = c.self.inside.inner in
+    let past : Past inner = record { outcomes = stands.past; count = stands.forgotten } in
+    let place = c.args.id - c.gone-2.result in
+    ap (λ one. Some (late_status one)) (sym c.in-Fixed.is)
+    ∙ told_late inner past commands stands.leaves c.args.id place c.state_at.result
+    (omega (arith, c.gone.ensures, c.if-id-gone.false))
+    (omega (arith, ids_are past, c.accepted_writes.ensures.count, c.if-id-accepted_writes.false))
+    (ap (λ gone. c.args.id - gone) c.gone-2.ensures)
+    (c.state_at.ensures stands.past
+    ∙ ap (λ (one : Unsent). state_at (whole stands.past one) (length stands.past + place)) c.contents.ensures))
+
+pub returns-in-Settled : goal.returns-in-Settled
+returns-in-Settled c = rw (← c.self.view_is) (λ commands stands.
+    let inner = c.self.inside.inner in
+    let past : Past inner = record { outcomes = stands.past; count = stands.forgotten } in
+    let place = c.args.id - c.gone-2.result in
+    ap (λ one. Some (late_status one)) (sym c.in-Settled.is)
+    ∙ told_late inner past commands stands.leaves c.args.id place c.state_at.result
+    (omega (arith, c.gone.ensures, c.if-id-gone.false))
+    (omega (arith, ids_are past, c.accepted_writes.ensures.count, c.if-id-accepted_writes.false))
+    (ap (λ gone. c.args.id - gone) c.gone-2.ensures)
+    (c.state_at.ensures stands.past
+    ∙ ap (λ (one : Unsent). state_at (whole stands.past one) (length stands.past + place)) c.contents.ensures))

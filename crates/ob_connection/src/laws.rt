@@ -1,0 +1,21 @@
+//! What holds of the answers to every list of commands. The calls of a connection answer by the definitions that these
+//! laws speak of.
+
+ghost use Rattle.std.specs.Prelude.{◌≡◌, ◌<◌, List};
+ghost use Rattle.ob_types.specs.Limits.{most_writes};
+ghost use Rattle.ob_types.specs.declared.command.Command.{Command};
+ghost use Rattle.ob_seq.specs.Answer.{answer_to};
+ghost use Rattle.ob_seq.specs.Settings.{Settings};
+ghost use Rattle.ob_seq.specs.Writes.{writes_in};
+ghost use Rattle.ob_connection.specs.Limit.{answer_of_connection, answer_without_limit, most_ids};
+
+/// After fewer than 2^64 - 1 writes a connection answers each command as if there were no limit on writes, and after fewer
+/// than 1048576 it answers as a buffer does.
+pub fn the_limit_is_out_of_reach()
+    ensures unlimited { (settings : Settings) (commands : List Command) (command : Command) →
+        writes_in commands < most_ids
+        → answer_of_connection settings commands command ≡ answer_without_limit settings commands command }
+    ensures as_a_buffer { (settings : Settings) (commands : List Command) (command : Command) →
+        writes_in commands < most_writes
+        → answer_of_connection settings commands command ≡ answer_to settings commands command }
+{}
