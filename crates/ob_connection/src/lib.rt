@@ -8,6 +8,8 @@ mod laws;
 mod look;
 mod replies;
 mod status;
+#[cfg(test)]
+mod tests;
 
 pub use connection::Connection;
 pub use laws::the_limit_is_out_of_reach;
