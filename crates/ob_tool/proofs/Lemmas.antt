@@ -2,6 +2,8 @@
 pub mod Cli
 pub mod Drive
 pub mod Reading
+pub mod Results
 pub mod Run
+pub mod Summary
 pub mod Tracing
 pub mod Turns

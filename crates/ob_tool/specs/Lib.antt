@@ -3,5 +3,7 @@ pub mod Drive
 pub mod Outcome
 pub mod Reading
 pub mod Run
+pub mod Summary
+pub mod Traces
 pub mod Tracing
 pub mod Turns

@@ -31,6 +31,7 @@ use crate::reading::fault::LineFault;
 use crate::reading::script::read_script;
 use crate::script_fault::ScriptFault;
 use crate::tracing::interpret::MAX_READS;
+use crate::tracing::write::write_text;
 use ob_pool::{Config, OpenGate, Report, drive};
 use ob_transport::Limits;
 use std::alloc::Global;
@@ -146,8 +147,5 @@ fn write_report<W: Write>(alloc: Global, report: &Report, writer: &mut W) -> Res
 {
     let mut text = String::new(alloc);
     push_report(&mut text, report)?;
-    if writer.write_all(text.as_bytes()).is_err() || writer.flush().is_err() {
-        return Err(ScriptFault::Write);
-    }
-    Ok(())
+    write_text(&text, writer)
 }

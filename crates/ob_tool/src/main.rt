@@ -7,8 +7,10 @@ mod drive;
 mod reading;
 mod run;
 mod script_fault;
+mod summary;
 #[cfg(test)]
 mod tests;
+mod traces;
 mod tracing;
 mod turns;
 

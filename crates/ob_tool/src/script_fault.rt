@@ -6,8 +6,9 @@ use thiserror::Error;
 /// Why a run ended before the end of its script.
 #[derive(Clone, Copy, Debug, PartialEq, Eq, Error)]
 pub enum ScriptFault {
-    /// A line is faulty. The lines before it were carried out, and their trace was written; a drive did nothing.
-    #[error("line {line}: fault {}", .fault.number())]
+    /// A line is faulty. The lines before it were carried out, and their trace was written, or what is told of them; a
+    /// drive did nothing.
+    #[error("line {line}: fault {}{}", .fault.number(), .fault.words())]
     Line {
         /// The number of the line, from 1 on.
         line: u32,

@@ -4,4 +4,5 @@ mod faults;
 mod faulty_lines;
 mod play;
 mod stories;
+mod summaries;
 mod texts;

@@ -4,3 +4,4 @@ pub mod interpret;
 pub mod interpreter;
 pub mod text;
 pub mod trace;
+pub mod write;

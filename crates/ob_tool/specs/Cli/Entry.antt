@@ -34,12 +34,12 @@ WritesTraceOfFirst script old new = (request : Request) × (count : ℕ)
 
 -- what the program leaves, by the status with which it ends
 pub record Leaves {R : Type 0} (status : ℕ) (reader later : R) (had old new : Option (List ℕ)) : Type 0 where
-  -- status 0: the trace of a script without a fault, or the report of its drive
+  -- status 0: the trace of a script without a fault, the report of its drive, or what is told of a trace
   pub traced : status ≡ 0 → IfSome had (λ script. WritesWhole script None old new)
   -- status 1: the command line is refused, and nothing of the script is read
   pub refused : status ≡ 1 → Keeps old new
   pub unread : status ≡ 1 → later ≡ reader
-  -- status 2: the trace up to the faulty line, and nothing of a drive
+  -- status 2: the trace up to the faulty line, or what is told of the lines before it, and nothing of a drive
   pub cut_short : status ≡ 2 → IfSome had (λ script. (fault : ℕ × LineFault) × WritesWhole script (Some fault) old new)
   -- status 4: the trace of some first lines
   pub no_memory : status ≡ 4 → IfSome had (λ script. WritesTraceOfFirst script old new)

@@ -2,11 +2,7 @@
 use Rattle.std.specs.Prelude.{ℕ, List, [], ◌∷◌, ◌++◌, codes}
 use Rattle.std.specs.Fmt.{decimal}
 use Rattle.ob_pool.specs.declared.report.Report.{Report}
-use Rattle.ob_tool.specs.Tracing.Text.{eight_hex}
-
--- a line: its word, a space, and a number
-abbrev pub number_line : List ℕ → ℕ → List ℕ
-number_line word number = word ++ codes " " ++ decimal number ++ 10 ∷ []
+use Rattle.ob_tool.specs.Tracing.Text.{eight_hex, number_line}
 
 -- the lines of what the writers did
 abbrev pub commands_text : Report → List ℕ

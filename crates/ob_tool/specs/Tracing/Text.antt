@@ -1,5 +1,5 @@
 -- What the trace lines of several kinds of scripts show: numbers, words and changes.
-use Rattle.std.specs.Prelude.{ℕ, ◌^◌, ◌-◌, false, List, [], ◌++◌, codes, Option, None, Some}
+use Rattle.std.specs.Prelude.{ℕ, ◌^◌, ◌-◌, false, List, [], ◌∷◌, ◌++◌, codes, Option, None, Some}
 use Rattle.std.specs.Fmt.{decimal, digits, padded_integral, format_spec}
 use Rattle.ob_types.specs.declared.reply.Change.{Change}
 use Rattle.ob_types.specs.declared.reply.Change.TheVariants.{Unwritable, Writable}
@@ -21,3 +21,7 @@ abbrev pub change_text : Option Change → List ℕ
 change_text None = []
 change_text (Some Unwritable) = codes " -"
 change_text (Some Writable) = codes " +"
+
+-- a line of a report: its word, a space, and a number
+abbrev pub number_line : List ℕ → ℕ → List ℕ
+number_line word number = word ++ codes " " ++ decimal number ++ 10 ∷ []

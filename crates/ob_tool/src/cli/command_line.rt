@@ -60,6 +60,7 @@ fn request_of_subcommand(name: &str, given: &ArgMatches<'_>) -> Result<Request, 
             let task = given.get_one("task").unwrap_or(TASK);
             Ok(Request::Drive(options_of(given, task)?))
         }
+        "summary" => Ok(Request::Summary),
         // `clap` lets no other name through, but none of its clauses says so.
         _ => Err(EntryFault::NoSubcommand),
     }

@@ -11,6 +11,7 @@ use crate::cli::request::Request;
 use crate::drive::drive_script;
 use crate::run::run;
 use crate::script_fault::ScriptFault;
+use crate::summary::summary;
 use crate::turns::core;
 use std::convert::AsStr;
 use std::io::{Error, ErrorKind, Read, Write};
@@ -83,6 +84,7 @@ fn carry_out<H: AllocGlobal + Threads + Wait + Clock + Sync, R: Read, W: Write>(
         Request::Run(options) => run(rt.alloc(), reader, writer, options),
         Request::Core(marks) => core(rt.alloc(), reader, writer, marks),
         Request::Drive(options) => drive_script(rt, reader, writer, options),
+        Request::Summary => summary(rt.alloc(), reader, writer),
     }
 }
 

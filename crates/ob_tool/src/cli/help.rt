@@ -138,3 +138,26 @@ Faults of a drive, told as `drive: fault N`; standard output stays empty:
 ",
     ", 5 the drive"
 );
+
+/// What stands behind the options of `summary`.
+pub const SUMMARY: &str = "\
+The trace comes on standard input, as run or core wrote it, at most 16777216 bytes:
+  ob_tool summary < TRACE
+
+Standard output gets these lines; T stands for bytes, L for the number of a line, from 1 on:
+  lines N                   lines of the trace
+  accepted N                commands, or turns of lanes, that were accepted
+  refused N !R:N ..         those that were refused, and of each number R that occurs how many
+  peak T at line L          the most pending bytes, and the first line that shows them
+  stops N                   how often the buffer became unwritable (`-`)
+  goes N                    how often it became writable (`+`)
+  unwritable N from line L  the longest stretch of lines that show a word other than 00000000, the first of its length
+  pending T                 the pending bytes at the end
+  success N, failed N, cancelled N
+                            promises that were settled so, on a line each
+The numbers R are in the help of run and of core.
+
+A line that is of no trace is told as `line L: fault 8, a line of no trace`, and ends the trace: the lines before it are
+counted and told all the same. Faults, and help where it is asked for, go to standard error.
+Status: 0 done, 1 the command line (help too), 2 a line, 3 reading or writing, 4 memory
+What each fault means, what is kept then and what to do is in docs/FAULTS.md.";

@@ -10,4 +10,6 @@ pub enum Request {
     Core(WaterMark),
     /// A drive of the writers of a script.
     Drive(Options),
+    /// The summary of a trace.
+    Summary,
 }

@@ -38,7 +38,7 @@ enum NumberKind {
     Records,
 }
 
-static SUBCOMMANDS: [Subcommand; 3] = [
+static SUBCOMMANDS: [Subcommand; 4] = [
     Subcommand {
         name: "run",
         about: "Reads a script from standard input, and writes one line for each of its lines to standard output",
@@ -56,6 +56,12 @@ static SUBCOMMANDS: [Subcommand; 3] = [
         about: "Reads a script of writers from standard input, runs them in threads, and counts what came of it",
         help: help::DRIVE,
         options: &[LOW, HIGH, OVERHEAD, UNKNOWN, LIMIT, TASK],
+    },
+    Subcommand {
+        name: "summary",
+        about: "Reads a trace of run or of core from standard input, and counts what it shows",
+        help: help::SUMMARY,
+        options: &[],
     },
 ];
 

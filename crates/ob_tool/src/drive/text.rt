@@ -1,6 +1,7 @@
 ghost use Rattle.std.specs.Prelude.{◌≡◌, ◌++◌, OnOk, string_bytes};
-ghost use Rattle.ob_tool.specs.Drive.Text.{commands_text, hand_text, messages_text, number_line, report_text};
+ghost use Rattle.ob_tool.specs.Drive.Text.{commands_text, hand_text, messages_text, report_text};
 
+use crate::tracing::text::push_number_line;
 use ob_pool::Report;
 use std::alloc::AllocError;
 
@@ -17,22 +18,22 @@ pub fn push_report(text: &mut String, report: &Report) -> Result<(), AllocError>
 fn push_commands(text: &mut String, report: &Report) -> Result<(), AllocError>
     ensures { OnOk result (string_bytes text.new ≡ string_bytes text.old ++ commands_text report.now) }
 {
-    push_number(text, "writes", report.writes)?;
-    push_number(text, "flushes", report.flushes)?;
-    push_number(text, "cancels", report.cancels)?;
-    push_number(text, "bits", report.bits)?;
-    push_number(text, "refused", report.refused)
+    push_number_line(text, "writes", report.writes)?;
+    push_number_line(text, "flushes", report.flushes)?;
+    push_number_line(text, "cancels", report.cancels)?;
+    push_number_line(text, "bits", report.bits)?;
+    push_number_line(text, "refused", report.refused)
 }
 
 /// Adds the lines of what became of the messages.
 fn push_messages(text: &mut String, report: &Report) -> Result<(), AllocError>
     ensures { OnOk result (string_bytes text.new ≡ string_bytes text.old ++ messages_text report.now) }
 {
-    push_number(text, "taken", report.taken)?;
-    push_number(text, "success", report.success)?;
-    push_number(text, "failed", report.failed)?;
-    push_number(text, "cancelled", report.cancelled)?;
-    push_number(text, "left", report.left)
+    push_number_line(text, "taken", report.taken)?;
+    push_number_line(text, "success", report.success)?;
+    push_number_line(text, "failed", report.failed)?;
+    push_number_line(text, "cancelled", report.cancelled)?;
+    push_number_line(text, "left", report.left)
 }
 
 /// Adds the line of the words of the hand-off.
@@ -41,11 +42,4 @@ fn push_hand(text: &mut String, hand: (u64, u32)) -> Result<(), AllocError>
 {
     let (total, word) = hand;
     writeln!(text, "hand {total} {word:08x}")
-}
-
-/// Adds a line: a word, a space, and a number.
-fn push_number(text: &mut String, word: &str, number: u64) -> Result<(), AllocError>
-    ensures { OnOk result (string_bytes text.new ≡ string_bytes text.old ++ number_line word.now number) }
-{
-    writeln!(text, "{word} {number}")
 }

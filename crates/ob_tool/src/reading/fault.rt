@@ -17,15 +17,31 @@ pub enum LineFault {
     OutOfRange = 3,
     /// It stands where it may not, or does not go with the lines before it, or its numbers do not fit one another.
     Misplaced = 7,
+    /// It is a line of no trace, where a trace is read.
+    OfNoTrace = 8,
 }
 
 impl LineFault {
     ghost use Rattle.ob_tool.specs.Reading.Fault.{fault_number_of};
 
-    /// The number of the fault, 1 to 7, as the program tells it.
+    /// The number of the fault, 1 to 8, as the program tells it.
     pub fn number(self) -> u8
         ensures { result ≡ fault_number_of self }
     {
         self as u8
+    }
+
+    /// What the program tells behind the number.
+    pub fn words(self) -> &'static str {
+        match self {
+            LineFault::OfNoTrace => ", a line of no trace",
+            LineFault::LongLine
+            | LineFault::UnknownWord
+            | LineFault::TooFewWords
+            | LineFault::TooManyWords
+            | LineFault::NotANumber
+            | LineFault::OutOfRange
+            | LineFault::Misplaced => "",
+        }
     }
 }

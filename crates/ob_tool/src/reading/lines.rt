@@ -20,13 +20,14 @@ pub fn first_line(script: &[u8]) -> (&[u8], &[u8])
 pub fn first_word(piece: &[u8]) -> (&[u8], &[u8])
     ensures words { words_of piece.now ≡ result.0.now ∷ words_after result.1.now }
     ensures space { 0 < length result.1.now → slice_index result.1.now 0 ≡ 32 }
+    ensures within { length result.1.now ≤ length piece.now }
 {
     let end = index_or_len(piece, b' ');
     piece.split_at(end)
 }
 
 /// The place of the first such byte, or the number of bytes where there is none.
-fn index_or_len(bytes: &[u8], byte: u8) -> usize
+pub fn index_or_len(bytes: &[u8], byte: u8) -> usize
     ensures place { result ≡ position_or_len (λ b. b == byte) bytes.now }
     ensures within { result ≤ length bytes.now }
 {

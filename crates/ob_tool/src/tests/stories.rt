@@ -83,7 +83,7 @@ fn script_of(alloc: Global, lines: &str) -> Result<String, AllocError> {
 }
 
 /// What is left of a story. A report has several lines, parted by commas, and a fault is the last answer.
-fn left_of(alloc: Global, lines: &str) -> Result<String, AllocError> {
+pub fn left_of(alloc: Global, lines: &str) -> Result<String, AllocError> {
     let mut left = String::new(alloc);
     let mut status = 0;
     for line in lines.lines().filter(|line| !line.starts_with(':')) {

@@ -33,11 +33,13 @@ static REFUSED: &str = "\
 |ob_tool|ob_tool --low 1|ob_tool walk|ob_tool run more|ob_tool run --low|ob_tool run --low ten|ob_tool run --low -1\
 |ob_tool run --low 2147483648|ob_tool run --high 2147483648|ob_tool run --overhead 65536|ob_tool run --unknown 65536\
 |ob_tool run --limit 0|ob_tool run --limit 1048577|ob_tool run --task 1|ob_tool core --limit 3|ob_tool core --task 1\
-|ob_tool core --low 2147483648|ob_tool drive --task 65536|ob_tool drive --limit 0";
+|ob_tool core --low 2147483648|ob_tool drive --task 65536|ob_tool drive --limit 0|ob_tool summary --low 1\
+|ob_tool summary more";
 
 /// Command lines that ask for help or the version.
 static ASKING: &str = "\
-ob_tool --help|ob_tool run --help|ob_tool drive --help|ob_tool help|ob_tool help core|ob_tool --version";
+ob_tool --help|ob_tool run --help|ob_tool drive --help|ob_tool summary --help|ob_tool help|ob_tool help core|\
+ob_tool --version";
 
 /// A refusal is told as an error. Each text ends with one byte 10.
 #[test]
@@ -146,6 +148,22 @@ Faults, and help ..
 Status: 0 done, 1 the command line (help and the version too), 2 a line, 3 reading or writing, 4 memory, 5 the drive
 What each fault means, what is kept then and what to do is in docs/FAULTS.md.";
 
+static HELP_OF_SUMMARY: &str = "\
+status 1: Reads a trace of run or of core from standard input, and counts what it shows
+
+Usage: ob_tool summary
+
+Options:|  -h, --help  Print help
+
+The trace comes on standard input, ..|  ob_tool summary < TRACE
+
+Standard output gets these lines; ..|  lines N  ..|  accepted N  ..|  refused N !R:N ..  ..|  peak T at line L  ..
+  stops N  ..|  goes N  ..|  unwritable N from line L  ..|  pending T  ..|  success N, failed N, cancelled N
+                            promises ..|The numbers R are in the help of run and of core.
+
+A line that is of no trace is told as ..|counted and told ..
+Status: 0 done, 1 the command line (help too), 2 a line, 3 reading or writing, 4 memory|What each fault means, ..";
+
 /// Asks the program for help, and compares each line of it.
 fn tells_help<H: Host>(rt: &H, words: &str, wanted: &str) -> Result<(), Fail> {
     let help = told(rt, words)?;
@@ -167,7 +185,8 @@ fn tells_each_help(rt: HostRuntime) -> Result<(), Fail> {
     tells_help(&rt, "ob_tool run --help", HELP_OF_RUN)?;
     tells_help(&rt, "ob_tool run -h", HELP_OF_RUN)?;
     tells_help(&rt, "ob_tool core --help", HELP_OF_CORE)?;
-    tells_help(&rt, "ob_tool drive --help", HELP_OF_DRIVE)
+    tells_help(&rt, "ob_tool drive --help", HELP_OF_DRIVE)?;
+    tells_help(&rt, "ob_tool summary --help", HELP_OF_SUMMARY)
 }
 
 static FAULTS: &str = "\

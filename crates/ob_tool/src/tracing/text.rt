@@ -1,6 +1,6 @@
 ghost use Rattle.std.specs.Prelude.{◌≡◌, ◌<◌, ◌/◌, ◌%◌, ◌++◌, [], ◌∷◌, false, OnOk, string_bytes};
 ghost use Rattle.std.specs.Fmt.{decimal, digit_glyph};
-ghost use Rattle.ob_tool.specs.Tracing.Text.{change_text, eight_hex, word_text, words_text};
+ghost use Rattle.ob_tool.specs.Tracing.Text.{change_text, eight_hex, number_line, word_text, words_text};
 
 use ob_types::Change;
 use std::alloc::AllocError;
@@ -31,6 +31,13 @@ pub fn push_number(text: &mut String, number: u64) -> Result<(), AllocError>
     ensures { OnOk result (string_bytes text.new ≡ string_bytes text.old ++ decimal number) }
 {
     text.push_str(itoa::Buffer::new().format(number))
+}
+
+/// Adds a line of a report: a word, a space, and a number.
+pub fn push_number_line(text: &mut String, word: &str, number: u64) -> Result<(), AllocError>
+    ensures { OnOk result (string_bytes text.new ≡ string_bytes text.old ++ number_line word.now number) }
+{
+    writeln!(text, "{word} {number}")
 }
 
 /// Adds the change of writability, if there is one.

@@ -5,7 +5,8 @@ use Rattle.ob_transport.specs.declared.script.SinkStep.TheVariants.{Take, Fail}
 use Rattle.ob_types.specs.declared.command.Command.TheVariants.{Write, Flush, Cancel, UserBit, SetMarks}
 use Rattle.ob_types.specs.declared.message.Message.TheVariants.{Block, Region, Other}
 use Rattle.ob_tool.specs.Drive.Script.{drive_grammar, most_after, most_passes, plans_of, steps_of}
-use Rattle.ob_tool.specs.Drive.Text.{hand_text, number_line}
+use Rattle.ob_tool.specs.Drive.Text.{hand_text}
+use Rattle.ob_tool.specs.Tracing.Text.{number_line}
 use Rattle.ob_tool.specs.Reading.Script.{script_fault, script_lines}
 use Rattle.ob_tool.specs.declared.reading.fault.LineFault.TheVariants.{Misplaced, OutOfRange}
 

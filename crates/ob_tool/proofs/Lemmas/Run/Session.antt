@@ -1,15 +1,10 @@
 -- What a session does with one command.
-use Rattle.std.proofs.Common.{◌≡◌, ◌∙◌, ◌++◌, ℕ, List, [], ◌∷◌, refl, Result, Ok, Err, OnOk, ap, sym}
+use Rattle.std.proofs.Common.{◌≡◌, ◌∙◌, ◌++◌, ℕ, List, [], ◌∷◌, refl, ap, sym}
 use Rattle.ob_types.specs.declared.command.Command.{Command}
 use Rattle.ob_history.specs.History.{History}
 use Rattle.ob_tool.specs.Run.Script.{block_write, call_text, history_after_line, history_after_lines, line_trace}
 use Rattle.ob_tool.specs.declared.run.line.RunLine.{RunLine}
 use Rattle.ob_tool.specs.declared.run.line.RunLine.TheVariants.{Block}
-
--- a fact for one that is there follows from another
-pub OnOk-follows : {T E P Q : Type 0} (r : Result T E) → (P → Q) → OnOk r P → OnOk r Q
-OnOk-follows (Ok x) f p = f p
-OnOk-follows (Err e) f p = p
 
 -- the history after one line more
 pub history_after_lines-more : (history : History) (lines : List RunLine) (line : RunLine)

@@ -1,5 +1,5 @@
 use Rattle.std.proofs.Common.{◌∙◌, ◌++◌, ◌/◌, ◌%◌, ap, string_bytes, sym}
-use Rattle.ob_tool.proofs.Lemmas.Run.Session.{OnOk-follows}
+use Rattle.ob_tool.proofs.Lemmas.Results.{OnOk-follows}
 use Rattle.ob_tool.proofs.Lemmas.Tracing.Hex.{eight_hex-bytes, four_more, two_hex}
 use Rattle.ob_tool.proofs.tracing.text.push_eight_hex.Goals as goal
 

@@ -1,7 +1,8 @@
 use Rattle.std.proofs.Common.{◌∙◌, ◌++◌, ap, string_bytes}
 use Rattle.ob_history.specs.History.{History}
 use Rattle.ob_tool.specs.Run.Script.{call_text}
-use Rattle.ob_tool.proofs.Lemmas.Run.Session.{OnOk-follows, block-told}
+use Rattle.ob_tool.proofs.Lemmas.Results.{OnOk-follows}
+use Rattle.ob_tool.proofs.Lemmas.Run.Session.{block-told}
 use Rattle.ob_tool.proofs.run.session.RunSession.carry_out_line.Goals as goal
 
 pub returns-in_ok-command-in-Block-clause-text : goal.returns-in_ok-command-in-Block-clause-text

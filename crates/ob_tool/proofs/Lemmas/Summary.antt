@@ -1,0 +1,2 @@
+-- What a trace comes to.
+pub mod Lines

@@ -1,0 +1,5 @@
+-- What a trace comes to.
+pub mod Lines
+pub mod Summarizes
+pub mod Text
+pub mod Top
