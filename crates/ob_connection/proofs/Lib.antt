@@ -1,5 +1,6 @@
 pub mod Kept
 pub mod Making
 pub mod Obeyed
+pub mod Sending
 pub mod Settling
 pub mod Words

@@ -5,4 +5,5 @@ pub mod Limit
 pub mod Looks
 pub mod Obeying
 pub mod Replies
+pub mod Sending
 pub mod Standing

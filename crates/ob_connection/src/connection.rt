@@ -5,10 +5,12 @@ ghost use Rattle.ob_connection.specs.Standing.{StandsFor};
 
 mod commands;
 mod looks;
+mod sending;
 mod state;
 
 use crate::inner::Inner;
 use ob_types::{Estimate, WaterMark};
+pub use sending::{SendFault, Sent};
 use std::alloc::Global;
 use std::marker::Model;
 

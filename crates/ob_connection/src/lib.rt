@@ -7,12 +7,14 @@ mod inner;
 mod laws;
 mod look;
 mod replies;
+mod socket;
 mod status;
 #[cfg(test)]
 mod tests;
 
-pub use connection::Connection;
+pub use connection::{Connection, SendFault, Sent};
 pub use laws::the_limit_is_out_of_reach;
 pub use look::Look;
 pub use replies::{Flushed, Removed, Taken, Written};
+pub use socket::{Socket, SocketFault};
 pub use status::Status;

@@ -42,12 +42,24 @@ fn a_cancelled_message_leaves_with_the_one_before(rt: HostRuntime) -> Result<(),
     let mut connection = open(alloc)?;
     assert_eq!(rt; connection.write(four_bytes(alloc)?), written(0, None));
     assert_eq!(rt; connection.write(four_bytes(alloc)?), written(1, None));
-    assert_eq!(rt; connection.write(four_bytes(alloc)?), written(2, Some(Change::Unwritable)));
+    assert_eq!(rt;
+        connection.write(four_bytes(alloc)?),
+        written(2, Some(Change::Unwritable))
+    );
     assert_eq!(rt; connection.cancel(1), Ok(true));
     assert_eq!(rt; connection.cancel(1), Ok(false));
     assert_eq!(rt; connection.cancel(3), Err(Refusal::UnknownPromise));
-    assert_eq!(rt; connection.promise(1), Some(Status::Settled(Outcome::Cancelled)));
-    assert_eq!(rt; connection.flush(), Ok(Flushed { count: 3, change: None }));
+    assert_eq!(rt;
+        connection.promise(1),
+        Some(Status::Settled(Outcome::Cancelled))
+    );
+    assert_eq!(rt;
+        connection.flush(),
+        Ok(Flushed {
+            count: 3,
+            change: None
+        })
+    );
     assert_eq!(rt; connection.cancel(0), Ok(false));
     assert_eq!(rt; connection.look().total, 200);
     assert_eq!(rt; connection.take_sent(9), Err(Refusal::TooManyBytes));
@@ -79,7 +91,13 @@ fn a_close_tells_which_messages_it_failed(rt: HostRuntime) -> Result<(), Fail> {
     let alloc = rt.alloc();
     let mut connection = open(alloc)?;
     assert_eq!(rt; connection.write(four_bytes(alloc)?), written(0, None));
-    assert_eq!(rt; connection.flush(), Ok(Flushed { count: 1, change: None }));
+    assert_eq!(rt;
+        connection.flush(),
+        Ok(Flushed {
+            count: 1,
+            change: None
+        })
+    );
     assert_eq!(rt; connection.write(four_bytes(alloc)?), written(1, None));
     assert_eq!(rt; connection.close(Cause(7)), Err(Refusal::FlushedLeft));
     let failed = |from, to, cause| Taken {
@@ -89,7 +107,10 @@ fn a_close_tells_which_messages_it_failed(rt: HostRuntime) -> Result<(), Fail> {
         to,
         outcome: Outcome::Failed(Cause(cause)),
     };
-    assert_eq!(rt; connection.fail_flushed(Cause(6), true), Ok(failed(0, 1, 6)));
+    assert_eq!(rt;
+        connection.fail_flushed(Cause(6), true),
+        Ok(failed(0, 1, 6))
+    );
     assert_eq!(rt; connection.close(Cause(7)), Ok(failed(1, 2, 7)));
     assert_eq!(rt; connection.write(four_bytes(alloc)?), Err(Refusal::Closed));
     assert_eq!(rt; connection.promise(1), Some(Status::SettledBefore));

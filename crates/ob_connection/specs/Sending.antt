@@ -1,0 +1,35 @@
+-- What a connection sends at once.
+use Rattle.std.specs.List.{concat}
+use Rattle.std.specs.Prelude.{◌≡◌, ◌++◌, ℕ, not, List, take, true, false, Result, Ok, Err}
+use Rattle.ob_types.specs.declared.command.Command.TheVariants.{RemoveBytes}
+use Rattle.ob_types.specs.declared.promise.Outcome.TheVariants.{Success}
+use Rattle.ob_types.specs.declared.refusal.Refusal.{Refusal}
+use Rattle.ob_seq.specs.Gathering.{gathered_after}
+use Rattle.ob_seq.specs.State.{closed_after, empty_after}
+use Rattle.ob_connection.specs.Connected.{Connected}
+use Rattle.ob_connection.specs.Obeying.{IsNext, Obeys}
+use Rattle.ob_connection.specs.Replies.{taken_reply}
+use Rattle.ob_connection.specs.Standing.{Gives}
+use Rattle.ob_connection.specs.declared.connection.sending.SendFault.{SendFault}
+use Rattle.ob_connection.specs.declared.connection.sending.SendFault.TheVariants.{Closed, NoMemory, Broken}
+use Rattle.ob_connection.specs.declared.connection.sending.Sent.{Sent}
+use Rattle.ob_connection.specs.declared.replies.Taken.{Taken}
+
+-- what was sent are the first bytes of what is gathered, as many as are told; so many were taken away, which answers
+-- what is told; and it is told whether a flushed message is left
+pub record Sends (max_count max_bytes : ℕ) (old : Connected) (sent_before : List ℕ) (done : Sent) (new : Connected)
+    (sent_after : List ℕ) : Type 0 where
+  pub sent : Gives old
+      (λ settings commands.
+      sent_before ++ take done.bytes (concat (gathered_after settings commands max_count max_bytes))) sent_after
+  pub obeys : (let result : Result Taken Refusal = Ok done.taken in
+      Obeys old (RemoveBytes done.bytes) taken_reply result new)
+  pub next : (let result : Result Taken Refusal = Ok done.taken in IsNext old Success result)
+  pub more : Gives new (λ settings commands. not (empty_after settings commands)) done.more
+
+-- a connection that is closed sends nothing, and no other tells that it is
+abbrev pub EndsSending : Connected → Result Sent SendFault → Type 0
+EndsSending old (Ok done) = Gives old closed_after false
+EndsSending old (Err Closed) = Gives old closed_after true
+EndsSending old (Err NoMemory) = Gives old closed_after false
+EndsSending old (Err Broken) = Gives old closed_after false

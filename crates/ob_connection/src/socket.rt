@@ -1,0 +1,32 @@
+//! What a connection sends to.
+
+ghost use Rattle.std.specs.List.{concat};
+ghost use Rattle.std.specs.Prelude.{◌≡◌, ◌≤◌, ◌++◌, List, ℕ, length, take, IfOk, OnErr};
+
+use bytes::Bytes;
+use thiserror::Error;
+
+/// Why a socket took nothing.
+#[derive(Clone, Copy, Debug, PartialEq, Eq, Error)]
+pub enum SocketFault {
+    /// It has no room now: it is to be written to again when it is ready.
+    #[error("the socket has no room")]
+    Blocked,
+    /// It is broken: it takes nothing any more.
+    #[error("the socket is broken")]
+    Broken,
+}
+
+/// A socket that does not block.
+///
+/// A call takes a beginning of what it is given, which may be all of it or nothing. A call that fails takes nothing.
+pub trait Socket {
+    /// The bytes that it took so far.
+    ghost sent: { Self → List ℕ };
+
+    /// Writes pieces, one after another, and answers how many of their bytes were taken, from the front (`writev`).
+    fn write_vectored(&mut self, pieces: &[Bytes]) -> Result<usize, SocketFault>
+        ensures within { IfOk result (λ count. count ≤ length (concat pieces.now)) }
+        ensures taken { IfOk result (λ count. sent self.new ≡ sent self.old ++ take count (concat pieces.now)) }
+        ensures failed { OnErr result (sent self.new ≡ sent self.old) };
+}
