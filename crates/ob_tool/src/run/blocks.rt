@@ -47,7 +47,8 @@ impl Blocks {
         }
         match &self.counting {
             Some(bytes) => Ok(bytes),
-            None => Err(AllocError),
+            // it was made just now, if it was not there
+            None => unreachable!(),
         }
     }
 }
