@@ -1,4 +1,5 @@
 pub mod Cli
+pub mod Draw
 pub mod Drive
 pub mod Outcome
 pub mod Reading

@@ -3,6 +3,7 @@
 #![tactic(auto)]
 
 mod cli;
+mod draw;
 mod drive;
 mod reading;
 mod run;

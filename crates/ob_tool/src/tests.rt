@@ -2,6 +2,7 @@ mod doubles;
 mod drive_reading;
 mod faults;
 mod faulty_lines;
+mod pictures;
 mod play;
 mod stories;
 mod summaries;

@@ -7,6 +7,7 @@ use Rattle.ob_tool.specs.Drive.Script.{drive_grammar, plans_of}
 use Rattle.ob_tool.specs.Cli.Options.{first_history}
 use Rattle.ob_tool.specs.Run.Script.{run_grammar, run_language}
 use Rattle.ob_tool.specs.Reading.Script.{script_fault, script_lines}
+use Rattle.ob_tool.specs.Draw.Picture.{TellsPicture}
 use Rattle.ob_tool.specs.Summary.Text.{TellsSummary}
 use Rattle.ob_tool.specs.Traces.Line.{trace_grammar}
 use Rattle.ob_tool.specs.Traces.Telling.{WritesTold}
@@ -14,7 +15,7 @@ use Rattle.ob_tool.specs.Tracing.Trace.{trace_of, trace_of_first}
 use Rattle.ob_tool.specs.declared.reading.fault.LineFault.{LineFault}
 use Rattle.ob_tool.specs.declared.cli.options.Options.{Options}
 use Rattle.ob_tool.specs.declared.cli.request.Request.{Request}
-use Rattle.ob_tool.specs.declared.cli.request.Request.TheVariants.{Run, Core, Drive, Summary}
+use Rattle.ob_tool.specs.declared.cli.request.Request.TheVariants.{Run, Core, Drive, Summary, Draw}
 
 -- the fault that ends the script
 abbrev pub requested_fault : Request → List ℕ → Option (ℕ × LineFault)
@@ -22,6 +23,7 @@ requested_fault (Run options) script = script_fault run_grammar script
 requested_fault (Core marks) script = script_fault core_grammar script
 requested_fault (Drive options) script = script_fault drive_grammar script
 requested_fault Summary script = script_fault trace_grammar script
+requested_fault (Draw marks) script = script_fault trace_grammar script
 
 -- a drive writes its report and nothing else, and where a line is faulty it writes nothing
 abbrev pub WritesDrive : Options → List ℕ → Option (ℕ × LineFault) → Option (List ℕ) → Option (List ℕ) → Type 0
@@ -36,10 +38,12 @@ WritesRequested (Run options) script fault old new =
 WritesRequested (Core marks) script fault old new = Appends old new (trace_of (core_language marks) script)
 WritesRequested (Drive options) script fault old new = WritesDrive options script fault old new
 WritesRequested Summary script fault old new = WritesTold TellsSummary script old new
+WritesRequested (Draw marks) script fault old new = WritesTold (TellsPicture marks) script old new
 
--- the trace of the first lines, so many of those that are carried out; a drive and a summary have none
+-- the trace of the first lines, so many of those that are carried out; a drive, a summary and a picture have none
 abbrev pub requested_trace_of_first : ℕ → Request → List ℕ → List ℕ
 requested_trace_of_first count (Run options) script = trace_of_first count (run_language (first_history options)) script
 requested_trace_of_first count (Core marks) script = trace_of_first count (core_language marks) script
 requested_trace_of_first count (Drive options) script = []
 requested_trace_of_first count Summary script = []
+requested_trace_of_first count (Draw marks) script = []

@@ -61,6 +61,7 @@ fn request_of_subcommand(name: &str, given: &ArgMatches<'_>) -> Result<Request, 
             Ok(Request::Drive(options_of(given, task)?))
         }
         "summary" => Ok(Request::Summary),
+        "draw" => Ok(Request::Draw(given_marks(given)?)),
         // `clap` lets no other name through, but none of its clauses says so.
         _ => Err(EntryFault::NoSubcommand),
     }

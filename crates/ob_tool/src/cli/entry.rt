@@ -8,6 +8,7 @@ ghost use Rattle.ob_tool.specs.Cli.Entry.{Leaves, status_after};
 use crate::cli::command_line::request_of;
 use crate::cli::fault::EntryFault;
 use crate::cli::request::Request;
+use crate::draw::draw;
 use crate::drive::drive_script;
 use crate::run::run;
 use crate::script_fault::ScriptFault;
@@ -85,6 +86,7 @@ fn carry_out<H: AllocGlobal + Threads + Wait + Clock + Sync, R: Read, W: Write>(
         Request::Core(marks) => core(rt.alloc(), reader, writer, marks),
         Request::Drive(options) => drive_script(rt, reader, writer, options),
         Request::Summary => summary(rt.alloc(), reader, writer),
+        Request::Draw(marks) => draw(rt.alloc(), reader, writer, marks),
     }
 }
 

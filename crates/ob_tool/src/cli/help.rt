@@ -161,3 +161,17 @@ A line that is of no trace is told as `line L: fault 8, a line of no trace`, and
 counted and told all the same. Faults, and help where it is asked for, go to standard error.
 Status: 0 done, 1 the command line (help too), 2 a line, 3 reading or writing, 4 memory
 What each fault means, what is kept then and what to do is in docs/FAULTS.md.";
+
+/// What stands behind the options of `draw`.
+pub const DRAW: &str = "\
+The trace comes on standard input, as run or core wrote it, at most 16777216 bytes; the marks are those of that run:
+  ob_tool draw --low 200 --high 400 < TRACE > PICTURE.svg
+
+The picture has the pending bytes over the lines of the trace, and both marks. The stretches in which writers are
+stopped are shaded; a triangle that points down marks the line that told them to stop, one that points up the line that
+told them to go on. A line that shows no bytes, as `lane 0`, is passed over.
+
+A line that is of no trace is told as `line L: fault 8, a line of no trace`, and ends the trace: the lines before it are
+drawn all the same. Faults, and help where it is asked for, go to standard error.
+Status: 0 done, 1 the command line (help too), 2 a line, 3 reading or writing, 4 memory
+What each fault means, what is kept then and what to do is in docs/FAULTS.md.";

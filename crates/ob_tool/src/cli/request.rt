@@ -12,4 +12,6 @@ pub enum Request {
     Drive(Options),
     /// The summary of a trace.
     Summary,
+    /// The picture of a trace, against these marks.
+    Draw(WaterMark),
 }

@@ -38,7 +38,7 @@ enum NumberKind {
     Records,
 }
 
-static SUBCOMMANDS: [Subcommand; 4] = [
+static SUBCOMMANDS: [Subcommand; 5] = [
     Subcommand {
         name: "run",
         about: "Reads a script from standard input, and writes one line for each of its lines to standard output",
@@ -62,6 +62,12 @@ static SUBCOMMANDS: [Subcommand; 4] = [
         about: "Reads a trace of run or of core from standard input, and counts what it shows",
         help: help::SUMMARY,
         options: &[],
+    },
+    Subcommand {
+        name: "draw",
+        about: "Reads a trace of run or of core from standard input, and draws it as a picture, an SVG",
+        help: help::DRAW,
+        options: &[LOW, HIGH],
     },
 ];
 

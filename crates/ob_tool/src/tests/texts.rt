@@ -13,10 +13,11 @@ fn told<H: Host>(rt: &H, words: &str) -> Result<String, Fail> {
     Ok(told)
 }
 
-static WHOLE: [(&str, &str); 4] = [
+static WHOLE: [(&str, &str); 5] = [
     ("ob_tool run --low 5 --high 4", "status 1: bad marks\n"),
     ("ob_tool core --low 5 --high 4", "status 1: bad marks\n"),
     ("ob_tool drive --low 5 --high 4", "status 1: bad marks\n"),
+    ("ob_tool draw --low 5 --high 4", "status 1: bad marks\n"),
     ("ob_tool --version", "status 1: ob_tool 0.1.0\n"),
 ];
 
@@ -34,7 +35,7 @@ static REFUSED: &str = "\
 |ob_tool run --low 2147483648|ob_tool run --high 2147483648|ob_tool run --overhead 65536|ob_tool run --unknown 65536\
 |ob_tool run --limit 0|ob_tool run --limit 1048577|ob_tool run --task 1|ob_tool core --limit 3|ob_tool core --task 1\
 |ob_tool core --low 2147483648|ob_tool drive --task 65536|ob_tool drive --limit 0|ob_tool summary --low 1\
-|ob_tool summary more";
+|ob_tool summary more|ob_tool draw --limit 3|ob_tool draw --high 2147483648";
 
 /// Command lines that ask for help or the version.
 static ASKING: &str = "\
@@ -164,6 +165,20 @@ Standard output gets these lines; ..|  lines N  ..|  accepted N  ..|  refused N 
 A line that is of no trace is told as ..|counted and told ..
 Status: 0 done, 1 the command line (help too), 2 a line, 3 reading or writing, 4 memory|What each fault means, ..";
 
+static HELP_OF_DRAW: &str = "\
+status 1: Reads a trace of run or of core from standard input, and draws it as a picture, an SVG
+
+Usage: ob_tool draw [OPTIONS]
+
+Options:|      --low <BYTES>   Writers may ..|      --high <BYTES>  Writers should ..|  -h, --help          Print help
+
+The trace comes on standard input, ..|  ob_tool draw --low 200 --high 400 < TRACE > PICTURE.svg
+
+The picture has ..|stopped are shaded; ..|told them to go on. ..
+
+A line that is of no trace is told as ..|drawn all the same. ..
+Status: 0 done, 1 the command line (help too), 2 a line, 3 reading or writing, 4 memory|What each fault means, ..";
+
 /// Asks the program for help, and compares each line of it.
 fn tells_help<H: Host>(rt: &H, words: &str, wanted: &str) -> Result<(), Fail> {
     let help = told(rt, words)?;
@@ -186,7 +201,8 @@ fn tells_each_help(rt: HostRuntime) -> Result<(), Fail> {
     tells_help(&rt, "ob_tool run -h", HELP_OF_RUN)?;
     tells_help(&rt, "ob_tool core --help", HELP_OF_CORE)?;
     tells_help(&rt, "ob_tool drive --help", HELP_OF_DRIVE)?;
-    tells_help(&rt, "ob_tool summary --help", HELP_OF_SUMMARY)
+    tells_help(&rt, "ob_tool summary --help", HELP_OF_SUMMARY)?;
+    tells_help(&rt, "ob_tool draw --help", HELP_OF_DRAW)
 }
 
 static FAULTS: &str = "\

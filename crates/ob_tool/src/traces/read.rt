@@ -54,7 +54,7 @@ fn is_bare(line: &[u8]) -> bool
 }
 
 /// A line that shows no bytes and no word.
-fn bare_line() -> TraceLine
+pub fn bare_line() -> TraceLine
     ensures { result ≡ bare }
 {
     TraceLine {

@@ -8,7 +8,7 @@ use Rattle.std.proofs.lemmas.Bool.{cases_Bool, cases_lt, lt-ltb, eqb-true}
 use Rattle.ob_tool.specs.Reading.Lines.{lines_of, words_of, words_after}
 
 -- where no byte is found, the place is the end
-pub position-None : (p : ℕ → Bool) (s : List ℕ) → position p s ≡ None → length s ≡ position_or_len p s
+pub position-None : {X : Type 0} (p : X → Bool) (s : List X) → position p s ≡ None → length s ≡ position_or_len p s
 position-None p s e = elim (cases_lt (position_or_len p s) (length s)) [
   | inl h ↦ let t = lt-ltb _ _ h in let same : Some (position_or_len p s) ≡ None = (rw t at e) in cc
   | inr h ↦ let le = prefix_len-le-length (λ x. not (p x)) s in omega arith

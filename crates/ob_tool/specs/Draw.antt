@@ -1,0 +1,6 @@
+-- The picture of a trace.
+pub mod Numbers
+pub mod Picture
+pub mod Piece
+pub mod Point
+pub mod Scale
