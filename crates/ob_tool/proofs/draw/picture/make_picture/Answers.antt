@@ -1,4 +1,4 @@
-use Rattle.std.proofs.Common.{◌≡◌, ◌∙◌, ◌++◌, ap}
+use Rattle.std.proofs.Common.{◌∙◌, ◌++◌, ap}
 use Rattle.ob_tool.specs.Draw.Picture.{before_pieces, behind_pieces, drawn_pieces}
 use Rattle.ob_tool.specs.Draw.Scale.{scale_of}
 use Rattle.ob_tool.proofs.draw.picture.make_picture.Goals as goal
