@@ -1,4 +1,4 @@
--- What one call does to what a buffer holds, step by step. No public clause cites these modules.
+-- What one call does to what a buffer holds, step by step. Of public clauses those of `Contents` cite them.
 pub mod Step
 pub mod Word
 pub mod Held

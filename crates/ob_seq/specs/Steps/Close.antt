@@ -1,4 +1,4 @@
--- A close as a step. No public clause cites this module.
+-- A close as a step. Of public clauses those of `Contents` cite it.
 use Rattle.std.specs.Prelude.{ℕ, map, true, List, [], ◌∷◌, ◌++◌, length, drop, nat_lt, if◌then◌else◌, suc, take, Some}
 use Rattle.std.specs.Prelude.{None}
 use Rattle.ob_types.specs.Change.{change_between}

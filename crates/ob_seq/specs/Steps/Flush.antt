@@ -1,4 +1,4 @@
--- A flush as a step. No public clause cites this module.
+-- A flush as a step. Of public clauses those of `Contents` cite it.
 use Rattle.std.specs.Prelude.{◌-◌, Bool, true, false, List, [], ◌∷◌, ◌++◌, length, drop, slice_set, if◌then◌else◌}
 use Rattle.std.specs.Prelude.{slice_index_or, None}
 use Rattle.ob_types.specs.Change.{change_between}

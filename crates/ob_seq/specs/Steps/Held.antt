@@ -1,4 +1,4 @@
--- Words of what a buffer holds, that several steps speak. No public clause cites this module.
+-- Words of what a buffer holds, that several steps speak. Of public clauses those of `Contents` cite it.
 use Rattle.std.specs.Prelude.{ℕ, ◌+◌, ◌-◌, Bool, false, List, [], ◌∷◌, length, sum_by, slice_set, zero, suc}
 use Rattle.std.specs.Prelude.{slice_index_or}
 use Rattle.ob_types.specs.declared.promise.PromiseState.TheVariants.{Waiting}

@@ -1,4 +1,4 @@
--- Progress as a step. No public clause cites this module.
+-- Progress as a step. Of public clauses those of `Contents` cite it.
 use Rattle.std.specs.Prelude.{ℕ, ◌+◌, [], length, nat_le, nat_lt, if◌then◌else◌, Some, None}
 use Rattle.ob_types.specs.Change.{change_between}
 use Rattle.ob_types.specs.Limits.{greatest_progress}

@@ -1,4 +1,4 @@
--- A removal of the front as a step. No public clause cites this module.
+-- A removal of the front as a step. Of public clauses those of `Contents` cite it.
 use Rattle.std.specs.Prelude.{◌-◌, Bool, true, List, [], ◌∷◌, length, drop, slice_set, nat_lt, if◌then◌else◌, None}
 use Rattle.ob_types.specs.Change.{change_between}
 use Rattle.ob_types.specs.declared.promise.Outcome.{Outcome}

@@ -1,4 +1,4 @@
--- A removal of bytes as a step. No public clause cites this module.
+-- A removal of bytes as a step. Of public clauses those of `Contents` cite it.
 use Rattle.std.specs.Prelude.{ℕ, ◌+◌, ◌-◌, true, List, [], ◌∷◌, ◌++◌, length, nat_lt, if◌then◌else◌, suc, take, min}
 use Rattle.std.specs.Prelude.{Option, Some, None}
 use Rattle.ob_types.specs.Change.{change_between}

@@ -1,4 +1,4 @@
--- A change of a user bit as a step. No public clause cites this module.
+-- A change of a user bit as a step. Of public clauses those of `Contents` cite it.
 use Rattle.std.specs.Prelude.{ℕ, ◌^◌, bit_and, bit_or, Bool, [], if◌then◌else◌, Some, None}
 use Rattle.std.specs.Int.{bit_not, w32}
 use Rattle.ob_types.specs.Change.{change_between}

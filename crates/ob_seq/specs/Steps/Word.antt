@@ -1,4 +1,4 @@
--- The word as bytes rise and fall. No public clause cites this module.
+-- The word as bytes rise and fall. Of public clauses those of `Contents` cite it.
 use Rattle.std.specs.Prelude.{ℕ, ◌+◌, ◌*◌, ◌/◌, ◌&&◌, Bool, true, false, nat_lt, if◌then◌else◌}
 use Rattle.ob_types.specs.WaterMark.{Marks}
 use Rattle.ob_seq.specs.Word.{bit_value}
