@@ -1,7 +1,7 @@
 -- What the steps refuse, settle and keep, over what is held.
-use Rattle.ob_connection.proofs.Words.{◌≡◌, refl, sym, ap, ◌∙◌, arith, nat_tests, ℕ, zero, suc, ◌+◌, ◌-◌, ◌<◌, ◌≤◌, List, [], ◌∷◌, ◌++◌, Bool}
-use Rattle.ob_connection.proofs.Words.{true, false, length, map, take, drop, ltb, not, Option, Some, None, change_between, Outcome}
-use Rattle.ob_connection.proofs.Words.{PromiseState, Pending, Unsent, whole, waiting_count, Past, held, Connected, accepted_writes}
+use Rattle.ob_connection.proofs.Words.{◌≡◌, refl, ap, ◌∙◌, arith, nat_tests, ℕ, ◌+◌, ◌<◌, ◌≤◌, [], ◌∷◌, Bool}
+use Rattle.ob_connection.proofs.Words.{true, false, length, ltb, not, Some, None, change_between, Outcome}
+use Rattle.ob_connection.proofs.Words.{Pending, Unsent, whole, waiting_count, Past, held, Connected, accepted_writes}
 use Rattle.ob_connection.proofs.Words.{most_ids, connection_limit, if◌then◌else◌, Refusal, Ok, Err, ◌⊎◌, inl, inr}
 use Rattle.std.specs.Prelude.{nat_le}
 use Rattle.std.specs.Bool.{then_some}
@@ -12,10 +12,9 @@ use Rattle.ob_types.specs.PendingSize.{counted_bytes, is_oversize, pending_size_
 use Rattle.ob_types.specs.declared.estimate.Estimate.{Estimate}
 use Rattle.ob_types.specs.declared.message.Message.{Message}
 use Rattle.ob_types.specs.declared.promise.Outcome.TheVariants.{Success}
-use Rattle.ob_types.specs.declared.promise.PromiseId.{PromiseId}
-use Rattle.ob_types.specs.declared.promise.PromiseState.TheVariants.{Settled, Waiting}
-use Rattle.ob_types.specs.declared.refusal.Refusal.TheVariants.{NothingFlushed, TooFar, BadIndex, FlushedLeft}
-use Rattle.ob_types.specs.declared.refusal.Refusal.TheVariants.{UnknownPromise, Oversize, TooMuch}
+use Rattle.ob_types.specs.declared.promise.PromiseState.TheVariants.{Waiting}
+use Rattle.ob_types.specs.declared.refusal.Refusal.TheVariants.{NothingFlushed, TooFar, BadIndex}
+use Rattle.ob_types.specs.declared.refusal.Refusal.TheVariants.{Oversize, TooMuch}
 use Rattle.ob_types.specs.declared.reply.Answer.TheVariants.{Yes}
 use Rattle.ob_seq.specs.Steps.Held.{first_progress, front_id}
 use Rattle.ob_seq.specs.Steps.Progress.{progress_step}

@@ -1,6 +1,6 @@
 -- Steps that are refused, and steps that are taken.
-use Rattle.ob_connection.proofs.Words.{◌≡◌, refl, sym, subst, List, Bool, true, false, Some, None, Result, Ok, Err, Refusal, Closed}
-use Rattle.ob_connection.proofs.Words.{NoMemory, Reply, PromiseState, Pending, Step, Makes, Past, held, Steps, Connected, told_by}
+use Rattle.ob_connection.proofs.Words.{◌≡◌, refl, sym, subst, List, true, false, Some, None, Ok, Err, Refusal, Closed}
+use Rattle.ob_connection.proofs.Words.{NoMemory, Reply, PromiseState, Pending, Step, Makes, Past, held, Steps, Connected}
 use Rattle.ob_connection.proofs.Words.{first_of_step, change_between, ℕ, Option, arith}
 
 -- what an open connection refuses is what its step refuses

@@ -1,9 +1,8 @@
 -- A call that makes the step of its command obeys it.
-use Rattle.ob_connection.proofs.Words.{◌≡◌, refl, sym, ap, ◌∙◌, subst, arith, List, [], ◌∷◌, ◌++◌, true, false, Some, None}
+use Rattle.ob_connection.proofs.Words.{◌≡◌, sym, ap, ◌∙◌, subst, arith, List, [], ◌∷◌, ◌++◌, true, false, None}
 use Rattle.ob_connection.proofs.Words.{Result, Ok, Err, IsErrOf, OnErr, Refusal, NoMemory, Reply, Command, PromiseState}
 use Rattle.ob_connection.proofs.Words.{Pending, Step, Makes, answer_by, Past, held, Moves, Connected, told_by, step_within}
-use Rattle.ob_connection.proofs.Words.{connection_limit, Leaves, whole, StandsFor, Answers, Follows, Obeys, commands_with}
-use Rattle.ob_connection.proofs.Words.{promises_after, Settings, first_of_step}
+use Rattle.ob_connection.proofs.Words.{connection_limit, Leaves, StandsFor, Answers, Follows, Obeys, commands_with}
 use Rattle.ob_seq.specs.Answer.{are_accepted_within}
 use Rattle.ob_connection.specs.Obeying.{Accepts}
 use Rattle.ob_seq.proofs.Simulating.Simulated.{answer_is, goes_on, simulated}

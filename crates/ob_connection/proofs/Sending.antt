@@ -1,8 +1,8 @@
 -- What was sent can be taken away.
-use Rattle.ob_connection.proofs.Words.{◌≡◌, ◌≤◌, ◌+◌, ℕ, zero, suc, Bool, true, false, List, [], ◌∷◌, length, take, ltb, cond, refl, sym, ap}
-use Rattle.ob_connection.proofs.Words.{◌∙◌, arith, nat_tests, Some, None, Option, Result, Ok, Err, Refusal, Closed, Reply, Command, Settings}
+use Rattle.ob_connection.proofs.Words.{◌≡◌, ◌≤◌, ℕ, zero, suc, Bool, false, List, [], ◌∷◌, length, take, ltb, cond}
+use Rattle.ob_connection.proofs.Words.{arith, nat_tests, Some, None, Option, Err, Refusal, Closed, Reply, Command, Settings}
 use Rattle.std.specs.List.{concat}
-use Rattle.std.specs.Prelude.{filter, max, min}
+use Rattle.std.specs.Prelude.{max, min}
 use Rattle.std.proofs.Common.{length-append}
 use Rattle.std.proofs.lemmas.List.Sums.{sum_by-cons}
 use Rattle.ob_types.specs.declared.command.Command.TheVariants.{RemoveBytes}

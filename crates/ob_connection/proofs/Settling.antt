@@ -1,7 +1,7 @@
 -- What messages settle that are taken away, as an interval of ids and as the model lists it.
 use Rattle.ob_connection.proofs.Words.{◌≡◌, refl, sym, ap, ◌∙◌, arith, ℕ, zero, suc, ◌+◌, ◌-◌, ◌<◌, ◌≤◌, List, [], ◌∷◌, ◌++◌, Bool}
-use Rattle.ob_connection.proofs.Words.{true, false, length, map, take, drop, ltb, Option, Outcome, PromiseState, Pending, Unsent}
-use Rattle.ob_connection.proofs.Words.{whole, waiting_count, Past, held, Connected, change_between, Some, None, Refusal, cond, nat_tests}
+use Rattle.ob_connection.proofs.Words.{true, false, length, map, take, drop, ltb, Option, Outcome, PromiseState, Pending}
+use Rattle.ob_connection.proofs.Words.{Past, held, Connected, Some, None, Refusal, cond, nat_tests}
 use Rattle.std.proofs.lemmas.List.{drop_at, length-map, nil_from_length, take_all}
 use Rattle.ob_types.specs.Waiting.{is_waiting}
 use Rattle.ob_types.specs.declared.promise.Cause.{Cause}
@@ -16,14 +16,14 @@ use Rattle.ob_seq.specs.Steps.Cancel.{cancel_step}
 use Rattle.ob_seq.specs.Steps.Close.{closing_step, failures}
 use Rattle.ob_seq.specs.Steps.Held.{front_id, promise_set, state_at, unflushed_id}
 use Rattle.ob_seq.specs.Steps.RemoveBytes.{bytes_step, cut_of, entry_settlements, whole_cut}
-use Rattle.ob_seq.specs.Unsent.{fixed_state, pending_entries, pending_entry, states_of, unreached_entry, waiting_state}
+use Rattle.ob_seq.specs.Unsent.{fixed_state, pending_entries, states_of, unreached_entry, waiting_state}
 use Rattle.ob_seq.specs.declared.contents.cut.Cut.{Cut}
 use Rattle.ob_seq.specs.declared.entry.Entry.{Entry}
 use Rattle.ob_seq.proofs.Inside.Rooms.{fresh_states, promises_there, waits_behind}
 use Rattle.ob_seq.proofs.Rows.Acceptance.{same_reply}
 use Rattle.ob_connection.specs.Replies.{cancelled_reply, settled_from, taken_reply}
 use Rattle.ob_connection.specs.declared.replies.Taken.{Taken}
-use Rattle.ob_connection.proofs.Kept.{front_id_there, ids_are}
+use Rattle.ob_connection.proofs.Kept.{front_id_there}
 use Rattle.ob_connection.proofs.Making.{nothing_turned}
 
 -- the promises of the first so many entries in line settle what the entries do

@@ -1,6 +1,5 @@
 -- What a connection shows of its history, by the definitions of a buffer.
 use Rattle.std.specs.Prelude.{ℕ, List, nat_lt, if◌then◌else◌, Option, Some, None, option_map}
-use Rattle.ob_types.specs.declared.command.Command.{Command}
 use Rattle.ob_types.specs.declared.message.Message.{Message}
 use Rattle.ob_types.specs.declared.promise.PromiseState.{PromiseState}
 use Rattle.ob_types.specs.declared.promise.PromiseState.TheVariants.{Waiting as StillWaiting, Fixed as IsFixed, Settled as IsSettled}

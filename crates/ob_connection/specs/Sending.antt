@@ -1,6 +1,6 @@
 -- What a connection sends at once.
 use Rattle.std.specs.List.{concat}
-use Rattle.std.specs.Prelude.{◌≡◌, ◌++◌, ℕ, not, List, take, true, false, Result, Ok, Err}
+use Rattle.std.specs.Prelude.{◌++◌, ℕ, not, List, take, true, false, Result, Ok, Err}
 use Rattle.ob_types.specs.declared.command.Command.TheVariants.{RemoveBytes}
 use Rattle.ob_types.specs.declared.promise.Outcome.TheVariants.{Success}
 use Rattle.ob_types.specs.declared.refusal.Refusal.{Refusal}

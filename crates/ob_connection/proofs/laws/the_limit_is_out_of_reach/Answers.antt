@@ -1,4 +1,4 @@
-use Rattle.ob_connection.proofs.Words.{◌≡◌, ◌<◌, ℕ, List, [], Bool, false, refl, sym, ap, ◌∙◌, arith, nat_tests, length, Option, Some, None}
+use Rattle.ob_connection.proofs.Words.{◌≡◌, ◌<◌, ℕ, List, false, refl, sym, ap, ◌∙◌, arith, nat_tests, length, Option, Some, None}
 use Rattle.ob_connection.proofs.Words.{Command, Refusal, Settings, answer_within, connection_limit, most_ids, Closed, cond}
 use Rattle.ob_types.specs.Limits.{most_writes}
 use Rattle.ob_types.specs.declared.command.Command.TheVariants.{Write}

@@ -1,4 +1,4 @@
-use Rattle.ob_connection.proofs.Words.{ap, ◌∙◌, whole, Unsent}
+use Rattle.ob_connection.proofs.Words.{ap, ◌∙◌, Unsent}
 use Rattle.ob_seq.specs.Effect.{rows_after}
 use Rattle.ob_seq.specs.Entry.{messages_to_send}
 use Rattle.ob_seq.specs.Unsent.{pending_entries}

@@ -1,4 +1,4 @@
-use Rattle.ob_connection.proofs.Words.{◌≡◌, ◌<◌, ℕ, length, arith, sym, ap, ◌∙◌, whole, Some, None, Unsent, Past, Connected}
+use Rattle.ob_connection.proofs.Words.{◌≡◌, ◌<◌, ℕ, length, arith, sym, ap, ◌∙◌, whole, Some, Unsent, Past}
 use Rattle.std.proofs.lemmas.List.{length-map}
 use Rattle.std.specs.Prelude.{option_map}
 use Rattle.ob_types.specs.declared.promise.PromiseId.{PromiseId}

@@ -1,4 +1,4 @@
-use Rattle.ob_connection.proofs.Words.{◌≡◌, ℕ, List, [], sym, ap, ◌∙◌, whole, Unsent, Connected, Command, Result, Ok, Err, IfOk, StandsFor}
+use Rattle.ob_connection.proofs.Words.{◌≡◌, ℕ, List, ap, ◌∙◌, whole, Unsent, Connected, Command, Result, Ok, Err, IfOk, StandsFor}
 use Rattle.ob_seq.specs.Entry.{blocks_left}
 use Rattle.ob_seq.specs.Gathering.{first_blocks, gathered_after, with_bytes}
 use Rattle.ob_seq.specs.Unsent.{pending_entries}

@@ -1,10 +1,10 @@
-use Rattle.ob_connection.proofs.Words.{[], ◌≡◌, ℕ, sym, ap, ◌∙◌, whole, length, map, Unsent, Pending}
+use Rattle.ob_connection.proofs.Words.{[], ◌≡◌, ℕ, sym, ap, ◌∙◌, whole, length, Unsent}
 use Rattle.std.proofs.lemmas.List.{length-map}
 use Rattle.ob_seq.specs.Looks.{before_unwritable, before_writable}
 use Rattle.ob_seq.specs.Steps.Held.{first_progress, pending_total}
 use Rattle.ob_seq.specs.Unsent.{pending_entries, pending_entry}
 use Rattle.ob_seq.specs.declared.look.Look.{Look}
-use Rattle.ob_seq.proofs.Inside.Looked.{seen_is, seen_of}
+use Rattle.ob_seq.proofs.Inside.Looked.{seen_is}
 use Rattle.ob_connection.proofs.connection.Connection.look.Goals as goal
 
 -- a look by its fields

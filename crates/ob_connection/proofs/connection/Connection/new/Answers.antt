@@ -1,6 +1,4 @@
 use Rattle.ob_connection.proofs.Words.{[], false, refl, sym, Connected}
-use Rattle.ob_types.specs.WaterMark.{Marks}
-use Rattle.ob_types.specs.declared.estimate.Estimate.{Estimate}
 use Rattle.ob_seq.proofs.Word.Marks.{word_at_start}
 use Rattle.ob_seq.specs.Settings.{Settings}
 use Rattle.ob_connection.specs.Standing.{StandsFor}

@@ -1,6 +1,6 @@
-use Rattle.ob_connection.proofs.Words.{◌≡◌, ◌<◌, ◌≤◌, ◌+◌, ◌-◌, ◌++◌, ◌∷◌, [], ℕ, zero, suc, List, Bool, true, false, length, map, ltb, arith}
-use Rattle.ob_connection.proofs.Words.{nat_tests, sym, ap, ◌∙◌, refl, whole, Some, None, Option, Unsent, Past, held, Connected}
-use Rattle.ob_connection.proofs.Words.{accepted_writes, Command, Outcome, PromiseState, Pending, Settings, Leaves}
+use Rattle.ob_connection.proofs.Words.{◌≡◌, ◌<◌, ◌≤◌, ◌+◌, ◌-◌, ◌++◌, ◌∷◌, [], ℕ, zero, suc, List, true, false, length, map, ltb, arith}
+use Rattle.ob_connection.proofs.Words.{nat_tests, sym, ap, ◌∙◌, refl, whole, Some, Unsent, Past, held, Connected}
+use Rattle.ob_connection.proofs.Words.{Command, Outcome, PromiseState, Pending, Leaves}
 use Rattle.std.proofs.Common.{get_or}
 use Rattle.std.specs.Prelude.{slice_get}
 use Rattle.std.proofs.lemmas.Option.{slice_get-get_or, slice_get-map}

@@ -1,4 +1,4 @@
-use Rattle.ob_connection.proofs.Words.{◌≡◌, ◌≤◌, ◌++◌, List, ℕ, length, take, not, sym, ap, ◌∙◌, arith, told_by}
+use Rattle.ob_connection.proofs.Words.{◌≡◌, ◌++◌, List, ℕ, length, take, not, sym, ap, ◌∙◌, arith, told_by}
 use Rattle.std.specs.List.{concat}
 use Rattle.ob_seq.specs.Gathering.{gathered_after}
 use Rattle.ob_connection.specs.Obeying.{promises_after}

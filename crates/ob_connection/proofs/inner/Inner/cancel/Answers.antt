@@ -1,5 +1,5 @@
-use Rattle.ob_connection.proofs.Words.{[], ◌≡◌, ◌+◌, ◌-◌, ◌<◌, ◌≤◌, refl, sym, ap, ◌∙◌, arith, ltb, length, true, false, Past, Pending}
-use Rattle.ob_connection.proofs.Words.{held, whole, accepted_writes, ℕ}
+use Rattle.ob_connection.proofs.Words.{[], ◌≡◌, ◌+◌, ◌-◌, refl, sym, ap, ◌∙◌, arith, ltb, length, false, Past}
+use Rattle.ob_connection.proofs.Words.{held, accepted_writes, ℕ}
 use Rattle.ob_types.specs.Waiting.{is_waiting}
 use Rattle.ob_types.specs.declared.promise.Outcome.TheVariants.{Cancelled}
 use Rattle.ob_types.specs.declared.promise.PromiseState.TheVariants.{Settled}

@@ -1,5 +1,5 @@
-use Rattle.ob_connection.proofs.Words.{◌≡◌, ◌+◌, ◌<◌, ◌++◌, refl, sym, ap, ◌∙◌, arith, length, map, Past, Pending, held}
-use Rattle.ob_connection.proofs.Words.{whole, Connected, connected_of, accepted_writes}
+use Rattle.ob_connection.proofs.Words.{◌≡◌, ◌+◌, ◌++◌, sym, ap, ◌∙◌, arith, length, map, Pending, held}
+use Rattle.ob_connection.proofs.Words.{accepted_writes}
 use Rattle.std.proofs.Common.{length-append}
 use Rattle.std.proofs.lemmas.List.{length-map}
 use Rattle.ob_types.specs.declared.promise.Outcome.TheVariants.{Failed}

@@ -1,9 +1,7 @@
-use Rattle.ob_connection.proofs.Words.{◌≡◌, ◌+◌, ◌≤◌, List, refl, sym, ap, ◌∙◌, subst, arith, length, take, ℕ, Past, Pending, held}
-use Rattle.ob_connection.proofs.Words.{whole, Becomes, Connected, connected_of}
+use Rattle.ob_connection.proofs.Words.{◌≡◌, ◌+◌, refl, sym, ap, ◌∙◌, subst, arith, length, ℕ, Past, Pending, held}
+use Rattle.ob_connection.proofs.Words.{Becomes, Connected, connected_of}
 use Rattle.std.proofs.lemmas.List.{length-map, take_all}
 use Rattle.ob_types.specs.declared.promise.Outcome.TheVariants.{Failed}
-use Rattle.ob_types.specs.declared.reply.Answer.TheVariants.{Count}
-use Rattle.ob_seq.specs.Entry.{PendingEntry}
 use Rattle.ob_seq.specs.Steps.FailFlushed.{failing_step}
 use Rattle.ob_seq.specs.Steps.Held.{front_id, times}
 use Rattle.ob_seq.specs.Steps.Remove.{front_taken}

@@ -1,4 +1,4 @@
-use Rattle.ob_connection.proofs.Words.{[], ◌≡◌, List, Outcome, refl, sym, ap, ◌∙◌, arith, length, Past, Pending, held, whole}
+use Rattle.ob_connection.proofs.Words.{[], ◌≡◌, List, Outcome, refl, sym, ap, ◌∙◌, arith, length, Pending, whole}
 use Rattle.std.proofs.lemmas.List.{length-map}
 use Rattle.ob_types.specs.declared.reply.Answer.TheVariants.{Count}
 use Rattle.ob_seq.specs.Steps.Flush.{all_flushed, flush_step, next_flushed}

@@ -1,4 +1,4 @@
-use Rattle.ob_connection.proofs.Words.{[], ◌≡◌, ◌<◌, refl, sym, ap, ◌∙◌, arith, length, Past, Pending, held, whole}
+use Rattle.ob_connection.proofs.Words.{[], refl, sym, ap, ◌∙◌, arith, length, Pending, held}
 use Rattle.std.proofs.lemmas.List.{length-map}
 use Rattle.ob_seq.specs.Steps.Progress.{progress_step}
 use Rattle.ob_seq.specs.Unsent.{pending_entry}

@@ -1,10 +1,9 @@
-use Rattle.ob_connection.proofs.Words.{[], ◌≡◌, ◌<◌, ◌+◌, ◌∷◌, ◌++◌, None, true, false, refl, sym, ap, ◌∙◌, arith, length, not, if◌then◌else◌}
-use Rattle.ob_connection.proofs.Words.{Past, Pending, held, whole, Outcome, cond}
+use Rattle.ob_connection.proofs.Words.{[], ◌<◌, ◌+◌, ◌∷◌, ◌++◌, None, true, false, refl, sym, ap, ◌∙◌, arith, length, if◌then◌else◌}
+use Rattle.ob_connection.proofs.Words.{Pending, held}
 use Rattle.std.proofs.Common.{length-append}
 use Rattle.std.proofs.lemmas.List.{length-map}
 use Rattle.ob_types.specs.declared.promise.Outcome.TheVariants.{Cancelled}
-use Rattle.ob_types.specs.declared.promise.PromiseId.{PromiseId}
-use Rattle.ob_seq.specs.Steps.Held.{front_id, is_first_voided}
+use Rattle.ob_seq.specs.Steps.Held.{is_first_voided}
 use Rattle.ob_seq.specs.Steps.Remove.{removal_step}
 use Rattle.ob_seq.specs.Unsent.{pending_entries, pending_entry}
 use Rattle.ob_seq.proofs.Inside.Rooms.{taken_waiting}

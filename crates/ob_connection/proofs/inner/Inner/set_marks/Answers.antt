@@ -1,4 +1,4 @@
-use Rattle.ob_connection.proofs.Words.{refl, sym, ap, ◌∙◌}
+use Rattle.ob_connection.proofs.Words.{refl, sym, ◌∙◌}
 use Rattle.ob_seq.specs.Steps.SetMarks.{marks_step}
 use Rattle.ob_connection.specs.Replies.{done_reply}
 use Rattle.ob_connection.proofs.Making.{closed, taken, nothing_turned}

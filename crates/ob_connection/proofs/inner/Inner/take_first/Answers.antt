@@ -1,4 +1,4 @@
-use Rattle.ob_connection.proofs.Words.{◌≡◌, ◌<◌, ◌-◌, ◌+◌, ℕ, refl, sym, ap, ◌∙◌, arith, length, Pending, Past, Connected, held}
+use Rattle.ob_connection.proofs.Words.{◌≡◌, ℕ, refl, ap, ◌∙◌, arith, length, Pending, held}
 use Rattle.std.proofs.Common.{add-one}
 use Rattle.std.proofs.lemmas.List.{length-drop, length-map}
 use Rattle.ob_types.specs.declared.promise.Outcome.TheVariants.{Success}

@@ -1,4 +1,4 @@
-use Rattle.ob_connection.proofs.Words.{[], ◌∷◌, ◌++◌, ◌+◌, subst, ap, ◌∙◌, arith, if◌then◌else◌, Becomes, Past}
+use Rattle.ob_connection.proofs.Words.{[], ◌∷◌, ◌++◌, ◌+◌, subst, ap, ◌∙◌, arith, if◌then◌else◌, Becomes}
 use Rattle.std.proofs.Common.{length-append}
 use Rattle.ob_types.specs.declared.promise.Outcome.TheVariants.{Cancelled, Success}
 use Rattle.ob_seq.specs.Steps.Remove.{front_taken}

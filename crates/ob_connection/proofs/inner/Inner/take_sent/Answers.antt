@@ -1,12 +1,10 @@
-use Rattle.ob_connection.proofs.Words.{[], ◌≡◌, ◌+◌, ◌≤◌, refl, sym, ap, ◌∙◌, subst, arith, length, drop, true, ℕ, Past, Pending, held}
+use Rattle.ob_connection.proofs.Words.{[], ◌≡◌, ◌+◌, sym, ap, ◌∙◌, subst, arith, length, true, ℕ, Past, Pending, held}
 use Rattle.ob_connection.proofs.Words.{whole, Becomes, Connected, connected_of, change_between}
-use Rattle.std.proofs.lemmas.List.{length-map}
 use Rattle.ob_types.specs.declared.promise.Outcome.TheVariants.{Success}
 use Rattle.ob_seq.specs.Entry.{blocks_left}
 use Rattle.ob_seq.specs.Steps.Held.{times}
 use Rattle.ob_seq.specs.Steps.Remove.{front_taken}
-use Rattle.ob_seq.specs.Steps.RemoveBytes.{bytes_removed, bytes_reply, bytes_step, first_length, front_skipped, whole_cut}
-use Rattle.ob_seq.specs.Unsent.{pending_entries, pending_entry}
+use Rattle.ob_seq.specs.Steps.RemoveBytes.{bytes_removed, bytes_reply, bytes_step, front_skipped, whole_cut}
 use Rattle.ob_seq.specs.declared.contents.cut.Cut.{Cut}
 use Rattle.ob_seq.proofs.Inside.Rooms.{same_waiting, skipped_promises}
 use Rattle.ob_seq.proofs.Inside.Times.{line_of_times}

@@ -1,5 +1,4 @@
-use Rattle.ob_connection.proofs.Words.{◌≡◌, ◌⊎◌, refl, sym, ap, ◌∙◌, arith, inl, inr, Past, Pending, held}
-use Rattle.ob_types.specs.declared.reply.Answer.TheVariants.{Done}
+use Rattle.ob_connection.proofs.Words.{refl, sym, ap, ◌∙◌, arith, inl, inr, held}
 use Rattle.ob_seq.specs.Steps.UserBit.{bit_step}
 use Rattle.ob_seq.proofs.Rows.Acceptance.{same_reply}
 use Rattle.ob_connection.specs.Replies.{bit_reply}

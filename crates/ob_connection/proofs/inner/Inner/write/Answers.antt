@@ -1,4 +1,4 @@
-use Rattle.ob_connection.proofs.Words.{[], ◌≡◌, ℕ, ◌⊎◌, inl, inr, List, Outcome, refl, sym, ap, ◌∙◌, arith, length, Past, Pending, held, whole}
+use Rattle.ob_connection.proofs.Words.{[], ◌≡◌, ℕ, ◌⊎◌, inl, inr, refl, sym, ap, ◌∙◌, arith, Pending, held, whole}
 use Rattle.ob_connection.proofs.Words.{connection_limit, accepted_writes, Connected, Unsent, most_ids, ◌<◌, false}
 use Rattle.std.proofs.lemmas.Result.{err_from_is_err_and}
 use Rattle.ob_types.specs.PendingSize.{pending_size_of}
