@@ -18,7 +18,8 @@ use std::marker::Model;
 /// one thread, and without end.
 ///
 /// It answers each call as `ob_seq::Buffer` answers the command, but for the limit on writes: ids are 64 bits, so 2^64 - 1
-/// writes are accepted. Its memory follows what waits. Only a write takes memory.
+/// writes are accepted. What is gone takes no memory; the ring keeps the room of the
+/// most messages that have waited at one time. Only a write takes memory.
 #[derive(Debug, Drop)]
 pub struct Connection {
     inner: Inner,
