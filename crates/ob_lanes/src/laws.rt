@@ -52,6 +52,7 @@ pub fn every_lane_is_free(lane: &Lane)
     ensures mark { is_set lane.now.words.grant.bits 0 ≡ false }
     ensures ordered { lane.now.words.grant.marks.low ≤ lane.now.words.grant.marks.high }
 {
+    // for the proof alone: what every lane keeps
     let _room = lane.running.room;
 }
 
@@ -61,5 +62,6 @@ pub fn every_charged_lane_is_marked(charged: &Charged)
     ensures mark { is_set charged.now.words.grant.bits 0 ≡ false }
     ensures ordered { charged.now.words.grant.marks.low ≤ charged.now.words.grant.marks.high }
 {
+    // for the proof alone: what every charged lane keeps
     let _owed = charged.owed;
 }

@@ -95,6 +95,7 @@ impl<L: Named> Locked<L> {
         ensures none_made { OnErr result (share.new.maker ≡ share.old.maker) }
         ensures sight { share.new.sight ≡ share.old.sight }
     {
+        // for the proof alone: the records are legal, and at most as many as the limit
         let _records = self.recorded.records();
         let receipt = self.recorded.call(share.caller(), command)?;
         self.publisher.publish(words, &self.recorded);
