@@ -1,5 +1,6 @@
 -- What a buffer holds, and what its fields say of that.
 pub mod Blocks
+pub mod Borrowed
 pub mod Entries
 pub mod EntrySettlements
 pub mod Failures

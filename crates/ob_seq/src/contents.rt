@@ -9,6 +9,8 @@ mod cut;
 mod flush;
 pub(crate) mod front;
 mod gather;
+mod gather_into;
+mod give_back;
 mod marks;
 mod promises;
 mod seen;

@@ -31,6 +31,9 @@ none_left limit count room = take-nil (share limit count 0)
 abbrev goes_along : ℕ → ℕ → ℕ → ℕ → Bool
 goes_along limit count room size = ltb count limit && (leb count 0 || leb size room)
 
+pub goes_within : (limit count room size : ℕ) → goes_along limit count room size ≡ true → count < limit
+goes_within limit count room size goes = grind (arith, nat_tests)
+
 module _ (limit room : ℕ) (items : List (List ℕ)) (block : List ℕ) (blocks : List (List ℕ)) {count size : ℕ}
     (many : count ≡ length items) (long : size ≡ length block) where
   -- how many go along from the block on, and behind it

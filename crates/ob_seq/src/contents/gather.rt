@@ -25,7 +25,7 @@ impl Contents {
             };
             let length = bytes.len() as u64;
             if length > 0 {
-                if !has_room(gathered.len(), max_count, length, room) {
+                if !has_room(gathered.len(), max_count as usize, length, room) {
                     break;
                 }
                 push_copy(&mut gathered, bytes)?;
@@ -44,8 +44,8 @@ fn push_copy(gathered: &mut Vec<Bytes>, bytes: &Bytes) -> Result<(), AllocError>
 }
 
 /// Whether one more block goes along with so many others, which left this much room: the first does in any case.
-fn has_room(count: usize, max_count: u32, length: u64, room: u64) -> bool
+pub(super) fn has_room(count: usize, max_count: usize, length: u64, room: u64) -> bool
     ensures { result ≡ (nat_lt count max_count && (nat_le count 0 || nat_le length room)) }
 {
-    count < max_count as usize && (count == 0 || length <= room)
+    count < max_count && (count == 0 || length <= room)
 }
