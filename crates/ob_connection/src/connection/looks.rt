@@ -1,7 +1,8 @@
 //! The looks at the messages of a connection.
 
+ghost use Rattle.std.specs.Io.Slices.{io_slice_bytes};
 ghost use Rattle.std.specs.Option.{option_copied};
-ghost use Rattle.std.specs.Prelude.{◌≡◌, [], List, IfOk, IfErr, IsOk};
+ghost use Rattle.std.specs.Prelude.{◌≡◌, ◌≤◌, [], List, length, map, take, drop, IfOk, IfErr, IsOk};
 ghost use Rattle.ob_types.specs.declared.command.Command.{Command};
 ghost use Rattle.ob_seq.specs.Gathering.{gathered_after};
 ghost use Rattle.ob_connection.specs.Looks.{AreFlushed, AreGathered, IsCurrent, IsFrontPromise};
@@ -11,6 +12,7 @@ use crate::connection::Connection;
 use bytes::Bytes;
 use ob_seq::Flushed;
 use ob_types::{Message, Refusal};
+use std::io::IoSlice;
 
 impl Connection {
     /// What is left of the first flushed message: the unread part of a block, which is empty if the message was voided
@@ -55,5 +57,17 @@ impl Connection {
             → gathered_after self.now.unsent.settings commands max_count max_bytes ≡ [] → IsOk result }
     {
         self.inner.contents().gather(max_count, max_bytes)
+    }
+
+    /// Puts the blocks that `gather` gives for as many as there are pieces into these pieces, from the first on, and
+    /// answers how many they are. The other pieces stay as they were. It borrows the blocks, so it takes no memory, counts
+    /// up no owner, and the connection cannot change while the pieces are in use. A vectored write takes such pieces.
+    pub fn gather_into<'a>(&'a self, pieces: &mut [IoSlice<'a>], max_bytes: u32) -> usize
+        ensures blocks { AreGathered self.now (length pieces.old) max_bytes
+            (map io_slice_bytes (take result pieces.new)) }
+        ensures within { result ≤ length pieces.old }
+        ensures rest { drop result pieces.new ≡ drop result pieces.old }
+    {
+        self.inner.contents().gather_into(pieces, max_bytes)
     }
 }

@@ -28,10 +28,12 @@ impl Inner {
         let id = self.gone;
         let settles = self.contents.take_front(true);
         self.gone += 1;
+        let change = self.change_since(before);
+        self.give_back();
         Ok(Removed {
             any: true,
             settled: settles.then_some((id, outcome)),
-            change: self.change_since(before),
+            change,
         })
     }
 }

@@ -67,7 +67,9 @@ impl Inner {
         let (before, from) = (self.contents.word(), self.gone);
         self.gone = self.accepted_writes();
         self.contents.shut();
-        Ok(self.taken_since(before, from, Outcome::Failed(cause)))
+        let taken = self.taken_since(before, from, Outcome::Failed(cause));
+        self.give_back();
+        Ok(taken)
     }
 
     /// Takes the first so many in line away. Without notice the word stays.
@@ -79,6 +81,7 @@ impl Inner {
         for _ in 0..count {
             self.take_front(notice);
         }
+        self.give_back();
     }
 
     /// Takes the first in line away. Without notice the word stays.

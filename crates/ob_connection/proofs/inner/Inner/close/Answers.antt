@@ -1,5 +1,7 @@
 use Rattle.ob_connection.proofs.Words.{◌≡◌, ◌+◌, ◌++◌, sym, ap, ◌∙◌, arith, length, map, Pending, held}
-use Rattle.ob_connection.proofs.Words.{accepted_writes}
+use Rattle.ob_connection.proofs.Words.{accepted_writes, subst, Result, Ok, Refusal, Moves}
+use Rattle.ob_types.specs.declared.command.Command.TheVariants.{Close}
+use Rattle.ob_connection.specs.declared.replies.Taken.{Taken}
 use Rattle.std.proofs.Common.{length-append}
 use Rattle.std.proofs.lemmas.List.{length-map}
 use Rattle.ob_types.specs.declared.promise.Outcome.TheVariants.{Failed}
@@ -30,9 +32,11 @@ returns-clause-moves c =
     c.accepted_writes-self-inside.ensures.count ∙ ap accepted_writes (sym c.self.view_is) ∙ omega (arith, empty) in
     let gone = map (ended (Failed c.args.cause)) old.unflushed in
     let count = length-map old.unflushed (ended (Failed c.args.cause)) in
-    taken (closing_step c.args.cause) taken_reply c.self.view_is (sym c.is_closed.ensures ∙ c.if-is_closed.false)
-    c.taken_since.result (λ past. none_left c.args.cause (held past) (seen ∙ empty))
-    (λ past. ap (taken_reply (held past).promises) c.taken_since.ensures
+    let result : Result Taken Refusal = Ok c.taken_since-taken.result in
+    subst (λ new. Moves c.args.self.now (Close c.args.cause) taken_reply result new) (sym c.give_back.ensures)
+    (taken (closing_step c.args.cause) taken_reply c.self.view_is (sym c.is_closed.ensures ∙ c.if-is_closed.false)
+    c.taken_since-taken.result (λ past. none_left c.args.cause (held past) (seen ∙ empty))
+    (λ past. ap (taken_reply (held past).promises) c.taken_since-taken.ensures
     ∙ close_replied past c.accepted_writes-self-inside.result c.args.cause _ _ end empty
     (same_change c.word-before.ensures
     (ap (λ (one : Pending). one.word) (c.shut.ensures.closed past.outcomes c.args.cause))))
@@ -42,4 +46,4 @@ returns-clause-moves c =
         count = length-append past.outcomes gone ∙ omega (arith, past.count, count, end);
       },
       c.shut.ensures.closed past.outcomes c.args.cause,
-    ))
+    )))

@@ -1,5 +1,6 @@
 use Rattle.ob_connection.proofs.Words.{[], ◌<◌, ◌+◌, ◌∷◌, ◌++◌, None, true, false, refl, sym, ap, ◌∙◌, arith, length, if◌then◌else◌}
-use Rattle.ob_connection.proofs.Words.{Pending, held}
+use Rattle.ob_connection.proofs.Words.{Pending, held, subst, Result, Ok, Refusal, Steps}
+use Rattle.ob_connection.specs.declared.replies.Removed.{Removed}
 use Rattle.std.proofs.Common.{length-append}
 use Rattle.std.proofs.lemmas.List.{length-map}
 use Rattle.ob_types.specs.declared.promise.Outcome.TheVariants.{Cancelled}
@@ -39,11 +40,14 @@ returns-clause-steps c =
     let some : 0 < length (pending_entries old.line) = omega (arith, length-map old.line pending_entry, c.line_count.ensures, c.if-line_count-eq0.false) in
     let front = settled_front (is_first_voided (pending_entries old.line)) c.take_front-settles.result c.self.inside.gone
     c.args.outcome c.take_front-settles.ensures.settles in
-    taken (removal_step c.args.outcome) removed_reply c.self.view_is (sym c.is_closed.ensures ∙ c.if-is_closed.false)
-    (record { any = true; settled = c.then_some.result; change = c.change_since.result }) (λ past. refl)
+    let removed : Removed = record { any = true; settled = c.then_some.result; change = c.change_since-change.result } in
+    let result : Result Removed Refusal = Ok removed in
+    subst (λ new. Steps (removal_step c.args.outcome) c.args.self.now removed_reply result new) (sym c.give_back.ensures)
+    (taken (removal_step c.args.outcome) removed_reply c.self.view_is (sym c.is_closed.ensures ∙ c.if-is_closed.false)
+    removed (λ past. refl)
     (λ past. same_reply refl (ap settled_if c.then_some.ensures ∙ front
     ∙ ap (λ id. if is_first_voided (pending_entries old.line) then [] else (record { 0 = id }, c.args.outcome) ∷ [])
-    (sym (front_id_there past))) (c.change_since.ensures ∙ same_change c.word-before.ensures
+    (sym (front_id_there past))) (c.change_since-change.ensures ∙ same_change c.word-before.ensures
     (ap (λ (one : Pending). one.word) (c.take_front-settles.ensures.taken past.outcomes c.args.outcome)))
     ∙ front_replied c.args.outcome (held past) some)
     (λ past. (
@@ -53,4 +57,4 @@ returns-clause-steps c =
       },
       c.take_front-settles.ensures.taken past.outcomes c.args.outcome
           ∙ front_is_removed c.args.outcome (held past) some,
-    ))
+    )))

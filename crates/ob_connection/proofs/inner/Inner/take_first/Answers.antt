@@ -1,4 +1,4 @@
-use Rattle.ob_connection.proofs.Words.{◌≡◌, ℕ, refl, ap, ◌∙◌, arith, length, Pending, held}
+use Rattle.ob_connection.proofs.Words.{◌≡◌, ℕ, refl, sym, subst, ap, ◌∙◌, arith, length, Pending, held, Becomes, Connected}
 use Rattle.std.proofs.Common.{add-one}
 use Rattle.std.proofs.lemmas.List.{length-drop, length-map}
 use Rattle.ob_types.specs.declared.promise.Outcome.TheVariants.{Success}
@@ -39,11 +39,14 @@ loop-preserved c = record {
 }
 
 pub returns-clause-becomes : goal.returns-clause-becomes
-returns-clause-becomes c outcome past =
-    let now = c.loop.invariant.becomes outcome past in
+returns-clause-becomes c outcome =
     let all : c.loop.counter ≡ c.args.count = omega (arith, c.loop-test.false, c.loop.auto.counter-end) in
-    (now.0, now.1 ∙ ap (λ (n : ℕ). times n (front_taken c.args.notice outcome) (held past)) all)
+    let step = front_taken c.args.notice outcome in
+    subst (λ new. Becomes (times c.args.count step) c.args.self.now new) (sym c.give_back.ensures) (λ past.
+    let now = c.loop.invariant.becomes outcome past in
+    (now.0, now.1 ∙ ap (λ (n : ℕ). times n step (held past)) all))
 
 pub returns-clause-gone : goal.returns-clause-gone
 returns-clause-gone c =
-    omega (arith, c.loop.invariant.gone, c.loop-test.false, c.loop.auto.counter-end)
+    ap (λ (new : Connected). new.gone) c.give_back.ensures
+    ∙ omega (arith, c.loop.invariant.gone, c.loop-test.false, c.loop.auto.counter-end)

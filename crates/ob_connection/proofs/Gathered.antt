@@ -1,0 +1,16 @@
+-- What is gathered from a connection.
+use Rattle.ob_connection.proofs.Words.{◌≡◌, ℕ, ap, ◌∙◌, whole, Unsent, Connected, List, Command, StandsFor}
+use Rattle.ob_seq.specs.Entry.{blocks_left}
+use Rattle.ob_seq.specs.Gathering.{first_blocks, gathered_after, with_bytes}
+use Rattle.ob_seq.specs.Unsent.{pending_entries}
+use Rattle.ob_seq.proofs.Inside.Looked.{gathered_is}
+
+-- what is gathered from all in line is what is gathered after the history
+pub gathered_there : (unsent : Unsent) (inner now : Connected) → unsent ≡ inner.unsent → inner ≡ now →
+    (limit most : ℕ) (commands : List Command) → StandsFor now commands →
+    first_blocks limit most (with_bytes (blocks_left (pending_entries unsent.line)))
+    ≡ gathered_after now.unsent.settings commands limit most
+gathered_there unsent inner now same view limit most commands stands =
+    ap (λ (one : Unsent). first_blocks limit most (with_bytes (blocks_left (pending_entries one.line))))
+    (same ∙ ap (λ (one : Connected). one.unsent) view)
+    ∙ gathered_is (whole stands.past now.unsent) limit most commands stands.leaves
