@@ -1,48 +1,55 @@
 -- What was sent can be taken away.
-use Rattle.ob_connection.proofs.Words.{◌≡◌, ◌≤◌, ℕ, zero, suc, Bool, false, List, [], ◌∷◌, length, take, ltb, cond}
+use Rattle.ob_connection.proofs.Words.{◌≡◌, ◌≤◌, ℕ, Bool, false, List, length, take, ltb, cond, sym, ap, ◌∙◌, whole}
 use Rattle.ob_connection.proofs.Words.{arith, nat_tests, Some, None, Option, Err, Refusal, Closed, Reply, Command, Settings}
+use Rattle.ob_connection.proofs.Words.{Connected, StandsFor}
 use Rattle.std.specs.List.{concat}
-use Rattle.std.specs.Prelude.{max, min}
-use Rattle.std.proofs.Common.{length-append}
-use Rattle.std.proofs.lemmas.List.Sums.{sum_by-cons}
+use Rattle.std.specs.Prelude.{min}
 use Rattle.ob_types.specs.declared.command.Command.TheVariants.{RemoveBytes}
 use Rattle.ob_types.specs.declared.refusal.Refusal.TheVariants.{TooManyBytes}
 use Rattle.ob_seq.specs.Answer.{reply_of, unless_refused}
 use Rattle.ob_seq.specs.ByteRun.{byte_run}
 use Rattle.ob_seq.specs.Closed.{is_closed}
 use Rattle.ob_seq.specs.Effect.{rows_after}
-use Rattle.ob_seq.specs.Gathering.{gathered_after, with_bytes}
-use Rattle.ob_seq.specs.Pieces.{bytes_in, pieces_within}
+use Rattle.ob_seq.specs.Gathering.{first_blocks, gathered_after, with_bytes}
+use Rattle.ob_seq.specs.Pieces.{bytes_in}
+use Rattle.ob_seq.proofs.Inside.Gathered.{gathered_first, length_of_concat, more_gathered}
+use Rattle.ob_seq.proofs.Simulating.BytesRemoved.{run_is}
 use Rattle.ob_connection.specs.Limit.{answer_of_connection}
+use Rattle.ob_connection.specs.Offering.{most_pieces, offered, run_of}
 
--- some of the pieces hold no more bytes than all
-taken_le : (n : ℕ) (pieces : List (List ℕ)) → length (concat (take n pieces)) ≤ bytes_in pieces
-taken_le zero pieces = omega arith
-taken_le (suc n) [] = omega arith
-taken_le (suc n) (piece ∷ pieces) =
-    let rest = taken_le n pieces in
-    let all = sum_by-cons (λ (piece : List ℕ). length piece) piece pieces in
-    omega (arith, length-append piece (concat (take n pieces)))
+-- what a connection has left in front is what its history has
+pub run_after : (now : Connected) (commands : List Command) → StandsFor now commands →
+    run_of now.unsent ≡ byte_run (rows_after now.unsent.settings.estimate commands)
+run_after now commands stands = sym (run_is (whole stands.past now.unsent) commands stands.leaves)
 
-with_bytes_le : (pieces : List (List ℕ)) → bytes_in (with_bytes pieces) ≤ bytes_in pieces
-with_bytes_le [] = omega arith
-with_bytes_le (piece ∷ pieces) =
-    let rest = with_bytes_le pieces in
-    let all = sum_by-cons (λ (piece : List ℕ). length piece) piece pieces in
-    let some = sum_by-cons (λ (piece : List ℕ). length piece) piece (with_bytes pieces) in
-    grind arith
+-- bytes of an offer are the first of what is left in front, and of what is gathered
+module _ (now : Connected) (commands : List Command) (stands : StandsFor now commands) (max_count max_bytes bytes : ℕ)
+    (within : bytes ≤ length (concat (offered (min most_pieces max_count) max_bytes now.unsent))) where
+  abbrev run : List (List ℕ)
+  run = byte_run (rows_after now.unsent.settings.estimate commands)
 
--- nor do those that are gathered
-pub gathered_le : (settings : Settings) (commands : List Command) (max_count max_bytes : ℕ) →
-    length (concat (gathered_after settings commands max_count max_bytes))
-    ≤ bytes_in (byte_run (rows_after settings.estimate commands))
-gathered_le settings commands max_count max_bytes =
-    let run = byte_run (rows_after settings.estimate commands) in
-    omega (
-      arith,
-      taken_le (min max_count (max 1 (pieces_within max_bytes (with_bytes run)))) (with_bytes run),
-      with_bytes_le run,
-    )
+  offered_few : bytes ≤ length (concat (first_blocks (min most_pieces max_count) max_bytes (with_bytes run)))
+  offered_few =
+      rw (← ap (λ blocks. length (concat (first_blocks (min most_pieces max_count) max_bytes (with_bytes blocks))))
+      (run_after now commands stands)) within
+
+  pub offered_within : bytes ≤ bytes_in run
+  offered_within =
+      omega (
+        arith,
+        (gathered_first (min most_pieces max_count) max_bytes run bytes offered_few).1,
+        length_of_concat run,
+      )
+
+  pub offered_are_gathered :
+      take bytes (concat (offered (min most_pieces max_count) max_bytes now.unsent))
+      ≡ take bytes (concat (gathered_after now.unsent.settings commands max_count max_bytes))
+  offered_are_gathered =
+      let more = more_gathered (min most_pieces max_count) max_count max_bytes (with_bytes run) (omega arith) in
+      ap (λ blocks. take bytes (concat (first_blocks (min most_pieces max_count) max_bytes (with_bytes blocks))))
+      (run_after now commands stands)
+      ∙ (gathered_first (min most_pieces max_count) max_bytes run bytes offered_few).0
+      ∙ sym (gathered_first max_count max_bytes run bytes (omega (arith, offered_few, more))).0
 
 by_tests : (closed few : Bool) (reply : Reply) (refusal : Refusal) → closed ≡ false → few ≡ false →
     (let first : Option Refusal = cond closed (Some Closed) (cond few (Some TooManyBytes) None) in

@@ -4,6 +4,7 @@ pub mod Inside
 pub mod Limit
 pub mod Looks
 pub mod Obeying
+pub mod Offering
 pub mod Replies
 pub mod Sending
 pub mod Standing

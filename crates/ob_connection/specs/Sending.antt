@@ -11,7 +11,7 @@ use Rattle.ob_connection.specs.Obeying.{IsNext, Obeys}
 use Rattle.ob_connection.specs.Replies.{taken_reply}
 use Rattle.ob_connection.specs.Standing.{Gives}
 use Rattle.ob_connection.specs.declared.connection.sending.SendFault.{SendFault}
-use Rattle.ob_connection.specs.declared.connection.sending.SendFault.TheVariants.{Closed, NoMemory, Broken}
+use Rattle.ob_connection.specs.declared.connection.sending.SendFault.TheVariants.{Closed, Broken}
 use Rattle.ob_connection.specs.declared.connection.sending.Sent.{Sent}
 use Rattle.ob_connection.specs.declared.replies.Taken.{Taken}
 
@@ -31,5 +31,4 @@ pub record Sends (max_count max_bytes : ℕ) (old : Connected) (sent_before : Li
 abbrev pub EndsSending : Connected → Result Sent SendFault → Type 0
 EndsSending old (Ok done) = Gives old closed_after false
 EndsSending old (Err Closed) = Gives old closed_after true
-EndsSending old (Err NoMemory) = Gives old closed_after false
 EndsSending old (Err Broken) = Gives old closed_after false

@@ -7,6 +7,7 @@ ghost use Rattle.ob_connection.specs.Limit.{most_ids};
 mod bits;
 mod cancel;
 mod flush;
+pub mod offer;
 mod remove;
 mod take;
 mod write;

@@ -1,11 +1,9 @@
 //! What a connection sends to.
-// HELPER: read MESSAGE-TO-THE-HELPER.md at the top of this clone before you change this trait (it is to be a relation
-// `took`), and remove these two lines.
 
-ghost use Rattle.std.specs.List.{concat};
+ghost use Rattle.std.specs.Io.Slices.{io_slices_bytes};
 ghost use Rattle.std.specs.Prelude.{◌≡◌, ◌≤◌, ◌++◌, List, ℕ, length, take, IfOk, OnErr};
 
-use bytes::Bytes;
+use std::io::IoSlice;
 use thiserror::Error;
 
 /// Why a socket took nothing.
@@ -27,8 +25,8 @@ pub trait Socket {
     ghost sent: { Self → List ℕ };
 
     /// Writes pieces, one after another, and answers how many of their bytes were taken, from the front (`writev`).
-    fn write_vectored(&mut self, pieces: &[Bytes]) -> Result<usize, SocketFault>
-        ensures within { IfOk result (λ count. count ≤ length (concat pieces.now)) }
-        ensures taken { IfOk result (λ count. sent self.new ≡ sent self.old ++ take count (concat pieces.now)) }
+    fn write_vectored(&mut self, pieces: &[IoSlice<'_>]) -> Result<usize, SocketFault>
+        ensures within { IfOk result (λ count. count ≤ length (io_slices_bytes pieces.now)) }
+        ensures taken { IfOk result (λ count. sent self.new ≡ sent self.old ++ take count (io_slices_bytes pieces.now)) }
         ensures failed { OnErr result (sent self.new ≡ sent self.old) };
 }

@@ -1,14 +1,14 @@
 //! How a connection sends.
 
-ghost use Rattle.std.specs.List.{concat};
-ghost use Rattle.std.specs.Prelude.{◌≡◌, ◌≤◌, ◌++◌, length, take, IfOk, IfErr, OnErr};
-ghost use Rattle.ob_connection.specs.declared.connection.sending.SendFault.TheVariants.{Broken};
+ghost use Rattle.std.specs.Prelude.{◌≡◌, IfOk, IfErr, OnErr};
+ghost use Rattle.ob_connection.specs.declared.connection.sending.SendFault.TheVariants.{Broken as IsBroken};
+ghost use Rattle.ob_connection.specs.Offering.{bytes_taken};
 ghost use Rattle.ob_connection.specs.Sending.{EndsSending, Sends};
 
 use crate::connection::Connection;
+use crate::inner::offer::Offer;
 use crate::replies::Taken;
-use crate::socket::{Socket, SocketFault};
-use bytes::Bytes;
+use crate::socket::Socket;
 use thiserror::Error;
 
 /// What a connection sent at once.
@@ -29,24 +29,21 @@ pub enum SendFault {
     /// The connection is closed.
     #[error("the connection is closed")]
     Closed,
-    /// The list of pieces wants memory, and the allocator refused. The socket was not asked.
-    #[error("out of memory")]
-    NoMemory,
     /// The socket is broken, and took nothing.
     #[error("the socket is broken")]
     Broken,
 }
 
 impl Connection {
-    /// Lets a socket take once of the flushed blocks in front, as `gather` gives them, and takes away what it took: the
-    /// messages that are sent whole, empty and voided ones along with the others.
+    /// Offers a socket once the flushed blocks in front, as `gather_into` gives them, and takes away what it took: the
+    /// messages that are sent whole, empty and voided ones along with the others. At most 64 blocks are offered at once,
+    /// whatever `max_count` is; what is left is for the next call. It takes no memory.
     ///
     /// If nothing is gathered the socket is not asked, and the empty messages in front are taken away all the same. A
     /// region or any other message in front is the caller's to send: then `more` is set and nothing was sent.
     ///
-    /// `Closed` comes if the connection is closed, `NoMemory` if the list of pieces wanted memory and the allocator
-    /// refused, and `Broken` if the socket failed for good; each leaves the connection as it was, and nothing was sent. Our
-    /// own.
+    /// `Closed` comes if the connection is closed, and `Broken` if the socket failed for good; each leaves the connection as
+    /// it was, and nothing was sent. Our own.
     pub fn send_once<S: Socket>(
         &mut self,
         socket: &mut S,
@@ -62,10 +59,7 @@ impl Connection {
         if self.is_closed() {
             return Err(SendFault::Closed);
         }
-        let Ok(blocks) = self.gather(max_count, max_bytes) else {
-            return Err(SendFault::NoMemory);
-        };
-        let bytes = write_some(socket, blocks.as_slice())?;
+        let bytes = taken_of(self.inner.offer(socket, max_count, max_bytes))?;
         // What was written is of what stands in front, so an open connection takes it away.
         self.stands_for_some_commands();
         let Ok(taken) = self.take_sent(bytes) else {
@@ -79,19 +73,15 @@ impl Connection {
     }
 }
 
-/// Lets a socket take of some pieces: how many bytes it took, none if it has no room now. With no piece it is not asked.
-fn write_some<S: Socket>(socket: &mut S, pieces: &[Bytes]) -> Result<u64, SendFault>
-    ensures within { IfOk result (λ count. count ≤ length (concat pieces.now)) }
-    ensures taken { IfOk result (λ count. S.sent socket.new ≡ S.sent socket.old ++ take count (concat pieces.now)) }
-    ensures failed { OnErr result (S.sent socket.new ≡ S.sent socket.old) }
-    ensures broken { IfErr result (λ fault. fault ≡ Broken) }
+/// How many bytes a socket took that is not broken.
+fn taken_of(offer: Offer) -> Result<u64, SendFault>
+    ensures taken { IfOk result (λ bytes. bytes ≡ bytes_taken offer) }
+    ensures none { OnErr result (bytes_taken offer ≡ 0) }
+    ensures broken { IfErr result (λ fault. fault ≡ IsBroken) }
 {
-    if pieces.is_empty() {
-        return Ok(0);
-    }
-    match socket.write_vectored(pieces) {
-        Ok(count) => Ok(count as u64),
-        Err(SocketFault::Blocked) => Ok(0),
-        Err(SocketFault::Broken) => Err(SendFault::Broken),
+    match offer {
+        Offer::Took(bytes) => Ok(bytes),
+        Offer::Nothing | Offer::Blocked => Ok(0),
+        Offer::Broken => Err(SendFault::Broken),
     }
 }

@@ -1,8 +1,12 @@
 -- What is gathered, one block after another.
-use Rattle.ob_seq.proofs.Words.{[], ◌≡◌, ℕ, suc, ◌+◌, ◌-◌, ◌<◌, ◌≤◌, min, max, Bool, true, false, ◌&&◌, ◌||◌, List, ◌∷◌}
+use Rattle.ob_seq.proofs.Words.{[], ◌≡◌, ℕ, zero, suc, ◌+◌, ◌-◌, ◌<◌, ◌≤◌, min, max, Bool, true, false, ◌&&◌, ◌||◌, List, ◌∷◌}
 use Rattle.ob_seq.proofs.Words.{◌++◌, length, take, refl, sym, ap, ◌∙◌, leb, ltb, arith, nat_tests, append_assoc}
 use Rattle.ob_seq.proofs.Words.{length-append, with_bytes, first_blocks}
+use Rattle.ob_seq.proofs.Words.{bytes_in, cond, pieces_within, sum_by-cons, take-append-drop, drop}
+use Rattle.std.specs.List.{concat}
 use Rattle.std.proofs.Math.Seq.{take-nil}
+use Rattle.std.proofs.lemmas.List.{take-append-le}
+use Rattle.std.proofs.lemmas.List.Folds.{concat-append}
 use Rattle.ob_seq.proofs.Inside.Pieces.{fitting, within_is_fitting}
 
 -- with no room no block fits that holds a byte
@@ -71,3 +75,59 @@ module _ (limit room : ℕ) (items : List (List ℕ)) (block : List ℕ) (blocks
       items ++ more_blocks limit (length items) room (block ∷ blocks) ≡ [] → ⊥
   something some goes nothing =
       let more = pushed some goes refl refl in omega (arith, simp length-append at (ap length (sym more ∙ nothing)))
+
+-- the blocks that hold a byte have all the bytes
+pub all_bytes : (blocks : List (List ℕ)) → concat (with_bytes blocks) ≡ concat blocks
+all_bytes [] = refl
+all_bytes (block ∷ blocks) = by_test (ltb 0 (length block)) refl (all_bytes blocks)
+  where
+    empty : (bytes : List ℕ) → ltb 0 (length bytes) ≡ false → bytes ≡ []
+    empty [] is = refl
+    empty (byte ∷ bytes) is = let some : ltb 0 (suc (length bytes)) ≡ true = grind (arith, nat_tests) in absurd (cc)
+
+    by_test : (some : Bool) → ltb 0 (length block) ≡ some → concat (with_bytes blocks) ≡ concat blocks →
+        concat (cond some (block ∷ with_bytes blocks) (with_bytes blocks)) ≡ block ++ concat blocks
+    by_test true is rest = ap (λ more. block ++ more) rest
+    by_test false is rest = rest ∙ ap (λ bytes. bytes ++ concat blocks) (sym (empty block is))
+
+-- the bytes of blocks are as many as their lengths add up to
+pub length_of_concat : (blocks : List (List ℕ)) → length (concat blocks) ≡ bytes_in blocks
+length_of_concat [] = refl
+length_of_concat (block ∷ blocks) =
+    let all = sum_by-cons (λ (piece : List ℕ). length piece) block blocks in
+    omega (arith, length-append block (concat blocks), length_of_concat blocks, all)
+
+-- gathered bytes are the first of all of them
+pub gathered_first : (max_count max_bytes : ℕ) (blocks : List (List ℕ)) (n : ℕ) →
+    n ≤ length (concat (first_blocks max_count max_bytes (with_bytes blocks))) →
+    (take n (concat (first_blocks max_count max_bytes (with_bytes blocks))) ≡ take n (concat blocks))
+    × (n ≤ length (concat blocks))
+gathered_first max_count max_bytes blocks n within =
+    let holding = with_bytes blocks in
+    let count = min max_count (max 1 (pieces_within max_bytes holding)) in
+    let first = concat (take count holding) in
+    let rest = concat (drop count holding) in
+    let is : concat blocks ≡ first ++ rest =
+    sym (all_bytes blocks) ∙ sym (ap concat (take-append-drop count holding))
+    ∙ concat-append (take count holding) (drop count holding) in (
+      sym (take-append-le n first rest within) ∙ ap (take n) (sym is),
+      omega (arith, ap (λ bytes. length bytes) is, length-append first rest),
+    )
+
+-- and no fewer are gathered of more blocks
+pub more_gathered : (few many max_bytes : ℕ) (blocks : List (List ℕ)) → few ≤ many →
+    length (concat (first_blocks few max_bytes blocks)) ≤ length (concat (first_blocks many max_bytes blocks))
+more_gathered few many max_bytes blocks less =
+    let most = max 1 (pieces_within max_bytes blocks) in longer (min few most) (min many most) blocks (omega arith)
+  where
+    longer : (n m : ℕ) (blocks : List (List ℕ)) → n ≤ m → length (concat (take n blocks)) ≤ length (concat (take m blocks))
+    longer zero m blocks within = omega arith
+    longer (suc n) zero blocks within = absurd (omega arith)
+    longer (suc n) (suc m) [] within = omega arith
+    longer (suc n) (suc m) (block ∷ blocks) within =
+        omega (
+          arith,
+          longer n m blocks (omega arith),
+          length-append block (concat (take n blocks)),
+          length-append block (concat (take m blocks)),
+        )

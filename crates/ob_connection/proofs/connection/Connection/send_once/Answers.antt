@@ -1,31 +1,50 @@
-use Rattle.ob_connection.proofs.Words.{◌≡◌, ◌++◌, List, ℕ, length, take, not, sym, ap, ◌∙◌, arith, told_by}
+use Rattle.ob_connection.proofs.Words.{◌≡◌, ◌≤◌, ◌++◌, List, ℕ, length, take, not, sym, ap, ◌∙◌, told_by, subst, Connected}
 use Rattle.std.specs.List.{concat}
-use Rattle.ob_seq.specs.Gathering.{gathered_after}
+use Rattle.std.specs.Prelude.{min}
 use Rattle.ob_connection.specs.Obeying.{promises_after}
+use Rattle.ob_connection.specs.Offering.{most_pieces, offered}
 use Rattle.ob_connection.specs.Replies.{taken_reply}
-use Rattle.ob_connection.proofs.Sending.{gathered_le, not_refused}
+use Rattle.ob_connection.proofs.Sending.{not_refused, offered_are_gathered, offered_within}
 use Rattle.ob_connection.proofs.connection.Connection.send_once.Goals as goal
+
+module _ {inside now : Connected} (view : inside ≡ now) where
+  -- what was taken, by what the connection shows
+  taken_within : {bytes taken : ℕ} (max_count max_bytes : ℕ) → bytes ≡ taken →
+      taken ≤ length (concat (offered (min most_pieces max_count) max_bytes inside.unsent)) →
+      bytes ≤ length (concat (offered (min most_pieces max_count) max_bytes now.unsent))
+  taken_within {bytes} max_count max_bytes same within =
+      subst (λ (one : Connected). bytes ≤ length (concat (offered (min most_pieces max_count) max_bytes one.unsent)))
+      view (rw same within)
+
+  sent_as : {bytes taken : ℕ} {after : List ℕ} (before : List ℕ) (max_count max_bytes : ℕ) → bytes ≡ taken →
+      after ≡ before ++ take taken (concat (offered (min most_pieces max_count) max_bytes inside.unsent)) →
+      after ≡ before ++ take bytes (concat (offered (min most_pieces max_count) max_bytes now.unsent))
+  sent_as {bytes} {after = after} before max_count max_bytes same is =
+      subst (λ (one : Connected).
+      after ≡ before ++ take bytes (concat (offered (min most_pieces max_count) max_bytes one.unsent)))
+      view (rw same is)
 
 pub unreachable-requires : goal.unreachable-requires
 unreachable-requires g c =
     let some = c.stands_for_some_commands.ensures in
     let commands = some.0 in
     let settings = c.args.self.now.unsent.settings in
-    let blocks : c.as_slice.result.now ≡ gathered_after settings commands c.args.max_count c.args.max_bytes = c.as_slice.ensures.value ∙ c.in-Ok.ensures.blocks commands some.1 in
-    let few = gathered_le settings commands c.args.max_count c.args.max_bytes in
-    let count = ap (λ (pieces : List (List ℕ)). length (concat pieces)) blocks in
-    not_refused settings commands c.in_ok-bytes.bytes c.in_default-take_sent.field-0
+    not_refused settings commands c.in_ok-bytes.bytes c.in_default.field-0
     (sym (c.is_closed.ensures commands some.1) ∙ c.if-is_closed.false)
-    (omega (arith, c.in_ok-bytes.ensures.within, count, few))
-    (ap (told_by (taken_reply (promises_after settings commands))) (sym c.in_default-take_sent.is)
+    (offered_within c.args.self.now commands some.1 c.args.max_count c.args.max_bytes c.in_ok-bytes.bytes
+    (taken_within c.self.view_is c.args.max_count c.args.max_bytes c.in_ok-bytes.ensures.taken c.offer.ensures.within))
+    (ap (told_by (taken_reply (promises_after settings commands))) (sym c.in_default.is)
     ∙ c.take_sent.ensures.obeys.answer c.take_sent.ensures.frugal commands some.1)
 
 pub returns-clause-sends : goal.returns-clause-sends
 returns-clause-sends g c = record {
-  sent = λ commands stands. c.in_ok-bytes.ensures.taken
-      ∙ ap (λ (pieces : List (List ℕ)). g.S.Socket.sent c.args.socket.now ++ take c.in_ok-bytes.bytes (concat pieces))
-      (c.as_slice.ensures.value ∙ c.in-Ok.ensures.blocks commands stands);
-  obeys = c.in-Ok-take_sent.ensures.obeys;
-  next = c.in-Ok-take_sent.ensures.next;
+  sent = λ commands stands. sent_as c.self.view_is (g.S.Socket.sent c.args.socket.now) c.args.max_count c.args.max_bytes
+      c.in_ok-bytes.ensures.taken c.offer.ensures.sent
+      ∙ ap (λ bytes. g.S.Socket.sent c.args.socket.now ++ bytes)
+      (offered_are_gathered c.args.self.now commands stands c.args.max_count c.args.max_bytes c.in_ok-bytes.bytes
+      (taken_within c.self.view_is c.args.max_count c.args.max_bytes c.in_ok-bytes.ensures.taken
+      c.offer.ensures.within));
+  obeys = c.in-Ok.ensures.obeys;
+  next = c.in-Ok.ensures.next;
   more = λ commands stands. ap not (c.is_empty.ensures commands stands);
 }

@@ -1,0 +1,35 @@
+-- What a socket is offered, and what it made of that. No public clause cites this module.
+use Rattle.std.specs.List.{concat}
+use Rattle.std.specs.Prelude.{◌≡◌, ◌≤◌, ◌<◌, ◌++◌, ℕ, List, [], length, take}
+use Rattle.ob_seq.specs.Entry.{blocks_left}
+use Rattle.ob_seq.specs.Gathering.{first_blocks, with_bytes}
+use Rattle.ob_seq.specs.Unsent.{Unsent, pending_entries}
+use Rattle.ob_connection.specs.declared.inner.offer.Offer.{Offer}
+use Rattle.ob_connection.specs.declared.inner.offer.Offer.TheVariants.{Nothing, Took, Blocked, Broken}
+
+-- how many pieces a socket is offered at once, at most
+abbrev pub most_pieces : ℕ
+most_pieces = 64
+
+-- the bytes left in each message in line before the first that is no block
+abbrev pub run_of : Unsent → List (List ℕ)
+run_of unsent = blocks_left (pending_entries unsent.line)
+
+-- the blocks that a socket is offered, if that many may be
+abbrev pub offered : ℕ → ℕ → Unsent → List (List ℕ)
+offered max_count max_bytes unsent = first_blocks max_count max_bytes (with_bytes (run_of unsent))
+
+-- how many bytes it took
+abbrev pub bytes_taken : Offer → ℕ
+bytes_taken Nothing = 0
+bytes_taken (Took bytes) = bytes
+bytes_taken Blocked = 0
+bytes_taken Broken = 0
+
+-- a socket that had these bytes took the first of those that it was offered, and was not asked only if there were none
+pub record Offers (max_count max_bytes : ℕ) (unsent : Unsent) (sent_before : List ℕ) (offer : Offer)
+    (sent_after : List ℕ) : Type 0 where
+  pub within : bytes_taken offer ≤ length (concat (offered max_count max_bytes unsent))
+  pub sent : sent_after ≡ sent_before ++ take (bytes_taken offer) (concat (offered max_count max_bytes unsent))
+  pub nothing : offer ≡ Nothing → offered max_count max_bytes unsent ≡ []
+  pub something : ¬ (offer ≡ Nothing) → 0 < length (offered max_count max_bytes unsent)

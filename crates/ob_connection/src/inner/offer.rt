@@ -1,0 +1,69 @@
+//! A socket is offered what stands in front.
+
+ghost use Rattle.std.specs.Io.Slices.{io_slice_bytes};
+ghost use Rattle.std.specs.List.{concat};
+ghost use Rattle.std.specs.Prelude.{◌≡◌, ◌≤◌, ◌++◌, length, take, map, min};
+ghost use Rattle.ob_connection.specs.Offering.{bytes_taken, most_pieces, Offers};
+
+use crate::inner::Inner;
+use crate::socket::{Socket, SocketFault};
+use std::io::IoSlice;
+
+/// How many pieces a socket is offered at once, at most.
+const MOST_PIECES: usize = 64;
+
+/// What a socket made of an offer.
+#[derive(Clone, Copy, Debug, PartialEq, Eq)]
+pub enum Offer {
+    /// There was nothing to offer, so it was not asked.
+    Nothing,
+    /// It took so many bytes.
+    Took(u64),
+    /// It has no room now.
+    Blocked,
+    /// It is broken.
+    Broken,
+}
+
+impl Inner {
+    /// Offers a socket the blocks in front, at most `max_count` of them and at most 64, and together at most `max_bytes`
+    /// bytes, but the first however long it is. It takes no memory.
+    pub fn offer<S: Socket>(&self, socket: &mut S, max_count: u32, max_bytes: u32) -> Offer
+        ensures { Offers (min most_pieces max_count) max_bytes self.now.unsent (S.sent socket.old) result
+            (S.sent socket.new) }
+    {
+        let mut pieces = [IoSlice::new(&[]); MOST_PIECES];
+        let most = MOST_PIECES.min(max_count as usize);
+        self.offer_by(socket, &mut pieces[..most], max_bytes)
+    }
+
+    /// The same by these pieces.
+    fn offer_by<'a, S: Socket>(
+        &'a self,
+        socket: &mut S,
+        pieces: &mut [IoSlice<'a>],
+        max_bytes: u32,
+    ) -> Offer
+        ensures { Offers (length pieces.old) max_bytes self.now.unsent (S.sent socket.old) result (S.sent socket.new) }
+    {
+        let count = self.contents.gather_into(pieces, max_bytes);
+        if count == 0 {
+            return Offer::Nothing;
+        }
+        ask(socket, &pieces[..count])
+    }
+}
+
+/// Lets a socket take of some pieces.
+fn ask<S: Socket>(socket: &mut S, pieces: &[IoSlice<'_>]) -> Offer
+    ensures asked { ¬ (result ≡ Offer.Nothing) }
+    ensures within { bytes_taken result ≤ length (concat (map io_slice_bytes pieces.now)) }
+    ensures sent { S.sent socket.new
+        ≡ S.sent socket.old ++ take (bytes_taken result) (concat (map io_slice_bytes pieces.now)) }
+{
+    match socket.write_vectored(pieces) {
+        Ok(bytes) => Offer::Took(bytes as u64),
+        Err(SocketFault::Blocked) => Offer::Blocked,
+        Err(SocketFault::Broken) => Offer::Broken,
+    }
+}
