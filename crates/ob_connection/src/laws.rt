@@ -1,13 +1,20 @@
 //! What holds of the answers to every list of commands. The calls of a connection answer by the definitions that these
 //! laws speak of.
 
-ghost use Rattle.std.specs.Prelude.{◌≡◌, ◌<◌, List};
+ghost use Rattle.std.specs.List.{Contains};
+ghost use Rattle.std.specs.Prelude.{◌≡◌, ◌<◌, ◌≤◌, ◌↔◌, List, Some};
 ghost use Rattle.ob_types.specs.Limits.{most_writes};
 ghost use Rattle.ob_types.specs.declared.command.Command.{Command};
+ghost use Rattle.ob_types.specs.declared.promise.Outcome.{Outcome};
+ghost use Rattle.ob_types.specs.declared.promise.PromiseId.{PromiseId};
+ghost use Rattle.ob_types.specs.declared.promise.PromiseState.TheVariants.{Settled};
 ghost use Rattle.ob_seq.specs.Answer.{answer_to};
+ghost use Rattle.ob_seq.specs.Looks.{promise_after};
 ghost use Rattle.ob_seq.specs.Settings.{Settings};
+ghost use Rattle.ob_seq.specs.Settles.{times_settled};
 ghost use Rattle.ob_seq.specs.Writes.{writes_in};
-ghost use Rattle.ob_connection.specs.Limit.{answer_of_connection, answer_without_limit, most_ids};
+ghost use Rattle.ob_connection.specs.Limit.{accepted_by_connection, answer_of_connection, answer_without_limit, most_ids};
+ghost use Rattle.ob_connection.specs.Limit.{settled_by_connection};
 
 /// After fewer than 2^64 - 1 writes a connection answers each command as if there were no limit on writes, and after fewer
 /// than 1048576 it answers as a buffer does.
@@ -18,4 +25,14 @@ pub fn the_limit_is_out_of_reach()
     ensures as_a_buffer { (settings : Settings) (commands : List Command) (command : Command) →
         writes_in commands < most_writes
         → answer_of_connection settings commands command ≡ answer_to settings commands command }
+{}
+
+/// Whatever commands a new connection is given, no promise is settled twice, and a promise is settled with an outcome
+/// exactly if the two stand together among what the answers settle.
+pub fn each_promise_is_settled_once_and_told()
+    ensures once { (settings : Settings) (commands : List Command) (id : PromiseId) →
+        times_settled id (settled_by_connection settings commands) ≤ 1 }
+    ensures told { (settings : Settings) (commands : List Command) (id : PromiseId) (outcome : Outcome) →
+        promise_after settings (accepted_by_connection settings commands) id ≡ Some (Settled outcome)
+        ↔ Contains (settled_by_connection settings commands) (id, outcome) }
 {}

@@ -13,7 +13,7 @@ mod status;
 mod tests;
 
 pub use connection::{Connection, SendFault, Sent};
-pub use laws::the_limit_is_out_of_reach;
+pub use laws::{each_promise_is_settled_once_and_told, the_limit_is_out_of_reach};
 pub use look::Look;
 pub use replies::{Flushed, Removed, Taken, Written};
 pub use socket::{Socket, SocketFault};

@@ -179,6 +179,11 @@ are_accepted settings earlier commands = are_accepted_within buffer_limit settin
 abbrev pub commands_with : List Command → Command → Result Reply Refusal → List Command
 commands_with commands command answer = if is_ok answer then commands ++ command ∷ [] else commands
 
--- the accepted commands after one more command
+-- the accepted commands after one more command under a limit on writes
+abbrev pub commands_after_within : Option ℕ → Settings → List Command → Command → List Command
+commands_after_within limit settings commands command =
+    commands_with commands command (answer_within limit settings commands command)
+
+-- the accepted commands of a buffer after one more command
 abbrev pub commands_after : Settings → List Command → Command → List Command
-commands_after settings commands command = commands_with commands command (answer_to settings commands command)
+commands_after settings commands command = commands_after_within buffer_limit settings commands command

@@ -1,5 +1,5 @@
 -- What commands settle.
-use Rattle.std.specs.Prelude.{◌≤◌, IsErrOf, ◌==◌, ℕ, List, [], ◌∷◌, ◌++◌, count_by, length, Result, Ok, Err}
+use Rattle.std.specs.Prelude.{◌≤◌, IsErrOf, ◌==◌, ℕ, List, [], ◌∷◌, ◌++◌, count_by, length, Option, Result, Ok, Err}
 use Rattle.ob_types.specs.Limits.{inline_settlements}
 use Rattle.ob_types.specs.declared.command.Command.{Command}
 use Rattle.ob_types.specs.declared.promise.PromiseId.{PromiseId}
@@ -8,7 +8,7 @@ use Rattle.ob_types.specs.declared.reply.Reply.{Reply}
 use Rattle.ob_types.specs.declared.refusal.Refusal.{Refusal}
 use Rattle.ob_types.specs.declared.refusal.Refusal.TheVariants.{NoMemory}
 use Rattle.ob_seq.specs.Settings.{Settings}
-use Rattle.ob_seq.specs.Answer.{answer_to, commands_after}
+use Rattle.ob_seq.specs.Answer.{answer_to, answer_within, buffer_limit, commands_after_within}
 use Rattle.ob_seq.specs.Pending.{Pending, StandsFor, Gives}
 
 -- what an answer settles: the settlements of a reply, and nothing where the command was refused
@@ -31,13 +31,17 @@ SparesMemory old command result =
     (commands : List Command) → StandsFor old commands
     → settled_after old.settings commands command ≤ inline_settlements → ¬ IsErrOf result NoMemory
 
--- what commands settle that are given one after another after a history; a refused one settles nothing and has no
--- effect
+-- what commands settle that are given one after another after a history under a limit on writes; a refused one settles
+-- nothing and has no effect
+abbrev pub settled_along_within : Option ℕ → Settings → List Command → List Command → List (PromiseId × Outcome)
+settled_along_within limit settings earlier [] = []
+settled_along_within limit settings earlier (command ∷ commands) =
+    settled_by (answer_within limit settings earlier command)
+    ++ settled_along_within limit settings (commands_after_within limit settings earlier command) commands
+
+-- what commands settle that a buffer is given one after another after a history
 abbrev pub settled_along : Settings → List Command → List Command → List (PromiseId × Outcome)
-settled_along settings earlier [] = []
-settled_along settings earlier (command ∷ commands) =
-    settled_by (answer_to settings earlier command)
-    ++ settled_along settings (commands_after settings earlier command) commands
+settled_along settings earlier commands = settled_along_within buffer_limit settings earlier commands
 
 -- how often a promise stands among settlements
 abbrev pub times_settled : PromiseId → List (PromiseId × Outcome) → ℕ

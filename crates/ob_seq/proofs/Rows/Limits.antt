@@ -11,7 +11,8 @@ use Rattle.std.proofs.Common.{length-drop}
 use Rattle.std.proofs.lemmas.List.Elements.{All-from_recursion, length_all_zip}
 use Rattle.ob_types.specs.Limits.{greatest_total, most_writes}
 use Rattle.ob_seq.specs.Fitting.{FitsItsPlace}
-use Rattle.ob_seq.proofs.Rows.Accepting.{kept_along_accepted, not_refused, open_and_fit}
+use Rattle.ob_seq.proofs.Rows.Accepting.{kept_along_within, not_refused, open_and_fit, open_and_fit_within}
+use Rattle.ob_seq.specs.Answer.{are_accepted_within, first_refusal_within, refusal_within}
 use Rattle.ob_seq.proofs.Rows.EachRow.{Ends, IsKnown, each_as, each_turns, effect_turns, row_for_each_write}
 use Rattle.ob_seq.proofs.Rows.EachRow.{total_turns}
 use Rattle.ob_seq.proofs.Rows.History.{closed_more, rows_after_more}
@@ -35,16 +36,17 @@ module _ (settings : Settings) where
     ends : Ends row
 
   -- rows within the limits, each of them right, and gone where the buffer is closed
-  record AreWithin (closed : Bool) (rows : List Row) : Type 0 where
+  record AreWithin (most : ℕ) (closed : Bool) (rows : List Row) : Type 0 where
     sum : total rows ≤ greatest_total
-    count : length rows ≤ most_writes
+    count : length rows ≤ most
     right : AllByRecursion IsRight rows
     gone : closed ≡ true → AllByRecursion IsGone rows
 
   -- an accepted command leaves rows within the limits
-  one_within : (rows : List Row) (command : Command) → refusal_of estimate rows command ≡ None →
-      AreWithin false rows → AreWithin (is_close command) (effect estimate rows command)
-  one_within rows (Write message) accepted within =
+  one_within : (most : ℕ) (rows : List Row) (command : Command) →
+      refusal_within (Some most) estimate rows command ≡ None →
+      AreWithin most false rows → AreWithin most (is_close command) (effect estimate rows command)
+  one_within most rows (Write message) accepted within =
       let new = new_row estimate message in record {
         sum = grind (arith, nat_tests, sum_by_push counted_size rows new);
         count = grind (arith, nat_tests, length-append rows (new ∷ []));
@@ -52,7 +54,7 @@ module _ (settings : Settings) where
             (record { size = refl; known = grind arith; ends = λ gone. absurd (cc) }, tt);
         gone = λ closed. absurd (cc);
       }
-  one_within rows command accepted within =
+  one_within most rows command accepted within =
       let after = effect estimate rows command in
       let each = effect_turns (Unit {0}) estimate rows command (λ always. accepted) refl in record {
         sum = omega (arith, total_turns (Unit {0}) rows after each, within.sum);
@@ -63,19 +65,21 @@ module _ (settings : Settings) where
       }
 
   -- so are the rows after a history
-  abbrev IsWithin : List Command → Type 0
-  IsWithin commands = AreWithin (is_closed commands) (rows_after estimate commands)
+  abbrev IsWithin : ℕ → List Command → Type 0
+  IsWithin most commands = AreWithin most (is_closed commands) (rows_after estimate commands)
 
-  one_more_within : (earlier : List Command) (command : Command) → first_refusal estimate earlier command ≡ None →
-      IsWithin earlier → IsWithin (earlier ++ command ∷ [])
-  one_more_within earlier command accepted within =
-      let open_and = open_and_fit estimate earlier command accepted in
+  one_more_within : (most : ℕ) (earlier : List Command) (command : Command) →
+      first_refusal_within (Some most) estimate earlier command ≡ None →
+      IsWithin most earlier → IsWithin most (earlier ++ command ∷ [])
+  one_more_within most earlier command accepted within =
+      let open_and = open_and_fit_within (Some most) estimate earlier command accepted in
       rw (rows_after_more estimate earlier command, closed_more earlier command open_and.0)
-      (one_within (rows_after estimate earlier) command open_and.1 (rw open_and.0 at within))
+      (one_within most (rows_after estimate earlier) command open_and.1 (rw open_and.0 at within))
 
-  within_after : (commands : List Command) → are_accepted settings [] commands ≡ true → IsWithin commands
-  within_after commands all =
-      kept_along_accepted settings IsWithin one_more_within [] commands all
+  within_after : (most : ℕ) (commands : List Command) → are_accepted_within (Some most) settings [] commands ≡ true →
+      IsWithin most commands
+  within_after most commands all =
+      kept_along_within (Some most) settings (IsWithin most) (one_more_within most) [] commands all
       (record { sum = omega arith; count = omega arith; right = tt; gone = λ closed. tt })
 
   -- no more bytes of a row in line are unread than it counts
@@ -94,6 +98,13 @@ module _ (settings : Settings) where
       let sizes = sum_by-cons counted_size row rows in
       grind arith
 
+  -- so under every limit on writes no more bytes stand in the byte run than may be pending
+  pub run_within : (most : ℕ) (commands : List Command) → are_accepted_within (Some most) settings [] commands ≡ true →
+      bytes_in (byte_run (rows_after estimate commands)) ≤ greatest_total
+  run_within most commands all =
+      let within = within_after most commands all in
+      omega (arith, run_le (rows_after estimate commands) within.right, within.sum)
+
   -- the promise of a row fits its place
   fits : (row : Row) → IsRight row → FitsItsPlace row
   fits row right = grind arith
@@ -108,8 +119,8 @@ module _ (settings : Settings) where
       settled_gone rows id (omega (arith, within)) right.1 gone.1
 
   module _ (commands : List Command) (all : are_accepted settings [] commands ≡ true) where
-    abbrev within : IsWithin commands
-    within = within_after commands all
+    abbrev within : IsWithin most_writes commands
+    within = within_after most_writes commands all
 
     -- after accepted commands no more than 4294967295 bytes are pending
     pub total_within : total (rows_after estimate commands) ≤ greatest_total

@@ -2,13 +2,16 @@
 use Rattle.ob_seq.proofs.Words.{◌≡◌, ℕ, zero, suc, ◌+◌, ◌<◌, ◌≤◌, Bool, true, false, List, [], ◌∷◌, ◌++◌, drop, refl}
 use Rattle.ob_seq.proofs.Words.{ap, get_or, append-nil, length, cond, eqb, filter, filter-append, arith, nat_tests, inl}
 use Rattle.ob_seq.proofs.Words.{inr, ◌↔◌, Option, Some, None, fold, Command, Outcome, PromiseId, PromiseState, Settled}
-use Rattle.ob_seq.proofs.Words.{accepted_among, are_accepted, commands_after, first_refusal, outcome_of, settlement}
-use Rattle.ob_seq.proofs.Words.{settlements_from, rows_after, promise_after, Row, Settings, settled_along}
+use Rattle.ob_seq.proofs.Words.{outcome_of, settlement, settlements_from, rows_after, promise_after, Row, Settings}
+use Rattle.ob_seq.proofs.Words.{accepted_among, settled_along}
+use Rattle.ob_seq.specs.Accepted.{accepted_among_within}
+use Rattle.ob_seq.specs.Answer.{are_accepted_within, buffer_limit, commands_after_within, first_refusal_within}
+use Rattle.ob_seq.specs.Settles.{settled_along_within}
 use Rattle.std.specs.List.{Contains}
 use Rattle.std.proofs.lemmas.List.Elements.{All-contains_itself, All-filter, All-head}
 use Rattle.std.proofs.lemmas.List.Sums.{length-filter}
 use Rattle.ob_seq.specs.Settles.{times_settled}
-use Rattle.ob_seq.proofs.Rows.Accepting.{all_among, none_or_some}
+use Rattle.ob_seq.proofs.Rows.Accepting.{all_among_within, none_or_some}
 use Rattle.ob_seq.proofs.Rows.EachRow.{StaysSettled, effect_stays, outcome_at, outcome_in}
 use Rattle.ob_seq.proofs.Rows.History.{rows_after_more}
 
@@ -73,7 +76,7 @@ kept test one passes (x ∷ xs) (suc index) within is =
       | false ↦ there
     ]
 
-module _ (settings : Settings) where
+module _ (limit : Option ℕ) (settings : Settings) where
   -- the outcome of a promise after a history
   abbrev outcome_after : List Command → ℕ → Option Outcome
   outcome_after commands id = outcome_at (rows_after settings.estimate commands) id
@@ -84,9 +87,9 @@ module _ (settings : Settings) where
     stays : StaysSettled (outcome_after earlier id) (outcome_after after id)
 
   all_settle : (earlier commands : List Command) (id : ℕ) →
-      Settle earlier (fold (commands_after settings) earlier commands) (settled_along settings earlier commands) id
+      Settle earlier (fold (commands_after_within limit settings) earlier commands) (settled_along_within limit settings earlier commands) id
   all_settle earlier [] id = record { told = grind arith; stays = λ outcome is. is }
-  all_settle earlier (command ∷ commands) id = elim (none_or_some (first_refusal settings.estimate earlier command)) [
+  all_settle earlier (command ∷ commands) id = elim (none_or_some (first_refusal_within limit settings.estimate earlier command)) [
     | inl none ↦
         let rest = all_settle (earlier ++ command ∷ []) commands id in
         let later = rw (rows_after_more settings.estimate earlier command) at rest.stays in
@@ -104,28 +107,28 @@ module _ (settings : Settings) where
   ]
 
   -- whatever commands are given, no promise is settled twice
-  pub settled_once : (commands : List Command) (id : PromiseId) →
-      times_settled id (settled_along settings [] commands) ≤ 1
-  settled_once commands id =
+  pub settled_once_within : (commands : List Command) (id : PromiseId) →
+      times_settled id (settled_along_within limit settings [] commands) ≤ 1
+  settled_once_within commands id =
       let told = ap length (all_settle [] commands id.0).told in
-      let now = outcome_after (accepted_among settings commands) id.0 in
+      let now = outcome_after (accepted_among_within limit settings commands) id.0 in
       let few : length (settlement id.0 None now) ≤ 1 = grind arith in
-      omega (arith, length-filter (is_of id.0) (settled_along settings [] commands))
+      omega (arith, length-filter (is_of id.0) (settled_along_within limit settings [] commands))
 
   -- whatever command comes next, a settled promise keeps its outcome
-  pub outcome_kept : (earlier : List Command) (command : Command) (id : PromiseId) (outcome : Outcome) →
+  pub outcome_kept_within : (earlier : List Command) (command : Command) (id : PromiseId) (outcome : Outcome) →
       promise_after settings earlier id ≡ Some (Settled outcome) →
-      promise_after settings (commands_after settings earlier command) id ≡ Some (Settled outcome)
-  outcome_kept earlier command id outcome is =
+      promise_after settings (commands_after_within limit settings earlier command) id ≡ Some (Settled outcome)
+  outcome_kept_within earlier command id outcome is =
       settled_in _ outcome ((all_settle earlier (command ∷ []) id.0).stays outcome (ap outcome_in is))
 
   module _ (id : PromiseId) (outcome : Outcome) (commands : List Command) where
     -- of a new buffer just those promises are settled that its answers tell
-    pub settled_is_told :
-        promise_after settings (accepted_among settings commands) id ≡ Some (Settled outcome)
-        ↔ Contains (settled_along settings [] commands) (id, outcome)
-    settled_is_told =
-        let all = settled_along settings [] commands in
+    pub told_within :
+        promise_after settings (accepted_among_within limit settings commands) id ≡ Some (Settled outcome)
+        ↔ Contains (settled_along_within limit settings [] commands) (id, outcome)
+    told_within =
+        let all = settled_along_within limit settings [] commands in
         let told = (all_settle [] commands id.0).told in
         let itself : is_of id.0 (id, outcome) ≡ true = grind (arith, nat_tests) in (
           λ is. All-head (Contains all) (id, outcome) []
@@ -135,7 +138,13 @@ module _ (settings : Settings) where
         )
 
     -- and so after accepted commands
-    pub accepted_is_told : are_accepted settings [] commands ≡ true →
+    pub accepted_told_within : are_accepted_within limit settings [] commands ≡ true →
         promise_after settings commands id ≡ Some (Settled outcome)
-        ↔ Contains (settled_along settings [] commands) (id, outcome)
-    accepted_is_told all = rw (all_among settings commands all) at settled_is_told
+        ↔ Contains (settled_along_within limit settings [] commands) (id, outcome)
+    accepted_told_within all = rw (all_among_within limit settings commands all) at told_within
+
+-- of a buffer just those promises are settled that its answers tell
+pub settled_is_told : (settings : Settings) (id : PromiseId) (outcome : Outcome) (commands : List Command) →
+    promise_after settings (accepted_among settings commands) id ≡ Some (Settled outcome)
+    ↔ Contains (settled_along settings [] commands) (id, outcome)
+settled_is_told = told_within buffer_limit
