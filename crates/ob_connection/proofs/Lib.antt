@@ -5,4 +5,5 @@ pub mod Obeyed
 pub mod Offered
 pub mod Sending
 pub mod Settling
+pub mod Turns
 pub mod Words

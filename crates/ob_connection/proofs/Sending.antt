@@ -1,7 +1,17 @@
 -- What was sent can be taken away.
 use Rattle.ob_connection.proofs.Words.{◌≡◌, ◌≤◌, ℕ, Bool, false, List, length, take, ltb, cond, sym, ap, ◌∙◌, whole}
 use Rattle.ob_connection.proofs.Words.{arith, nat_tests, Some, None, Option, Err, Refusal, Closed, Reply, Command, Settings}
-use Rattle.ob_connection.proofs.Words.{Connected, StandsFor}
+use Rattle.ob_connection.proofs.Words.{Connected, StandsFor, Gives, most_ids, true, ◌<◌}
+use Rattle.std.proofs.lemmas.List.{length-map}
+use Rattle.ob_types.specs.Limits.{greatest_total}
+use Rattle.ob_seq.specs.Entry.{PendingEntry, entry_of}
+use Rattle.ob_seq.specs.Line.{line}
+use Rattle.ob_seq.specs.State.{empty_after}
+use Rattle.ob_seq.specs.Unsent.{pending_entry}
+use Rattle.ob_seq.proofs.Rows.Limits.{run_within}
+use Rattle.ob_connection.specs.declared.ending.Ending.{Ending}
+use Rattle.ob_connection.specs.declared.ending.Ending.TheVariants.{Drained, Blocked as NoRoom, OtherInFront, TurnsUsed, Broken as IsBroken}
+use Rattle.ob_connection.specs.Sending.{Ends}
 use Rattle.std.specs.List.{concat}
 use Rattle.std.specs.Prelude.{min}
 use Rattle.ob_types.specs.declared.command.Command.TheVariants.{RemoveBytes}
@@ -15,7 +25,7 @@ use Rattle.ob_seq.specs.Pieces.{bytes_in}
 use Rattle.ob_seq.proofs.Inside.Gathered.{gathered_first, length_of_concat, more_gathered}
 use Rattle.ob_seq.proofs.Simulating.BytesRemoved.{run_is}
 use Rattle.ob_connection.specs.Limit.{answer_of_connection}
-use Rattle.ob_connection.specs.Offering.{most_pieces, offered, run_of}
+use Rattle.ob_connection.specs.Offering.{EndsAt, most_pieces, offered, run_of}
 
 -- what a connection has left in front is what its history has
 pub run_after : (now : Connected) (commands : List Command) → StandsFor now commands →
@@ -64,3 +74,40 @@ not_refused settings commands n refusal unclosed within same =
     let run = bytes_in (byte_run (rows_after settings.estimate commands)) in
     let test : ltb run n ≡ false = grind (arith, nat_tests) in
     by_tests (is_closed commands) (ltb run n) (reply_of settings commands (RemoveBytes n)) refusal unclosed test same
+
+-- how many stand in line
+line_count : (now : Connected) (commands : List Command) → StandsFor now commands →
+    length now.unsent.line ≡ length (line (rows_after now.unsent.settings.estimate commands))
+line_count now commands stands =
+    let rows = rows_after now.unsent.settings.estimate commands in
+    omega (
+      arith,
+      length-map now.unsent.line pending_entry,
+      ap (λ (entries : List PendingEntry). length entries) stands.leaves.line,
+      length-map (line rows) entry_of,
+    )
+
+is_empty : (now : Connected) → length now.unsent.line ≡ 0 → Gives now empty_after true
+is_empty now none commands stands = let same = line_count now commands stands in grind (arith, nat_tests)
+
+is_not_empty : (now : Connected) → 0 < length now.unsent.line → Gives now empty_after false
+is_not_empty now some commands stands = let same = line_count now commands stands in grind (arith, nat_tests)
+
+-- what is left where a sending ended so, by the history
+pub ends_are : (now : Connected) (ending : Ending) → EndsAt now.unsent ending → Ends now ending
+ends_are now Drained none = is_empty now none
+ends_are now NoRoom some = is_not_empty now some
+ends_are now OtherInFront left =
+    (is_not_empty now left.0, λ commands stands. sym left.1 ∙ ap bytes_in (run_after now commands stands))
+ends_are now TurnsUsed some = is_not_empty now some
+ends_are now IsBroken some = is_not_empty now some
+
+-- an open connection has no more bytes in front than may be pending
+pub few_in_front : (now : Connected) (commands : List Command) → StandsFor now commands →
+    bytes_in (run_of now.unsent) ≤ greatest_total
+few_in_front now commands stands =
+    omega (
+      arith,
+      run_within now.unsent.settings most_ids commands stands.accepted,
+      ap bytes_in (run_after now commands stands),
+    )

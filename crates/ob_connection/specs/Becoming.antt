@@ -1,17 +1,22 @@
 -- What a call does to a connection, step by step. No public clause cites this module.
-use Rattle.std.specs.Prelude.{◌≡◌, List, length, Result}
+use Rattle.std.specs.Prelude.{◌≡◌, ℕ, List, length, Result, Ok}
 use Rattle.ob_types.specs.declared.command.Command.{Command}
+use Rattle.ob_types.specs.declared.command.Command.TheVariants.{RemoveBytes}
 use Rattle.ob_types.specs.declared.promise.Outcome.{Outcome}
 use Rattle.ob_types.specs.declared.promise.PromiseState.{PromiseState}
 use Rattle.ob_types.specs.declared.refusal.Refusal.{Refusal}
 use Rattle.ob_types.specs.declared.reply.Reply.{Reply}
+use Rattle.ob_seq.specs.Entry.{blocks_left}
 use Rattle.ob_seq.specs.Pending.{Pending}
 use Rattle.ob_seq.specs.Steps.OfCommand.{step_within}
+use Rattle.ob_seq.specs.Steps.RemoveBytes.{bytes_removed, whole_cut}
 use Rattle.ob_seq.specs.Steps.Step.{Step, Makes}
 use Rattle.ob_seq.specs.Unsent.{whole}
+use Rattle.ob_seq.specs.declared.contents.cut.Cut.{Cut}
 use Rattle.ob_connection.specs.Connected.{Connected}
 use Rattle.ob_connection.specs.Limit.{connection_limit}
-use Rattle.ob_connection.specs.Replies.{told_by}
+use Rattle.ob_connection.specs.Replies.{taken_reply, told_by}
+use Rattle.ob_connection.specs.declared.replies.Taken.{Taken}
 
 -- outcomes of as many messages as are gone
 pub record Past (connection : Connected) : Type 0 where
@@ -26,6 +31,14 @@ held {connection = connection} past = whole past.outcomes connection.unsent
 abbrev pub Becomes : (Pending → Pending) → Connected → Connected → Type 0
 Becomes step old new = (past : Past old) → (after : Past new) × (held after ≡ step (held past))
 
+-- where a removal of so many bytes ends in what is held
+abbrev pub cut_at : ℕ → Pending → Cut
+cut_at n now = whole_cut n (blocks_left now.line)
+
+-- what is held once so many bytes are removed
+abbrev pub removed : ℕ → Pending → Pending
+removed n now = bytes_removed (cut_at n now) now
+
 -- and with some for those that are gone now this step was made, and the result says what it replies
 abbrev pub Steps : {A : Type 0} → (Pending → Step) → Connected → (List PromiseState → A → Reply) → Result A Refusal →
     Connected → Type 0
@@ -37,3 +50,8 @@ Steps step old tell result new =
 abbrev pub Moves : {A : Type 0} → Connected → Command → (List PromiseState → A → Reply) → Result A Refusal →
     Connected → Type 0
 Moves old command tell result new = Steps (step_within connection_limit command) old tell result new
+
+-- so many bytes were taken away as sent, and this tells which messages are gone by that
+abbrev pub TakesSent : Connected → ℕ → Taken → Connected → Type 0
+TakesSent old bytes taken new =
+    let result : Result Taken Refusal = Ok taken in Moves old (RemoveBytes bytes) taken_reply result new

@@ -4,6 +4,9 @@ use Rattle.std.specs.Prelude.{◌≡◌, ◌≤◌, ◌<◌, ◌++◌, ℕ, List
 use Rattle.ob_seq.specs.Entry.{blocks_left}
 use Rattle.ob_seq.specs.Gathering.{first_blocks, with_bytes}
 use Rattle.ob_seq.specs.Unsent.{Unsent, pending_entries}
+use Rattle.ob_seq.specs.Pieces.{bytes_in}
+use Rattle.ob_connection.specs.declared.ending.Ending.{Ending}
+use Rattle.ob_connection.specs.declared.ending.Ending.TheVariants.{Drained, Blocked as NoRoom, OtherInFront, TurnsUsed, Broken as IsBroken}
 use Rattle.ob_connection.specs.declared.inner.offer.Offer.{Offer}
 use Rattle.ob_connection.specs.declared.inner.offer.Offer.TheVariants.{Nothing, Took, Blocked, Broken}
 
@@ -33,3 +36,11 @@ pub record Offers (max_count max_bytes : ℕ) (unsent : Unsent) (sent_before : L
   pub sent : sent_after ≡ sent_before ++ take (bytes_taken offer) (concat (offered max_count max_bytes unsent))
   pub nothing : offer ≡ Nothing → offered max_count max_bytes unsent ≡ []
   pub something : ¬ (offer ≡ Nothing) → 0 < length (offered max_count max_bytes unsent)
+
+-- what is left where a sending ended so
+abbrev pub EndsAt : Unsent → Ending → Type 0
+EndsAt unsent Drained = length unsent.line ≡ 0
+EndsAt unsent NoRoom = 0 < length unsent.line
+EndsAt unsent OtherInFront = (0 < length unsent.line) × (bytes_in (run_of unsent) ≡ 0)
+EndsAt unsent TurnsUsed = 0 < length unsent.line
+EndsAt unsent IsBroken = 0 < length unsent.line

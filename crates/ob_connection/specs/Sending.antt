@@ -1,10 +1,15 @@
 -- What a connection sends at once.
 use Rattle.std.specs.List.{concat}
 use Rattle.std.specs.Prelude.{◌++◌, ℕ, not, List, take, true, false, Result, Ok, Err}
+use Rattle.ob_types.specs.declared.command.Command.{Command}
 use Rattle.ob_types.specs.declared.command.Command.TheVariants.{RemoveBytes}
 use Rattle.ob_types.specs.declared.promise.Outcome.TheVariants.{Success}
 use Rattle.ob_types.specs.declared.refusal.Refusal.{Refusal}
+use Rattle.ob_seq.specs.ByteRun.{byte_run}
+use Rattle.ob_seq.specs.Effect.{rows_after}
 use Rattle.ob_seq.specs.Gathering.{gathered_after}
+use Rattle.ob_seq.specs.Pieces.{bytes_in}
+use Rattle.ob_seq.specs.Settings.{Settings}
 use Rattle.ob_seq.specs.State.{closed_after, empty_after}
 use Rattle.ob_connection.specs.Connected.{Connected}
 use Rattle.ob_connection.specs.Obeying.{IsNext, Obeys}
@@ -13,7 +18,14 @@ use Rattle.ob_connection.specs.Standing.{Gives}
 use Rattle.ob_connection.specs.declared.connection.sending.SendFault.{SendFault}
 use Rattle.ob_connection.specs.declared.connection.sending.SendFault.TheVariants.{Closed, Broken}
 use Rattle.ob_connection.specs.declared.connection.sending.Sent.{Sent}
+use Rattle.ob_connection.specs.declared.ending.Ending.{Ending}
+use Rattle.ob_connection.specs.declared.ending.Ending.TheVariants.{Drained, Blocked, OtherInFront, TurnsUsed, Broken as IsBroken}
+use Rattle.ob_connection.specs.declared.replies.SentTurns.{SentTurns}
 use Rattle.ob_connection.specs.declared.replies.Taken.{Taken}
+
+-- how many bytes stand in front of the first message that is no block, after a history
+abbrev pub bytes_in_front_after : Settings → List Command → ℕ
+bytes_in_front_after settings commands = bytes_in (byte_run (rows_after settings.estimate commands))
 
 -- what was sent are the first bytes of what is gathered, as many as are told; so many were taken away, which answers
 -- what is told; and it is told whether a flushed message is left
@@ -27,8 +39,28 @@ pub record Sends (max_count max_bytes : ℕ) (old : Connected) (sent_before : Li
   pub next : (let result : Result Taken Refusal = Ok done.taken in IsNext old Success result)
   pub more : Gives new (λ settings commands. not (empty_after settings commands)) done.more
 
+-- how a sending of several turns ended, by what is left
+abbrev pub Ends : Connected → Ending → Type 0
+Ends new Drained = Gives new empty_after true
+Ends new Blocked = Gives new empty_after false
+Ends new OtherInFront = Gives new empty_after false × Gives new bytes_in_front_after 0
+Ends new TurnsUsed = Gives new empty_after false
+Ends new IsBroken = Gives new empty_after false
+
+-- all turns together took the first bytes of those in front, as many as are told; they were taken away as by one removal,
+-- which answers what is told; and it is told how they ended
+pub record SendsInTurns (old : Connected) (sent_before : List ℕ) (done : SentTurns) (new : Connected)
+    (sent_after : List ℕ) : Type 0 where
+  pub sent : Gives old
+      (λ settings commands. sent_before ++ take done.bytes (concat (byte_run (rows_after settings.estimate commands))))
+      sent_after
+  pub obeys : (let result : Result Taken Refusal = Ok done.taken in
+      Obeys old (RemoveBytes done.bytes) taken_reply result new)
+  pub next : (let result : Result Taken Refusal = Ok done.taken in IsNext old Success result)
+  pub ends : Ends new done.ending
+
 -- a connection that is closed sends nothing, and no other tells that it is
-abbrev pub EndsSending : Connected → Result Sent SendFault → Type 0
+abbrev pub EndsSending : {A : Type 0} → Connected → Result A SendFault → Type 0
 EndsSending old (Ok done) = Gives old closed_after false
 EndsSending old (Err Closed) = Gives old closed_after true
 EndsSending old (Err Broken) = Gives old closed_after false

@@ -10,6 +10,7 @@ mod flush;
 pub mod offer;
 mod remove;
 mod take;
+mod turns;
 mod write;
 
 use ob_seq::Contents;

@@ -3,6 +3,7 @@
 #![tactic(auto)]
 
 mod connection;
+mod ending;
 mod inner;
 mod laws;
 mod look;
@@ -13,8 +14,9 @@ mod status;
 mod tests;
 
 pub use connection::{Connection, SendFault, Sent};
+pub use ending::Ending;
 pub use laws::{each_promise_is_settled_once_and_told, the_limit_is_out_of_reach};
 pub use look::Look;
-pub use replies::{Flushed, Removed, Taken, Written};
+pub use replies::{Flushed, Removed, SentTurns, Taken, Written};
 pub use socket::{Socket, SocketFault};
 pub use status::Status;

@@ -1,5 +1,6 @@
 //! What the calls of a connection answer.
 
+use crate::ending::Ending;
 use ob_types::{Change, Outcome};
 
 /// What an accepted write answers. It must be used: nothing tells the change again.
@@ -49,4 +50,16 @@ pub struct Taken {
     pub to: u64,
     /// The outcome of the promises that it settled.
     pub outcome: Outcome,
+}
+
+/// What a sending of several turns answers.
+#[must_use]
+#[derive(Clone, Copy, Debug, PartialEq, Eq)]
+pub struct SentTurns {
+    /// How many bytes the socket took in all turns together.
+    pub bytes: u64,
+    /// Which messages are gone by that, and how it changed writability: from before the first turn to after the last.
+    pub taken: Taken,
+    /// How it ended. Flushed messages are left unless that is `Drained`.
+    pub ending: Ending,
 }

@@ -1,13 +1,13 @@
 //! How a connection sends.
 
 ghost use Rattle.std.specs.Prelude.{◌≡◌, IfOk, IfErr, OnErr};
-ghost use Rattle.ob_connection.specs.declared.connection.sending.SendFault.TheVariants.{Broken as IsBroken};
+ghost use Rattle.ob_connection.specs.declared.connection.sending.SendFault.TheVariants.{Broken as IsBroken, Closed as IsClosed};
 ghost use Rattle.ob_connection.specs.Offering.{bytes_taken};
-ghost use Rattle.ob_connection.specs.Sending.{EndsSending, Sends};
+ghost use Rattle.ob_connection.specs.Sending.{EndsSending, Sends, SendsInTurns};
 
 use crate::connection::Connection;
 use crate::inner::offer::Offer;
-use crate::replies::Taken;
+use crate::replies::{SentTurns, Taken};
 use crate::socket::Socket;
 use thiserror::Error;
 
@@ -70,6 +70,39 @@ impl Connection {
             taken,
             more: !self.is_empty(),
         })
+    }
+}
+
+impl Connection {
+    /// Offers a socket the flushed blocks in front, turn by turn as `send_once` does, until no flushed message is left, a
+    /// region or any other message is in front, the socket takes nothing more, or so many turns were made; one turn is made
+    /// at least. A turn offers at most 64 blocks, and together at most `max_bytes` bytes, but the first however long it is.
+    /// It takes no memory.
+    ///
+    /// What the turns took away is told as one interval, and the change of writability once, over all of them. A socket
+    /// that takes less than it was offered is asked again, since some take a few pieces a call: it is blocked once it takes
+    /// nothing. If it breaks, what it took before is told along with that, and the messages that it took whole are gone;
+    /// empty messages in front are taken away then too, since all before them was sent.
+    ///
+    /// `Closed` comes if the connection is closed, and no other fault does; then nothing was sent. Our own.
+    pub fn send_until_blocked<S: Socket>(
+        &mut self,
+        socket: &mut S,
+        max_turns: u32,
+        max_bytes: u32,
+    ) -> Result<SentTurns, SendFault>
+        ensures sends { IfOk result (λ done.
+            SendsInTurns self.old (S.sent socket.old) done self.new (S.sent socket.new)) }
+        ensures kept { OnErr result (self.new ≡ self.old) }
+        ensures unsent { OnErr result (S.sent socket.new ≡ S.sent socket.old) }
+        ensures ends { EndsSending self.old result }
+        ensures closed { IfErr result (λ fault. fault ≡ IsClosed) }
+    {
+        if self.is_closed() {
+            return Err(SendFault::Closed);
+        }
+        self.stands_for_some_commands();
+        Ok(self.inner.send_turns(socket, max_turns, max_bytes))
     }
 }
 

@@ -25,6 +25,18 @@ pub enum Offer {
     Broken,
 }
 
+impl Offer {
+    /// How many bytes the socket took.
+    pub fn bytes(self) -> u64
+        ensures { result ≡ bytes_taken self }
+    {
+        match self {
+            Offer::Took(bytes) => bytes,
+            Offer::Nothing | Offer::Blocked | Offer::Broken => 0,
+        }
+    }
+}
+
 impl Inner {
     /// Offers a socket the blocks in front, at most `max_count` of them and at most 64, and together at most `max_bytes`
     /// bytes, but the first however long it is. It takes no memory.

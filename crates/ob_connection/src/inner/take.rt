@@ -1,18 +1,21 @@
 //! Calls that take several messages away.
 
-ghost use Rattle.std.specs.Prelude.{◌≡◌, ◌<◌, ◌≤◌, ◌+◌, ◌-◌, length, OnErr, IsErrOf};
+ghost use Rattle.std.specs.Prelude.{◌≡◌, ◌<◌, ◌≤◌, ◌+◌, ◌-◌, length, drop, OnErr, IsErrOf};
 ghost use Rattle.ob_types.specs.declared.command.Command.TheVariants.{RemoveBytes, FailFlushed, Close};
 ghost use Rattle.ob_types.specs.Change.{change_between};
 ghost use Rattle.ob_types.specs.declared.promise.Outcome.{Outcome};
 ghost use Rattle.ob_types.specs.declared.promise.Outcome.TheVariants.{Success, Failed};
 ghost use Rattle.ob_seq.specs.Steps.Held.{times};
 ghost use Rattle.ob_seq.specs.Steps.Remove.{front_taken};
+ghost use Rattle.ob_seq.specs.Steps.RemoveBytes.{bytes_removed, first_length};
+ghost use Rattle.ob_seq.specs.Unsent.{pending_entries};
 ghost use Rattle.ob_connection.specs.Becoming.{Becomes, Moves};
 ghost use Rattle.ob_connection.specs.Obeying.{IsNext};
 ghost use Rattle.ob_connection.specs.Replies.{taken_reply};
 
 use crate::inner::Inner;
 use crate::replies::Taken;
+use ob_seq::Cut;
 use ob_types::{Cause, Outcome, Refusal};
 
 impl Inner {
@@ -30,8 +33,7 @@ impl Inner {
             return Err(Refusal::TooManyBytes);
         };
         let (before, from) = (self.contents.word(), self.gone);
-        self.take_first(cut.whole, true);
-        self.contents.skip_in_front(cut.rest);
+        self.take_cut(cut);
         Ok(self.taken_since(before, from, Outcome::Success))
     }
 
@@ -72,6 +74,17 @@ impl Inner {
         Ok(taken)
     }
 
+    /// Takes away what a removal of bytes does that ends there.
+    pub fn take_cut(&mut self, cut: Cut)
+        requires whole { cut.whole ≤ length self.old.unsent.line }
+        requires rest { cut.rest ≤ first_length (drop cut.whole (pending_entries self.old.unsent.line)) }
+        ensures becomes { Becomes (bytes_removed cut) self.old self.new }
+        ensures gone { self.new.gone ≡ self.old.gone + cut.whole }
+    {
+        self.take_first(cut.whole, true);
+        self.contents.skip_in_front(cut.rest);
+    }
+
     /// Takes the first so many in line away. Without notice the word stays.
     fn take_first(&mut self, count: usize, notice: bool)
         requires { count ≤ length self.old.unsent.line }
@@ -95,7 +108,7 @@ impl Inner {
     }
 
     /// What was taken away since the word and the number of messages that were gone were these.
-    fn taken_since(&self, before: u32, from: u64, outcome: Outcome) -> Taken
+    pub fn taken_since(&self, before: u32, from: u64, outcome: Outcome) -> Taken
         requires { from ≤ self.now.gone }
         ensures { result ≡ record {
           count = self.now.gone - from;

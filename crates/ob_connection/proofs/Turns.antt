@@ -1,0 +1,390 @@
+-- Bytes that are removed in several turns are removed as by one.
+use Rattle.ob_connection.proofs.Words.{◌≡◌, ◌≤◌, ◌<◌, ℕ, zero, suc, ◌+◌, ◌-◌, Bool, true, false, List, [], ◌∷◌, ◌++◌, length, take, drop, ltb}
+use Rattle.ob_connection.proofs.Words.{refl, sym, ap, ◌∙◌, arith, nat_tests, Pending, inl, inr, ◌⊎◌, cond, Option, Some, None, if◌then◌else◌}
+use Rattle.std.specs.List.{concat}
+use Rattle.ob_connection.proofs.Words.{Becomes, Connected, Unsent, held}
+use Rattle.std.specs.Prelude.{max, min}
+use Rattle.std.proofs.Math.Seq.{drop-append-add, take-add}
+use Rattle.std.proofs.lemmas.List.{drop-append-le, drop-drop, length-drop, length-map}
+use Rattle.std.proofs.lemmas.List.Sums.{sum_by-cons}
+use Rattle.ob_types.specs.declared.message.Message.{Message}
+use Rattle.ob_types.specs.declared.message.Message.TheVariants.{Block, Region, Other}
+use Rattle.ob_types.specs.declared.promise.Outcome.TheVariants.{Success}
+use Rattle.ob_seq.specs.Entry.{PendingEntry, blocks_left}
+use Rattle.ob_seq.specs.Gathering.{with_bytes}
+use Rattle.ob_seq.specs.Pieces.{bytes_in, pieces_within}
+use Rattle.ob_seq.specs.Row.{without_skipped}
+use Rattle.ob_seq.specs.Steps.Held.{first_changed, front_changed}
+use Rattle.ob_seq.specs.Steps.Remove.{front_taken}
+use Rattle.ob_seq.specs.Steps.RemoveBytes.{bytes_removed, bytes_step, cut_of, front_skipped, skipped_entry, whole_cut}
+use Rattle.ob_seq.specs.Unsent.{pending_entries, pending_entry}
+use Rattle.ob_seq.specs.declared.contents.cut.Cut.{Cut}
+use Rattle.ob_seq.proofs.Inside.Blocks.{few_entries, left_from_block, left_from_other}
+use Rattle.ob_seq.proofs.Inside.Gathered.{all_bytes, gathered_first, length_of_concat}
+use Rattle.ob_seq.proofs.Inside.Pieces.{fitting, within_is_fitting}
+use Rattle.ob_seq.proofs.Inside.Times.{times_first}
+use Rattle.ob_connection.specs.Becoming.{cut_at, removed}
+use Rattle.ob_connection.specs.Offering.{offered, run_of}
+use Rattle.ob_connection.proofs.Kept.{some_past}
+
+-- what is held once the front is sent
+abbrev sent : Pending → Pending
+sent now = front_taken true Success now
+
+-- bytes that are skipped are more than none
+skipping : (n : ℕ) (now : Pending) → 0 < n → front_skipped n now ≡ front_changed (skipped_entry n) now
+skipping n now more = let some : ltb 0 n ≡ true = grind (arith, nat_tests) in rw some refl
+
+-- where a removal ends, one piece after another
+cut_at_end : (n : ℕ) → whole_cut n [] ≡ record { whole = 0; rest = n }
+cut_at_end n = rw (within_is_fitting n []) (grind arith)
+
+module _ (n : ℕ) (piece : List ℕ) (pieces : List (List ℕ)) where
+  cut_behind : length piece ≤ n →
+      (let cut = whole_cut (n - length piece) pieces in
+      whole_cut n (piece ∷ pieces) ≡ record { whole = suc cut.whole; rest = cut.rest })
+  cut_behind fits =
+      let all = sum_by-cons (λ (piece : List ℕ). length piece) piece (take (fitting (n - length piece) pieces) pieces) in
+      rw (within_is_fitting n (piece ∷ pieces), within_is_fitting (n - length piece) pieces) (grind (arith, nat_tests))
+
+  cut_within : n < length piece → whole_cut n (piece ∷ pieces) ≡ record { whole = 0; rest = n }
+  cut_within few = rw (within_is_fitting n (piece ∷ pieces)) (grind (arith, nat_tests))
+
+-- a removal of nothing where nothing is left
+removed_none : (now : Pending) → blocks_left now.line ≡ [] → removed 0 now ≡ now
+removed_none now none =
+    ap (λ pieces. bytes_removed (whole_cut 0 pieces) now) none ∙ ap (λ cut. bytes_removed cut now) (cut_at_end 0)
+
+module _ (now : Pending) (entry : PendingEntry) (entries : List PendingEntry) (is : now.line ≡ entry ∷ entries)
+    {bytes : List ℕ} (block : entry.message ≡ Block bytes) where
+  left_is : blocks_left now.line ≡ bytes ∷ blocks_left entries
+  left_is = ap blocks_left is ∙ left_from_block entry entries block
+
+  behind_is : (sent now).line ≡ entries
+  behind_is = ap (drop 1) is
+
+  -- a removal of a whole block and more
+  removed_behind : (n : ℕ) → length bytes ≤ n → removed n now ≡ removed (n - length bytes) (sent now)
+  removed_behind n fits =
+      let cut = whole_cut (n - length bytes) (blocks_left entries) in
+      ap (λ pieces. bytes_removed (whole_cut n pieces) now) left_is
+      ∙ ap (λ (one : Cut). bytes_removed one now) (cut_behind n bytes (blocks_left entries) fits)
+      ∙ ap (front_skipped cut.rest) (sym (times_first (front_taken true Success) cut.whole now))
+      ∙ ap (λ line. bytes_removed (whole_cut (n - length bytes) (blocks_left line)) (sent now)) (sym behind_is)
+
+  -- a removal that ends in the front
+  removed_in : (n : ℕ) → n < length bytes → removed n now ≡ front_skipped n now
+  removed_in n few =
+      ap (λ pieces. bytes_removed (whole_cut n pieces) now) left_is
+      ∙ ap (λ (one : Cut). bytes_removed one now) (cut_within n bytes (blocks_left entries) few)
+
+  -- how many are gone whole
+  whole_behind : (n : ℕ) → length bytes ≤ n →
+      (cut_at n now).whole ≡ suc (cut_at (n - length bytes) (sent now)).whole
+  whole_behind n fits =
+      ap (λ pieces. (whole_cut n pieces).whole) left_is
+      ∙ ap (λ (one : Cut). one.whole) (cut_behind n bytes (blocks_left entries) fits)
+      ∙ ap (λ line. suc (whole_cut (n - length bytes) (blocks_left line)).whole) (sym behind_is)
+
+  whole_in : (n : ℕ) → n < length bytes → (cut_at n now).whole ≡ 0
+  whole_in n few =
+      ap (λ pieces. (whole_cut n pieces).whole) left_is
+      ∙ ap (λ (one : Cut). one.whole) (cut_within n bytes (blocks_left entries) few)
+
+  -- what is in front with some of it skipped
+  abbrev IsFront : ℕ → PendingEntry → Type 0
+  IsFront n first = ((front_skipped n now).line ≡ first ∷ entries) × (first.message ≡ Block (drop n bytes))
+
+  front_left : (n : ℕ) → (first : PendingEntry) × IsFront n first
+  front_left zero = (entry, (is, block))
+  front_left (suc n) = (
+    skipped_entry (suc n) entry,
+    (
+      ap (λ (one : Pending). one.line) (skipping (suc n) now (omega arith))
+          ∙ ap (first_changed (skipped_entry (suc n))) is,
+      ap (without_skipped (suc n)) block,
+    ),
+  )
+
+  -- the front is sent alike with some of it skipped
+  sent_skipped : (n : ℕ) → sent (front_skipped n now) ≡ sent now
+  sent_skipped n = by_test (ltb 0 n)
+    where
+      by_test : (some : Bool) →
+          sent (if some then front_changed (skipped_entry n) now else now) ≡ sent now
+      by_test true = rw is refl
+      by_test false = refl
+
+skipped_again : (a b : ℕ) (entry : PendingEntry) →
+    skipped_entry b (skipped_entry a entry) ≡ skipped_entry (a + b) entry
+skipped_again a b entry = grind (arith, drop-drop)
+
+changed_again : (a b : ℕ) (line : List PendingEntry) →
+    first_changed (skipped_entry b) (first_changed (skipped_entry a) line) ≡ first_changed (skipped_entry (a + b)) line
+changed_again a b [] = refl
+changed_again a b (entry ∷ entries) = ap (λ first. first ∷ entries) (skipped_again a b entry)
+
+-- bytes that are skipped in two steps
+skipped_twice : (a b : ℕ) (now : Pending) → front_skipped b (front_skipped a now) ≡ front_skipped (a + b) now
+skipped_twice zero b now = ap (λ n. front_skipped n now) (omega arith)
+skipped_twice (suc a) zero now = ap (λ n. front_skipped n now) (omega arith)
+skipped_twice (suc a) (suc b) now =
+    ap (front_skipped (suc b)) (skipping (suc a) now (omega arith))
+    ∙ skipping (suc b) (front_changed (skipped_entry (suc a)) now) (omega arith)
+    ∙ ap (λ (line : List PendingEntry). record now { line = line }) (changed_again (suc a) (suc b) now.line)
+    ∙ sym (skipping (suc a + suc b) now (omega arith))
+
+-- where a removal ends that is within what is left
+cut_by : (few : Bool) (one cut : Cut) → (let found : Option Cut = cond few None (Some one) in Some cut ≡ found) →
+    cut ≡ one
+cut_by few one cut some = grind arith
+
+pub cut_found : (n : ℕ) (pieces : List (List ℕ)) (cut : Cut) → Some cut ≡ cut_of n pieces → cut ≡ whole_cut n pieces
+cut_found n pieces cut some = cut_by (ltb (bytes_in pieces) n) (whole_cut n pieces) cut some
+
+none_by : (few : Bool) (one : Cut) → few ≡ false → (let found : Option Cut = cond few None (Some one) in None ≡ found) → ⊥
+none_by few one enough none = grind arith
+
+pub no_cut_left : (n : ℕ) (pieces : List (List ℕ)) → n ≤ bytes_in pieces → None ≡ cut_of n pieces → ⊥
+no_cut_left n pieces within none =
+    let enough : ltb (bytes_in pieces) n ≡ false = grind (arith, nat_tests) in
+    none_by (ltb (bytes_in pieces) n) (whole_cut n pieces) enough none
+
+order : (m n : ℕ) → (m ≤ n) ⊎ (n < m)
+order zero n = inl (omega arith)
+order (suc m) zero = inr (omega arith)
+order (suc m) (suc n) = elim (order m n) [ inl less ↦ inl (omega (arith, less)) | inr more ↦ inr (omega (arith, more)) ]
+
+-- a removal behind another one is as one of all the bytes
+pub record InTurns (a b : ℕ) (now : Pending) : Type 0 where
+  pub state : removed b (removed a now) ≡ removed (a + b) now
+  pub whole : (cut_at a now).whole + (cut_at b (removed a now)).whole ≡ (cut_at (a + b) now).whole
+
+at_end : (now : Pending) → blocks_left now.line ≡ [] → InTurns 0 0 now
+at_end now none =
+    let same = removed_none now none in
+    let cut : cut_at 0 now ≡ record { whole = 0; rest = 0 } = ap (whole_cut 0) none ∙ cut_at_end 0 in record {
+      state = ap (removed 0) same;
+      whole = omega (
+        arith,
+        ap (λ (one : Cut). one.whole) cut,
+        ap (λ (one : Pending). (cut_at 0 one).whole) same,
+      );
+    }
+
+none_at_end : (now : Pending) → blocks_left now.line ≡ [] → (a b : ℕ) → a + b ≤ 0 → InTurns a b now
+none_at_end now none zero zero within = at_end now none
+none_at_end now none (suc a) b within = absurd (omega (arith, within))
+none_at_end now none zero (suc b) within = absurd (omega (arith, within))
+
+-- where the first of two ends behind the front
+module _ (now : Pending) (entry : PendingEntry) (entries : List PendingEntry) (is : now.line ≡ entry ∷ entries)
+    {bytes : List ℕ} (block : entry.message ≡ Block bytes) (a b : ℕ) where
+  turns_behind : length bytes ≤ a → InTurns (a - length bytes) b (sent now) → InTurns a b now
+  turns_behind fits rest =
+      let first = removed_behind now entry entries is block a fits in
+      let all = removed_behind now entry entries is block (a + b) (omega (arith, fits)) in
+      let sum : (a - length bytes) + b ≡ a + b - length bytes = omega (arith, fits) in record {
+        state = ap (removed b) first ∙ rest.state ∙ ap (λ n. removed n (sent now)) sum ∙ sym all;
+        whole = omega (
+          arith,
+          whole_behind now entry entries is block a fits,
+          ap (λ (one : Pending). (cut_at b one).whole) first,
+          rest.whole,
+          whole_behind now entry entries is block (a + b) (omega (arith, fits)),
+          ap (λ n. (cut_at n (sent now)).whole) sum,
+        );
+      }
+
+  -- or within it
+  turns_in : a < length bytes → InTurns a b now
+  turns_in few =
+      let first = removed_in now entry entries is block a few in
+      let rest = front_skipped a now in
+      let left = front_left now entry entries is block a in
+      let size = length-drop a bytes in elim (order (length (drop a bytes)) b) [
+        | inl fits ↦
+            let second = removed_behind rest left.0 entries left.1.0 left.1.1 b fits in
+            let all = removed_behind now entry entries is block (a + b) (omega (arith, few, fits, size)) in
+            let same = sent_skipped now entry entries is block a in
+            let sum : b - length (drop a bytes) ≡ a + b - length bytes = omega (arith, few, fits, size) in record {
+              state = ap (removed b) first ∙ second ∙ ap (removed (b - length (drop a bytes))) same
+                  ∙ ap (λ n. removed n (sent now)) sum ∙ sym all;
+              whole = omega (
+                arith,
+                whole_in now entry entries is block a few,
+                ap (λ (one : Pending). (cut_at b one).whole) first,
+                whole_behind rest left.0 entries left.1.0 left.1.1 b fits,
+                ap (λ (one : Pending). (cut_at (b - length (drop a bytes)) one).whole) same,
+                whole_behind now entry entries is block (a + b) (omega (arith, few, fits, size)),
+                ap (λ n. (cut_at n (sent now)).whole) sum,
+              );
+            }
+        | inr less ↦ record {
+          state = ap (removed b) first ∙ removed_in rest left.0 entries left.1.0 left.1.1 b less ∙ skipped_twice a b now
+              ∙ sym (removed_in now entry entries is block (a + b) (omega (arith, few, less, size)));
+          whole = omega (
+            arith,
+            whole_in now entry entries is block a few,
+            ap (λ (one : Pending). (cut_at b one).whole) first,
+            whole_in rest left.0 entries left.1.0 left.1.1 b less,
+            whole_in now entry entries is block (a + b) (omega (arith, few, less, size)),
+          );
+        }
+      ]
+
+-- so it is whatever is left in front
+pub in_turns : (line : List PendingEntry) (now : Pending) → now.line ≡ line → (a b : ℕ) →
+    a + b ≤ bytes_in (blocks_left line) → InTurns a b now
+in_turns [] now is a b within = none_at_end now (ap blocks_left is) a b within
+in_turns (entry ∷ entries) now is a b within =
+    by_message entry.message refl (λ n. in_turns entries (sent now) (ap (drop 1) is) n b)
+  where
+    none : ((bytes : List ℕ) → entry.message ≡ Block bytes → ⊥) → InTurns a b now
+    none other =
+        let end = left_from_other entry entries other in
+        none_at_end now (ap blocks_left is ∙ end) a b (rw end at within)
+
+    by_message : (message : Message) → entry.message ≡ message →
+        ((n : ℕ) → n + b ≤ bytes_in (blocks_left entries) → InTurns n b (sent now)) → InTurns a b now
+    by_message (Block bytes) block behind =
+        let all = ap bytes_in (left_from_block entry entries block)
+        ∙ sum_by-cons (λ (piece : List ℕ). length piece) bytes (blocks_left entries) in
+        elim (order (length bytes) a) [
+          | inl fits ↦
+              turns_behind now entry entries is block a b fits
+              (behind (a - length bytes) (omega (arith, all, within, fits)))
+          | inr few ↦ turns_in now entry entries is block a b few
+        ]
+    by_message (Region units) other behind = none (λ bytes block. let both = sym other ∙ block in absurd (cc))
+    by_message (Other value) other behind = none (λ bytes block. let both = sym other ∙ block in absurd (cc))
+
+-- what is left in front of a removal is what is behind the bytes that it takes
+pub run_behind : (line : List PendingEntry) (now : Pending) → now.line ≡ line → (n : ℕ) →
+    n ≤ bytes_in (blocks_left line) →
+    concat (blocks_left (removed n now).line) ≡ drop n (concat (blocks_left line))
+run_behind [] now is n within = at_no_byte now [] is n within refl
+  where
+    at_no_byte : (now : Pending) (line : List PendingEntry) → now.line ≡ line → (n : ℕ) →
+        n ≤ bytes_in (blocks_left line) → blocks_left line ≡ [] →
+        concat (blocks_left (removed n now).line) ≡ drop n (concat (blocks_left line))
+    at_no_byte now line is zero within none =
+        ap (λ (one : Pending). concat (blocks_left one.line)) (removed_none now (ap blocks_left is ∙ none))
+        ∙ ap (λ line. concat (blocks_left line)) is
+    at_no_byte now line is (suc n) within none = absurd (omega (arith, ap bytes_in none, within))
+run_behind (entry ∷ entries) now is n within =
+    by_message entry.message refl (λ n. run_behind entries (sent now) (ap (drop 1) is) n)
+  where
+    none : ((bytes : List ℕ) → entry.message ≡ Block bytes → ⊥) → (n : ℕ) →
+        n ≤ bytes_in (blocks_left (entry ∷ entries)) →
+        concat (blocks_left (removed n now).line) ≡ drop n (concat (blocks_left (entry ∷ entries)))
+    none other zero within =
+        let end = left_from_other entry entries other in
+        ap (λ (one : Pending). concat (blocks_left one.line)) (removed_none now (ap blocks_left is ∙ end))
+        ∙ ap (λ line. concat (blocks_left line)) is
+    none other (suc n) within =
+        let end = left_from_other entry entries other in absurd (omega (arith, ap bytes_in end, within))
+
+    by_message : (message : Message) → entry.message ≡ message →
+        ((n : ℕ) → n ≤ bytes_in (blocks_left entries) →
+        concat (blocks_left (removed n (sent now)).line) ≡ drop n (concat (blocks_left entries))) →
+        concat (blocks_left (removed n now).line) ≡ drop n (concat (blocks_left (entry ∷ entries)))
+    by_message (Block bytes) block behind =
+        let run = left_from_block entry entries block in
+        let all = ap bytes_in run ∙ sum_by-cons (λ (piece : List ℕ). length piece) bytes (blocks_left entries) in
+        elim (order (length bytes) n) [
+          | inl fits ↦
+              let sum : length bytes + (n - length bytes) ≡ n = omega (arith, fits) in
+              ap (λ (one : Pending). concat (blocks_left one.line)) (removed_behind now entry entries is block n fits)
+              ∙ behind (n - length bytes) (omega (arith, all, within, fits))
+              ∙ sym (drop-append-add bytes (concat (blocks_left entries)) (n - length bytes))
+              ∙ ap (λ m. drop m (bytes ++ concat (blocks_left entries))) sum
+              ∙ ap (λ pieces. drop n (concat pieces)) (sym run)
+          | inr few ↦
+              let left = front_left now entry entries is block n in
+              ap (λ (one : Pending). concat (blocks_left one.line)) (removed_in now entry entries is block n few)
+              ∙ ap (λ line. concat (blocks_left line)) left.1.0
+              ∙ ap concat (left_from_block left.0 entries left.1.1)
+              ∙ sym (drop-append-le n bytes (concat (blocks_left entries)) (omega (arith, few)))
+              ∙ ap (λ pieces. drop n (concat pieces)) (sym run)
+        ]
+    by_message (Region units) other behind = none (λ bytes block. let both = sym other ∙ block in absurd (cc)) n within
+    by_message (Other value) other behind = none (λ bytes block. let both = sym other ∙ block in absurd (cc)) n within
+
+-- a removal of no more bytes than are left is not refused
+pub not_too_many : (n : ℕ) (now : Pending) → n ≤ bytes_in (blocks_left now.line) → (bytes_step n now).refusal ≡ None
+not_too_many n now within =
+    let enough : ltb (bytes_in (blocks_left now.line)) n ≡ false = grind (arith, nat_tests) in rw enough refl
+
+-- and takes no more messages away than stand in line
+pub few_gone : (n : ℕ) (unsent : Unsent) → (whole_cut n (run_of unsent)).whole ≤ length unsent.line
+few_gone n unsent =
+    omega (arith, few_entries n (pending_entries unsent.line), length-map unsent.line pending_entry)
+
+-- bytes of an offer are the first of what is left in front
+pub offered_first : (max_count max_bytes n : ℕ) (unsent : Unsent) →
+    n ≤ length (concat (offered max_count max_bytes unsent)) →
+    (take n (concat (offered max_count max_bytes unsent)) ≡ take n (concat (run_of unsent)))
+    × (n ≤ bytes_in (run_of unsent))
+offered_first max_count max_bytes n unsent within =
+    let first = gathered_first max_count max_bytes (run_of unsent) n within in
+    (first.0, omega (arith, first.1, length_of_concat (run_of unsent)))
+
+-- if nothing is offered where something may be, nothing is left
+pub offered_none : (max_count max_bytes : ℕ) (unsent : Unsent) → 0 < max_count →
+    offered max_count max_bytes unsent ≡ [] → bytes_in (run_of unsent) ≡ 0
+offered_none max_count max_bytes unsent some none =
+    let holding = with_bytes (run_of unsent) in
+    let all = all_bytes (run_of unsent) in
+    let empty = nothing_taken (min max_count (max 1 (pieces_within max_bytes holding))) holding (omega (arith, some)) none in
+    omega (arith, length_of_concat (run_of unsent), ap (λ bytes. length bytes) all, ap (λ pieces. length (concat pieces)) empty)
+  where
+    nothing_taken : (n : ℕ) (pieces : List (List ℕ)) → 0 < n → take n pieces ≡ [] → pieces ≡ []
+    nothing_taken zero pieces some none = absurd (omega (arith, some))
+    nothing_taken (suc n) [] some none = refl
+    nothing_taken (suc n) (piece ∷ pieces) some none = absurd (omega (arith, ap (λ all. length all) none))
+
+-- a turn behind another one
+module _ (old mid : Connected) (a : ℕ) (first : Becomes (removed a) old mid) (fits : a ≤ bytes_in (run_of old.unsent))
+  where
+    pub run_mid : concat (run_of mid.unsent) ≡ drop a (concat (run_of old.unsent))
+    run_mid =
+        let past = some_past old in
+        ap (λ (one : Pending). concat (blocks_left one.line)) (first past).1
+        ∙ run_behind (held past).line (held past) refl a fits
+
+    module _ (new : Connected) (b : ℕ) (second : Becomes (removed b) mid new) (more : b ≤ bytes_in (run_of mid.unsent))
+      where
+        pub both_within : a + b ≤ bytes_in (run_of old.unsent)
+        both_within =
+            omega (
+              arith,
+              fits,
+              more,
+              length_of_concat (run_of mid.unsent),
+              length_of_concat (run_of old.unsent),
+              ap (λ bytes. length bytes) run_mid,
+              length-drop a (concat (run_of old.unsent)),
+            )
+
+        pub both_become : Becomes (removed (a + b)) old new
+        both_become past =
+            let one = first past in
+            let two = second one.0 in
+            let turns = in_turns (held past).line (held past) refl a b both_within in
+            (two.0, two.1 ∙ ap (removed b) one.1 ∙ turns.state)
+
+        pub both_whole :
+            (whole_cut a (run_of old.unsent)).whole + (whole_cut b (run_of mid.unsent)).whole
+            ≡ (whole_cut (a + b) (run_of old.unsent)).whole
+        both_whole =
+            let past = some_past old in
+            let turns = in_turns (held past).line (held past) refl a b both_within in
+            ap (λ (one : Pending). (cut_at a (held past)).whole + (cut_at b one).whole) (first past).1 ∙ turns.whole
+
+        pub both_sent :
+            take a (concat (run_of old.unsent)) ++ take b (concat (run_of mid.unsent))
+            ≡ take (a + b) (concat (run_of old.unsent))
+        both_sent =
+            ap (λ rest. take a (concat (run_of old.unsent)) ++ take b rest) run_mid
+            ∙ sym (take-add a b (concat (run_of old.unsent)))

@@ -1,0 +1,40 @@
+use Rattle.ob_connection.proofs.Words.{◌++◌, List, ℕ, take, sym, ap, ◌∙◌, subst, Connected, Ok, Result, Refusal, StandsFor, Obeys}
+use Rattle.std.specs.List.{concat}
+use Rattle.ob_types.specs.declared.command.Command.TheVariants.{RemoveBytes}
+use Rattle.ob_types.specs.declared.promise.Outcome.TheVariants.{Success}
+use Rattle.ob_connection.specs.Obeying.{IsNext}
+use Rattle.ob_connection.specs.Offering.{run_of}
+use Rattle.ob_connection.specs.Replies.{taken_reply}
+use Rattle.ob_connection.specs.declared.replies.Taken.{Taken}
+use Rattle.ob_connection.proofs.Obeyed.{obeys, stays}
+use Rattle.ob_connection.proofs.Sending.{ends_are, few_in_front, run_after}
+use Rattle.ob_connection.proofs.connection.Connection.send_until_blocked.Goals as goal
+
+pub send_turns-requires : goal.send_turns-requires
+send_turns-requires g c =
+    let some = c.self.invariant in
+    let stands = subst (λ one. StandsFor one some.0) c.self.view_is some.1 in record {
+      «open» = some.1.leaves.closed ∙ sym (c.is_closed.ensures some.0 stands) ∙ c.if-is_closed.false;
+      few = few_in_front c.self.inside.inner some.0 some.1;
+    }
+
+pub invariant_of-self : goal.invariant_of-self
+invariant_of-self g c =
+    let result : Result Taken Refusal = Ok c.send_turns.result.taken in
+    stays (RemoveBytes c.send_turns.result.bytes) taken_reply _ _ result c.send_turns.ensures.moves tt c.self.invariant
+
+pub returns-clause-sends : goal.returns-clause-sends
+returns-clause-sends g c =
+    let bytes = c.send_turns.result.bytes in
+    let result : Result Taken Refusal = Ok c.send_turns.result.taken in
+    let new = c.send_turns.new.self in
+    let before = g.S.Socket.sent c.args.socket.now in record {
+      sent = λ commands stands. c.send_turns.ensures.sent
+          ∙ ap (λ (one : Connected). before ++ take bytes (concat (run_of one.unsent))) c.self.view_is
+          ∙ ap (λ (run : List (List ℕ)). before ++ take bytes (concat run))
+          (run_after c.args.self.now commands stands);
+      obeys = subst (λ one. Obeys one (RemoveBytes bytes) taken_reply result new) c.self.view_is
+          (obeys (RemoveBytes bytes) taken_reply _ _ result c.self.invariant c.send_turns.ensures.moves tt);
+      next = subst (λ one. IsNext one Success result) c.self.view_is c.send_turns.ensures.next;
+      ends = ends_are new c.send_turns.result.ending c.send_turns.ensures.ends;
+    }
