@@ -1,5 +1,7 @@
 //! A connection that is written to, cancelled, sent and closed: each answer as worked by hand.
 
+mod sending;
+
 use crate::{Connection, Flushed, Removed, Status, Taken, Written};
 use bytes::Bytes;
 use ob_types::{Cause, Change, Estimate, Message, Outcome, Refusal, WaterMark};
