@@ -8,3 +8,4 @@ pub mod Offering
 pub mod Replies
 pub mod Sending
 pub mod Standing
+pub mod Taking

@@ -1,12 +1,13 @@
 -- What a socket is offered, and what it made of that. No public clause cites this module.
 use Rattle.std.specs.List.{concat}
-use Rattle.std.specs.Prelude.{◌≡◌, ◌≤◌, ◌<◌, ◌++◌, ℕ, List, [], length, take}
+use Rattle.std.specs.Prelude.{◌≡◌, ◌≤◌, ◌<◌, ℕ, List, [], length, take, Option}
 use Rattle.ob_seq.specs.Entry.{blocks_left}
 use Rattle.ob_seq.specs.Gathering.{first_blocks, with_bytes}
 use Rattle.ob_seq.specs.Unsent.{Unsent, pending_entries}
 use Rattle.ob_seq.specs.Pieces.{bytes_in}
 use Rattle.ob_connection.specs.declared.ending.Ending.{Ending}
 use Rattle.ob_connection.specs.declared.ending.Ending.TheVariants.{Drained, Blocked as NoRoom, OtherInFront, TurnsUsed, Broken as IsBroken}
+use Rattle.ob_connection.specs.Taking.{with_taken}
 use Rattle.ob_connection.specs.declared.inner.offer.Offer.{Offer}
 use Rattle.ob_connection.specs.declared.inner.offer.Offer.TheVariants.{Nothing, Took, Blocked, Broken}
 
@@ -30,10 +31,10 @@ bytes_taken Blocked = 0
 bytes_taken Broken = 0
 
 -- a socket that had these bytes took the first of those that it was offered, and was not asked only if there were none
-pub record Offers (max_count max_bytes : ℕ) (unsent : Unsent) (sent_before : List ℕ) (offer : Offer)
-    (sent_after : List ℕ) : Type 0 where
+pub record Offers (max_count max_bytes : ℕ) (unsent : Unsent) (sent_before : Option (List ℕ)) (offer : Offer)
+    (sent_after : Option (List ℕ)) : Type 0 where
   pub within : bytes_taken offer ≤ length (concat (offered max_count max_bytes unsent))
-  pub sent : sent_after ≡ sent_before ++ take (bytes_taken offer) (concat (offered max_count max_bytes unsent))
+  pub sent : sent_after ≡ with_taken sent_before (take (bytes_taken offer) (concat (offered max_count max_bytes unsent)))
   pub nothing : offer ≡ Nothing → offered max_count max_bytes unsent ≡ []
   pub something : ¬ (offer ≡ Nothing) → 0 < length (offered max_count max_bytes unsent)
 

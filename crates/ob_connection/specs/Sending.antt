@@ -1,6 +1,6 @@
 -- What a connection sends at once.
 use Rattle.std.specs.List.{concat}
-use Rattle.std.specs.Prelude.{◌++◌, ℕ, not, List, take, true, false, Result, Ok, Err}
+use Rattle.std.specs.Prelude.{ℕ, not, List, take, true, false, Option, Result, Ok, Err}
 use Rattle.ob_types.specs.declared.command.Command.{Command}
 use Rattle.ob_types.specs.declared.command.Command.TheVariants.{RemoveBytes}
 use Rattle.ob_types.specs.declared.promise.Outcome.TheVariants.{Success}
@@ -15,6 +15,7 @@ use Rattle.ob_connection.specs.Connected.{Connected}
 use Rattle.ob_connection.specs.Obeying.{IsNext, Obeys}
 use Rattle.ob_connection.specs.Replies.{taken_reply}
 use Rattle.ob_connection.specs.Standing.{Gives}
+use Rattle.ob_connection.specs.Taking.{with_taken}
 use Rattle.ob_connection.specs.declared.connection.sending.SendFault.{SendFault}
 use Rattle.ob_connection.specs.declared.connection.sending.SendFault.TheVariants.{Closed, Broken}
 use Rattle.ob_connection.specs.declared.connection.sending.Sent.{Sent}
@@ -29,11 +30,11 @@ bytes_in_front_after settings commands = bytes_in (byte_run (rows_after settings
 
 -- what was sent are the first bytes of what is gathered, as many as are told; so many were taken away, which answers
 -- what is told; and it is told whether a flushed message is left
-pub record Sends (max_count max_bytes : ℕ) (old : Connected) (sent_before : List ℕ) (done : Sent) (new : Connected)
-    (sent_after : List ℕ) : Type 0 where
+pub record Sends (max_count max_bytes : ℕ) (old : Connected) (sent_before : Option (List ℕ)) (done : Sent)
+    (new : Connected) (sent_after : Option (List ℕ)) : Type 0 where
   pub sent : Gives old
       (λ settings commands.
-      sent_before ++ take done.bytes (concat (gathered_after settings commands max_count max_bytes))) sent_after
+      with_taken sent_before (take done.bytes (concat (gathered_after settings commands max_count max_bytes)))) sent_after
   pub obeys : (let result : Result Taken Refusal = Ok done.taken in
       Obeys old (RemoveBytes done.bytes) taken_reply result new)
   pub next : (let result : Result Taken Refusal = Ok done.taken in IsNext old Success result)
@@ -49,10 +50,11 @@ Ends new IsBroken = Gives new empty_after false
 
 -- all turns together took the first bytes of those in front, as many as are told; they were taken away as by one removal,
 -- which answers what is told; and it is told how they ended
-pub record SendsInTurns (old : Connected) (sent_before : List ℕ) (done : SentTurns) (new : Connected)
-    (sent_after : List ℕ) : Type 0 where
+pub record SendsInTurns (old : Connected) (sent_before : Option (List ℕ)) (done : SentTurns) (new : Connected)
+    (sent_after : Option (List ℕ)) : Type 0 where
   pub sent : Gives old
-      (λ settings commands. sent_before ++ take done.bytes (concat (byte_run (rows_after settings.estimate commands))))
+      (λ settings commands.
+      with_taken sent_before (take done.bytes (concat (byte_run (rows_after settings.estimate commands)))))
       sent_after
   pub obeys : (let result : Result Taken Refusal = Ok done.taken in
       Obeys old (RemoveBytes done.bytes) taken_reply result new)

@@ -1,7 +1,8 @@
 //! What a connection sends to.
 
 ghost use Rattle.std.specs.Io.Slices.{io_slices_bytes};
-ghost use Rattle.std.specs.Prelude.{◌≡◌, ◌≤◌, ◌++◌, List, ℕ, length, take, IfOk, OnErr};
+ghost use Rattle.std.specs.Prelude.{◌≡◌, ◌≤◌, List, ℕ, length, take, Option, IfOk, OnErr};
+ghost use Rattle.ob_connection.specs.Taking.{with_taken};
 
 use std::io::IoSlice;
 use thiserror::Error;
@@ -21,12 +22,13 @@ pub enum SocketFault {
 ///
 /// A call takes a beginning of what it is given, which may be all of it or nothing. A call that fails takes nothing.
 pub trait Socket {
-    /// The bytes that it took so far.
-    ghost sent: { Self → List ℕ };
+    /// The bytes that it took so far, of a socket that tells them, as one in memory. Of a real socket no contract can say
+    /// what the system does with the bytes: it has `ghost sent = { λ _. None };`.
+    ghost sent: { Self → Option (List ℕ) };
 
     /// Writes pieces, one after another, and answers how many of their bytes were taken, from the front (`writev`).
     fn write_vectored(&mut self, pieces: &[IoSlice<'_>]) -> Result<usize, SocketFault>
         ensures within { IfOk result (λ count. count ≤ length (io_slices_bytes pieces.now)) }
-        ensures taken { IfOk result (λ count. sent self.new ≡ sent self.old ++ take count (io_slices_bytes pieces.now)) }
+        ensures taken { IfOk result (λ count. sent self.new ≡ with_taken (sent self.old) (take count (io_slices_bytes pieces.now))) }
         ensures failed { OnErr result (sent self.new ≡ sent self.old) };
 }

@@ -2,8 +2,9 @@
 
 ghost use Rattle.std.specs.Io.Slices.{io_slice_bytes};
 ghost use Rattle.std.specs.List.{concat};
-ghost use Rattle.std.specs.Prelude.{◌≡◌, ◌≤◌, ◌++◌, length, take, map, min};
+ghost use Rattle.std.specs.Prelude.{◌≡◌, ◌≤◌, length, take, map, min};
 ghost use Rattle.ob_connection.specs.Offering.{bytes_taken, most_pieces, Offers};
+ghost use Rattle.ob_connection.specs.Taking.{with_taken};
 
 use crate::inner::Inner;
 use crate::socket::{Socket, SocketFault};
@@ -71,7 +72,7 @@ fn ask<S: Socket>(socket: &mut S, pieces: &[IoSlice<'_>]) -> Offer
     ensures asked { ¬ (result ≡ Offer.Nothing) }
     ensures within { bytes_taken result ≤ length (concat (map io_slice_bytes pieces.now)) }
     ensures sent { S.sent socket.new
-        ≡ S.sent socket.old ++ take (bytes_taken result) (concat (map io_slice_bytes pieces.now)) }
+        ≡ with_taken (S.sent socket.old) (take (bytes_taken result) (concat (map io_slice_bytes pieces.now))) }
 {
     match socket.write_vectored(pieces) {
         Ok(bytes) => Offer::Took(bytes as u64),

@@ -1,7 +1,7 @@
 //! A socket is offered what stands in front, turn by turn.
 
 ghost use Rattle.std.specs.List.{concat};
-ghost use Rattle.std.specs.Prelude.{◌≡◌, ◌≤◌, ◌+◌, ◌++◌, take, false, Ok};
+ghost use Rattle.std.specs.Prelude.{◌≡◌, ◌≤◌, ◌+◌, take, false, Ok};
 ghost use Rattle.ob_types.specs.Limits.{greatest_total};
 ghost use Rattle.ob_types.specs.declared.promise.Outcome.TheVariants.{Success};
 ghost use Rattle.ob_seq.specs.Pieces.{bytes_in};
@@ -9,6 +9,7 @@ ghost use Rattle.ob_seq.specs.Steps.RemoveBytes.{whole_cut};
 ghost use Rattle.ob_connection.specs.Becoming.{Becomes, removed, TakesSent};
 ghost use Rattle.ob_connection.specs.Obeying.{IsNext};
 ghost use Rattle.ob_connection.specs.Offering.{bytes_taken, EndsAt, run_of};
+ghost use Rattle.ob_connection.specs.Taking.{with_taken};
 
 use crate::ending::Ending;
 use crate::inner::Inner;
@@ -29,7 +30,8 @@ impl Inner {
         requires few { bytes_in (run_of self.old.unsent) ≤ greatest_total }
         ensures moves { TakesSent self.old result.bytes result.taken self.new }
         ensures next { IsNext self.old Success (Ok result.taken) }
-        ensures sent { S.sent socket.new ≡ S.sent socket.old ++ take result.bytes (concat (run_of self.old.unsent)) }
+        ensures sent { S.sent socket.new
+            ≡ with_taken (S.sent socket.old) (take result.bytes (concat (run_of self.old.unsent))) }
         ensures ends { EndsAt self.new.unsent result.ending }
     {
         let (before, from) = (self.contents.word(), self.gone);
@@ -55,7 +57,8 @@ impl Inner {
         ensures becomes { Becomes (removed result.0) self.old self.new }
         ensures gone { self.new.gone ≡ self.old.gone + (whole_cut result.0 (run_of self.old.unsent)).whole }
         ensures within { result.0 ≤ bytes_in (run_of self.old.unsent) }
-        ensures sent { S.sent socket.new ≡ S.sent socket.old ++ take result.0 (concat (run_of self.old.unsent)) }
+        ensures sent { S.sent socket.new
+            ≡ with_taken (S.sent socket.old) (take result.0 (concat (run_of self.old.unsent))) }
         ensures ends { EndsAt self.new.unsent result.1 }
     {
         let offer = self.offer(socket, u32::MAX, max_bytes);

@@ -1,9 +1,10 @@
-use Rattle.ob_connection.proofs.Words.{◌≡◌, ◌≤◌, ◌++◌, List, ℕ, length, take, not, sym, ap, ◌∙◌, told_by, subst, Connected}
+use Rattle.ob_connection.proofs.Words.{◌≡◌, ◌≤◌, List, ℕ, length, take, not, sym, ap, ◌∙◌, told_by, subst, Connected, Option}
 use Rattle.std.specs.List.{concat}
 use Rattle.std.specs.Prelude.{min}
 use Rattle.ob_connection.specs.Obeying.{promises_after}
 use Rattle.ob_connection.specs.Offering.{most_pieces, offered}
 use Rattle.ob_connection.specs.Replies.{taken_reply}
+use Rattle.ob_connection.specs.Taking.{with_taken}
 use Rattle.ob_connection.proofs.Sending.{not_refused, offered_are_gathered, offered_within}
 use Rattle.ob_connection.proofs.connection.Connection.send_once.Goals as goal
 
@@ -16,12 +17,12 @@ module _ {inside now : Connected} (view : inside ≡ now) where
       subst (λ (one : Connected). bytes ≤ length (concat (offered (min most_pieces max_count) max_bytes one.unsent)))
       view (rw same within)
 
-  sent_as : {bytes taken : ℕ} {after : List ℕ} (before : List ℕ) (max_count max_bytes : ℕ) → bytes ≡ taken →
-      after ≡ before ++ take taken (concat (offered (min most_pieces max_count) max_bytes inside.unsent)) →
-      after ≡ before ++ take bytes (concat (offered (min most_pieces max_count) max_bytes now.unsent))
+  sent_as : {bytes taken : ℕ} {after : Option (List ℕ)} (before : Option (List ℕ)) (max_count max_bytes : ℕ) → bytes ≡ taken →
+      after ≡ with_taken before (take taken (concat (offered (min most_pieces max_count) max_bytes inside.unsent))) →
+      after ≡ with_taken before (take bytes (concat (offered (min most_pieces max_count) max_bytes now.unsent)))
   sent_as {bytes} {after = after} before max_count max_bytes same is =
       subst (λ (one : Connected).
-      after ≡ before ++ take bytes (concat (offered (min most_pieces max_count) max_bytes one.unsent)))
+      after ≡ with_taken before (take bytes (concat (offered (min most_pieces max_count) max_bytes one.unsent))))
       view (rw same is)
 
 pub unreachable-requires : goal.unreachable-requires
@@ -40,7 +41,7 @@ pub returns-clause-sends : goal.returns-clause-sends
 returns-clause-sends g c = record {
   sent = λ commands stands. sent_as c.self.view_is (g.S.Socket.sent c.args.socket.now) c.args.max_count c.args.max_bytes
       c.in_ok-bytes.ensures.taken c.offer.ensures.sent
-      ∙ ap (λ bytes. g.S.Socket.sent c.args.socket.now ++ bytes)
+      ∙ ap (with_taken (g.S.Socket.sent c.args.socket.now))
       (offered_are_gathered c.args.self.now commands stands c.args.max_count c.args.max_bytes c.in_ok-bytes.bytes
       (taken_within c.self.view_is c.args.max_count c.args.max_bytes c.in_ok-bytes.ensures.taken
       c.offer.ensures.within));

@@ -1,8 +1,9 @@
-use Rattle.ob_connection.proofs.Words.{◌≡◌, ◌≤◌, ◌++◌, ℕ, List, length, take, sym, ap, ◌∙◌, arith}
+use Rattle.ob_connection.proofs.Words.{◌≡◌, ◌≤◌, ℕ, List, length, take, sym, ap, ◌∙◌, arith}
 use Rattle.std.specs.List.{concat}
 use Rattle.std.proofs.lemmas.List.{length-drop}
 use Rattle.ob_seq.proofs.Inside.Gathered.{length_of_concat}
 use Rattle.ob_connection.specs.Offering.{most_pieces, offered, run_of}
+use Rattle.ob_connection.specs.Taking.{with_taken}
 use Rattle.ob_connection.proofs.Turns.{offered_first, offered_none, run_mid}
 use Rattle.ob_connection.proofs.inner.Inner.send_turn.Goals as goal
 
@@ -45,7 +46,7 @@ returns g c =
       gone = c.take_bytes.ensures.gone;
       within = first.1;
       sent = c.offer-offer.ensures.sent
-          ∙ ap (λ n. g.S.Socket.sent c.args.socket.now ++ take n all) (sym c.bytes-bytes.ensures)
-          ∙ ap (λ bytes. g.S.Socket.sent c.args.socket.now ++ bytes) first.0;
+          ∙ ap (λ n. with_taken (g.S.Socket.sent c.args.socket.now) (take n all)) (sym c.bytes-bytes.ensures)
+          ∙ ap (with_taken (g.S.Socket.sent c.args.socket.now)) first.0;
       ends = c.ending_after.ensures;
     }

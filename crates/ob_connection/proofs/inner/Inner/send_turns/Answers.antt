@@ -1,4 +1,4 @@
-use Rattle.ob_connection.proofs.Words.{◌≡◌, ◌≤◌, ◌+◌, ◌++◌, take, sym, ap, ◌∙◌, subst, arith, append_assoc, Pending, held}
+use Rattle.ob_connection.proofs.Words.{◌≡◌, ◌≤◌, ◌+◌, take, sym, ap, ◌∙◌, subst, arith, Pending, held}
 use Rattle.ob_connection.proofs.Words.{Becomes, Connected, connected_of, change_between}
 use Rattle.std.specs.List.{concat}
 use Rattle.ob_types.specs.declared.promise.Outcome.TheVariants.{Success}
@@ -7,8 +7,10 @@ use Rattle.ob_seq.specs.Steps.RemoveBytes.{bytes_step, whole_cut}
 use Rattle.ob_connection.specs.Becoming.{removed}
 use Rattle.ob_connection.specs.Offering.{run_of}
 use Rattle.ob_connection.specs.Replies.{taken_reply}
+use Rattle.ob_connection.specs.Taking.{with_taken}
 use Rattle.ob_connection.proofs.Kept.{same_change}
 use Rattle.ob_connection.proofs.Making.{taken}
+use Rattle.ob_connection.proofs.Offered.{taken_twice}
 use Rattle.ob_connection.proofs.Settling.{line_replied}
 use Rattle.ob_connection.proofs.Turns.{both_become, both_sent, both_whole, both_within, few_gone, not_too_many}
 use Rattle.ob_connection.proofs.inner.Inner.send_turns.Goals as goal
@@ -41,9 +43,9 @@ loop-preserved g c =
         both_whole old c.loop.self c.loop.bytes now.becomes now.within new more turn.becomes turn.within,
       );
       within = both_within old c.loop.self c.loop.bytes now.becomes now.within new more turn.becomes turn.within;
-      sent = turn.sent ∙ ap (λ all. all ++ take more (concat (run_of c.loop.self.unsent))) now.sent
-          ∙ append_assoc before (take c.loop.bytes bytes) (take more (concat (run_of c.loop.self.unsent)))
-          ∙ ap (λ all. before ++ all)
+      sent = turn.sent ∙ ap (λ all. with_taken all (take more (concat (run_of c.loop.self.unsent)))) now.sent
+          ∙ taken_twice before (take c.loop.bytes bytes) (take more (concat (run_of c.loop.self.unsent)))
+          ∙ ap (with_taken before)
           (both_sent old c.loop.self c.loop.bytes now.becomes now.within new more turn.becomes turn.within);
       ends = turn.ends;
     }

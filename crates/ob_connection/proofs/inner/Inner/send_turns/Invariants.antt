@@ -1,9 +1,10 @@
-use Rattle.ob_connection.proofs.Words.{◌≡◌, ◌≤◌, ◌+◌, ◌++◌, take, Becomes}
+use Rattle.ob_connection.proofs.Words.{◌≡◌, ◌≤◌, ◌+◌, take, Becomes}
 use Rattle.std.specs.List.{concat}
 use Rattle.ob_seq.specs.Pieces.{bytes_in}
 use Rattle.ob_seq.specs.Steps.RemoveBytes.{whole_cut}
 use Rattle.ob_connection.specs.Becoming.{removed}
 use Rattle.ob_connection.specs.Offering.{EndsAt, run_of}
+use Rattle.ob_connection.specs.Taking.{with_taken}
 use Rattle.ob_connection.proofs.inner.Inner.send_turns.Given as goal
 
 abbrev pub invariant-loop : goal.invariant-loop
@@ -11,6 +12,7 @@ invariant-loop g l = record {
   becomes : Becomes (removed l.bytes) l.fn.self l.self;
   gone : l.self.gone ≡ l.fn.self.gone + (whole_cut l.bytes (run_of l.fn.self.unsent)).whole;
   within : l.bytes ≤ bytes_in (run_of l.fn.self.unsent);
-  sent : g.S.Socket.sent l.socket ≡ g.S.Socket.sent l.fn.socket ++ take l.bytes (concat (run_of l.fn.self.unsent));
+  sent : g.S.Socket.sent l.socket
+      ≡ with_taken (g.S.Socket.sent l.fn.socket) (take l.bytes (concat (run_of l.fn.self.unsent)));
   ends : EndsAt l.self.unsent l.ending;
 }
