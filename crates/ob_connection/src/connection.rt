@@ -57,6 +57,15 @@ impl Connection {
         }
     }
 
+    /// Keeps memory for what waits and for no more: none if nothing waits. It cannot fail: if the allocator refuses a
+    /// smaller block, the connection keeps the one that it has. For a connection that is idle and had much to send by
+    /// calls of your own; the sending calls make it themselves once all is sent. Our own; the name is Rust's.
+    pub fn shrink_to_fit(&mut self)
+        ensures { self.new ≡ self.old }
+    {
+        self.inner.shrink_to_fit();
+    }
+
     /// Each connection stands for some list of accepted commands, so what its calls promise is promised of some list. It
     /// does nothing.
     pub fn stands_for_some_commands(&self)

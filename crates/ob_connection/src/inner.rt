@@ -83,6 +83,13 @@ impl Inner {
         self.gone + self.contents.count() as u64
     }
 
+    /// As `Connection::shrink_to_fit`.
+    pub fn shrink_to_fit(&mut self)
+        ensures { self.new ≡ self.old }
+    {
+        self.contents.shrink_to_fit();
+    }
+
     /// Gives memory back that what waits does not need, as `Contents::give_back`.
     fn give_back(&mut self)
         ensures { self.new ≡ self.old }

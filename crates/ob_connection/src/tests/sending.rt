@@ -17,7 +17,9 @@ struct Slow {
 }
 
 impl Socket for Slow {
-    ghost sent = { λ socket. socket.log.items };
+    ghost use Rattle.std.specs.Prelude.{Some};
+
+    ghost sent = { λ socket. Some socket.log.items };
 
     fn write_vectored(&mut self, pieces: &[IoSlice<'_>]) -> Result<usize, SocketFault> {
         let Some(first) = pieces.first() else {

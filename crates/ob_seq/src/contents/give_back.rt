@@ -21,4 +21,11 @@ impl Contents {
             self.entries.shrink_to(kept.max(2 * self.entries.len()));
         }
     }
+
+    /// Keeps room for what waits and for no more, as `VecDeque::shrink_to_fit`. It cannot fail either.
+    pub fn shrink_to_fit(&mut self)
+        ensures { self.new ≡ self.old }
+    {
+        self.entries.shrink_to_fit();
+    }
 }
