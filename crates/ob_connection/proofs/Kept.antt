@@ -16,7 +16,8 @@ use Rattle.ob_types.specs.declared.promise.PromiseState.TheVariants.{Waiting}
 use Rattle.ob_types.specs.declared.refusal.Refusal.TheVariants.{NothingFlushed, TooFar, BadIndex}
 use Rattle.ob_types.specs.declared.refusal.Refusal.TheVariants.{Oversize, TooMuch}
 use Rattle.ob_types.specs.declared.reply.Answer.TheVariants.{Yes}
-use Rattle.ob_seq.specs.Steps.Held.{first_progress, front_id}
+use Rattle.ob_connection.proofs.Words.{zero, suc}
+use Rattle.ob_seq.specs.Steps.Held.{first_progress, front_id, times}
 use Rattle.ob_seq.specs.Steps.Progress.{progress_step}
 use Rattle.ob_seq.specs.Steps.Remove.{front_removed, front_settlement, front_taken, removal_reply}
 use Rattle.ob_seq.specs.Steps.UserBit.{bit_step}
@@ -139,3 +140,17 @@ settled_front false settles id outcome is = rw is refl
 pub some_past : (connection : Connected) → Past connection
 some_past connection =
     record { outcomes = replicate connection.gone Success; count = length-replicate connection.gone Success }
+
+-- fronts that are taken without notice keep the word, and all keep whether it is closed
+pub word_of_times : (outcome : Outcome) (n : ℕ) (now : Pending) → (times n (front_taken false outcome) now).word ≡ now.word
+word_of_times outcome zero now = refl
+word_of_times outcome (suc n) now = word_of_times outcome n now
+
+pub closed_of_times : (notice : Bool) (outcome : Outcome) (n : ℕ) (now : Pending) →
+    (times n (front_taken notice outcome) now).closed ≡ now.closed
+closed_of_times notice outcome zero now = refl
+closed_of_times notice outcome (suc n) now = closed_of_times notice outcome n now
+
+-- and a word that stays turns nothing
+pub nothing_told : {before after : ℕ} → before ≡ after → change_between before after ≡ None
+nothing_told {before} same = rw (← same) (nothing_turned before)

@@ -1,4 +1,5 @@
 pub mod Gathered
+pub mod GivingUp
 pub mod Kept
 pub mod Making
 pub mod Obeyed

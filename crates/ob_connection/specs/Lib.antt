@@ -1,5 +1,6 @@
 pub mod Becoming
 pub mod Connected
+pub mod GivingUp
 pub mod Inside
 pub mod Limit
 pub mod Looks

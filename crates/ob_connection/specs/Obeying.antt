@@ -1,5 +1,5 @@
 -- What a call of a connection promises.
-use Rattle.std.specs.Prelude.{◌≡◌, ◌+◌, List, ◌∷◌, [], ◌++◌, map, true, is_ok, if◌then◌else◌, Result, IsErrOf, OnErr, IfOk}
+use Rattle.std.specs.Prelude.{◌≡◌, ◌+◌, List, ◌∷◌, [], ◌++◌, map, true, is_ok, if◌then◌else◌, Result, IsErrOf, OnErr, IfOk, None}
 use Rattle.ob_types.specs.declared.command.Command.{Command}
 use Rattle.ob_types.specs.declared.promise.Outcome.{Outcome}
 use Rattle.ob_types.specs.declared.promise.PromiseState.{PromiseState}
@@ -49,7 +49,13 @@ pub record Obeys {A : Type 0} (old : Connected) (command : Command) (tell : List
   pub refused : OnErr result (new ≡ old)
   pub no_memory_last : IsErrOf result NoMemory → Accepts old command
 
--- what a call took away begins where those that are gone end, is as long as it says, and has this outcome
-abbrev pub IsNext : Connected → Outcome → Result Taken Refusal → Type 0
-IsNext old outcome result =
-    IfOk result (λ taken. taken ≡ record taken { from = old.gone; to = old.gone + taken.count; outcome = outcome })
+-- what a call took away begins where those that were gone end, is as long as it says, ends where those that are gone
+-- end now, and has this outcome
+abbrev pub IsNext : Connected → Outcome → Result Taken Refusal → Connected → Type 0
+IsNext old outcome result new =
+    IfOk result (λ taken.
+    (taken ≡ record taken { from = old.gone; to = old.gone + taken.count; outcome = outcome }) × (new.gone ≡ taken.to))
+
+-- a call that took messages away without notice told of no change of writability
+abbrev pub IsQuiet : Result Taken Refusal → Type 0
+IsQuiet result = IfOk result (λ taken. taken.change ≡ None)

@@ -37,7 +37,7 @@ pub record Sends (max_count max_bytes : ℕ) (old : Connected) (sent_before : Op
       with_taken sent_before (take done.bytes (concat (gathered_after settings commands max_count max_bytes)))) sent_after
   pub obeys : (let result : Result Taken Refusal = Ok done.taken in
       Obeys old (RemoveBytes done.bytes) taken_reply result new)
-  pub next : (let result : Result Taken Refusal = Ok done.taken in IsNext old Success result)
+  pub next : (let result : Result Taken Refusal = Ok done.taken in IsNext old Success result new)
   pub more : Gives new (λ settings commands. not (empty_after settings commands)) done.more
 
 -- how a sending of several turns ended, by what is left
@@ -58,7 +58,7 @@ pub record SendsInTurns (old : Connected) (sent_before : Option (List ℕ)) (don
       sent_after
   pub obeys : (let result : Result Taken Refusal = Ok done.taken in
       Obeys old (RemoveBytes done.bytes) taken_reply result new)
-  pub next : (let result : Result Taken Refusal = Ok done.taken in IsNext old Success result)
+  pub next : (let result : Result Taken Refusal = Ok done.taken in IsNext old Success result new)
   pub ends : Ends new done.ending
 
 -- a connection that is closed sends nothing, and no other tells that it is

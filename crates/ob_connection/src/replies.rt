@@ -1,7 +1,10 @@
 //! What the calls of a connection answer.
 
+ghost use Rattle.std.specs.Prelude.{◌≡◌};
+
 use crate::ending::Ending;
 use ob_types::{Change, Outcome};
+use std::ops::Range;
 
 /// What an accepted write answers. It must be used: nothing tells the change again.
 #[must_use]
@@ -50,6 +53,19 @@ pub struct Taken {
     pub to: u64,
     /// The outcome of the promises that it settled.
     pub outcome: Outcome,
+}
+
+impl Taken {
+    /// The promises of the messages that it took away, oldest first: the ids from `from` on and below `to`.
+    ///
+    /// A promise that was cancelled in time is among them, though its cancellation has settled it before: whoever keeps
+    /// something by a promise drops it at the cancellation, and finds nothing here.
+    pub fn ids(&self) -> Range<u64>
+        ensures start { result.start ≡ self.now.from }
+        ensures end { result.end ≡ self.now.to }
+    {
+        self.from..self.to
+    }
 }
 
 /// What a sending of several turns answers.

@@ -1,5 +1,6 @@
 //! A connection that is written to, cancelled, sent and closed: each answer as worked by hand.
 
+mod giving_up;
 mod sending;
 
 use crate::{Connection, Flushed, Removed, Status, Taken, Written};

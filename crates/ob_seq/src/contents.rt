@@ -136,7 +136,7 @@ impl Contents {
     }
 
     /// Where its memory comes from.
-    pub fn allocator(&self) -> Global {
+    pub(crate) fn allocator(&self) -> Global {
         *self.entries.allocator()
     }
 

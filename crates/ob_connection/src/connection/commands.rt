@@ -1,11 +1,14 @@
 //! One call for each command.
 
-ghost use Rattle.std.specs.Prelude.{IsErrOf};
+ghost use Rattle.std.specs.Prelude.{◌≡◌, false, is_err, IfErr, IfOk, IsErrOf, OnErr};
 ghost use Rattle.ob_types.specs.declared.command.Command.TheVariants.{Write, Flush, Remove, RemoveWith, RemoveBytes};
 ghost use Rattle.ob_types.specs.declared.command.Command.TheVariants.{Progress, Cancel, FailFlushed, Close, UserBit};
 ghost use Rattle.ob_types.specs.declared.command.Command.TheVariants.{SetMarks};
 ghost use Rattle.ob_types.specs.declared.promise.Outcome.TheVariants.{Success, Failed};
-ghost use Rattle.ob_connection.specs.Obeying.{IsNext, Obeys};
+ghost use Rattle.ob_seq.specs.State.{closed_after};
+ghost use Rattle.ob_connection.specs.GivingUp.{GivesUp};
+ghost use Rattle.ob_connection.specs.Obeying.{IsNext, IsQuiet, Obeys};
+ghost use Rattle.ob_connection.specs.Standing.{Gives};
 ghost use Rattle.ob_connection.specs.Replies.{written_reply, flushed_reply, removed_reply, taken_reply, cancelled_reply};
 ghost use Rattle.ob_connection.specs.Replies.{bit_reply, done_reply};
 
@@ -74,7 +77,7 @@ impl Connection {
     /// message hold fewer bytes; both leave everything as it was.
     pub fn take_sent(&mut self, n: u64) -> Result<Taken, Refusal>
         ensures obeys { Obeys self.old (RemoveBytes n) taken_reply result self.new }
-        ensures next { IsNext self.old Success result }
+        ensures next { IsNext self.old Success result self.new }
         ensures frugal { ¬ IsErrOf result Refusal.NoMemory }
     {
         self.inner.take_sent(n)
@@ -112,7 +115,8 @@ impl Connection {
     /// `Closed` comes if the connection is closed.
     pub fn fail_flushed(&mut self, cause: Cause, notify: bool) -> Result<Taken, Refusal>
         ensures obeys { Obeys self.old (FailFlushed cause notify) taken_reply result self.new }
-        ensures next { IsNext self.old (Failed cause) result }
+        ensures next { IsNext self.old (Failed cause) result self.new }
+        ensures quiet { notify ≡ false → IsQuiet result }
         ensures frugal { ¬ IsErrOf result Refusal.NoMemory }
     {
         self.inner.fail_flushed(cause, notify)
@@ -127,10 +131,29 @@ impl Connection {
     /// too; both leave everything as it was.
     pub fn close(&mut self, cause: Cause) -> Result<Taken, Refusal>
         ensures obeys { Obeys self.old (Close cause) taken_reply result self.new }
-        ensures next { IsNext self.old (Failed cause) result }
+        ensures next { IsNext self.old (Failed cause) result self.new }
+        ensures quiet { IsQuiet result }
         ensures frugal { ¬ IsErrOf result Refusal.NoMemory }
     {
         self.inner.close(cause)
+    }
+
+    /// Gives the connection up: fails what is flushed for this cause without notice, and closes for it, as `fail_flushed`
+    /// and then `close` do, and answers one interval of all messages that were pending. The promise of each that was not
+    /// cancelled in time fails. The word stays as it was. An open connection always answers. It goes over the messages that
+    /// it takes away, and takes no memory. Our own.
+    ///
+    /// `Closed` comes if the connection is closed, and no other refusal does.
+    pub fn give_up(&mut self, cause: Cause) -> Result<Taken, Refusal>
+        ensures gives_up { IfOk result (λ taken. GivesUp self.old cause taken self.new) }
+        ensures open { Gives self.old closed_after (is_err result) }
+        ensures refused { OnErr result (self.new ≡ self.old) }
+        ensures closed { IfErr result (λ refusal. refusal ≡ Refusal.Closed) }
+    {
+        if self.is_closed() {
+            return Err(Refusal::Closed);
+        }
+        Ok(self.inner.give_up(cause))
     }
 
     /// Sets the user bit of this index, or clears it if `writable` is set (Netty's `setUserDefinedWritability`), and answers

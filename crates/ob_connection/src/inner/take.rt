@@ -1,6 +1,6 @@
 //! Calls that take several messages away.
 
-ghost use Rattle.std.specs.Prelude.{◌≡◌, ◌<◌, ◌≤◌, ◌+◌, ◌-◌, length, drop, OnErr, IsErrOf};
+ghost use Rattle.std.specs.Prelude.{◌≡◌, ◌<◌, ◌≤◌, ◌+◌, ◌-◌, length, drop, false, OnErr, OnOk, IsOk, IsErrOf};
 ghost use Rattle.ob_types.specs.declared.command.Command.TheVariants.{RemoveBytes, FailFlushed, Close};
 ghost use Rattle.ob_types.specs.Change.{change_between};
 ghost use Rattle.ob_types.specs.declared.promise.Outcome.{Outcome};
@@ -9,8 +9,8 @@ ghost use Rattle.ob_seq.specs.Steps.Held.{times};
 ghost use Rattle.ob_seq.specs.Steps.Remove.{front_taken};
 ghost use Rattle.ob_seq.specs.Steps.RemoveBytes.{bytes_removed, first_length};
 ghost use Rattle.ob_seq.specs.Unsent.{pending_entries};
-ghost use Rattle.ob_connection.specs.Becoming.{Becomes, Moves};
-ghost use Rattle.ob_connection.specs.Obeying.{IsNext};
+ghost use Rattle.ob_connection.specs.Becoming.{Becomes, FailsAll, HasNoLine, Moves};
+ghost use Rattle.ob_connection.specs.Obeying.{IsNext, IsQuiet};
 ghost use Rattle.ob_connection.specs.Replies.{taken_reply};
 
 use crate::inner::Inner;
@@ -22,7 +22,7 @@ impl Inner {
     /// The step of `Connection::take_sent`.
     pub fn take_sent(&mut self, n: u64) -> Result<Taken, Refusal>
         ensures moves { Moves self.old (RemoveBytes n) taken_reply result self.new }
-        ensures next { IsNext self.old Success result }
+        ensures next { IsNext self.old Success result self.new }
         ensures refused { OnErr result (self.new ≡ self.old) }
         ensures frugal { ¬ IsErrOf result Refusal.NoMemory }
     {
@@ -40,7 +40,10 @@ impl Inner {
     /// The step of `Connection::fail_flushed`.
     pub fn fail_flushed(&mut self, cause: Cause, notify: bool) -> Result<Taken, Refusal>
         ensures moves { Moves self.old (FailFlushed cause notify) taken_reply result self.new }
-        ensures next { IsNext self.old (Failed cause) result }
+        ensures next { IsNext self.old (Failed cause) result self.new }
+        ensures quiet { notify ≡ false → IsQuiet result }
+        ensures answers { self.old.unsent.closed ≡ false → IsOk result }
+        ensures cleared { OnOk result (HasNoLine self.new) }
         ensures refused { OnErr result (self.new ≡ self.old) }
         ensures frugal { ¬ IsErrOf result Refusal.NoMemory }
     {
@@ -56,7 +59,9 @@ impl Inner {
     /// The step of `Connection::close`.
     pub fn close(&mut self, cause: Cause) -> Result<Taken, Refusal>
         ensures moves { Moves self.old (Close cause) taken_reply result self.new }
-        ensures next { IsNext self.old (Failed cause) result }
+        ensures next { IsNext self.old (Failed cause) result self.new }
+        ensures quiet { IsQuiet result }
+        ensures answers { HasNoLine self.old → IsOk result }
         ensures refused { OnErr result (self.new ≡ self.old) }
         ensures frugal { ¬ IsErrOf result Refusal.NoMemory }
     {
@@ -72,6 +77,27 @@ impl Inner {
         let taken = self.taken_since(before, from, Outcome::Failed(cause));
         self.give_back();
         Ok(taken)
+    }
+
+    /// The steps of `Connection::give_up`.
+    pub fn give_up(&mut self, cause: Cause) -> Taken
+        requires { self.old.unsent.closed ≡ false }
+        ensures { FailsAll self.old cause result self.new }
+    {
+        let from = self.gone;
+        let Ok(_failed) = self.fail_flushed(cause, false) else {
+            unreachable!();
+        };
+        let Ok(_closed) = self.close(cause) else {
+            unreachable!();
+        };
+        Taken {
+            count: self.gone - from,
+            change: None,
+            from,
+            to: self.gone,
+            outcome: Outcome::Failed(cause),
+        }
     }
 
     /// Takes away what a removal of bytes does that ends there.

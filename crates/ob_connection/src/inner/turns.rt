@@ -29,7 +29,7 @@ impl Inner {
         requires open { self.old.unsent.closed ≡ false }
         requires few { bytes_in (run_of self.old.unsent) ≤ greatest_total }
         ensures moves { TakesSent self.old result.bytes result.taken self.new }
-        ensures next { IsNext self.old Success (Ok result.taken) }
+        ensures next { IsNext self.old Success (Ok result.taken) self.new }
         ensures sent { S.sent socket.new
             ≡ with_taken (S.sent socket.old) (take result.bytes (concat (run_of self.old.unsent))) }
         ensures ends { EndsAt self.new.unsent result.ending }

@@ -15,7 +15,7 @@ use std::collections::VecDeque;
 
 impl Contents {
     /// Whether the promise of the entry at this place was taken back.
-    pub fn is_taken_back(&self, place: usize) -> bool
+    pub(crate) fn is_taken_back(&self, place: usize) -> bool
         requires { place < waiting_count self.now }
         ensures { result ≡ slice_index_or (map (λ entry. entry.taken_back) (self.now.line ++ self.now.unflushed)) place false }
     {
@@ -23,7 +23,7 @@ impl Contents {
     }
 
     /// How many of the first so many in line were not voided.
-    pub fn to_send_count(&self, count: usize) -> usize
+    pub(crate) fn to_send_count(&self, count: usize) -> usize
         requires { count ≤ length self.now.line }
         ensures { result ≡ count_by (λ entry. not entry.voided) (take count (pending_entries self.now.line)) }
     {
@@ -31,7 +31,7 @@ impl Contents {
     }
 
     /// How many promises of unflushed messages still wait.
-    pub fn waiting_count(&self) -> usize
+    pub(crate) fn waiting_count(&self) -> usize
         ensures { result ≡ count_by is_waiting (map waiting_state self.now.unflushed) }
     {
         self.entries

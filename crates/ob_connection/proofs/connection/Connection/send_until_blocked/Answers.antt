@@ -36,6 +36,6 @@ returns-clause-sends g c =
           (run_after c.args.self.now commands stands);
       obeys = subst (λ one. Obeys one (RemoveBytes bytes) taken_reply result new) c.self.view_is
           (obeys (RemoveBytes bytes) taken_reply _ _ result c.self.invariant c.send_turns.ensures.moves tt);
-      next = subst (λ one. IsNext one Success result) c.self.view_is c.send_turns.ensures.next;
+      next = subst (λ one. IsNext one Success result new) c.self.view_is c.send_turns.ensures.next;
       ends = ends_are new c.send_turns.result.ending c.send_turns.ensures.ends;
     }

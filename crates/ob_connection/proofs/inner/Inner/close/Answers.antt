@@ -1,4 +1,4 @@
-use Rattle.ob_connection.proofs.Words.{◌≡◌, ◌+◌, ◌++◌, sym, ap, ◌∙◌, arith, length, map, Pending, held}
+use Rattle.ob_connection.proofs.Words.{[], ◌≡◌, ◌+◌, ◌++◌, sym, ap, ◌∙◌, arith, length, map, Pending, held}
 use Rattle.ob_connection.proofs.Words.{accepted_writes, subst, Result, Ok, Refusal, Moves}
 use Rattle.ob_types.specs.declared.command.Command.TheVariants.{Close}
 use Rattle.ob_connection.specs.declared.replies.Taken.{Taken}
@@ -8,7 +8,7 @@ use Rattle.ob_types.specs.declared.promise.Outcome.TheVariants.{Failed}
 use Rattle.ob_seq.specs.Steps.Close.{closing_step}
 use Rattle.ob_seq.specs.Unsent.{ended, pending_entry}
 use Rattle.ob_connection.specs.Replies.{taken_reply}
-use Rattle.ob_connection.proofs.Kept.{same_change}
+use Rattle.ob_connection.proofs.Kept.{nothing_told, same_change}
 use Rattle.ob_connection.proofs.Making.{closed, refused, taken}
 use Rattle.ob_connection.proofs.Settling.{close_replied, flushed_left, none_left}
 use Rattle.ob_connection.proofs.inner.Inner.close.Goals as goal
@@ -47,3 +47,9 @@ returns-clause-moves c =
       },
       c.shut.ensures.closed past.outcomes c.args.cause,
     )))
+
+pub returns-clause-quiet : goal.returns-clause-quiet
+returns-clause-quiet c =
+    ap (λ (one : Taken). one.change) c.taken_since-taken.ensures
+    ∙ nothing_told (c.word-before.ensures
+    ∙ sym (ap (λ (one : Pending). one.word) (c.shut.ensures.closed [] c.args.cause)))
