@@ -1,12 +1,12 @@
 //! The callers, over a connection whose socket is slow.
 
-use crate::caller::{Peer, give_up, may_write, open, renew, respond, send, tell};
-use crate::tests::buffers::Options;
 use crate::tests::limits::cycles;
-use crate::tests::story::{Begins, Player, Story, play_each};
-use crate::tests::trace::push_settlements;
-use crate::tests::words::{NoAnswer, Words};
 use bytes::Bytes;
+use ob_callers::caller::{Peer, give_up, may_write, open, renew, respond, send, tell};
+use ob_players::buffers::Options;
+use ob_players::story::{Begins, Player, Story, play_each};
+use ob_players::trace::push_settlements;
+use ob_players::words::{NoAnswer, Words};
 use ob_seq::Buffer;
 use ob_stories::CONNECTIONS;
 use ob_types::{Cause, Message, Outcome, PromiseId, Refusal};
@@ -178,5 +178,5 @@ impl Begins for Connection {
 
 #[test]
 fn a_connection_goes_by_what_its_buffer_tells(rt: HostRuntime) -> Result<(), Fail> {
-    play_each::<Connection>(&rt, rt.alloc(), CONNECTIONS)
+    play_each::<Connection>(rt.alloc(), CONNECTIONS)
 }

@@ -1,9 +1,9 @@
 //! A sink that fails at one of its calls.
 
-use crate::tests::buffers::Options;
-use crate::tests::commands::block;
-use crate::tests::words::NoAnswer;
 use ob_history::{As, Booked};
+use ob_players::buffers::Options;
+use ob_players::commands::block;
+use ob_players::words::NoAnswer;
 use ob_transport::{Limits, Pass, PassFault, ScriptSink, SinkFault, SinkStep, pass};
 use ob_types::Command;
 use std::alloc::{AllocError, Global};

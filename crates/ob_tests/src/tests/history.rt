@@ -1,11 +1,11 @@
 //! The stored history of a buffer.
 
-use crate::tests::buffers::Options;
-use crate::tests::commands::wanted;
-use crate::tests::story::{Begins, Player, Story, play_each};
-use crate::tests::trace::{push_answer, push_either, push_look, push_refusal, push_settled};
-use crate::tests::words::{NoAnswer, Words, number_in};
 use ob_history::{As, Booked, Receipt, Recorded, Seen};
+use ob_players::buffers::Options;
+use ob_players::commands::wanted;
+use ob_players::story::{Begins, Player, Story, play_each};
+use ob_players::trace::{push_answer, push_either, push_look, push_refusal, push_settled};
+use ob_players::words::{NoAnswer, Words, number_in};
 use ob_stories::HISTORY;
 use ob_types::{Command, PromiseId};
 use std::alloc::Global;
@@ -207,5 +207,5 @@ fn is_kept(recorded: &Recorded, receipt: Receipt) -> bool {
 
 #[test]
 fn a_history_is_kept(rt: HostRuntime) -> Result<(), Fail> {
-    play_each::<History>(&rt, rt.alloc(), HISTORY)
+    play_each::<History>(rt.alloc(), HISTORY)
 }

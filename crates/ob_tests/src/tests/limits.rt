@@ -1,8 +1,8 @@
 //! The limits of a buffer, met: lines that stand for many commands.
 
-use crate::tests::run::Single;
-use crate::tests::story::{Begins, Player, Story, play_each};
-use crate::tests::words::{NoAnswer, Words};
+use ob_players::run::Single;
+use ob_players::story::{Begins, Player, Story, play_each};
+use ob_players::words::{NoAnswer, Words};
 use ob_seq::Buffer;
 use ob_stories::LIMITS;
 use ob_types::{Answer, Cause, Message, Outcome, PromiseId, Refusal};
@@ -82,5 +82,5 @@ impl Begins for Many {
 
 #[test]
 fn limits_of_a_buffer(rt: HostRuntime) -> Result<(), Fail> {
-    play_each::<Many>(&rt, rt.alloc(), LIMITS)
+    play_each::<Many>(rt.alloc(), LIMITS)
 }

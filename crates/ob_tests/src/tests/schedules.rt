@@ -1,10 +1,10 @@
 //! The core: one word over given schedules.
 
-use crate::tests::buffers::Options;
-use crate::tests::story::{Begins, Player, Story, play_each};
-use crate::tests::trace::{push_change, push_words};
-use crate::tests::words::{NoAnswer, Words};
 use ob_core::{Ask, Event, LaneStart, Turn, World, WorldFault, play};
+use ob_players::buffers::Options;
+use ob_players::story::{Begins, Player, Story, play_each};
+use ob_players::trace::{push_change, push_words};
+use ob_players::words::{NoAnswer, Words};
 use ob_stories::CORE;
 use ob_types::{Change, WaterMark};
 use std::alloc::{AllocError, Global};
@@ -121,7 +121,7 @@ impl Begins for Schedule {
 
 #[test]
 fn schedules_of_a_core(rt: HostRuntime) -> Result<(), Fail> {
-    play_each::<Schedule>(&rt, rt.alloc(), CORE)
+    play_each::<Schedule>(rt.alloc(), CORE)
 }
 
 /// Lanes by their rooms and masks, and why they make no world.

@@ -1,6 +1,6 @@
 //! The words of a buffer: texts of refusals, copies of commands, and marks.
 
-use crate::tests::commands::block;
+use ob_players::commands::block;
 use ob_types::{Cause, Command, PromiseId, Refusal, WaterMark};
 use std::test::Fail;
 

@@ -1,0 +1,6 @@
+//! The callers that the README and `docs/` show, which tests play too.
+#![tactic(auto)]
+
+pub mod caller;
+pub mod in_flight;
+pub mod shared;

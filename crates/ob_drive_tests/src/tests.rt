@@ -1,0 +1,5 @@
+mod drives;
+mod early;
+mod gates;
+mod held_sink;
+mod moments;

@@ -1,0 +1,239 @@
+//! Drives: writers in threads of their own, and one transport beside them. The order of their records is open.
+
+ghost use Rattle.std.specs.Prelude.{IfOk};
+ghost use Rattle.ob_pool.specs.Config.{AreWithin};
+
+use ob_players::buffers::Options;
+use ob_players::commands::command;
+use ob_players::story::{Player, Story, parts};
+use ob_players::words::{NoAnswer, Words, number_in};
+use ob_pool::{Config, DriveFault, Gate, OpenGate, Plan, Report, TASK_OVERHEAD, drive};
+use ob_shared::FinishFault;
+use ob_stories::{DRIVES, PLANS};
+use ob_transport::{Limits, ScriptSink, Sink, SinkStep};
+use ob_types::{Cause, Command, Refusal};
+use std::alloc::{AllocError, Global};
+use std::process::Abort;
+use std::sync::Wait;
+use std::test::Fail;
+use std::thread::Threads;
+use std::time::Clock;
+
+/// What a drive is given with these options: at most so many passes of at most 16 blocks and 65536 bytes.
+fn config(options: Options, turns: u64) -> Result<Config, Refusal>
+    ensures { IfOk result (λ config. AreWithin config) }
+{
+    Ok(Config {
+        marks: options.marks()?,
+        estimate: options.estimate(),
+        task: options.task.unwrap_or(TASK_OVERHEAD).min(65535),
+        limit: options.limit.clamp(1, 1048576),
+        limits: Limits {
+            max_count: 16,
+            max_bytes: 65536,
+        },
+        turns,
+    })
+}
+
+/// What is to be driven, and what came of it.
+#[derive(Drop)]
+pub struct Driven {
+    alloc: Global,
+    options: Options,
+    /// The most passes of the transport.
+    turns: u64,
+    plans: Vec<Plan>,
+    steps: Vec<SinkStep>,
+    /// The most bytes that a call of the sink takes behind its steps.
+    most: u64,
+    /// How many bytes the sink took, and how often it failed.
+    pub sink: (usize, u64),
+    end: Option<Result<Report, DriveFault>>,
+}
+
+impl Player for Driven {
+    /// The lines that give something were given before.
+    fn answer(&mut self, asked: &str, text: &mut String) -> Result<(), NoAnswer> {
+        let (bytes, failures) = self.sink;
+        if let (Some(count), Some(Ok(report))) = (asked.strip_prefix("among "), &self.end) {
+            return push_callers(text, report, number_in(count)? as usize);
+        }
+        match (asked, &self.end) {
+            ("", Some(Ok(report))) => push_report(text, report)?,
+            ("", Some(Err(fault))) => write!(text, "drive: fault {}", fault.number())?,
+            ("why", Some(Err(fault))) => write!(text, "{fault}")?,
+            ("fails", Some(Ok(report))) => push_fails(text, report)?,
+            ("sink", _) => write!(text, "{bytes} bytes, {failures} failures")?,
+            _ => {}
+        }
+        Ok(())
+    }
+}
+
+impl Driven {
+    /// What a story gives, before it is driven.
+    pub fn of(alloc: Global, story: Story) -> Result<Driven, NoAnswer> {
+        let mut driven = Driven {
+            alloc,
+            options: Options::of(story.command)?,
+            turns: 16777216,
+            plans: Vec::new(alloc),
+            steps: Vec::new(alloc),
+            most: u64::MAX,
+            sink: (0, 0),
+            end: None,
+        };
+        for line in story.lines.lines() {
+            driven.take(parts(line).0)?;
+        }
+        Ok(driven)
+    }
+
+    /// The sink of a story.
+    pub fn script(&mut self) -> ScriptSink {
+        let steps = std::mem::replace(&mut self.steps, Vec::new(self.alloc));
+        ScriptSink::new(steps, self.most)
+    }
+
+    /// Drives what a story gives, with its writers behind a gate.
+    pub fn run<R: AllocGlobal + Threads + Wait + Clock + Sync, G: Gate + Sync, S: Sink + Send>(
+        &mut self,
+        rt: &R,
+        gate: &G,
+        sink: &mut S,
+    ) -> Result<(), NoAnswer> {
+        let config = config(self.options, self.turns)?;
+        let plans = std::mem::replace(&mut self.plans, Vec::new(self.alloc));
+        self.end = Some(drive(rt, rt.alloc(), gate, plans, sink, config));
+        Ok(())
+    }
+
+    /// Takes in what a line gives.
+    fn take(&mut self, asked: &str) -> Result<(), NoAnswer> {
+        let mut words = Words::of(asked);
+        match words.word() {
+            "" | "sink" | "why" | "fails" | "among" => {}
+            "take" => self.steps.push(SinkStep::Take(words.number()?))?,
+            "fail" => self.steps.push(SinkStep::Fail(words.small()?))?,
+            "then" => self.most = words.number()?,
+            "turns" => self.turns = words.number()?,
+            "each" => {
+                let (count, word) = (words.small()?, words.word());
+                self.give((0, count), word, &mut words)?;
+            }
+            word => {
+                let writer = words.small()?;
+                self.give((writer, writer.saturating_add(1)), word, &mut words)?;
+            }
+        }
+        Ok(())
+    }
+
+    /// Gives a command to the writers from one number to before another, a block as often as the last word says.
+    fn give(
+        &mut self,
+        (from, to): (u32, u32),
+        word: &str,
+        words: &mut Words,
+    ) -> Result<(), NoAnswer> {
+        let command = command(self.alloc, word, words, 0)?.ok_or(NoAnswer::Unread)?;
+        let count = if word == "b" { words.small()? } else { 1 };
+        for _ in self.plans.len()..to as usize {
+            self.plans.push(Plan {
+                commands: Vec::new(self.alloc),
+            })?;
+        }
+        for writer in from..to {
+            let plan = self.plans.get_mut(writer as usize).ok_or(NoAnswer::Unread)?;
+            for _ in 0..count {
+                plan.commands.push(command.copy()?)?;
+            }
+        }
+        Ok(())
+    }
+}
+
+/// Drives what a story gives, with its writers behind a gate, and plays it.
+pub fn drives<R: Abort + AllocGlobal + Threads + Wait + Clock + Sync, G: Gate + Sync>(
+    rt: &R,
+    gate: &G,
+    story: Story,
+) -> Result<(), Fail> {
+    let mut driven = Driven::of(rt.alloc(), story)?;
+    let mut sink = driven.script();
+    driven.run(rt, gate, &mut sink)?;
+    driven.sink = (sink.taken().len(), sink.failures());
+    story.play(rt.alloc(), &mut driven)?;
+    Ok(())
+}
+
+/// Adds the numbers of a report.
+fn push_report(text: &mut String, report: &Report) -> Result<(), AllocError> {
+    for (name, number) in [
+        ("writes", report.writes),
+        ("flushes", report.flushes),
+        ("cancels", report.cancels),
+        ("bits", report.bits),
+        ("refused", report.refused),
+        ("taken", report.taken),
+        ("success", report.success),
+        ("failed", report.failed),
+        ("cancelled", report.cancelled),
+        ("left", report.left),
+    ] {
+        write!(text, "{name} {number}, ")?;
+    }
+    let (total, word) = report.hand;
+    write!(text, "hand {total} {word:08x}")
+}
+
+/// Adds how many callers made the first so many records.
+fn push_callers(text: &mut String, report: &Report, count: usize) -> Result<(), NoAnswer> {
+    let mut callers = 0u64;
+    for one in report.recorded.records().iter().take(count) {
+        callers |= 1u64.wrapping_shl(one.caller);
+    }
+    Ok(write!(text, "{} callers", callers.count_ones())?)
+}
+
+/// Adds the commands that failed what was flushed.
+fn push_fails(text: &mut String, report: &Report) -> Result<(), AllocError> {
+    for one in report.recorded.records() {
+        if let Command::FailFlushed(Cause(cause), notice) = &one.command {
+            write!(text, "fl {cause} {} ", u8::from(*notice))?;
+        }
+    }
+    Ok(())
+}
+
+fn plays<R: Abort + AllocGlobal + Threads + Wait + Clock + Sync>(
+    rt: &R,
+    stories: &str,
+) -> Result<(), Fail> {
+    for text in stories.split('#').skip(1) {
+        drives(rt, &OpenGate, Story::of(text))?;
+    }
+    Ok(())
+}
+
+#[test]
+fn writers_drive(rt: HostRuntime) -> Result<(), Fail> {
+    plays(&rt, DRIVES)
+}
+
+#[test]
+fn plans_are_driven_or_refused(rt: HostRuntime) -> Result<(), Fail> {
+    plays(&rt, PLANS)
+}
+
+#[test]
+fn want_of_memory_is_told(rt: HostRuntime) -> Result<(), Fail> {
+    let end = DriveFault::Finish(FinishFault::NoMemory);
+    let told = format!(in rt.alloc(); "{}; {end}", DriveFault::NoMemory)?;
+    assert_eq!(rt;
+        told.as_str(),
+        "out of memory; the buffer was not finished: out of memory"
+    );
+    Ok(())
+}

@@ -1,8 +1,0 @@
-use Rattle.ob_tests.proofs.tests.shared.callers_in_turn.Given as goal
-
--- the opening that was just made
-abbrev pub ghosts-plays-L-Named : goal.ghosts-plays-L-Named
-ghosts-plays-L-Named g a = record { opened = a.opening }
-
-abbrev pub ghosts-plays-L-Ledger : goal.ghosts-plays-L-Ledger
-ghosts-plays-L-Ledger g a = record { name = a.opening.ledger; parts = a.opening.callers }

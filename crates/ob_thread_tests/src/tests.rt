@@ -1,0 +1,10 @@
+mod callers;
+mod dice;
+mod host;
+mod keeping;
+mod readers;
+mod shared;
+mod threads;
+mod transport;
+mod waiting;
+mod waking;
