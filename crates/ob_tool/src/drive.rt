@@ -2,6 +2,8 @@
 
 ghost use Rattle.std.specs.Prelude.{◌≡◌, ◌≢◌, ◌≤◌, None, IfErr, IfOk, IfSome, IsErrOf, OnOk, length};
 ghost use Rattle.std.specs.Io.KnownBytes.{Appends, Keeps};
+ghost use Rattle.ob_history.specs.History.{most_records};
+ghost use Rattle.ob_history.specs.Legal.{IsLegal};
 ghost use Rattle.ob_pool.specs.Report.TellsOf.{TellsOf};
 ghost use Rattle.ob_pool.specs.Planning.PlansFault.{plans_fault};
 ghost use Rattle.ob_pool.specs.declared.fault.DriveFault.{DriveFault};
@@ -17,12 +19,15 @@ ghost use Rattle.ob_tool.specs.Reading.Script.{greatest_script, script_lines};
 ghost use Rattle.ob_tool.specs.declared.script_fault.ScriptFault.TheVariants.{Drive};
 
 pub mod line;
+pub mod more;
+pub mod offers;
 pub mod plans;
 pub mod session;
 pub mod text;
 pub mod words;
 
 use crate::cli::options::Options;
+use crate::drive::offers::{CountingSink, Offers};
 use crate::drive::plans::make_plans;
 use crate::drive::session::DriveSession;
 use crate::drive::text::push_report;
@@ -38,7 +43,7 @@ use std::alloc::Global;
 use std::io::{Read, Write};
 use std::sync::Wait;
 use std::thread::Threads;
-use std::time::Clock;
+use std::time::{Clock, Instant};
 
 /// What a pass offers to the sink at most.
 const LIMITS: Limits = Limits {
@@ -46,8 +51,18 @@ const LIMITS: Limits = Limits {
     max_bytes: 65536,
 };
 
+/// What a drive came to, and what it shows beside its report.
+#[derive(Drop)]
+pub struct Driven {
+    pub report: Report,
+    /// How many milliseconds the threads were at work, if the clock tells it.
+    pub time: Option<u64>,
+    pub offers: Offers,
+}
+
 /// Reads a drive script to its end, has its writers carry out what its lines ask, each in a thread of its own, with one
-/// transport beside them, and writes the lines of the report. All lines are read before a thread starts.
+/// transport beside them, and writes the lines of the report. All lines are read before a thread starts. What the drive came
+/// to is answered.
 ///
 /// `Line` comes where a line is faulty, `Read` where the reader fails or 33554432 reads do not bring the script to its
 /// end, `TooLong` where it has more than 16777216 bytes, `Drive` where the drive comes to no report, `Write` where the
@@ -56,17 +71,22 @@ pub fn drive_script<H: AllocGlobal + Threads + Wait + Clock + Sync, R: Read, W: 
     rt: &H,
     reader: &mut R,
     writer: &mut W,
-    options: Options,
-) -> Result<(), ScriptFault>
+    options: &Options,
+) -> Result<Driven, ScriptFault>
     // What was read has plans without a fault, and the text of a report on a drive of them is written and nothing else.
     ensures report { OnOk result (IfSome (R.remaining reader.old) (λ script.
-        WritesReport options (plans_of (script_lines drive_grammar script))
+        WritesReport options.now (plans_of (script_lines drive_grammar script))
         (W.contents writer.old) (W.contents writer.new))) }
     ensures through { GoesThrough drive_grammar (R.remaining reader.old) (R.remaining reader.new) result }
 
+    // The history that is answered is one of a single thread, with the options' marks and sizes.
+    ensures legal { IfOk result (λ driven.
+        IsLegal (first_history options.now).settings driven.report.recorded.records) }
+    ensures few { IfOk result (λ driven. length driven.report.recorded.records ≤ most_records) }
+
     // A fault of the drive is the first that the plans have, or one that no plans have.
     ensures drive { (fault : DriveFault) → IsErrOf result (Drive fault) → IfSome (R.remaining reader.old) (λ script.
-        ComesTo options (plans_of (script_lines drive_grammar script)) fault) }
+        ComesTo options.now (plans_of (script_lines drive_grammar script)) fault) }
 
     // Without a report nothing is written, unless the writer fails.
     ensures unwritten { IfErr result (λ fault. fault ≢ ScriptFault.Write
@@ -74,8 +94,9 @@ pub fn drive_script<H: AllocGlobal + Threads + Wait + Clock + Sync, R: Read, W: 
 {
     let script = read_script(rt.alloc(), reader, MAX_READS)?;
     let session = read_lines(rt.alloc(), &script)?;
-    let report = drive_session(rt, session, options)?;
-    write_report(rt.alloc(), &report, writer)
+    let driven = drive_session(rt, session, options)?;
+    write_report(rt.alloc(), &driven.report, writer)?;
+    Ok(driven)
 }
 
 /// Reads the lines of a drive script up to the first faulty one.
@@ -99,31 +120,44 @@ pub fn read_lines(alloc: Global, script: &[u8]) -> Result<DriveSession, ScriptFa
 fn drive_session<H: AllocGlobal + Threads + Wait + Clock + Sync>(
     rt: &H,
     session: DriveSession,
-    options: Options,
-) -> Result<Report, ScriptFault>
-    ensures told { IfOk result (λ report. TellsOf (first_history options) (plans_in session.writers.items) report) }
+    options: &Options,
+) -> Result<Driven, ScriptFault>
+    ensures told { IfOk result (λ driven.
+        TellsOf (first_history options.now) (plans_in session.writers.items) driven.report) }
+    ensures few { IfOk result (λ driven. length driven.report.recorded.records ≤ most_records) }
     ensures faultless { OnOk result
-        (plans_fault options.estimate options.task (plans_in session.writers.items) ≡ None) }
+        (plans_fault options.now.estimate options.now.task (plans_in session.writers.items) ≡ None) }
     ensures faults { IfErr result IsFaultOfDrive }
     ensures drive { (fault : DriveFault) → IsErrOf result (Drive fault)
-        → ComesTo options (plans_in session.writers.items) fault }
+        → ComesTo options.now (plans_in session.writers.items) fault }
 {
     let plans = make_plans(rt.alloc(), &session.writers)?;
     let config = config(options, session.most_passes());
-    let mut sink = session.into_sink();
+    let mut sink = CountingSink::new(session.into_sink());
+    let begun = Instant::now(rt).ok();
     match drive(rt, rt.alloc(), &OpenGate, plans, &mut sink, config) {
-        Ok(report) => Ok(report),
+        Ok(report) => Ok(Driven {
+            report,
+            time: milliseconds_since(rt, begun),
+            offers: sink.offers,
+        }),
         Err(fault) => Err(ScriptFault::Drive(fault)),
     }
 }
 
+/// How many milliseconds have gone since then, if the clock tells both times.
+fn milliseconds_since(clock: &impl Clock, begun: Option<Instant>) -> Option<u64> {
+    let gone = begun?.elapsed(clock).ok()?;
+    u64::try_from(gone.as_millis()).ok()
+}
+
 /// What a drive is given by the options of the program, and by how many passes the transport makes at most.
-fn config(options: Options, turns: u32) -> Config
+fn config(options: &Options, turns: u32) -> Config
     ensures { result ≡ record {
-      marks = options.marks;
-      estimate = options.estimate;
-      task = options.task;
-      limit = options.limit;
+      marks = options.now.marks;
+      estimate = options.now.estimate;
+      task = options.now.task;
+      limit = options.now.limit;
       limits = record { max_count = 16; max_bytes = 65536 };
       turns = turns;
     } }

@@ -7,3 +7,4 @@ mod play;
 mod stories;
 mod summaries;
 mod texts;
+mod verbose;

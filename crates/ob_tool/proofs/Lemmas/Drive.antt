@@ -1,3 +1,4 @@
 -- Drive scripts.
+pub mod More
 mod Rows
 pub mod Script

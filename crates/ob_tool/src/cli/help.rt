@@ -130,6 +130,16 @@ All lines are read first. When all threads have ended, standard output gets thes
   success, failed, cancelled, left promises of writes that were settled so, and not at all: together as many as `writes`
   hand                             the bytes that are still handed over, and a word: 0 00000000 where all is well
 
+With --verbose standard error gets these too; T stands for bytes, L for the number of a command in the history, from 1 on:
+  milliseconds N            how long the threads were at work
+  passes N                  passes of the transport that offered something to the sink
+  stalls N                  those of them of which the sink took nothing
+  peak T at line L          the most pending bytes, and the first command behind which they were pending
+  stops N, goes N           how often the buffer became unwritable, and writable, on a line each
+  unwritable N from line L  the most commands together behind which the buffer was not writable
+  pending T                 the pending bytes at the end
+and a hint if promises are left and nothing was flushed.
+
 Faults of a drive, told as `drive: fault N`; standard output stays empty:
   1 there is no writer             4 no memory
   6 as many commands as --limit says were recorded                        7 the transport found so, or no memory

@@ -19,6 +19,13 @@ struct Subcommand {
     about: &'static str,
     help: &'static str,
     options: &'static [NumberOption],
+    flags: &'static [Flag],
+}
+
+/// An option that is given or not.
+struct Flag {
+    name: &'static str,
+    help: &'static str,
 }
 
 /// An option that is given a number.
@@ -44,30 +51,35 @@ static SUBCOMMANDS: [Subcommand; 5] = [
         about: "Reads a script from standard input, and writes one line for each of its lines to standard output",
         help: help::RUN,
         options: &[LOW, HIGH, OVERHEAD, UNKNOWN, LIMIT],
+        flags: &[],
     },
     Subcommand {
         name: "core",
         about: "Reads a script of lanes and turns from standard input, and writes one line for each to standard output",
         help: help::CORE,
         options: &[LOW, HIGH],
+        flags: &[],
     },
     Subcommand {
         name: "drive",
         about: "Reads a script of writers from standard input, runs them in threads, and counts what came of it",
         help: help::DRIVE,
         options: &[LOW, HIGH, OVERHEAD, UNKNOWN, LIMIT, TASK],
+        flags: &[VERBOSE],
     },
     Subcommand {
         name: "summary",
         about: "Reads a trace of run or of core from standard input, and counts what it shows",
         help: help::SUMMARY,
         options: &[],
+        flags: &[],
     },
     Subcommand {
         name: "draw",
         about: "Reads a trace of run or of core from standard input, and draws it as a picture, an SVG",
         help: help::DRAW,
         options: &[LOW, HIGH],
+        flags: &[],
     },
 ];
 
@@ -107,6 +119,11 @@ const TASK: NumberOption = NumberOption {
     help: "Bytes that a message counts beside its own while it is handed over (32 where it is not given)",
 };
 
+const VERBOSE: Flag = Flag {
+    name: "verbose",
+    help: "Tells on standard error how long it took, what was pending and how often the sink was asked",
+};
+
 /// What the program takes.
 pub fn command<'a>(alloc: Global) -> Result<Command<'a>, AllocError> {
     let subcommands = subcommands(alloc)?;
@@ -135,10 +152,23 @@ impl Subcommand {
         for one in self.options {
             options.push(one.arg(alloc))?;
         }
+        for one in self.flags {
+            options.push(one.arg(alloc))?;
+        }
         Command::new(alloc, self.name)
             .about(self.about)
             .after_help(self.help)
             .args(options)
+    }
+}
+
+impl Flag {
+    /// The option for `clap`.
+    fn arg<'a>(&self, alloc: Global) -> Arg<'a> {
+        Arg::new(alloc, self.name)
+            .long(self.name)
+            .action(ArgAction::SetTrue)
+            .help(self.help)
     }
 }
 

@@ -61,7 +61,7 @@ fn push_refusal(text: &mut String, number: u8, count: usize) -> Result<(), Alloc
 }
 
 /// Adds the lines of the pending bytes and of writability.
-fn push_levels(text: &mut String, summary: &Summary) -> Result<(), AllocError>
+pub fn push_levels(text: &mut String, summary: &Summary) -> Result<(), AllocError>
     ensures { OnOk result (string_bytes text.new ≡ string_bytes text.old ++ levels_text summary.now) }
 {
     push_peak(text, summary.peak)?;

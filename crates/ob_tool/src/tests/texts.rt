@@ -35,7 +35,7 @@ static REFUSED: &str = "\
 |ob_tool run --low 2147483648|ob_tool run --high 2147483648|ob_tool run --overhead 65536|ob_tool run --unknown 65536\
 |ob_tool run --limit 0|ob_tool run --limit 1048577|ob_tool run --task 1|ob_tool core --limit 3|ob_tool core --task 1\
 |ob_tool core --low 2147483648|ob_tool drive --task 65536|ob_tool drive --limit 0|ob_tool summary --low 1\
-|ob_tool summary more|ob_tool draw --limit 3|ob_tool draw --high 2147483648";
+|ob_tool summary more|ob_tool run --verbose|ob_tool drive --verbose 1|ob_tool draw --limit 3|ob_tool draw --high 2147483648";
 
 /// Command lines that ask for help or the version.
 static ASKING: &str = "\
@@ -127,6 +127,7 @@ Usage: ob_tool drive [OPTIONS]
 Options:|      --low <BYTES>       ..|      --high <BYTES>      ..|      --overhead <BYTES>  ..
       --unknown <BYTES>   ..|      --limit <RECORDS>   ..
       --task <BYTES>      Bytes that a message counts beside its own while it is handed over (32 where it is not given)
+      --verbose           Tells on standard error how long it took, what was pending and how often the sink was asked
   -h, --help              Print help
 
 The script comes ..|  ob_tool drive < FILE
@@ -139,6 +140,9 @@ Lines of a script; ..|  b W N K  writer W writes K blocks, 1 to 1024, of N bytes
 
 All lines are read first. ..|  writes, flushes, cancels, bits  ..|  taken  ..|  success, failed, cancelled, left ..
   hand  ..
+
+With --verbose standard error gets these too; ..|  milliseconds N  ..|  passes N  ..|  stalls N  ..|  peak T at line L  ..
+  stops N, goes N  ..|  unwritable N from line L  ..|  pending T  ..|and a hint if ..
 
 Faults of a drive, told as `drive: fault N`; ..|  1 there is no writer  ..|  6 as many commands as --limit says ..
 

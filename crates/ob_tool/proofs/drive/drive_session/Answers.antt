@@ -33,7 +33,7 @@ returns-in-Ok-clause-faultless g c =
     let plans = c.in_ok-plans.ensures ∙ ap plans_in c.deref.ensures.value in
     let given = ap (λ (config : Config). plans_fault config.estimate config.task c.in_ok-plans.plans.items)
     c.config-config.ensures in
-    sym (given ∙ ap (plans_fault c.args.options.estimate c.args.options.task) plans)
+    sym (given ∙ ap (plans_fault c.args.options.now.estimate c.args.options.now.task) plans)
     ∙ without_fault c.in-Ok.report _ c.in-Ok.ensures.refused
 
 pub returns-clause-drive : goal.returns-clause-drive
@@ -41,8 +41,8 @@ returns-clause-drive g c = λ fault is.
     let plans = c.in_ok-plans.ensures ∙ ap plans_in c.deref.ensures.value in
     let given = ap (λ (config : Config). plans_fault config.estimate config.task c.in_ok-plans.plans.items)
     c.config-config.ensures in
-    let found = given ∙ ap (plans_fault c.args.options.estimate c.args.options.task) plans in
-    subst (ComesTo c.args.options (plans_in c.args.session.writers.items)) (cc is) (record {
+    let found = given ∙ ap (plans_fault c.args.options.now.estimate c.args.options.now.task) plans in
+    subst (ComesTo c.args.options.now (plans_in c.args.session.writers.items)) (cc is) (record {
       first = subst (λ found. IfSome found (λ first. c.in-Err.fault ≡ first)) found
           (first_told _ c.in-Err.fault _ c.in-Err.ensures.refused);
       later = λ none. c.in-Err.ensures.planned (found ∙ none);

@@ -2,8 +2,8 @@ use Rattle.std.proofs.Common.{rules}
 use Rattle.ob_tool.proofs.Lemmas.Cli.Entry.{cut_short, out_of_memory, untraced}
 use Rattle.ob_tool.proofs.cli.entry.start.Goals as goal
 
-pub returns-in-Err : goal.returns-in-Err
-returns-in-Err g c = record {
+pub returns-in-Err-clause-leaves : goal.returns-in-Err-clause-leaves
+returns-in-Err-clause-leaves g c = record {
   traced = search rules;
   refused = search rules;
   unread = search rules;
@@ -13,8 +13,8 @@ returns-in-Err g c = record {
   undriven = search rules;
 }
 
-pub returns-in-Err-carry_out : goal.returns-in-Err-carry_out
-returns-in-Err-carry_out g c = record {
+pub returns-in-Err-carry_out-clause-leaves : goal.returns-in-Err-carry_out-clause-leaves
+returns-in-Err-carry_out-clause-leaves g c = record {
   traced = search rules;
   refused = search rules;
   unread = search rules;
