@@ -1,0 +1,4 @@
+pub mod HandleParts
+pub mod Keeping
+pub mod Loosened
+pub mod Steps

@@ -1,0 +1,54 @@
+//! What C holds of a connection.
+
+ghost use Rattle.std.specs.Prelude.{◌≡◌, IsSome, is_some, Option, Some, None};
+ghost use Rattle.ob_c.specs.Held.{held};
+ghost use Rattle.ob_connection.specs.contracts.connection.Connection.{the_row as connection_row};
+ghost use Rattle.ob_connection.specs.Connected.{Connected};
+
+use crate::loose::Loose;
+use ob_connection::Connection;
+use std::alloc::Global;
+use std::marker::Model;
+use std::ptr::null_mut;
+
+/// A connection of C's, which makes it as `{0}`: none yet.
+#[repr(C)]
+#[derive(Drop)]
+pub struct Handle {
+    at: *mut u8,
+    ghost value: { Option Connected },
+}
+
+impl Model for Handle {
+    ghost also_owns = { λ h. held connection_row h.at h.value };
+}
+
+// The connection behind it may go to another thread, and C gives a handle to one call at a time.
+unsafe impl Send for Handle {}
+
+impl Handle {
+    /// Whether it holds a connection.
+    pub(crate) fn is_open(&mut self) -> bool
+        ensures { (result ≡ is_some self.old.value) × (self.new ≡ self.old) }
+    {
+        !self.at.is_null()
+    }
+
+    /// Takes the connection out.
+    pub(crate) fn take(&mut self, alloc: Global) -> Loose<Connection, Global>
+        requires { IsSome self.old.value }
+        ensures { (self.old.value ≡ Some result.value) × (self.new.value ≡ None) }
+    {
+        let at = self.at as *mut Connection;
+        self.at = null_mut();
+        Loose { at, alloc }
+    }
+
+    /// Puts a connection in.
+    pub(crate) fn put(&mut self, loose: Loose<Connection, Global>)
+        ensures { self.new.value ≡ Some loose.value }
+    {
+        let Loose { at, alloc: _ } = loose;
+        self.at = at as *mut u8;
+    }
+}
