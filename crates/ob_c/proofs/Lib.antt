@@ -1,3 +1,4 @@
+pub mod BlockParts
 pub mod HandleParts
 pub mod Keeping
 pub mod Loosened

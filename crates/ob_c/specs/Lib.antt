@@ -1,3 +1,8 @@
+pub mod Blocks
 pub mod Held
-pub mod Replies
+pub mod Looks
+pub mod Numbers
 pub mod Obeying
+pub mod Opening
+pub mod Replies
+pub mod Shared

@@ -1,14 +1,17 @@
-//! The commands of a connection.
+//! The commands that take nothing away.
 
-ghost use Rattle.std.specs.Prelude.{◌≡◌};
+ghost use Rattle.ob_types.specs.WaterMark.{water_mark_of};
+ghost use Rattle.ob_types.specs.declared.command.Command.TheVariants.{Flush, Progress, Cancel, UserBit};
+ghost use Rattle.ob_connection.specs.Replies.{flushed_reply, done_reply, cancelled_reply, bit_reply};
+ghost use Rattle.ob_c.specs.Numbers.{status_in_c};
 ghost use Rattle.ob_c.specs.Obeying.{ObeysFor};
-ghost use Rattle.ob_c.specs.Replies.{flushed_in_c};
-ghost use Rattle.ob_connection.specs.Replies.{flushed_reply};
-ghost use Rattle.ob_types.specs.declared.command.Command.TheVariants.{Flush};
+ghost use Rattle.ob_c.specs.Opening.{SetsMarks};
+ghost use Rattle.ob_c.specs.Replies.{flushed_in_c, cancelled_in_c, changed_in_c};
 
 use crate::handle::Handle;
-use crate::loose::Loose;
-use crate::replies::Flushed;
+use crate::replies::{Cancelled, Changed, Flushed};
+use crate::status::status_of;
+use ob_types::WaterMark;
 use std::alloc::Global;
 
 /// Lets the transport have all that was written so far.
@@ -16,11 +19,71 @@ use std::alloc::Global;
 pub extern "C" fn limekeel_flush(alloc: Global, handle: &mut Handle) -> Flushed
     ensures { ObeysFor handle.old.value Flush flushed_reply flushed_in_c result handle.new.value }
 {
-    if !handle.is_open() {
+    let Some(mut connection) = handle.connection(alloc) else {
         return Flushed::of(None);
-    }
-    let mut connection = handle.take(alloc).into_box();
+    };
     let answer = connection.flush();
-    handle.put(Loose::of(connection));
+    handle.keep(connection);
     Flushed::of(Some(answer))
+}
+
+/// Tells of so many more bytes of progress of the first flushed message.
+#[unsafe(no_mangle)]
+pub extern "C" fn limekeel_progress(alloc: Global, handle: &mut Handle, n: u64) -> u32
+    ensures { ObeysFor handle.old.value (Progress n) done_reply status_in_c result handle.new.value }
+{
+    let Some(mut connection) = handle.connection(alloc) else {
+        return status_of(None);
+    };
+    let answer = connection.progress(n);
+    handle.keep(connection);
+    status_of(Some(answer))
+}
+
+/// Takes a promise back.
+#[unsafe(no_mangle)]
+pub extern "C" fn limekeel_cancel(alloc: Global, handle: &mut Handle, id: u64) -> Cancelled
+    ensures { ObeysFor handle.old.value (Cancel (record { 0 = id })) (cancelled_reply id) cancelled_in_c result
+        handle.new.value }
+{
+    let Some(mut connection) = handle.connection(alloc) else {
+        return Cancelled::of(None);
+    };
+    let answer = connection.cancel(id);
+    handle.keep(connection);
+    Cancelled::of(Some(answer))
+}
+
+/// Sets the user bit of this index, or clears it if `writable` is set.
+#[unsafe(no_mangle)]
+pub extern "C" fn limekeel_user_bit(
+    alloc: Global,
+    handle: &mut Handle,
+    index: u32,
+    writable: bool,
+) -> Changed
+    ensures { ObeysFor handle.old.value (UserBit index writable) bit_reply changed_in_c result handle.new.value }
+{
+    let Some(mut connection) = handle.connection(alloc) else {
+        return Changed::of(None);
+    };
+    let answer = connection.user_bit(index, writable);
+    handle.keep(connection);
+    Changed::of(Some(answer))
+}
+
+/// Sets the marks that are in force from now on.
+#[unsafe(no_mangle)]
+pub extern "C" fn limekeel_set_marks(alloc: Global, handle: &mut Handle, low: u32, high: u32) -> u32
+    ensures { SetsMarks handle.old.value (water_mark_of low high) result handle.new.value }
+{
+    let Some(mut connection) = handle.connection(alloc) else {
+        return status_of(None);
+    };
+    let answer = match WaterMark::new(low, high) {
+        Ok(marks) => connection.set_marks(marks),
+        Err(refusal) => Err(refusal),
+    };
+    handle.keep(connection);
+    status_of(Some(answer))
 }

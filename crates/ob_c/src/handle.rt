@@ -1,6 +1,6 @@
 //! What C holds of a connection.
 
-ghost use Rattle.std.specs.Prelude.{◌≡◌, IsSome, is_some, Option, Some, None};
+ghost use Rattle.std.specs.Prelude.{◌≡◌, IsSome, is_some, Option, Some, None, option_map};
 ghost use Rattle.ob_c.specs.Held.{held};
 ghost use Rattle.ob_connection.specs.contracts.connection.Connection.{the_row as connection_row};
 ghost use Rattle.ob_connection.specs.Connected.{Connected};
@@ -27,15 +27,33 @@ impl Model for Handle {
 unsafe impl Send for Handle {}
 
 impl Handle {
+    /// Takes the connection out, if there is one.
+    pub(crate) fn connection(&mut self, alloc: Global) -> Option<Box<Connection>>
+        ensures taken { option_map (λ connection. connection.value) result ≡ self.old.value }
+        ensures none { self.new.value ≡ None }
+    {
+        if !self.is_open() {
+            return None;
+        }
+        Some(self.take(alloc).into_box())
+    }
+
+    /// Puts a connection in.
+    pub(crate) fn keep(&mut self, connection: Box<Connection>)
+        ensures { self.new.value ≡ Some connection.value }
+    {
+        self.put(Loose::of(connection));
+    }
+
     /// Whether it holds a connection.
-    pub(crate) fn is_open(&mut self) -> bool
+    fn is_open(&mut self) -> bool
         ensures { (result ≡ is_some self.old.value) × (self.new ≡ self.old) }
     {
         !self.at.is_null()
     }
 
-    /// Takes the connection out.
-    pub(crate) fn take(&mut self, alloc: Global) -> Loose<Connection, Global>
+    /// Takes the connection out as its pointer.
+    fn take(&mut self, alloc: Global) -> Loose<Connection, Global>
         requires { IsSome self.old.value }
         ensures { (self.old.value ≡ Some result.value) × (self.new.value ≡ None) }
     {
@@ -44,8 +62,8 @@ impl Handle {
         Loose { at, alloc }
     }
 
-    /// Puts a connection in.
-    pub(crate) fn put(&mut self, loose: Loose<Connection, Global>)
+    /// Puts the pointer of a connection in.
+    fn put(&mut self, loose: Loose<Connection, Global>)
         ensures { self.new.value ≡ Some loose.value }
     {
         let Loose { at, alloc: _ } = loose;

@@ -1,8 +1,15 @@
-//! A connection for C and for Rust: each export tests its handle and calls `ob_connection`.
+//! A connection for C and for Rust: each export tests its handles and calls `ob_connection`.
 #![tactic(auto)]
 
+mod block;
+mod blocks;
 mod commands;
+mod ends;
 mod handle;
+mod looks;
 mod loose;
+mod removals;
 mod replies;
 mod status;
+mod views;
+mod writes;

@@ -1,10 +1,52 @@
-//! The structs that cross to C. Each begins with its status.
+//! What the commands tell C, by value. Each begins with its status; where that is not 0 all else is.
 
 ghost use Rattle.std.specs.Prelude.{◌≡◌};
-ghost use Rattle.ob_c.specs.Replies.{flushed_in_c};
+ghost use Rattle.ob_c.specs.Replies.{written_in_c, flushed_in_c, removed_in_c, taken_in_c, cancelled_in_c, changed_in_c};
+ghost use Rattle.ob_c.specs.Replies.{not_removed, removed_with, not_taken};
+ghost use Rattle.ob_c.specs.Numbers.{change_number};
 
-use crate::status::{DONE, NOT_OPEN, change_number};
-use ob_types::Refusal;
+use crate::status::{DONE, NOT_OPEN, cause_number, change_number, outcome_number};
+use ob_types::{Change, Refusal};
+
+/// What a write tells.
+#[repr(C)]
+#[derive(Clone, Copy)]
+pub struct Written {
+    /// 0, or why nothing was written.
+    pub status: u32,
+    /// How writability changed.
+    pub change: u32,
+    /// The promise of the message.
+    pub id: u64,
+}
+
+impl Written {
+    /// A write that was refused.
+    pub(crate) fn refused(status: u32) -> Written
+        ensures { result ≡ record { status = status; change = 0; id = 0 } }
+    {
+        Written {
+            status,
+            change: 0,
+            id: 0,
+        }
+    }
+
+    /// What C is told of this answer.
+    pub(crate) fn of(reply: Option<Result<ob_connection::Written, Refusal>>) -> Written
+        ensures { result ≡ written_in_c reply }
+    {
+        match reply {
+            None => Written::refused(NOT_OPEN),
+            Some(Err(refusal)) => Written::refused(u32::from(refusal.number())),
+            Some(Ok(reply)) => Written {
+                status: DONE,
+                change: change_number(reply.change),
+                id: reply.id,
+            },
+        }
+    }
+}
 
 /// What a flush tells.
 #[repr(C)]
@@ -19,26 +61,209 @@ pub struct Flushed {
 }
 
 impl Flushed {
-    /// What C is told of this result.
+    /// A flush that was refused.
+    fn refused(status: u32) -> Flushed
+        ensures { result ≡ record { status = status; change = 0; count = 0 } }
+    {
+        Flushed {
+            status,
+            change: 0,
+            count: 0,
+        }
+    }
+
+    /// What C is told of this answer.
     pub(crate) fn of(reply: Option<Result<ob_connection::Flushed, Refusal>>) -> Flushed
         ensures { result ≡ flushed_in_c reply }
     {
         match reply {
-            None => Flushed {
-                status: NOT_OPEN,
-                change: 0,
-                count: 0,
-            },
-            Some(Err(refusal)) => Flushed {
-                status: u32::from(refusal.number()),
-                change: 0,
-                count: 0,
-            },
+            None => Flushed::refused(NOT_OPEN),
+            Some(Err(refusal)) => Flushed::refused(u32::from(refusal.number())),
             Some(Ok(reply)) => Flushed {
                 status: DONE,
                 change: change_number(reply.change),
                 count: reply.count,
             },
         }
+    }
+}
+
+/// What the removal of the first flushed message tells.
+#[repr(C)]
+#[derive(Clone, Copy)]
+pub struct Removed {
+    /// 0, or why nothing changed.
+    pub status: u32,
+    /// How writability changed.
+    pub change: u32,
+    /// Whether a message was flushed.
+    pub any: bool,
+    /// Whether the removal settled its promise.
+    pub settled: bool,
+    /// The outcome of the promise that it settled.
+    pub outcome: u32,
+    /// The cause of that outcome.
+    pub cause: u32,
+    /// The promise that it settled.
+    pub id: u64,
+}
+
+impl Removed {
+    /// A removal that was refused.
+    fn refused(status: u32) -> Removed
+        ensures { result ≡ not_removed status }
+    {
+        Removed {
+            status,
+            change: 0,
+            any: false,
+            settled: false,
+            outcome: 0,
+            cause: 0,
+            id: 0,
+        }
+    }
+
+    /// What C is told of this answer.
+    pub(crate) fn of(reply: Option<Result<ob_connection::Removed, Refusal>>) -> Removed
+        ensures { result ≡ removed_in_c reply }
+    {
+        match reply {
+            None => Removed::refused(NOT_OPEN),
+            Some(Err(refusal)) => Removed::refused(u32::from(refusal.number())),
+            Some(Ok(reply)) => Removed::done(reply),
+        }
+    }
+
+    /// What C is told of a removal.
+    fn done(reply: ob_connection::Removed) -> Removed
+        ensures { result ≡ removed_with (change_number reply.change) reply.any reply.settled }
+    {
+        let change = change_number(reply.change);
+        match reply.settled {
+            None => Removed {
+                status: DONE,
+                change,
+                any: reply.any,
+                settled: false,
+                outcome: 0,
+                cause: 0,
+                id: 0,
+            },
+            Some((id, outcome)) => Removed {
+                status: DONE,
+                change,
+                any: reply.any,
+                settled: true,
+                outcome: outcome_number(outcome),
+                cause: cause_number(outcome),
+                id,
+            },
+        }
+    }
+}
+
+/// What a call tells that takes several messages away. It settled each promise from `from` on and below `to` that was
+/// not settled before.
+#[repr(C)]
+#[derive(Clone, Copy)]
+pub struct Taken {
+    /// 0, or why nothing changed.
+    pub status: u32,
+    /// How writability changed.
+    pub change: u32,
+    /// The outcome of the promises that it settled.
+    pub outcome: u32,
+    /// The cause of that outcome.
+    pub cause: u32,
+    /// How many messages it took away.
+    pub count: u64,
+    /// The promise of the first of them.
+    pub from: u64,
+    /// The promise behind that of the last.
+    pub to: u64,
+}
+
+impl Taken {
+    /// A removal that was refused.
+    fn refused(status: u32) -> Taken
+        ensures { result ≡ not_taken status }
+    {
+        Taken {
+            status,
+            change: 0,
+            outcome: 0,
+            cause: 0,
+            count: 0,
+            from: 0,
+            to: 0,
+        }
+    }
+
+    /// What C is told of this answer.
+    pub(crate) fn of(reply: Option<Result<ob_connection::Taken, Refusal>>) -> Taken
+        ensures { result ≡ taken_in_c reply }
+    {
+        match reply {
+            None => Taken::refused(NOT_OPEN),
+            Some(Err(refusal)) => Taken::refused(u32::from(refusal.number())),
+            Some(Ok(reply)) => Taken {
+                status: DONE,
+                change: change_number(reply.change),
+                outcome: outcome_number(reply.outcome),
+                cause: cause_number(reply.outcome),
+                count: reply.count,
+                from: reply.from,
+                to: reply.to,
+            },
+        }
+    }
+}
+
+/// What a cancellation tells.
+#[repr(C)]
+#[derive(Clone, Copy)]
+pub struct Cancelled {
+    /// 0, or why nothing changed.
+    pub status: u32,
+    /// Whether it came in time.
+    pub in_time: bool,
+}
+
+impl Cancelled {
+    /// What C is told of this answer.
+    pub(crate) fn of(reply: Option<Result<bool, Refusal>>) -> Cancelled
+        ensures { result ≡ cancelled_in_c reply }
+    {
+        let (status, in_time) = match reply {
+            None => (NOT_OPEN, false),
+            Some(Err(refusal)) => (u32::from(refusal.number()), false),
+            Some(Ok(in_time)) => (DONE, in_time),
+        };
+        Cancelled { status, in_time }
+    }
+}
+
+/// What a change of a user bit tells.
+#[repr(C)]
+#[derive(Clone, Copy)]
+pub struct Changed {
+    /// 0, or why nothing changed.
+    pub status: u32,
+    /// How writability changed.
+    pub change: u32,
+}
+
+impl Changed {
+    /// What C is told of this answer.
+    pub(crate) fn of(reply: Option<Result<Option<Change>, Refusal>>) -> Changed
+        ensures { result ≡ changed_in_c reply }
+    {
+        let (status, change) = match reply {
+            None => (NOT_OPEN, 0),
+            Some(Err(refusal)) => (u32::from(refusal.number()), 0),
+            Some(Ok(change)) => (DONE, change_number(change)),
+        };
+        Changed { status, change }
     }
 }

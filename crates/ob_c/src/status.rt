@@ -1,15 +1,38 @@
 //! The numbers that C sees.
 
 ghost use Rattle.std.specs.Prelude.{◌≡◌};
-ghost use Rattle.ob_c.specs.Replies.{change_number};
+ghost use Rattle.ob_c.specs.Numbers.{change_number, outcome_number, cause_number, status_in_c};
 
-use ob_types::Change;
+use ob_types::{Change, Outcome, Refusal};
 
 /// The status of a call that was accepted.
 pub(crate) const DONE: u32 = 0;
 
+/// The status of a call that wanted memory, which the allocator refused.
+pub(crate) const NO_MEMORY: u32 = 12;
+
 /// The status of a call with a handle that holds nothing.
 pub(crate) const NOT_OPEN: u32 = 13;
+
+/// The status of an opening of a handle that holds something.
+pub(crate) const ALREADY_OPEN: u32 = 14;
+
+/// The status of an opening with an overhead or a size of unknown messages above 65535.
+pub(crate) const BAD_ESTIMATE: u32 = 15;
+
+/// The status of a write of a block that holds no bytes.
+pub(crate) const NO_BLOCK: u32 = 16;
+
+/// The status of a call that has nothing more to say.
+pub(crate) fn status_of(reply: Option<Result<(), Refusal>>) -> u32
+    ensures { result ≡ status_in_c reply }
+{
+    match reply {
+        None => NOT_OPEN,
+        Some(Err(refusal)) => u32::from(refusal.number()),
+        Some(Ok(())) => DONE,
+    }
+}
 
 /// The number of a change of writability.
 pub(crate) fn change_number(change: Option<Change>) -> u32
@@ -19,5 +42,26 @@ pub(crate) fn change_number(change: Option<Change>) -> u32
         None => 0,
         Some(Change::Unwritable) => 1,
         Some(Change::Writable) => 2,
+    }
+}
+
+/// The number of an outcome.
+pub(crate) fn outcome_number(outcome: Outcome) -> u32
+    ensures { result ≡ outcome_number outcome }
+{
+    match outcome {
+        Outcome::Success => 1,
+        Outcome::Failed(_) => 2,
+        Outcome::Cancelled => 3,
+    }
+}
+
+/// The cause of an outcome, which is 0 for one that has none.
+pub(crate) fn cause_number(outcome: Outcome) -> u32
+    ensures { result ≡ cause_number outcome }
+{
+    match outcome {
+        Outcome::Failed(cause) => cause.0,
+        Outcome::Success | Outcome::Cancelled => 0,
     }
 }

@@ -1,0 +1,28 @@
+-- What an export promises of a block.
+use Rattle.std.specs.Prelude.{◌≡◌, ℕ, List, Option, Some, None}
+use Rattle.ob_types.specs.declared.command.Command.TheVariants.{Write}
+use Rattle.ob_types.specs.declared.message.Message.TheVariants.{Block as AsBlock}
+use Rattle.ob_connection.specs.Connected.{Connected}
+use Rattle.ob_connection.specs.Replies.{written_reply}
+use Rattle.ob_c.specs.Numbers.{done, no_memory, already_open, not_open, no_block}
+use Rattle.ob_c.specs.Obeying.{ObeysOrWantsFor}
+use Rattle.ob_c.specs.Replies.{written_in_c}
+use Rattle.ob_c.specs.declared.replies.Written.{Written}
+
+-- a block is made of these bytes, unless there is one already or memory is wanted
+abbrev pub IsMadeOf : Option (List ℕ) → List ℕ → ℕ → Option (List ℕ) → Type 0
+IsMadeOf (Some old) bytes status new = (status ≡ already_open) × (new ≡ Some old)
+IsMadeOf None bytes status None = status ≡ no_memory
+IsMadeOf None bytes status (Some new) = (status ≡ done) × (new ≡ bytes)
+
+-- what was held is let go, if there was something
+abbrev pub IsLetGo : {A : Type 0} → Option A → ℕ → Option A → Type 0
+IsLetGo None status new = (status ≡ not_open) × (new ≡ None)
+IsLetGo (Some old) status new = (status ≡ done) × (new ≡ None)
+
+-- the bytes of a block are written, if there are both a connection and a block
+abbrev pub WritesBlock : Option Connected → Option (List ℕ) → Written → Option Connected → Type 0
+WritesBlock None bytes told new = (told ≡ written_in_c None) × (new ≡ None)
+WritesBlock (Some old) None told new = (told ≡ record { status = no_block; change = 0; id = 0 }) × (new ≡ Some old)
+WritesBlock (Some old) (Some bytes) told new =
+    ObeysOrWantsFor (Some old) (Write (AsBlock bytes)) written_reply written_in_c told new

@@ -1,0 +1,71 @@
+-- What an export promises of a look.
+use Rattle.std.specs.Prelude.{◌≡◌, ℕ, Bool, true, false, length, Option, Some, None}
+use Rattle.ob_types.specs.declared.message.Message.{Message}
+use Rattle.ob_types.specs.declared.message.Message.TheVariants.{Block, Region, Other}
+use Rattle.ob_connection.specs.Connected.{Connected}
+use Rattle.ob_connection.specs.declared.look.Look.{Look as LookReply}
+use Rattle.ob_connection.specs.declared.status.Status.{Status}
+use Rattle.ob_connection.specs.declared.status.Status.TheVariants.{Waiting, Fixed, Settled, SettledBefore}
+use Rattle.ob_c.specs.Numbers.{done, not_open, outcome_number, cause_number}
+use Rattle.ob_c.specs.declared.views.Current.{Current}
+use Rattle.ob_c.specs.declared.views.Front.{Front}
+use Rattle.ob_c.specs.declared.views.Look.{Look}
+use Rattle.ob_c.specs.declared.views.Promise.{Promise}
+use Rattle.ob_c.specs.declared.views.Truth.{Truth}
+
+-- with no connection C is told so, and else what is so of the connection; and the handle stays as it was
+abbrev pub Tells : {A C : Type 0} → Option Connected → (Connected → A → Type 0) → (Option A → C) → C → Option Connected →
+    Type 0
+Tells None is_so in_c told new = (told ≡ in_c None) × (new ≡ None)
+Tells {A = A} (Some old) is_so in_c told new =
+    (value : A) × (told ≡ in_c (Some value)) × is_so old value × (new ≡ Some old)
+
+-- a look
+abbrev pub look_in_c : Option LookReply → Look
+look_in_c None = record {
+  status = not_open;
+  total = 0;
+  word = 0;
+  before_unwritable = 0;
+  before_writable = 0;
+  size = 0;
+  current_progress = 0;
+}
+look_in_c (Some look) = record {
+  status = done;
+  total = look.total;
+  word = look.word;
+  before_unwritable = look.before_unwritable;
+  before_writable = look.before_writable;
+  size = look.size;
+  current_progress = look.current_progress;
+}
+
+-- yes or no
+abbrev pub truth_in_c : Option Bool → Truth
+truth_in_c None = record { status = not_open; holds = false }
+truth_in_c (Some answer) = record { status = done; holds = answer }
+
+-- what has become of a promise: 0 nothing, 1 it waits, 2 it is fixed, 3 it is settled, 4 it was settled before
+abbrev pub promise_in_c : Option (Option Status) → Promise
+promise_in_c None = record { status = not_open; state = 0; outcome = 0; cause = 0 }
+promise_in_c (Some None) = record { status = done; state = 0; outcome = 0; cause = 0 }
+promise_in_c (Some (Some Waiting)) = record { status = done; state = 1; outcome = 0; cause = 0 }
+promise_in_c (Some (Some Fixed)) = record { status = done; state = 2; outcome = 0; cause = 0 }
+promise_in_c (Some (Some (Settled outcome))) =
+    record { status = done; state = 3; outcome = outcome_number outcome; cause = cause_number outcome }
+promise_in_c (Some (Some SettledBefore)) = record { status = done; state = 4; outcome = 0; cause = 0 }
+
+-- the promise of the front, if there is one
+abbrev pub front_in_c : Option (Option ℕ) → Front
+front_in_c None = record { status = not_open; any = false; id = 0 }
+front_in_c (Some None) = record { status = done; any = false; id = 0 }
+front_in_c (Some (Some id)) = record { status = done; any = true; id = id }
+
+-- what is left of the front: 0 nothing, 1 a block of so many bytes, 2 a region of so many, 3 another with its number
+abbrev pub current_in_c : Option (Option Message) → Current
+current_in_c None = record { status = not_open; kind = 0; number = 0 }
+current_in_c (Some None) = record { status = done; kind = 0; number = 0 }
+current_in_c (Some (Some (Block bytes))) = record { status = done; kind = 1; number = length bytes }
+current_in_c (Some (Some (Region size))) = record { status = done; kind = 2; number = size }
+current_in_c (Some (Some (Other value))) = record { status = done; kind = 3; number = value }

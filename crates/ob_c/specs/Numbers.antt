@@ -1,0 +1,60 @@
+-- The numbers that C sees.
+use Rattle.std.specs.Prelude.{ℕ, ⊤, Option, Some, None, Result, Ok, Err}
+use Rattle.ob_types.specs.Refusal.{number_of}
+use Rattle.ob_types.specs.declared.promise.Outcome.{Outcome}
+use Rattle.ob_types.specs.declared.promise.Outcome.TheVariants.{Success, Failed, Cancelled}
+use Rattle.ob_types.specs.declared.refusal.Refusal.{Refusal}
+use Rattle.ob_types.specs.declared.reply.Change.{Change}
+use Rattle.ob_types.specs.declared.reply.Change.TheVariants.{Unwritable, Writable}
+
+-- the status of a call that was accepted
+abbrev pub done : ℕ
+done = 0
+
+-- the status of a call that wanted memory, which the allocator refused
+abbrev pub no_memory : ℕ
+no_memory = 12
+
+-- the status of a call with a handle that holds nothing
+abbrev pub not_open : ℕ
+not_open = 13
+
+-- the status of an opening of a handle that holds something
+abbrev pub already_open : ℕ
+already_open = 14
+
+-- the status of an opening with an overhead or a size of unknown messages above 65535
+abbrev pub bad_estimate : ℕ
+bad_estimate = 15
+
+-- the status of a write of a block that holds no bytes
+abbrev pub no_block : ℕ
+no_block = 16
+
+-- the status of a call: done, or the number of its refusal
+abbrev pub status_of : {A : Type 0} → Result A Refusal → ℕ
+status_of (Ok value) = done
+status_of (Err refusal) = number_of refusal
+
+-- the status of a call that has nothing more to say
+abbrev pub status_in_c : Option (Result ⊤ Refusal) → ℕ
+status_in_c None = not_open
+status_in_c (Some result) = status_of result
+
+-- the number of a change of writability
+abbrev pub change_number : Option Change → ℕ
+change_number None = 0
+change_number (Some Unwritable) = 1
+change_number (Some Writable) = 2
+
+-- the number of an outcome; 0 stands for none
+abbrev pub outcome_number : Outcome → ℕ
+outcome_number Success = 1
+outcome_number (Failed cause) = 2
+outcome_number Cancelled = 3
+
+-- the cause of an outcome, which is 0 for one that has none
+abbrev pub cause_number : Outcome → ℕ
+cause_number Success = 0
+cause_number (Failed cause) = cause.0
+cause_number Cancelled = 0

@@ -1,0 +1,65 @@
+//! The beginning and the end of a connection.
+
+ghost use Rattle.std.specs.Prelude.{◌≡◌, ◌≤◌, IfOk, OnErr, []};
+ghost use Rattle.ob_types.specs.Limits.{greatest_overhead, greatest_unknown};
+ghost use Rattle.ob_connection.specs.Standing.{StandsFor};
+ghost use Rattle.ob_c.specs.Blocks.{IsLetGo};
+ghost use Rattle.ob_c.specs.Opening.{Opens, settings_of};
+
+use crate::handle::Handle;
+use crate::status::{ALREADY_OPEN, BAD_ESTIMATE, DONE, NO_MEMORY, NOT_OPEN};
+use ob_connection::Connection;
+use ob_types::{Estimate, WaterMark};
+use std::alloc::Global;
+
+/// The greatest overhead, and the greatest size of an unknown message, in bytes.
+const MAX_ESTIMATE: u32 = 65535;
+
+/// Opens a connection with nothing written. The marks, the overhead of a message and the size of a message that is
+/// neither a block nor a region are in bytes.
+///
+/// The status is 14 if the handle holds a connection, 2 for bad marks, 15 for a bad estimate and 12 if memory is wanted.
+#[unsafe(no_mangle)]
+pub extern "C" fn limekeel_open(
+    alloc: Global,
+    handle: &mut Handle,
+    low: u32,
+    high: u32,
+    overhead: u32,
+    unknown: u32,
+) -> u32
+    ensures { Opens handle.old.value (settings_of low high overhead unknown) result handle.new.value }
+{
+    if let Some(connection) = handle.connection(alloc) {
+        handle.keep(connection);
+        return ALREADY_OPEN;
+    }
+    let marks = match WaterMark::new(low, high) {
+        Ok(marks) => marks,
+        Err(refusal) => return u32::from(refusal.number()),
+    };
+    if overhead > MAX_ESTIMATE || unknown > MAX_ESTIMATE {
+        return BAD_ESTIMATE;
+    }
+    let connection = Connection::new(alloc, marks, Estimate { overhead, unknown });
+    match Box::new(alloc, connection) {
+        Ok(connection) => {
+            handle.keep(connection);
+            DONE
+        }
+        Err(_) => NO_MEMORY,
+    }
+}
+
+/// Frees a connection and all that it holds; the handle holds none then.
+///
+/// The status is 13 if it held none.
+#[unsafe(no_mangle)]
+pub extern "C" fn limekeel_free(alloc: Global, handle: &mut Handle) -> u32
+    ensures { IsLetGo handle.old.value result handle.new.value }
+{
+    match handle.connection(alloc) {
+        None => NOT_OPEN,
+        Some(_) => DONE,
+    }
+}

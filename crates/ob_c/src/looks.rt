@@ -1,0 +1,88 @@
+//! The looks. Each takes the handle as a command does, and leaves the connection as it was.
+
+ghost use Rattle.ob_seq.specs.State.{writable_after, closed_after};
+ghost use Rattle.ob_connection.specs.Looks.{Shows, IsCurrent, IsFrontPromise, Tells as TellsOf};
+ghost use Rattle.ob_connection.specs.Standing.{Gives};
+ghost use Rattle.ob_c.specs.Looks.{Tells, look_in_c, truth_in_c, promise_in_c, front_in_c, current_in_c};
+
+use crate::handle::Handle;
+use crate::views::{Current, Front, Look, Promise, Truth};
+use std::alloc::Global;
+
+/// What is pending now.
+#[unsafe(no_mangle)]
+pub extern "C" fn limekeel_look(alloc: Global, handle: &mut Handle) -> Look
+    ensures { Tells handle.old.value Shows look_in_c result handle.new.value }
+{
+    let Some(connection) = handle.connection(alloc) else {
+        return Look::of(None);
+    };
+    let look = connection.look();
+    handle.keep(connection);
+    Look::of(Some(look))
+}
+
+/// Whether writers may go on.
+#[unsafe(no_mangle)]
+pub extern "C" fn limekeel_is_writable(alloc: Global, handle: &mut Handle) -> Truth
+    ensures { Tells handle.old.value (λ connection. Gives connection writable_after) truth_in_c result handle.new.value }
+{
+    let Some(connection) = handle.connection(alloc) else {
+        return Truth::of(None);
+    };
+    let writable = connection.is_writable();
+    handle.keep(connection);
+    Truth::of(Some(writable))
+}
+
+/// Whether a close was accepted.
+#[unsafe(no_mangle)]
+pub extern "C" fn limekeel_is_closed(alloc: Global, handle: &mut Handle) -> Truth
+    ensures { Tells handle.old.value (λ connection. Gives connection closed_after) truth_in_c result handle.new.value }
+{
+    let Some(connection) = handle.connection(alloc) else {
+        return Truth::of(None);
+    };
+    let closed = connection.is_closed();
+    handle.keep(connection);
+    Truth::of(Some(closed))
+}
+
+/// What has become of a promise.
+#[unsafe(no_mangle)]
+pub extern "C" fn limekeel_promise(alloc: Global, handle: &mut Handle, id: u64) -> Promise
+    ensures { Tells handle.old.value (λ connection. TellsOf connection id) promise_in_c result handle.new.value }
+{
+    let Some(connection) = handle.connection(alloc) else {
+        return Promise::of(None);
+    };
+    let promise = connection.promise(id);
+    handle.keep(connection);
+    Promise::of(Some(promise))
+}
+
+/// The promise of the first flushed message.
+#[unsafe(no_mangle)]
+pub extern "C" fn limekeel_front(alloc: Global, handle: &mut Handle) -> Front
+    ensures { Tells handle.old.value IsFrontPromise front_in_c result handle.new.value }
+{
+    let Some(connection) = handle.connection(alloc) else {
+        return Front::of(None);
+    };
+    let front = connection.front();
+    handle.keep(connection);
+    Front::of(Some(front))
+}
+
+/// What is left of the first flushed message.
+#[unsafe(no_mangle)]
+pub extern "C" fn limekeel_current(alloc: Global, handle: &mut Handle) -> Current
+    ensures { Tells handle.old.value IsCurrent current_in_c result handle.new.value }
+{
+    let Some(connection) = handle.connection(alloc) else {
+        return Current::not_open();
+    };
+    let current = Current::of(connection.current());
+    handle.keep(connection);
+    current
+}

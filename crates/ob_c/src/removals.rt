@@ -1,0 +1,83 @@
+//! The commands that take messages away.
+
+ghost use Rattle.ob_types.specs.declared.command.Command.TheVariants.{Remove, RemoveWith, RemoveBytes, FailFlushed, Close};
+ghost use Rattle.ob_connection.specs.Replies.{removed_reply, taken_reply};
+ghost use Rattle.ob_c.specs.Obeying.{ObeysFor};
+ghost use Rattle.ob_c.specs.Replies.{removed_in_c, taken_in_c};
+
+use crate::handle::Handle;
+use crate::replies::{Removed, Taken};
+use ob_types::Cause;
+use std::alloc::Global;
+
+/// Takes the first flushed message away, as sent.
+#[unsafe(no_mangle)]
+pub extern "C" fn limekeel_remove(alloc: Global, handle: &mut Handle) -> Removed
+    ensures { ObeysFor handle.old.value Remove removed_reply removed_in_c result handle.new.value }
+{
+    let Some(mut connection) = handle.connection(alloc) else {
+        return Removed::of(None);
+    };
+    let answer = connection.remove();
+    handle.keep(connection);
+    Removed::of(Some(answer))
+}
+
+/// Takes the first flushed message away, as failed for this cause.
+#[unsafe(no_mangle)]
+pub extern "C" fn limekeel_remove_with(alloc: Global, handle: &mut Handle, cause: u32) -> Removed
+    ensures { ObeysFor handle.old.value (RemoveWith (record { 0 = cause })) removed_reply removed_in_c result
+        handle.new.value }
+{
+    let Some(mut connection) = handle.connection(alloc) else {
+        return Removed::of(None);
+    };
+    let answer = connection.remove_with(Cause(cause));
+    handle.keep(connection);
+    Removed::of(Some(answer))
+}
+
+/// Takes so many bytes off the flushed blocks in front, as sent, and tells which messages it took away.
+#[unsafe(no_mangle)]
+pub extern "C" fn limekeel_take_sent(alloc: Global, handle: &mut Handle, n: u64) -> Taken
+    ensures { ObeysFor handle.old.value (RemoveBytes n) taken_reply taken_in_c result handle.new.value }
+{
+    let Some(mut connection) = handle.connection(alloc) else {
+        return Taken::of(None);
+    };
+    let answer = connection.take_sent(n);
+    handle.keep(connection);
+    Taken::of(Some(answer))
+}
+
+/// Takes all flushed messages away, as failed for this cause, and tells which they were.
+#[unsafe(no_mangle)]
+pub extern "C" fn limekeel_fail_flushed(
+    alloc: Global,
+    handle: &mut Handle,
+    cause: u32,
+    notify: bool,
+) -> Taken
+    ensures { ObeysFor handle.old.value (FailFlushed (record { 0 = cause }) notify) taken_reply taken_in_c result
+        handle.new.value }
+{
+    let Some(mut connection) = handle.connection(alloc) else {
+        return Taken::of(None);
+    };
+    let answer = connection.fail_flushed(Cause(cause), notify);
+    handle.keep(connection);
+    Taken::of(Some(answer))
+}
+
+/// Closes the connection for good: fails the messages that no flush has reached for this cause, and tells which they were.
+#[unsafe(no_mangle)]
+pub extern "C" fn limekeel_close(alloc: Global, handle: &mut Handle, cause: u32) -> Taken
+    ensures { ObeysFor handle.old.value (Close (record { 0 = cause })) taken_reply taken_in_c result handle.new.value }
+{
+    let Some(mut connection) = handle.connection(alloc) else {
+        return Taken::of(None);
+    };
+    let answer = connection.close(Cause(cause));
+    handle.keep(connection);
+    Taken::of(Some(answer))
+}

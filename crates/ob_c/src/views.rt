@@ -1,0 +1,200 @@
+//! What the looks tell C, by value. Each begins with its status; where that is not 0 all else is.
+
+ghost use Rattle.std.specs.Option.{option_copied};
+ghost use Rattle.std.specs.Prelude.{◌≡◌, option_map, Some, None};
+ghost use Rattle.ob_c.specs.Looks.{look_in_c, truth_in_c, promise_in_c, front_in_c, current_in_c};
+
+use crate::status::{DONE, NOT_OPEN, cause_number, outcome_number};
+use ob_connection::Status;
+use ob_types::Message;
+
+/// What is pending.
+#[repr(C)]
+#[derive(Clone, Copy)]
+pub struct Look {
+    /// 0, or why there is nothing to see.
+    pub status: u32,
+    /// The pending bytes.
+    pub total: u32,
+    /// Bit 0 is the mark, bit i the user bit i. The connection is writable if the word is 0.
+    pub word: u32,
+    /// How many bytes more make a writable connection unwritable.
+    pub before_unwritable: u32,
+    /// How many bytes fewer make an unwritable one writable.
+    pub before_writable: u32,
+    /// How many messages are flushed and not removed.
+    pub size: u64,
+    /// The progress of the first flushed message.
+    pub current_progress: u64,
+}
+
+impl Look {
+    /// What C is told of this look.
+    pub(crate) fn of(look: Option<ob_connection::Look>) -> Look
+        ensures { result ≡ look_in_c look }
+    {
+        match look {
+            None => Look {
+                status: NOT_OPEN,
+                total: 0,
+                word: 0,
+                before_unwritable: 0,
+                before_writable: 0,
+                size: 0,
+                current_progress: 0,
+            },
+            Some(look) => Look {
+                status: DONE,
+                total: look.total,
+                word: look.word,
+                before_unwritable: look.before_unwritable,
+                before_writable: look.before_writable,
+                size: look.size,
+                current_progress: look.current_progress,
+            },
+        }
+    }
+}
+
+/// Yes or no.
+#[repr(C)]
+#[derive(Clone, Copy)]
+pub struct Truth {
+    /// 0, or why there is nothing to see.
+    pub status: u32,
+    /// Whether it is so.
+    pub holds: bool,
+}
+
+impl Truth {
+    /// What C is told of this answer.
+    pub(crate) fn of(answer: Option<bool>) -> Truth
+        ensures { result ≡ truth_in_c answer }
+    {
+        match answer {
+            None => Truth {
+                status: NOT_OPEN,
+                holds: false,
+            },
+            Some(holds) => Truth {
+                status: DONE,
+                holds,
+            },
+        }
+    }
+}
+
+/// What has become of a promise.
+#[repr(C)]
+#[derive(Clone, Copy)]
+pub struct Promise {
+    /// 0, or why there is nothing to see.
+    pub status: u32,
+    /// 0: no write has this promise. 1: it waits. 2: it is fixed. 3: it is settled. 4: it was settled before.
+    pub state: u32,
+    /// The outcome of a promise that is settled.
+    pub outcome: u32,
+    /// The cause of that outcome.
+    pub cause: u32,
+}
+
+impl Promise {
+    /// A promise in this state.
+    fn in_state(status: u32, state: u32) -> Promise
+        ensures { result ≡ record { status = status; state = state; outcome = 0; cause = 0 } }
+    {
+        Promise {
+            status,
+            state,
+            outcome: 0,
+            cause: 0,
+        }
+    }
+
+    /// What C is told of this promise.
+    pub(crate) fn of(promise: Option<Option<Status>>) -> Promise
+        ensures { result ≡ promise_in_c promise }
+    {
+        match promise {
+            None => Promise::in_state(NOT_OPEN, 0),
+            Some(None) => Promise::in_state(DONE, 0),
+            Some(Some(Status::Waiting)) => Promise::in_state(DONE, 1),
+            Some(Some(Status::Fixed)) => Promise::in_state(DONE, 2),
+            Some(Some(Status::Settled(outcome))) => Promise {
+                status: DONE,
+                state: 3,
+                outcome: outcome_number(outcome),
+                cause: cause_number(outcome),
+            },
+            Some(Some(Status::SettledBefore)) => Promise::in_state(DONE, 4),
+        }
+    }
+}
+
+/// The promise of the first flushed message.
+#[repr(C)]
+#[derive(Clone, Copy)]
+pub struct Front {
+    /// 0, or why there is nothing to see.
+    pub status: u32,
+    /// Whether a message is flushed.
+    pub any: bool,
+    /// Its promise.
+    pub id: u64,
+}
+
+impl Front {
+    /// What C is told of this promise.
+    pub(crate) fn of(front: Option<Option<u64>>) -> Front
+        ensures { result ≡ front_in_c front }
+    {
+        let (status, any, id) = match front {
+            None => (NOT_OPEN, false, 0),
+            Some(None) => (DONE, false, 0),
+            Some(Some(id)) => (DONE, true, id),
+        };
+        Front { status, any, id }
+    }
+}
+
+/// What is left of the first flushed message.
+#[repr(C)]
+#[derive(Clone, Copy)]
+pub struct Current {
+    /// 0, or why there is nothing to see.
+    pub status: u32,
+    /// 0: nothing is flushed. 1: a block. 2: a region. 3: another message.
+    pub kind: u32,
+    /// The bytes that are left of a block or a region, or the number of another message.
+    pub number: u64,
+}
+
+impl Current {
+    /// What C is told if there is no connection.
+    pub(crate) fn not_open() -> Current
+        ensures { result ≡ current_in_c None }
+    {
+        Current {
+            status: NOT_OPEN,
+            kind: 0,
+            number: 0,
+        }
+    }
+
+    /// What C is told of this front.
+    pub(crate) fn of(message: Option<&Message>) -> Current
+        ensures { result ≡ current_in_c (Some (option_copied message.entry)) }
+    {
+        let (kind, number) = match message {
+            None => (0, 0),
+            Some(Message::Block(bytes)) => (1, bytes.len() as u64),
+            Some(Message::Region(length)) => (2, *length),
+            Some(Message::Other(value)) => (3, u64::from(*value)),
+        };
+        Current {
+            status: DONE,
+            kind,
+            number,
+        }
+    }
+}

@@ -1,0 +1,109 @@
+//! The writes.
+
+ghost use Rattle.std.specs.Prelude.{◌≡◌};
+ghost use Rattle.ob_types.specs.declared.command.Command.TheVariants.{Write};
+ghost use Rattle.ob_types.specs.declared.message.Message.TheVariants.{Block as AsBlock, Region as AsRegion, Other as AsOther};
+ghost use Rattle.ob_connection.specs.Replies.{written_reply};
+ghost use Rattle.ob_c.specs.Blocks.{WritesBlock};
+ghost use Rattle.ob_c.specs.Obeying.{ObeysFor, ObeysOrWants, ObeysOrWantsFor};
+ghost use Rattle.ob_c.specs.Replies.{written_in_c};
+
+use crate::block::Block;
+use crate::handle::Handle;
+use crate::replies::Written;
+use crate::status::NO_BLOCK;
+use bytes::Bytes;
+use ob_connection::Connection;
+use ob_types::{Message, Refusal};
+use std::alloc::Global;
+
+/// Writes a copy of these bytes.
+///
+/// The status is 12 if memory is wanted, also before the connection is asked; it is as it was then.
+#[unsafe(no_mangle)]
+pub extern "C" fn limekeel_write(alloc: Global, handle: &mut Handle, bytes: &[u8]) -> Written
+    ensures { ObeysOrWantsFor handle.old.value (Write (AsBlock bytes.now)) written_reply written_in_c result
+        handle.new.value }
+{
+    let Some(mut connection) = handle.connection(alloc) else {
+        return Written::of(None);
+    };
+    let answer = write_copy(alloc, &mut connection, bytes);
+    handle.keep(connection);
+    Written::of(Some(answer))
+}
+
+/// Writes the bytes of a block, which the message shares: no byte is copied.
+///
+/// The status is 13 if the handle holds no connection, then 16 if the block holds no bytes; 12 also if the block has more
+/// owners than can be counted.
+#[unsafe(no_mangle)]
+pub extern "C" fn limekeel_write_block(
+    alloc: Global,
+    handle: &mut Handle,
+    block: &mut Block,
+) -> Written
+    ensures writes { WritesBlock handle.old.value block.old.value result handle.new.value }
+    ensures block { block.new.value ≡ block.old.value }
+{
+    let Some(mut connection) = handle.connection(alloc) else {
+        return Written::of(None);
+    };
+    let Some(bytes) = block.bytes(alloc) else {
+        handle.keep(connection);
+        return Written::refused(NO_BLOCK);
+    };
+    let answer = write_shared(&mut connection, &bytes);
+    block.keep(bytes);
+    handle.keep(connection);
+    Written::of(Some(answer))
+}
+
+/// Writes a region of so many bytes, which the transport sends by itself.
+#[unsafe(no_mangle)]
+pub extern "C" fn limekeel_write_region(alloc: Global, handle: &mut Handle, length: u64) -> Written
+    ensures { ObeysFor handle.old.value (Write (AsRegion length)) written_reply written_in_c result handle.new.value }
+{
+    let Some(mut connection) = handle.connection(alloc) else {
+        return Written::of(None);
+    };
+    let answer = connection.write(Message::Region(length));
+    handle.keep(connection);
+    Written::of(Some(answer))
+}
+
+/// Writes any other message, by a number that means something to the application alone.
+#[unsafe(no_mangle)]
+pub extern "C" fn limekeel_write_other(alloc: Global, handle: &mut Handle, value: u32) -> Written
+    ensures { ObeysFor handle.old.value (Write (AsOther value)) written_reply written_in_c result handle.new.value }
+{
+    let Some(mut connection) = handle.connection(alloc) else {
+        return Written::of(None);
+    };
+    let answer = connection.write(Message::Other(value));
+    handle.keep(connection);
+    Written::of(Some(answer))
+}
+
+/// Writes a copy of these bytes.
+fn write_copy(
+    alloc: Global,
+    connection: &mut Connection,
+    bytes: &[u8],
+) -> Result<ob_connection::Written, Refusal>
+    ensures { ObeysOrWants connection.old (Write (AsBlock bytes.now)) written_reply result connection.new }
+{
+    let copy = Bytes::copy_from_slice(alloc, bytes)?;
+    connection.write(Message::Block(copy))
+}
+
+/// Writes these bytes, which the message shares.
+fn write_shared(
+    connection: &mut Connection,
+    bytes: &Bytes,
+) -> Result<ob_connection::Written, Refusal>
+    ensures { ObeysOrWants connection.old (Write (AsBlock bytes.now)) written_reply result connection.new }
+{
+    let shared = bytes.clone()?;
+    connection.write(Message::Block(shared))
+}
