@@ -8,6 +8,7 @@ mod ends;
 mod handle;
 mod looks;
 mod loose;
+mod pieces;
 mod removals;
 mod replies;
 mod status;

@@ -1,0 +1,26 @@
+//! Where the bytes of a block lie, for a vectored write.
+
+ghost use Rattle.std.specs.Prelude.{◌≡◌, length};
+ghost use Rattle.core.specs.Ptr.{as_ptr};
+
+/// A piece of memory that is to be sent: `struct iovec` of POSIX.
+#[repr(C)]
+#[derive(Clone, Copy)]
+pub struct Piece {
+    /// Its first byte.
+    pub at: *const u8,
+    /// How many bytes it has.
+    pub length: usize,
+}
+
+impl Piece {
+    /// Where these bytes lie.
+    pub(crate) fn of(bytes: &[u8]) -> Piece
+        ensures { (result.at ≡ as_ptr bytes.entry) × (result.length ≡ length bytes.now) }
+    {
+        Piece {
+            at: bytes.as_ptr(),
+            length: bytes.len(),
+        }
+    }
+}
