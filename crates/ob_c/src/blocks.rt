@@ -11,7 +11,7 @@ use std::alloc::Global;
 ///
 /// The status is 14 if the block holds bytes already, and 12 if memory is wanted.
 #[unsafe(no_mangle)]
-pub extern "C" fn limekeel_block_new(alloc: Global, block: &mut Block, bytes: &[u8]) -> u32
+pub extern "C" fn limekeel_block_of_bytes(alloc: Global, block: &mut Block, bytes: &[u8]) -> u32
     ensures { IsMadeOf block.old.value bytes.now result block.new.value }
 {
     if let Some(old) = block.bytes(alloc) {

@@ -5,6 +5,7 @@ mod block;
 mod blocks;
 mod commands;
 mod ends;
+mod gather;
 mod handle;
 mod looks;
 mod loose;

@@ -21,7 +21,7 @@ use std::alloc::Global;
 ///
 /// The status is 12 if memory is wanted, also before the connection is asked; it is as it was then.
 #[unsafe(no_mangle)]
-pub extern "C" fn limekeel_write(alloc: Global, handle: &mut Handle, bytes: &[u8]) -> Written
+pub extern "C" fn limekeel_write_bytes(alloc: Global, handle: &mut Handle, bytes: &[u8]) -> Written
     ensures { ObeysOrWantsFor handle.old.value (Write (AsBlock bytes.now)) written_reply written_in_c result
         handle.new.value }
 {

@@ -1,8 +1,7 @@
 -- `of` takes the address of the bytes.
-use Rattle.ob_c.proofs.Steps.{owned, usize, RawPtr, uint_Makes, Fits, feq_i, List, [], ◌∷◌, refl, proved, ftrue, flft, named, Val, vptr, vint, w64, tables, ‵, ◌⊛◌, ◌$◌, ◌∵◌, !, qed, done, move, keep, drop, split, join, suffices, frame, enter, of_opd, addr, from, stop, fld, hop, no_more, and_then, returns, alloc_all, pass_all, free_all, look_at, look_in_at, get, get_in, sets, u8, yes, block_ptr, plain, shr_slice_of, ShrSlice, slice_val, shr_slice_vals, shr_slice_Tells, nothing, Stays, walk_of, says, stay_dropped, Goes-dropped, ends_at, whole, sub, agg}
+use Rattle.ob_c.proofs.Steps.{owned, usize, RawPtr, uint_Makes, Fits, feq_i, List, [], ◌∷◌, refl, proved, ftrue, flft, named, Val, vptr, vint, w64, ‵, ◌⊛◌, ◌$◌, ◌∵◌, !, qed, done, move, keep, split, join, suffices, frame, enter, of_opd, addr, from, stop, fld, hop, no_more, and_then, returns, alloc_all, pass_all, free_all, look_at, look_in_at, get, get_in, sets, u8, yes, block_ptr, plain, shr_slice_of, ShrSlice, shr_slice_vals, shr_slice_Tells, nothing, Stays, walk_of, says, stay_dropped, Goes-dropped, ends_at, whole, sub, agg}
 use Rattle.std.specs.Prelude.{length}
 use Rattle.ob_c.proofs.Loosened.{both, two_in}
-use Rattle.ob_c.specs.contracts.pieces.Piece as piece
 use Rattle.ob_c.specs.contracts.pieces.Piece.of as f
 use Rattle.ob_c.proofs.pieces.Piece.of.Statement.{statement}
 use Rattle.ob_c.proofs.pieces.Piece.of.Code as code

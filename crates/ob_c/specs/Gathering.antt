@@ -1,0 +1,44 @@
+-- What an export promises of what it gathers.
+use Rattle.std.specs.Prelude.{◌≡◌, ℕ, ◌&&◌, List, length, map, take, min, nat_eq, if◌then◌else◌, Option, Some, None}
+use Rattle.ob_types.specs.declared.message.Message.{Message}
+use Rattle.ob_types.specs.declared.message.Message.TheVariants.{Block, Region, Other}
+use Rattle.ob_connection.specs.Connected.{Connected}
+use Rattle.ob_connection.specs.Looks.{AreGathered, IsCurrent}
+use Rattle.ob_c.specs.Numbers.{done, not_open}
+use Rattle.ob_c.specs.declared.gather.Gathered.{Gathered}
+use Rattle.ob_c.specs.declared.pieces.Piece.{Piece}
+
+-- the most pieces that are given at once
+abbrev pub most_pieces : ℕ
+most_pieces = 64
+
+-- the bytes that a piece has
+abbrev pub piece_length : Piece → ℕ
+piece_length piece = piece.length
+
+-- what stands in front, if so many pieces were filled: 0 nothing, 1 blocks, 2 empty blocks, 3 a region, 4 another message
+abbrev pub front_number : Option Message → ℕ → ℕ
+front_number None count = 0
+front_number (Some (Block bytes)) count = if nat_eq count 0 && nat_eq (length bytes) 0 then 2 else 1
+front_number (Some (Region size)) count = 3
+front_number (Some (Other value)) count = 4
+
+-- so many pieces have the lengths of the blocks that are gathered from a connection, for at most so many and so many bytes
+abbrev pub gathered_as : Connected → ℕ → ℕ → ℕ → List Piece → Type 0
+gathered_as connection most max_bytes count pieces =
+    (blocks : List (List ℕ)) × AreGathered connection most max_bytes blocks × (count ≡ length blocks)
+    × (map piece_length (take count pieces) ≡ map (λ block. length block) blocks)
+
+-- the same for so many pieces, of which at most 64 are filled
+abbrev pub AreLaid : Connected → ℕ → ℕ → ℕ → List Piece → Type 0
+AreLaid connection given max_bytes count pieces = gathered_as connection (min most_pieces given) max_bytes count pieces
+
+-- with no connection C is told so, and else how many pieces were filled and what stands in front; the handle stays as it
+-- was
+abbrev pub Gathers : Option Connected → ℕ → ℕ → Gathered → List Piece → Option Connected → Type 0
+Gathers None given max_bytes told pieces new =
+    (told ≡ record { status = not_open; front = 0; count = 0 }) × (new ≡ None)
+Gathers (Some old) given max_bytes told pieces new =
+    (front : Option Message) × IsCurrent old front
+    × (told ≡ record { status = done; front = front_number front told.count; count = told.count })
+    × AreLaid old given max_bytes told.count pieces × (new ≡ Some old)

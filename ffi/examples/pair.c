@@ -1,0 +1,223 @@
+/*
+ * A sender and a reader over a pair of sockets, in one thread: writev and poll.
+ *
+ * The sender writes messages as fast as the connection lets it, stops when it is told to, and goes on
+ * when it is told to. The reader reads slowly. At the end each byte has come, in order, and each
+ * promise was settled once. Exits 0 if so.
+ */
+#define _GNU_SOURCE
+#include <errno.h>
+#include <fcntl.h>
+#include <inttypes.h>
+#include <poll.h>
+#include <stdio.h>
+#include <stdlib.h>
+#include <string.h>
+#include <sys/socket.h>
+#include <sys/uio.h>
+#include <unistd.h>
+
+#include "limekeel.h"
+
+#define MESSAGES 20000u
+#define LONGEST 3000u
+
+struct sender {
+    struct limekeel_connection connection;
+    struct limekeel_block shared; /* each tenth message is this block */
+    uint32_t written;             /* messages that were accepted */
+    uint64_t bytes;               /* and their bytes */
+    uint64_t settled;             /* promises that were settled */
+    bool may_write;
+    uint32_t stops;
+};
+
+static void fail(const char *what, uint32_t status)
+{
+    fprintf(stderr, "%s: %" PRIu32 "\n", what, status);
+    exit(1);
+}
+
+static void expect(const char *what, bool holds)
+{
+    if (!holds)
+        fail(what, 0);
+}
+
+static uint8_t byte_at(uint64_t place)
+{
+    return (uint8_t)(place * 131 + (place >> 8));
+}
+
+static void note_change(struct sender *sender, uint32_t change)
+{
+    if (change == LIMEKEEL_UNWRITABLE) {
+        sender->may_write = false;
+        sender->stops++;
+    } else if (change == LIMEKEEL_WRITABLE) {
+        sender->may_write = true;
+    }
+}
+
+/* The bytes of a shared block are all 0x5a, and those of another message go by their place. */
+static bool is_shared(uint32_t message)
+{
+    return message % 10 == 9;
+}
+
+static size_t length_of(uint32_t message)
+{
+    return is_shared(message) ? 512 : (message * 7919u) % LONGEST;
+}
+
+static void write_some(struct sender *sender)
+{
+    while (sender->may_write && sender->written < MESSAGES) {
+        uint32_t message = sender->written;
+        size_t length = length_of(message);
+        struct limekeel_written written;
+        if (is_shared(message)) {
+            written = limekeel_write_block(&sender->connection, &sender->shared);
+        } else {
+            uint8_t bytes[LONGEST];
+            for (size_t at = 0; at < length; at++)
+                bytes[at] = byte_at(message + at);
+            written = limekeel_write(&sender->connection, bytes, length);
+        }
+        if (written.status != LIMEKEEL_OK)
+            fail("write", written.status);
+        expect("ids rise by one", written.id == message);
+        sender->written++;
+        sender->bytes += length;
+        note_change(sender, written.change);
+    }
+    struct limekeel_flushed flushed = limekeel_flush(&sender->connection);
+    if (flushed.status != LIMEKEEL_OK)
+        fail("flush", flushed.status);
+    note_change(sender, flushed.change);
+}
+
+/* Sends what the socket takes. */
+static void send_some(struct sender *sender, int socket)
+{
+    for (;;) {
+        struct limekeel_piece pieces[LIMEKEEL_PIECES];
+        struct limekeel_gathered front =
+            limekeel_gather(&sender->connection, pieces, LIMEKEEL_PIECES, UINT32_MAX);
+        if (front.front == LIMEKEEL_FRONT_NOTHING)
+            return;
+        ssize_t sent = 0;
+        if (front.count > 0) {
+            sent = writev(socket, (const struct iovec *)(const void *)pieces, (int)front.count);
+            if (sent < 0 && errno == EAGAIN)
+                return;
+            if (sent < 0)
+                fail("writev", (uint32_t)errno);
+        }
+        struct limekeel_taken taken = limekeel_take_sent(&sender->connection, (uint64_t)sent);
+        if (taken.status != LIMEKEEL_OK)
+            fail("take_sent", taken.status);
+        expect("promises are settled in order", taken.from == sender->settled);
+        sender->settled = taken.to;
+        note_change(sender, taken.change);
+    }
+}
+
+/* Reads what has come, but little at once, and checks it. */
+static bool read_some(int socket, uint32_t *message, size_t *at)
+{
+    uint8_t bytes[16384];
+    ssize_t count = read(socket, bytes, sizeof bytes);
+    if (count < 0 && errno == EAGAIN)
+        return true;
+    if (count <= 0)
+        return false;
+    for (ssize_t place = 0; place < count; place++) {
+        while (*at == length_of(*message)) {
+            ++*message;
+            *at = 0;
+        }
+        uint8_t wanted = is_shared(*message) ? 0x5a : byte_at(*message + *at);
+        expect("each byte comes, in order", bytes[place] == wanted);
+        ++*at;
+    }
+    return true;
+}
+
+static void open_sender(struct sender *sender)
+{
+    uint32_t status = limekeel_open(&sender->connection, 32768, 65536, 96, 8);
+    if (status != LIMEKEEL_OK)
+        fail("open", status);
+    uint8_t bytes[512];
+    memset(bytes, 0x5a, sizeof bytes);
+    status = limekeel_block_new(&sender->shared, bytes, sizeof bytes);
+    if (status != LIMEKEEL_OK)
+        fail("block_new", status);
+}
+
+/* Misuse is told, and does no harm. */
+static void misuse(void)
+{
+    struct limekeel_connection none = LIMEKEEL_CONNECTION;
+    struct limekeel_block no_block = LIMEKEEL_BLOCK;
+    expect("flush of none", limekeel_flush(&none).status == LIMEKEEL_NOT_OPEN);
+    expect("free of none", limekeel_free(&none) == LIMEKEEL_NOT_OPEN);
+    expect("bad marks", limekeel_open(&none, 2, 1, 96, 8) == LIMEKEEL_BAD_MARKS);
+    expect("bad estimate", limekeel_open(&none, 1, 2, 65536, 8) == LIMEKEEL_BAD_ESTIMATE);
+    expect("open", limekeel_open(&none, 100, 200, 96, 8) == LIMEKEEL_OK);
+    expect("open again", limekeel_open(&none, 100, 200, 96, 8) == LIMEKEEL_ALREADY_OPEN);
+    expect("no block", limekeel_write_block(&none, &no_block).status == LIMEKEEL_NO_BLOCK);
+    expect("nothing of NULL", limekeel_write(&none, NULL, 0).status == LIMEKEEL_OK);
+    expect("a region", limekeel_write_region(&none, 7).id == 1);
+    expect("it waits", limekeel_promise(&none, 1).state == LIMEKEEL_WAITING);
+    expect("flush", limekeel_flush(&none).count == 2);
+    struct limekeel_gathered front = limekeel_gather(&none, NULL, 0, 1);
+    expect("an empty block", front.front == LIMEKEEL_FRONT_EMPTY_BLOCKS && front.count == 0);
+    expect("is taken", limekeel_take_sent(&none, 0).count == 1);
+    expect("a region stands", limekeel_current(&none).kind == LIMEKEEL_CURRENT_REGION);
+    expect("of 7 bytes", limekeel_current(&none).number == 7);
+    expect("too many", limekeel_take_sent(&none, 1).status == LIMEKEEL_TOO_MANY_BYTES);
+    expect("flushed left", limekeel_close(&none, 5).status == LIMEKEEL_FLUSHED_LEFT);
+    struct limekeel_taken failed = limekeel_fail_flushed(&none, 5, true);
+    expect("fails it", failed.from == 1 && failed.to == 2 && failed.outcome == LIMEKEEL_FAILED && failed.cause == 5);
+    expect("close", limekeel_close(&none, 5).status == LIMEKEEL_OK);
+    expect("closed", limekeel_is_closed(&none).holds);
+    expect("write", limekeel_write(&none, "x", 1).status == LIMEKEEL_CLOSED);
+    expect("free", limekeel_free(&none) == LIMEKEEL_OK);
+    expect("freed", limekeel_look(&none).status == LIMEKEEL_NOT_OPEN);
+}
+
+int main(void)
+{
+    misuse();
+    int ends[2];
+    if (socketpair(AF_UNIX, SOCK_STREAM | SOCK_NONBLOCK, 0, ends) != 0)
+        fail("socketpair", (uint32_t)errno);
+    struct sender sender = {.connection = LIMEKEEL_CONNECTION, .shared = LIMEKEEL_BLOCK, .may_write = true};
+    open_sender(&sender);
+    uint32_t message = 0;
+    size_t at = 0;
+    bool done = false;
+    while (!done) {
+        write_some(&sender);
+        send_some(&sender, ends[0]);
+        bool waiting = limekeel_look(&sender.connection).size > 0;
+        struct pollfd asked[2] = {{ends[0], (short)(waiting ? POLLOUT : 0), 0}, {ends[1], POLLIN, 0}};
+        if (poll(asked, 2, 1000) < 0)
+            fail("poll", (uint32_t)errno);
+        if (asked[1].revents & POLLIN)
+            expect("the reader reads", read_some(ends[1], &message, &at));
+        done = sender.written == MESSAGES && !waiting && !(asked[1].revents & POLLIN);
+    }
+    expect("each promise was settled", sender.settled == MESSAGES);
+    expect("writers were stopped", sender.stops > 0);
+    expect("nothing is pending", limekeel_look(&sender.connection).total == 0);
+    expect("free", limekeel_free(&sender.connection) == LIMEKEEL_OK);
+    expect("free the block", limekeel_block_free(&sender.shared) == LIMEKEEL_OK);
+    close(ends[0]);
+    close(ends[1]);
+    printf("%" PRIu32 " messages, %" PRIu64 " bytes, %" PRIu32 " stops: each byte came\n", sender.written,
+           sender.bytes, sender.stops);
+    return 0;
+}

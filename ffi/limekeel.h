@@ -1,0 +1,325 @@
+/*
+ * Limekeel: an outbound buffer that a network server can trust with its memory.
+ *
+ * What a server has written to one client and the socket has not yet taken: Netty's
+ * ChannelOutboundBuffer and WriteBufferWaterMark, without end. Each call answers what a short
+ * definition says, whatever was called before; the archive liblimekeel.a was compiled from a
+ * proof of that. docs/ffi.md says up to which edge.
+ *
+ *     struct limekeel_connection connection = LIMEKEEL_CONNECTION;
+ *     limekeel_open(&connection, 32768, 65536, 96, 8);
+ *     limekeel_write(&connection, "hello", 5);
+ *     limekeel_flush(&connection);
+ *     struct limekeel_piece pieces[LIMEKEEL_PIECES];
+ *     struct limekeel_gathered front = limekeel_gather(&connection, pieces, LIMEKEEL_PIECES, UINT32_MAX);
+ *     ssize_t sent = writev(socket, (struct iovec *)pieces, (int)front.count);
+ *     if (sent >= 0)
+ *         limekeel_take_sent(&connection, (uint64_t)sent);
+ *     limekeel_free(&connection);
+ *
+ * Linking. Link liblimekeel.a, and compile heap.c into the program once: it defines the three
+ * functions through which the archive takes memory. `pkg-config --cflags --libs limekeel` gives
+ * the flags. The archive needs nothing else, and starts no thread and takes no lock.
+ *
+ * Ownership. A connection and a block are made as LIMEKEEL_CONNECTION and LIMEKEEL_BLOCK, which
+ * own nothing, and are filled by limekeel_open and limekeel_block_new. Each is let go once, by
+ * limekeel_free or limekeel_block_free. The struct may be moved in memory, but not copied and
+ * used twice, as a FILE * may not be closed twice; its member is not to be touched. Bytes that
+ * are passed in are copied, and stay the caller's.
+ *
+ * Lifetimes. The pieces that limekeel_gather fills point into the connection. They are good until
+ * the next call on that connection that is no look: until a write, flush, removal, failing, close
+ * or free. Freeing a block does not end the pieces of messages that share it.
+ *
+ * Threads. A connection may go from thread to thread, but only one call at a time may use it:
+ * give it a lock, or to one thread. Two connections need no lock between them, also if they share
+ * a block; the block itself is used by one call at a time. No call may be made from a signal
+ * handler, nor in the child of a fork of a process with threads.
+ *
+ * Errors. Each call answers a status, alone or as the first member of a struct: LIMEKEEL_OK, or
+ * why the call did nothing. A call that did not answer LIMEKEEL_OK left everything as it was, and
+ * all else in its struct is 0. A handle that owns nothing is LIMEKEEL_NOT_OPEN and no crash. No
+ * call sets errno, aborts, or calls back. Pointers may not be NULL, but for the bytes and
+ * pieces of limekeel_write, limekeel_block_new and limekeel_gather if there are none.
+ */
+#ifndef LIMEKEEL_H
+#define LIMEKEEL_H
+
+#include <stdbool.h>
+#include <stddef.h>
+#include <stdint.h>
+
+#ifdef __cplusplus
+extern "C" {
+#endif
+
+/* The statuses. */
+enum {
+    LIMEKEEL_OK = 0,
+    LIMEKEEL_OVERSIZE = 1,         /* the message counts more than 2147483647 bytes, or a region is longer than INT64_MAX */
+    LIMEKEEL_BAD_MARKS = 2,        /* the low mark is above the high mark, or that above 2147483647 */
+    LIMEKEEL_TOO_MUCH = 3,         /* more than 4294967295 bytes would be pending, or 2^64 - 1 writes were accepted */
+    LIMEKEEL_CLOSED = 4,           /* the connection is closed; looks still answer */
+    LIMEKEEL_NOTHING_FLUSHED = 5,  /* progress was told of, and no message is flushed */
+    LIMEKEEL_TOO_FAR = 6,          /* the progress of a message would pass INT64_MAX */
+    LIMEKEEL_TOO_MANY_BYTES = 7,   /* the flushed blocks in front hold fewer bytes */
+    LIMEKEEL_BAD_INDEX = 8,        /* the index of a user bit is 1 to 31 */
+    LIMEKEEL_FLUSHED_LEFT = 9,     /* flushed messages are left: fail or remove them before a close */
+    LIMEKEEL_UNKNOWN_PROMISE = 10, /* no write was accepted under this promise */
+    LIMEKEEL_NO_MEMORY = 12,       /* malloc refused, or a block has more owners than can be counted */
+    LIMEKEEL_NOT_OPEN = 13,        /* the connection or block owns nothing */
+    LIMEKEEL_ALREADY_OPEN = 14,    /* it owns something already */
+    LIMEKEEL_BAD_ESTIMATE = 15,    /* the overhead or the unknown size is above 65535 */
+    LIMEKEEL_NO_BLOCK = 16         /* the block that is to be written owns nothing */
+};
+
+/* How a call changed writability. Each change is told once: act on it. */
+enum {
+    LIMEKEEL_UNCHANGED = 0,
+    LIMEKEEL_UNWRITABLE = 1, /* stop writing */
+    LIMEKEEL_WRITABLE = 2    /* go on */
+};
+
+/* How a promise was settled. */
+enum {
+    LIMEKEEL_NO_OUTCOME = 0,
+    LIMEKEEL_SUCCESS = 1,  /* the message was sent */
+    LIMEKEEL_FAILED = 2,   /* it was given up, for the cause that is told */
+    LIMEKEEL_CANCELLED = 3 /* it was taken back before a flush */
+};
+
+/* What has become of a promise. */
+enum {
+    LIMEKEEL_UNKNOWN = 0,       /* no write was accepted under it */
+    LIMEKEEL_WAITING = 1,       /* it may still be cancelled */
+    LIMEKEEL_FIXED = 2,         /* it can no longer be cancelled */
+    LIMEKEEL_SETTLED = 3,       /* it was cancelled, and its message still waits */
+    LIMEKEEL_SETTLED_BEFORE = 4 /* its message is gone; the call that took it away told the outcome */
+};
+
+/* What stands in front: limekeel_gathered.front. */
+enum {
+    LIMEKEEL_FRONT_NOTHING = 0,
+    LIMEKEEL_FRONT_BLOCKS = 1,
+    LIMEKEEL_FRONT_EMPTY_BLOCKS = 2, /* limekeel_take_sent(c, 0) takes them away */
+    LIMEKEEL_FRONT_REGION = 3,       /* send it yourself, then limekeel_remove */
+    LIMEKEEL_FRONT_OTHER = 4         /* do what it stands for, then limekeel_remove */
+};
+
+/* The kind of the first flushed message: limekeel_current.kind. */
+enum {
+    LIMEKEEL_CURRENT_NOTHING = 0,
+    LIMEKEEL_CURRENT_BLOCK = 1,
+    LIMEKEEL_CURRENT_REGION = 2,
+    LIMEKEEL_CURRENT_OTHER = 3
+};
+
+/* The most pieces that one limekeel_gather fills. */
+#define LIMEKEEL_PIECES 64
+
+/* A connection. Its member is Limekeel's. */
+struct limekeel_connection {
+    uint8_t *at;
+};
+#define LIMEKEEL_CONNECTION {0}
+
+/* A block of bytes that any number of writes share. Its member is Limekeel's. */
+struct limekeel_block {
+    uint8_t *at;
+};
+#define LIMEKEEL_BLOCK {0}
+
+/* A piece of memory that is to be sent: as struct iovec, which it may be cast to. */
+struct limekeel_piece {
+    const uint8_t *at;
+    size_t length;
+};
+
+struct limekeel_written {
+    uint32_t status;
+    uint32_t change;
+    uint64_t id; /* the promise of the message: 0 for the first write, then 1, and so on */
+};
+
+struct limekeel_flushed {
+    uint32_t status;
+    uint32_t change;
+    uint64_t count; /* how many messages the flush reached */
+};
+
+struct limekeel_removed {
+    uint32_t status;
+    uint32_t change;
+    bool any;         /* whether a message was flushed; if none was, nothing changed */
+    bool settled;     /* whether that settled its promise: not if it was cancelled before */
+    uint32_t outcome; /* and if so with which outcome, */
+    uint32_t cause;   /* for which cause, */
+    uint64_t id;      /* and which promise it was */
+};
+
+/* Messages that were taken away. Settled by it, in order and with this outcome, is each promise from
+ * `from` on and below `to` but for those that were cancelled before. */
+struct limekeel_taken {
+    uint32_t status;
+    uint32_t change;
+    uint32_t outcome;
+    uint32_t cause;
+    uint64_t count; /* to - from */
+    uint64_t from;
+    uint64_t to;
+};
+
+struct limekeel_cancelled {
+    uint32_t status;
+    bool in_time; /* false: it was fixed or settled, and stays as it was */
+};
+
+struct limekeel_changed {
+    uint32_t status;
+    uint32_t change;
+};
+
+struct limekeel_look {
+    uint32_t status;
+    uint32_t total;             /* the pending bytes */
+    uint32_t word;              /* bit 0: the mark; bit i: user bit i. 0: writable */
+    uint32_t before_unwritable; /* so many more bytes make a writable connection unwritable, else 0 */
+    uint32_t before_writable;   /* so many fewer bring an unwritable one below its low mark, else 0 */
+    uint64_t size;              /* how many messages are flushed and not removed */
+    uint64_t current_progress;  /* the progress of the first of them */
+};
+
+struct limekeel_truth {
+    uint32_t status;
+    bool holds;
+};
+
+struct limekeel_promise {
+    uint32_t status;
+    uint32_t state;
+    uint32_t outcome; /* of LIMEKEEL_SETTLED */
+    uint32_t cause;
+};
+
+struct limekeel_front {
+    uint32_t status;
+    bool any;    /* whether a message is flushed */
+    uint64_t id; /* its promise */
+};
+
+struct limekeel_current {
+    uint32_t status;
+    uint32_t kind;
+    uint64_t number; /* bytes that are left of a block or a region, or the number of another message */
+};
+
+struct limekeel_gathered {
+    uint32_t status;
+    uint32_t front;
+    size_t count; /* how many pieces were filled */
+};
+
+/* Opens a connection with nothing written. It is to stop above `high` pending bytes and to go on
+ * below `low`; each message counts `overhead` bytes beside its own, and one that is neither a block
+ * nor a region `unknown`. Netty's are 32768, 65536, 96 and 8. */
+uint32_t limekeel_open(struct limekeel_connection *connection, uint32_t low, uint32_t high, uint32_t overhead,
+                       uint32_t unknown);
+
+/* Frees a connection with all that waits in it. Promises that wait are not told. */
+uint32_t limekeel_free(struct limekeel_connection *connection);
+
+/* Copies bytes into a block. */
+uint32_t limekeel_block_of_bytes(struct limekeel_block *block, const uint8_t *bytes, size_t length);
+
+/* Lets a block go. The memory is freed with the last message that shares it. */
+uint32_t limekeel_block_free(struct limekeel_block *block);
+
+/* Writes a copy of these bytes behind all else. They wait, and are not sent before a flush.
+ * LIMEKEEL_NO_MEMORY may come before any other refusal, since the copy is made first. */
+struct limekeel_written limekeel_write_bytes(struct limekeel_connection *connection, const uint8_t *bytes,
+                                              size_t length);
+
+/* Writes the bytes of a block, which the message then shares: nothing is copied. */
+struct limekeel_written limekeel_write_block(struct limekeel_connection *connection, struct limekeel_block *block);
+
+/* Writes a region: so many bytes of something that you send yourself, as of a file by sendfile. */
+struct limekeel_written limekeel_write_region(struct limekeel_connection *connection, uint64_t length);
+
+/* Writes any other message, by a number that means something to you alone. */
+struct limekeel_written limekeel_write_other(struct limekeel_connection *connection, uint32_t value);
+
+/* Lets the transport have all that was written so far. Those messages can no longer be cancelled;
+ * those that were become empty blocks, which take_sent takes away. */
+struct limekeel_flushed limekeel_flush(struct limekeel_connection *connection);
+
+/* Takes the first flushed message away, as sent; or as failed for this cause. */
+struct limekeel_removed limekeel_remove(struct limekeel_connection *connection);
+struct limekeel_removed limekeel_remove_with(struct limekeel_connection *connection, uint32_t cause);
+
+/* Takes n bytes off the flushed blocks in front, as sent: what writev answered. A message that is
+ * sent whole is gone, and empty ones with it, so call it with 0 if only empty blocks stand in front. */
+struct limekeel_taken limekeel_take_sent(struct limekeel_connection *connection, uint64_t n);
+
+/* Tells of n more bytes of progress of the first flushed message, as of a region. */
+uint32_t limekeel_progress(struct limekeel_connection *connection, uint64_t n);
+
+/* Takes a promise back, if no flush has fixed it yet. */
+struct limekeel_cancelled limekeel_cancel(struct limekeel_connection *connection, uint64_t id);
+
+/* Takes all flushed messages away, as failed for this cause. Without `notify` the word stays as it was. */
+struct limekeel_taken limekeel_fail_flushed(struct limekeel_connection *connection, uint32_t cause, bool notify);
+
+/* Closes for good: takes away what no flush has reached, as failed for this cause. Each command is
+ * refused after it. */
+struct limekeel_taken limekeel_close(struct limekeel_connection *connection, uint32_t cause);
+
+/* Sets the user bit 1 to 31, which makes the connection unwritable, or clears it if `writable` is set. */
+struct limekeel_changed limekeel_user_bit(struct limekeel_connection *connection, uint32_t index, bool writable);
+
+/* Sets other marks. They change nothing by themselves: the next rise or fall goes by them. */
+uint32_t limekeel_set_marks(struct limekeel_connection *connection, uint32_t low, uint32_t high);
+
+/* What is pending now; whether writers may go on; whether a close was accepted. */
+struct limekeel_look limekeel_look(struct limekeel_connection *connection);
+struct limekeel_truth limekeel_is_writable(struct limekeel_connection *connection);
+struct limekeel_truth limekeel_is_closed(struct limekeel_connection *connection);
+
+/* What has become of a promise. */
+struct limekeel_promise limekeel_promise(struct limekeel_connection *connection, uint64_t id);
+
+/* The promise of the first flushed message, and what is left of that message. */
+struct limekeel_front limekeel_front(struct limekeel_connection *connection);
+struct limekeel_current limekeel_current(struct limekeel_connection *connection);
+
+/* Fills pieces with where the flushed blocks in front lie that hold a byte, up to the first message
+ * that is no block: at most `length` and LIMEKEEL_PIECES of them, and at most max_bytes bytes, but
+ * the first in any case. The other pieces stay as they were. It takes no memory. */
+struct limekeel_gathered limekeel_gather_pieces(struct limekeel_connection *connection, struct limekeel_piece *pieces,
+                                                size_t length, uint32_t max_bytes);
+
+/* The three calls that take bytes or pieces, for callers that may have none: NULL is good then, and
+ * the pointer may be to anything that lies as bytes or pieces do. Call these. */
+static inline uint32_t limekeel_block_new(struct limekeel_block *block, const void *bytes, size_t length)
+{
+    return limekeel_block_of_bytes(block, length > 0 ? (const uint8_t *)bytes : (const uint8_t *)"", length);
+}
+
+static inline struct limekeel_written limekeel_write(struct limekeel_connection *connection, const void *bytes,
+                                                     size_t length)
+{
+    return limekeel_write_bytes(connection, length > 0 ? (const uint8_t *)bytes : (const uint8_t *)"", length);
+}
+
+static inline struct limekeel_gathered limekeel_gather(struct limekeel_connection *connection,
+                                                       struct limekeel_piece *pieces, size_t length,
+                                                       uint32_t max_bytes)
+{
+    struct limekeel_piece none = {(const uint8_t *)"", 0};
+    return limekeel_gather_pieces(connection, length > 0 ? pieces : &none, length, max_bytes);
+}
+
+#ifdef __cplusplus
+}
+#endif
+
+#endif
