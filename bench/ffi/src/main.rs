@@ -1,0 +1,219 @@
+//! Times the cycle (write of 64 bytes, flush, remove) and 16 writes, flush, gather and removal of their bytes, behind so
+//! many messages that wait: through the crate `limekeel`, by the same rules in plain Rust, and by the barest queue.
+//! Prints lines of a name, a depth and the nanoseconds of a cycle and of a message in a batch.
+
+// of the buffer by hand this needs not all
+#[allow(dead_code)]
+#[path = "../../by_hand/buffer.rs"]
+mod by_hand;
+
+use limekeel::{Block, Connection, Estimate, Marks};
+use std::collections::VecDeque;
+use std::hint::black_box;
+use std::io::IoSlice;
+use std::time::Instant;
+
+const DEPTHS: [usize; 4] = [1, 16, 1_000, 100_000];
+/// So many messages are timed at once, so often, and the least time counts: other programs cannot make it less.
+const MESSAGES: usize = 480;
+const TIMES: usize = 1_000;
+const BATCH: usize = 16;
+const BYTES: [u8; 64] = [7; 64];
+const ALL: u64 = (BATCH * BYTES.len()) as u64;
+
+/// What is timed.
+trait Queue {
+    fn open() -> Self;
+    fn write(&mut self);
+    fn flush(&mut self);
+    fn remove(&mut self);
+    /// Gathers a batch, and takes its bytes away; answers how many bytes were gathered.
+    fn send(&mut self) -> usize;
+}
+
+struct Copied(Connection);
+
+impl Queue for Copied {
+    fn open() -> Self {
+        Copied(Connection::open(Marks::default(), Estimate::default()).expect("it opens"))
+    }
+
+    fn write(&mut self) {
+        let _ = black_box(self.0.write(black_box(&BYTES)).expect("it is accepted"));
+    }
+
+    fn flush(&mut self) {
+        let _ = black_box(self.0.flush().expect("it is open"));
+    }
+
+    fn remove(&mut self) {
+        let _ = black_box(self.0.remove().expect("it is open"));
+    }
+
+    fn send(&mut self) -> usize {
+        send_of(&mut self.0)
+    }
+}
+
+fn send_of(connection: &mut Connection) -> usize {
+    let pieces = connection.pieces::<BATCH>(u32::MAX);
+    let count = black_box(&*pieces).iter().map(|piece| piece.len()).sum();
+    let _ = black_box(connection.take_sent(ALL).expect("they wait"));
+    count
+}
+
+/// The same with a block that all messages share.
+struct Shared(Connection, Block);
+
+impl Queue for Shared {
+    fn open() -> Self {
+        Shared(Copied::open().0, Block::new(&BYTES).expect("there is memory"))
+    }
+
+    fn write(&mut self) {
+        let _ = black_box(self.0.write_block(black_box(&self.1)).expect("it is accepted"));
+    }
+
+    fn flush(&mut self) {
+        let _ = black_box(self.0.flush().expect("it is open"));
+    }
+
+    fn remove(&mut self) {
+        let _ = black_box(self.0.remove().expect("it is open"));
+    }
+
+    fn send(&mut self) -> usize {
+        send_of(&mut self.0)
+    }
+}
+
+/// The same rules in plain Rust.
+struct ByHand(by_hand::Buffer);
+
+impl Queue for ByHand {
+    fn open() -> Self {
+        let marks = by_hand::Marks { low: 32768, high: 65536 };
+        ByHand(by_hand::Buffer::new(marks, by_hand::Estimate { overhead: 96, unknown: 8 }))
+    }
+
+    fn write(&mut self) {
+        let bytes = by_hand::Bytes::new(black_box(&BYTES));
+        black_box(self.0.write(by_hand::Message::Block(bytes)).expect("it is accepted"));
+    }
+
+    fn flush(&mut self) {
+        black_box(self.0.flush().expect("it is open"));
+    }
+
+    fn remove(&mut self) {
+        black_box(self.0.remove().expect("it is open"));
+    }
+
+    fn send(&mut self) -> usize {
+        let mut pieces = [IoSlice::new(&[]); BATCH];
+        let mut count = 0;
+        for (piece, bytes) in pieces.iter_mut().zip(self.0.gather(BATCH, u64::from(u32::MAX))) {
+            *piece = IoSlice::new(bytes.as_slice());
+            count += bytes.len();
+        }
+        black_box(&pieces);
+        black_box(self.0.remove_bytes(ALL).expect("they wait"));
+        count
+    }
+}
+
+/// A list of bytes, a total and a flag: no promise, no flush, no cancellation.
+struct Barest {
+    messages: VecDeque<Vec<u8>>,
+    total: usize,
+    writable: bool,
+}
+
+impl Queue for Barest {
+    fn open() -> Self {
+        Barest { messages: VecDeque::new(), total: 0, writable: true }
+    }
+
+    fn write(&mut self) {
+        self.messages.push_back(black_box(&BYTES).to_vec());
+        self.total += BYTES.len() + 96;
+        self.writable &= self.total <= 65536;
+    }
+
+    fn flush(&mut self) {}
+
+    fn remove(&mut self) {
+        if let Some(message) = self.messages.pop_front() {
+            self.total -= message.len() + 96;
+            self.writable |= self.total < 32768;
+        }
+    }
+
+    fn send(&mut self) -> usize {
+        let mut pieces = [IoSlice::new(&[]); BATCH];
+        let mut count = 0;
+        for (piece, bytes) in pieces.iter_mut().zip(&self.messages) {
+            *piece = IoSlice::new(bytes);
+            count += bytes.len();
+        }
+        black_box(&pieces);
+        for _ in 0..BATCH {
+            self.remove();
+        }
+        count
+    }
+}
+
+fn filled<Q: Queue>(depth: usize) -> Q {
+    let mut queue = Q::open();
+    for _ in 0..depth {
+        queue.write();
+    }
+    queue.flush();
+    black_box(queue)
+}
+
+/// The nanoseconds of a message, where each turn moves so many.
+fn least<Q: Queue>(depth: usize, each: usize, mut turn: impl FnMut(&mut Q)) -> f64 {
+    let mut queue = filled::<Q>(depth);
+    let mut least = f64::INFINITY;
+    for _ in 0..TIMES {
+        let start = Instant::now();
+        for _ in 0..MESSAGES / each {
+            turn(&mut queue);
+        }
+        least = least.min(start.elapsed().as_nanos() as f64 / MESSAGES as f64);
+    }
+    least
+}
+
+fn cycle<Q: Queue>(depth: usize) -> f64 {
+    least(depth, 1, |queue: &mut Q| {
+        queue.write();
+        queue.flush();
+        queue.remove();
+    })
+}
+
+fn batch<Q: Queue>(depth: usize) -> f64 {
+    least(depth, BATCH, |queue: &mut Q| {
+        for _ in 0..BATCH {
+            queue.write();
+        }
+        queue.flush();
+        assert_eq!(queue.send(), ALL as usize);
+    })
+}
+
+fn time<Q: Queue>(name: &str) {
+    for depth in DEPTHS {
+        println!("{name} {depth} {:.1} {:.1}", cycle::<Q>(depth), batch::<Q>(depth));
+    }
+}
+
+fn main() {
+    time::<Copied>("rust");
+    time::<Shared>("rust-shared");
+    time::<ByHand>("by-hand");
+    time::<Barest>("barest");
+}

@@ -1,0 +1,27 @@
+//! Finds the archive: in `LIMEKEEL_LIB_DIR`, or as the gate built it in this repository.
+
+use std::env;
+use std::path::{Path, PathBuf};
+
+fn main() {
+    println!("cargo::rerun-if-env-changed=LIMEKEEL_LIB_DIR");
+    let (folder, name) = archive();
+    let file = folder.join(format!("lib{name}.a"));
+    assert!(
+        file.exists(),
+        "no {}: build it by `rt lib` in crates/ob_c, or set LIMEKEEL_LIB_DIR to the folder of liblimekeel.a",
+        file.display()
+    );
+    println!("cargo::rerun-if-changed={}", file.display());
+    println!("cargo::rustc-link-search=native={}", folder.display());
+    println!("cargo::rustc-link-lib=static={name}");
+}
+
+/// The folder of the archive, and its name.
+fn archive() -> (PathBuf, &'static str) {
+    if let Some(folder) = env::var_os("LIMEKEEL_LIB_DIR") {
+        return (PathBuf::from(folder), "limekeel");
+    }
+    let here = env::var_os("CARGO_MANIFEST_DIR").expect("cargo sets it");
+    (Path::new(&here).join("../../crates/ob_c/out"), "ob_c")
+}

@@ -1,0 +1,207 @@
+use crate::block::Block;
+use crate::raw::{Handle, Pieces};
+use crate::replies::{Change, Flushed, Refusal, Removed, Taken, Written, done};
+use crate::views::{Current, Look, Promise};
+use std::collections::BTreeSet;
+use std::ops::Range;
+
+/// The two marks, in bytes: writers stop above the high one, and go on below the low one. The default is Netty's.
+#[derive(Clone, Copy, Debug, PartialEq, Eq)]
+pub struct Marks {
+    /// At most the high mark.
+    pub low: u32,
+    /// At most 2147483647.
+    pub high: u32,
+}
+
+impl Default for Marks {
+    fn default() -> Marks {
+        Marks { low: 32768, high: 65536 }
+    }
+}
+
+/// How many bytes a message counts. The default is Netty's.
+#[derive(Clone, Copy, Debug, PartialEq, Eq)]
+pub struct Estimate {
+    /// Bytes that each message counts beside its own, at most 65535.
+    pub overhead: u32,
+    /// Bytes of a message that is neither a block nor a region, at most 65535.
+    pub unknown: u32,
+}
+
+impl Default for Estimate {
+    fn default() -> Estimate {
+        Estimate { overhead: 96, unknown: 8 }
+    }
+}
+
+/// What a server has written to one client and the socket has not yet taken (Netty's `ChannelOutboundBuffer`), without
+/// end.
+///
+/// Only [`Connection::open`], a write and a cancellation take memory. A call that is refused changes nothing.
+#[derive(Debug)]
+pub struct Connection {
+    pub(crate) handle: Handle,
+    /// Promises that were cancelled and whose messages are not gone. The archive tells an interval of promises, and which
+    /// of them it had settled before; this is to leave those out.
+    cancelled: BTreeSet<u64>,
+}
+
+impl Connection {
+    /// A connection with nothing written.
+    pub fn open(marks: Marks, estimate: Estimate) -> Result<Connection, Refusal> {
+        let mut handle = Handle::none();
+        done(handle.open(marks.low, marks.high, estimate.overhead, estimate.unknown))?;
+        Ok(Connection { handle, cancelled: BTreeSet::new() })
+    }
+
+    /// Writes a copy of these bytes behind all else. They are not sent before a flush.
+    pub fn write(&mut self, bytes: &[u8]) -> Result<Written, Refusal> {
+        Written::of(self.handle.write(bytes))
+    }
+
+    /// Writes the bytes of a block, which the message then shares: nothing is copied.
+    pub fn write_block(&mut self, block: &Block) -> Result<Written, Refusal> {
+        Written::of(self.handle.write_block(&block.slot))
+    }
+
+    /// Writes a region: so many bytes of something that the caller sends, as of a file.
+    pub fn write_region(&mut self, length: u64) -> Result<Written, Refusal> {
+        Written::of(self.handle.write_region(length))
+    }
+
+    /// Writes any other message, by a number that means something to the caller alone.
+    pub fn write_other(&mut self, value: u32) -> Result<Written, Refusal> {
+        Written::of(self.handle.write_other(value))
+    }
+
+    /// Lets the transport have all that was written so far, and fixes its promises.
+    pub fn flush(&mut self) -> Result<Flushed, Refusal> {
+        Flushed::of(self.handle.flush())
+    }
+
+    /// Takes the first flushed message away, as sent.
+    pub fn remove(&mut self) -> Result<Removed, Refusal> {
+        let removed = Removed::of(self.handle.remove())?;
+        self.forget_the_first(&removed);
+        Ok(removed)
+    }
+
+    /// Takes the first flushed message away, as failed for this cause.
+    pub fn remove_with(&mut self, cause: u32) -> Result<Removed, Refusal> {
+        let removed = Removed::of(self.handle.remove_with(cause))?;
+        self.forget_the_first(&removed);
+        Ok(removed)
+    }
+
+    /// Takes *n* bytes off the flushed blocks in front, as sent, and with them each message that is sent whole; 0 bytes take
+    /// away the empty messages in front.
+    pub fn take_sent(&mut self, n: u64) -> Result<Taken, Refusal> {
+        let taken = Taken::of(self.handle.take_sent(n))?;
+        Ok(self.settled_by(taken))
+    }
+
+    /// Tells of *n* more bytes of progress of the first flushed message.
+    pub fn progress(&mut self, n: u64) -> Result<(), Refusal> {
+        done(self.handle.progress(n))
+    }
+
+    /// Takes a promise back, and answers whether that came in time: a promise that a flush has fixed stays as it is.
+    pub fn cancel(&mut self, id: u64) -> Result<bool, Refusal> {
+        let told = self.handle.cancel(id);
+        done(told.status)?;
+        if told.in_time {
+            self.cancelled.insert(id);
+        }
+        Ok(told.in_time)
+    }
+
+    /// Takes all flushed messages away, as failed for this cause. Without `notify` writability stays as it was.
+    pub fn fail_flushed(&mut self, cause: u32, notify: bool) -> Result<Taken, Refusal> {
+        let taken = Taken::of(self.handle.fail_flushed(cause, notify))?;
+        Ok(self.settled_by(taken))
+    }
+
+    /// Closes for good: takes away what no flush has reached, as failed for this cause. Each command is refused after it.
+    pub fn close(&mut self, cause: u32) -> Result<Taken, Refusal> {
+        let taken = Taken::of(self.handle.close(cause))?;
+        Ok(self.settled_by(taken))
+    }
+
+    /// Sets the user bit 1 to 31, which makes the connection unwritable, or clears it if `writable` is set.
+    pub fn user_bit(&mut self, index: u32, writable: bool) -> Result<Option<Change>, Refusal> {
+        let told = self.handle.user_bit(index, writable);
+        done(told.status)?;
+        Ok(Change::of(told.change))
+    }
+
+    /// Sets other marks. They change nothing by themselves: the next rise or fall goes by them.
+    pub fn set_marks(&mut self, marks: Marks) -> Result<(), Refusal> {
+        done(self.handle.set_marks(marks.low, marks.high))
+    }
+
+    /// What is pending now.
+    #[must_use]
+    pub fn look(&self) -> Look {
+        Look::of(self.handle.look())
+    }
+
+    /// Whether writers may go on.
+    #[must_use]
+    pub fn is_writable(&self) -> bool {
+        self.handle.is_writable().holds
+    }
+
+    /// Whether a close was accepted.
+    #[must_use]
+    pub fn is_closed(&self) -> bool {
+        self.handle.is_closed().holds
+    }
+
+    /// What has become of a promise, or nothing if no write was accepted under it.
+    #[must_use]
+    pub fn promise(&self, id: u64) -> Option<Promise> {
+        Promise::of(self.handle.promise(id))
+    }
+
+    /// The promise of the first flushed message.
+    #[must_use]
+    pub fn front(&self) -> Option<u64> {
+        let told = self.handle.front();
+        told.any.then_some(told.id)
+    }
+
+    /// What is left of the first flushed message.
+    #[must_use]
+    pub fn current(&self) -> Option<Current> {
+        Current::of(self.handle.current())
+    }
+
+    /// Where the flushed blocks in front lie that hold a byte, up to the first message that is no block: at most *N* and 64
+    /// of them, and at most `max_bytes` bytes, but the first in any case. It borrows the connection, and takes no memory.
+    #[must_use]
+    pub fn pieces<const N: usize>(&self, max_bytes: u32) -> Pieces<'_, N> {
+        self.handle.pieces(max_bytes)
+    }
+
+    /// A message that was cancelled and is gone.
+    fn forget_the_first(&mut self, removed: &Removed) {
+        if removed.any && removed.settled.is_none() {
+            self.cancelled.pop_first();
+        }
+    }
+
+    /// Tells which of these promises were cancelled before, and forgets them.
+    fn settled_by(&mut self, taken: Taken) -> Taken {
+        if self.cancelled.is_empty() {
+            return taken;
+        }
+        let cancelled = self.forget(&taken.promises);
+        taken.without(cancelled)
+    }
+
+    fn forget(&mut self, promises: &Range<u64>) -> Vec<u64> {
+        let left = self.cancelled.split_off(&promises.end);
+        std::mem::replace(&mut self.cancelled, left).into_iter().collect()
+    }
+}

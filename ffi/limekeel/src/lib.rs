@@ -1,0 +1,63 @@
+//! An outbound buffer that a network server can trust with its memory.
+//!
+//! A server often writes faster than a client reads. What is not yet sent waits in a [`Connection`], which counts it:
+//! above a high mark it tells writers to stop, below a low mark to go on. It is Netty's `ChannelOutboundBuffer` and
+//! `WriteBufferWaterMark`, without end. The archive below was compiled from a proof that each call answers what a short
+//! definition says, whatever was called before. This crate over it is not proved; it is small, and its `unsafe` stands
+//! in one file.
+//!
+//! ```
+//! use limekeel::{Change, Connection, Estimate, Marks};
+//!
+//! let mut connection = Connection::open(Marks { low: 200, high: 400 }, Estimate::default())?;
+//! assert_eq!(connection.write(&[0; 304])?.change, None); // 400 bytes are pending, 96 of them for the message itself
+//! assert_eq!(connection.write(&[])?.change, Some(Change::Unwritable)); // stop
+//! connection.flush()?;
+//! let mut socket = Vec::new();
+//! let sent = connection.send_to(&mut socket)?;
+//! assert_eq!(sent.taken.change, Some(Change::Writable)); // go on
+//! assert_eq!(sent.taken.settled().map(|(id, _)| id).collect::<Vec<_>>(), [0, 1]);
+//! assert_eq!(socket.len(), 304);
+//! # Ok::<(), Box<dyn std::error::Error>>(())
+//! ```
+//!
+//! A connection goes from thread to thread, and is used by one at a time:
+//!
+//! ```
+//! fn goes_to_another_thread<T: Send>() {}
+//! goes_to_another_thread::<limekeel::Connection>();
+//! ```
+//!
+//! ```compile_fail
+//! fn is_shared<T: Sync>() {}
+//! is_shared::<limekeel::Connection>();
+//! ```
+//!
+//! What is gathered borrows the connection, so that nothing is taken away while the pieces are in use:
+//!
+//! ```compile_fail
+//! # let mut connection = limekeel::Connection::open(limekeel::Marks::default(), limekeel::Estimate::default()).unwrap();
+//! let pieces = connection.pieces::<8>(u32::MAX);
+//! let _ = connection.take_sent(0);
+//! drop(pieces);
+//! ```
+
+#![deny(unsafe_code, missing_docs)]
+
+mod block;
+mod connection;
+mod replies;
+mod send;
+mod shared;
+mod views;
+
+#[allow(unsafe_code)]
+mod raw;
+
+pub use block::Block;
+pub use connection::{Connection, Estimate, Marks};
+pub use raw::Pieces;
+pub use replies::{Change, Flushed, Outcome, Refusal, Removed, Settled, Taken, Written};
+pub use send::Sent;
+pub use shared::{Guard, Shared};
+pub use views::{Current, Front, Look, Promise};

@@ -1,0 +1,163 @@
+//! All `unsafe` of this crate. Each call here is as safe as its signature.
+//!
+//! What the archive asks of a caller, and why it is so here:
+//!
+//! - The handle was made as null or by the archive, and is let go once: `Handle` and `Slot` alone hold one, and neither
+//!   can be copied.
+//! - One call at a time uses it: a command takes `&mut`, and a look takes `&` of a type that is not `Sync`.
+//! - Slices are not null: those of Rust never are.
+//! - What a `Piece` points to is read while the connection is as it was: a `Pieces` borrows it.
+
+use limekeel_sys as sys;
+use std::cell::UnsafeCell;
+use std::io::IoSlice;
+use std::ops::Deref;
+use std::ptr::null_mut;
+
+use crate::views::Front;
+
+/// A connection of the archive's, or none.
+#[derive(Debug)]
+pub(crate) struct Handle {
+    // A look takes the connection out of the handle and puts it back, so it writes behind a `&`.
+    inner: UnsafeCell<sys::Connection>,
+}
+
+// SAFETY: the archive proves `Send` of what is behind the pointer, and nothing of it is tied to a thread. The cell keeps
+// `Handle` from being `Sync`.
+unsafe impl Send for Handle {}
+
+/// Calls an export with the handle of a `&mut`, and what else it takes by value.
+macro_rules! commands {
+    ($($name:ident($($argument:ident: $kind:ty),*) -> $answer:ty = $export:ident;)*) => {
+        $(
+            pub(crate) fn $name(&mut self $(, $argument: $kind)*) -> $answer {
+                // SAFETY: the handle is this value's own, and `&mut` says that no other call uses it.
+                unsafe { sys::$export(self.inner.get() $(, $argument)*) }
+            }
+        )*
+    };
+}
+
+/// The same with the handle of a `&`.
+macro_rules! looks {
+    ($($name:ident($($argument:ident: $kind:ty),*) -> $answer:ty = $export:ident;)*) => {
+        $(
+            pub(crate) fn $name(&self $(, $argument: $kind)*) -> $answer {
+                // SAFETY: the handle is this value's own, and not `Sync`, so that no other call uses it meanwhile; no
+                // reference into the cell is ever made.
+                unsafe { sys::$export(self.inner.get() $(, $argument)*) }
+            }
+        )*
+    };
+}
+
+impl Handle {
+    pub(crate) const fn none() -> Handle {
+        Handle { inner: UnsafeCell::new(sys::Connection { at: null_mut() }) }
+    }
+
+    commands! {
+        open(low: u32, high: u32, overhead: u32, unknown: u32) -> u32 = limekeel_open;
+        free() -> u32 = limekeel_free;
+        write_region(length: u64) -> sys::Written = limekeel_write_region;
+        write_other(value: u32) -> sys::Written = limekeel_write_other;
+        flush() -> sys::Flushed = limekeel_flush;
+        remove() -> sys::Removed = limekeel_remove;
+        remove_with(cause: u32) -> sys::Removed = limekeel_remove_with;
+        take_sent(n: u64) -> sys::Taken = limekeel_take_sent;
+        progress(n: u64) -> u32 = limekeel_progress;
+        cancel(id: u64) -> sys::Cancelled = limekeel_cancel;
+        fail_flushed(cause: u32, notify: bool) -> sys::Taken = limekeel_fail_flushed;
+        close(cause: u32) -> sys::Taken = limekeel_close;
+        user_bit(index: u32, writable: bool) -> sys::Changed = limekeel_user_bit;
+        set_marks(low: u32, high: u32) -> u32 = limekeel_set_marks;
+    }
+
+    looks! {
+        look() -> sys::Look = limekeel_look;
+        is_writable() -> sys::Truth = limekeel_is_writable;
+        is_closed() -> sys::Truth = limekeel_is_closed;
+        promise(id: u64) -> sys::Promise = limekeel_promise;
+        front() -> sys::Front = limekeel_front;
+        current() -> sys::Current = limekeel_current;
+    }
+
+    pub(crate) fn write(&mut self, bytes: &[u8]) -> sys::Written {
+        // SAFETY: the handle is this value's own; the pointer and the length are those of one slice.
+        unsafe { sys::limekeel_write_bytes(self.inner.get(), bytes.as_ptr(), bytes.len()) }
+    }
+
+    pub(crate) fn write_block(&mut self, block: &Slot) -> sys::Written {
+        // SAFETY: both handles are their values' own, and two values; neither type is `Sync`, so that no other call uses
+        // one of them meanwhile.
+        unsafe { sys::limekeel_write_block(self.inner.get(), block.inner.get()) }
+    }
+
+    pub(crate) fn pieces<const N: usize>(&self, max_bytes: u32) -> Pieces<'_, N> {
+        let mut slices = [IoSlice::new(&[]); N];
+        // SAFETY: the handle is this value's own, as in a look. On Unix an `IoSlice` is laid out as `struct iovec`, which
+        // is what a `Piece` is. The archive fills the first `count` slices with where bytes of the connection lie, and
+        // they lie there until it changes, which the borrow in `Pieces` keeps off.
+        let told = unsafe { sys::limekeel_gather_pieces(self.inner.get(), slices.as_mut_ptr().cast(), N, max_bytes) };
+        Pieces { slices, count: told.count, front: Front::of(told.front) }
+    }
+}
+
+impl Drop for Handle {
+    fn drop(&mut self) {
+        self.free();
+    }
+}
+
+/// Where the flushed blocks in front lie, for one vectored write. It borrows the connection.
+#[derive(Debug)]
+pub struct Pieces<'a, const N: usize> {
+    slices: [IoSlice<'a>; N],
+    count: usize,
+    front: Front,
+}
+
+impl<const N: usize> Pieces<'_, N> {
+    /// What stands in front.
+    #[must_use]
+    pub fn front(&self) -> Front {
+        self.front
+    }
+}
+
+impl<'a, const N: usize> Deref for Pieces<'a, N> {
+    type Target = [IoSlice<'a>];
+
+    fn deref(&self) -> &[IoSlice<'a>] {
+        &self.slices[..self.count]
+    }
+}
+
+/// A block of the archive's, or none.
+#[derive(Debug)]
+pub(crate) struct Slot {
+    // A write takes the bytes out and puts them back, so it writes behind a `&`.
+    inner: UnsafeCell<sys::Block>,
+}
+
+// SAFETY: as of `Handle`. The owners of the bytes are counted by an atomic.
+unsafe impl Send for Slot {}
+
+impl Slot {
+    pub(crate) const fn none() -> Slot {
+        Slot { inner: UnsafeCell::new(sys::Block { at: null_mut() }) }
+    }
+
+    pub(crate) fn fill(&mut self, bytes: &[u8]) -> u32 {
+        // SAFETY: the handle is this value's own; the pointer and the length are those of one slice.
+        unsafe { sys::limekeel_block_of_bytes(self.inner.get(), bytes.as_ptr(), bytes.len()) }
+    }
+}
+
+impl Drop for Slot {
+    fn drop(&mut self) {
+        // SAFETY: the handle is this value's own, and it is not used again.
+        unsafe { sys::limekeel_block_free(self.inner.get()) };
+    }
+}

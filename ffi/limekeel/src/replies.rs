@@ -1,0 +1,261 @@
+//! What the commands answer.
+
+use limekeel_sys as sys;
+use std::error::Error;
+use std::fmt;
+use std::ops::Range;
+
+/// Why a call was refused. A refused call leaves everything as it was.
+#[non_exhaustive]
+#[derive(Clone, Copy, Debug, PartialEq, Eq, Hash)]
+pub enum Refusal {
+    /// The message counts more than 2147483647 bytes, or a region is longer than `i64::MAX`.
+    Oversize,
+    /// The low mark is above the high mark, or that above 2147483647.
+    BadMarks,
+    /// More than 4294967295 bytes would be pending, or 2^64 - 1 writes were accepted.
+    TooMuch,
+    /// The connection is closed.
+    Closed,
+    /// Progress was told of, and no message is flushed.
+    NothingFlushed,
+    /// The progress of the message would pass `i64::MAX`.
+    TooFar,
+    /// The flushed blocks in front hold fewer bytes.
+    TooManyBytes,
+    /// The index of a user bit is 1 to 31.
+    BadIndex,
+    /// Flushed messages are left.
+    FlushedLeft,
+    /// No write has this promise.
+    UnknownPromise,
+    /// The allocator refused, or a block has more owners than can be counted.
+    NoMemory,
+    /// The overhead or the size of unknown messages is above 65535.
+    BadEstimate,
+    /// A status that this crate does not know; it names no call that this crate makes.
+    Unknown(u32),
+}
+
+impl Refusal {
+    /// The number of the refusal, as traces of `ob_tool` print it.
+    #[must_use]
+    pub fn number(self) -> u32 {
+        match self {
+            Refusal::Oversize => 1,
+            Refusal::BadMarks => 2,
+            Refusal::TooMuch => 3,
+            Refusal::Closed => 4,
+            Refusal::NothingFlushed => 5,
+            Refusal::TooFar => 6,
+            Refusal::TooManyBytes => 7,
+            Refusal::BadIndex => 8,
+            Refusal::FlushedLeft => 9,
+            Refusal::UnknownPromise => 10,
+            Refusal::NoMemory => 12,
+            Refusal::BadEstimate => 15,
+            Refusal::Unknown(status) => status,
+        }
+    }
+
+    fn of(status: u32) -> Refusal {
+        match status {
+            1 => Refusal::Oversize,
+            2 => Refusal::BadMarks,
+            3 => Refusal::TooMuch,
+            4 => Refusal::Closed,
+            5 => Refusal::NothingFlushed,
+            6 => Refusal::TooFar,
+            7 => Refusal::TooManyBytes,
+            8 => Refusal::BadIndex,
+            9 => Refusal::FlushedLeft,
+            10 => Refusal::UnknownPromise,
+            12 => Refusal::NoMemory,
+            15 => Refusal::BadEstimate,
+            other => Refusal::Unknown(other),
+        }
+    }
+}
+
+impl fmt::Display for Refusal {
+    fn fmt(&self, f: &mut fmt::Formatter<'_>) -> fmt::Result {
+        f.write_str(match self {
+            Refusal::Oversize => "the message is too large to be counted",
+            Refusal::BadMarks => "the low mark is above the high mark, or the high mark above 2147483647",
+            Refusal::TooMuch => "too much is pending, or too many writes were accepted",
+            Refusal::Closed => "the connection is closed",
+            Refusal::NothingFlushed => "no message is flushed",
+            Refusal::TooFar => "the progress of the message would pass 9223372036854775807",
+            Refusal::TooManyBytes => "the flushed blocks in front hold fewer bytes",
+            Refusal::BadIndex => "the index of a user bit is 1 to 31",
+            Refusal::FlushedLeft => "flushed messages are left",
+            Refusal::UnknownPromise => "no write has this promise",
+            Refusal::NoMemory => "out of memory",
+            Refusal::BadEstimate => "the overhead or the size of unknown messages is above 65535",
+            Refusal::Unknown(status) => return write!(f, "status {status}"),
+        })
+    }
+}
+
+impl Error for Refusal {}
+
+/// Whether a status says that the call was accepted.
+pub(crate) fn done(status: u32) -> Result<(), Refusal> {
+    if status == 0 { Ok(()) } else { Err(Refusal::of(status)) }
+}
+
+/// How a call turned writability. Each change is told once.
+#[derive(Clone, Copy, Debug, PartialEq, Eq, Hash)]
+pub enum Change {
+    /// Writers should stop.
+    Unwritable,
+    /// Writers may go on.
+    Writable,
+}
+
+impl Change {
+    pub(crate) fn of(number: u32) -> Option<Change> {
+        match number {
+            1 => Some(Change::Unwritable),
+            2 => Some(Change::Writable),
+            _ => None,
+        }
+    }
+}
+
+/// How a promise was settled.
+#[derive(Clone, Copy, Debug, PartialEq, Eq, Hash)]
+pub enum Outcome {
+    /// The message was sent.
+    Success,
+    /// It was given up, for this cause.
+    Failed(u32),
+    /// It was taken back before a flush.
+    Cancelled,
+}
+
+impl Outcome {
+    pub(crate) fn of(number: u32, cause: u32) -> Outcome {
+        match number {
+            2 => Outcome::Failed(cause),
+            3 => Outcome::Cancelled,
+            _ => Outcome::Success,
+        }
+    }
+}
+
+/// What an accepted write answers.
+#[must_use = "nothing tells the change of writability again"]
+#[derive(Clone, Copy, Debug, PartialEq, Eq)]
+pub struct Written {
+    /// The promise of the message: ids count the accepted writes from 0.
+    pub id: u64,
+    /// Whether writers should stop.
+    pub change: Option<Change>,
+}
+
+impl Written {
+    pub(crate) fn of(told: sys::Written) -> Result<Written, Refusal> {
+        done(told.status)?;
+        Ok(Written { id: told.id, change: Change::of(told.change) })
+    }
+}
+
+/// What a flush answers.
+#[must_use = "nothing tells the change of writability again"]
+#[derive(Clone, Copy, Debug, PartialEq, Eq)]
+pub struct Flushed {
+    /// How many messages it let the transport have, cancelled ones too.
+    pub count: u64,
+    /// Whether writers may go on: cancelled messages count nothing any more.
+    pub change: Option<Change>,
+}
+
+impl Flushed {
+    pub(crate) fn of(told: sys::Flushed) -> Result<Flushed, Refusal> {
+        done(told.status)?;
+        Ok(Flushed { count: told.count, change: Change::of(told.change) })
+    }
+}
+
+/// What the removal of the first flushed message answers.
+#[must_use = "nothing tells the change of writability or the settlement again"]
+#[derive(Clone, Copy, Debug, PartialEq, Eq)]
+pub struct Removed {
+    /// Whether a message was flushed. If none was, nothing changed.
+    pub any: bool,
+    /// The promise that it settled, unless that was cancelled before.
+    pub settled: Option<(u64, Outcome)>,
+    /// Whether writers may go on.
+    pub change: Option<Change>,
+}
+
+impl Removed {
+    pub(crate) fn of(told: sys::Removed) -> Result<Removed, Refusal> {
+        done(told.status)?;
+        let settled = told.settled.then(|| (told.id, Outcome::of(told.outcome, told.cause)));
+        Ok(Removed { any: told.any, settled, change: Change::of(told.change) })
+    }
+}
+
+/// What a call answers that takes several messages away.
+#[must_use = "nothing tells the change of writability or the settlements again"]
+#[derive(Clone, Debug, PartialEq, Eq)]
+pub struct Taken {
+    /// How many messages it took away, cancelled ones too.
+    pub count: u64,
+    /// How it changed writability.
+    pub change: Option<Change>,
+    /// The promises of the messages that it took away.
+    pub promises: Range<u64>,
+    /// The outcome of those that it settled.
+    pub outcome: Outcome,
+    /// Those that it did not settle, since they were cancelled before.
+    cancelled: Vec<u64>,
+}
+
+impl Taken {
+    pub(crate) fn of(told: sys::Taken) -> Result<Taken, Refusal> {
+        done(told.status)?;
+        Ok(Taken {
+            count: told.count,
+            change: Change::of(told.change),
+            promises: told.from..told.to,
+            outcome: Outcome::of(told.outcome, told.cause),
+            cancelled: Vec::new(),
+        })
+    }
+
+    pub(crate) fn without(mut self, cancelled: Vec<u64>) -> Taken {
+        self.cancelled = cancelled;
+        self
+    }
+
+    /// The promises that it settled, oldest first, each with its outcome.
+    #[must_use]
+    pub fn settled(&self) -> Settled<'_> {
+        Settled { rest: self.promises.clone(), outcome: self.outcome, cancelled: &self.cancelled }
+    }
+}
+
+/// The promises that a call settled, oldest first, each with its outcome.
+#[derive(Clone, Debug)]
+pub struct Settled<'a> {
+    rest: Range<u64>,
+    outcome: Outcome,
+    cancelled: &'a [u64],
+}
+
+impl Iterator for Settled<'_> {
+    type Item = (u64, Outcome);
+
+    fn next(&mut self) -> Option<(u64, Outcome)> {
+        loop {
+            let id = self.rest.next()?;
+            match self.cancelled.split_first() {
+                Some((first, behind)) if *first == id => self.cancelled = behind,
+                _ => return Some((id, self.outcome)),
+            }
+        }
+    }
+}

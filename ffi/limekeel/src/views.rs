@@ -1,0 +1,110 @@
+//! What the looks show.
+
+use crate::replies::{Outcome, done};
+use limekeel_sys as sys;
+
+/// What is pending.
+#[derive(Clone, Copy, Debug, PartialEq, Eq)]
+pub struct Look {
+    /// The pending bytes (Netty's `totalPendingWriteBytes`).
+    pub total: u32,
+    /// Bit 0 is the mark, bit i the user bit i. The connection is writable if the word is 0.
+    pub word: u32,
+    /// How many messages are flushed and not removed.
+    pub size: u64,
+    /// How many bytes more make a writable connection unwritable, else 0.
+    pub before_unwritable: u32,
+    /// How many bytes fewer bring an unwritable connection below its low mark, else 0.
+    pub before_writable: u32,
+    /// The progress of the first flushed message, or 0 if there is none.
+    pub current_progress: u64,
+}
+
+impl Look {
+    pub(crate) fn of(told: sys::Look) -> Look {
+        debug_assert!(done(told.status).is_ok());
+        Look {
+            total: told.total,
+            word: told.word,
+            size: told.size,
+            before_unwritable: told.before_unwritable,
+            before_writable: told.before_writable,
+            current_progress: told.current_progress,
+        }
+    }
+}
+
+/// What has become of a promise.
+#[derive(Clone, Copy, Debug, PartialEq, Eq)]
+pub enum Promise {
+    /// It may still be cancelled.
+    Waiting,
+    /// A flush has fixed it: it can no longer be cancelled.
+    Fixed,
+    /// It is settled, and its message still stands in the connection: it was cancelled.
+    Settled(Outcome),
+    /// Its message is gone. The call that took it away told the outcome.
+    SettledBefore,
+}
+
+impl Promise {
+    pub(crate) fn of(told: sys::Promise) -> Option<Promise> {
+        match told.state {
+            1 => Some(Promise::Waiting),
+            2 => Some(Promise::Fixed),
+            3 => Some(Promise::Settled(Outcome::of(told.outcome, told.cause))),
+            4 => Some(Promise::SettledBefore),
+            _ => None,
+        }
+    }
+}
+
+/// What stands in front of what is flushed.
+#[derive(Clone, Copy, Debug, PartialEq, Eq)]
+pub enum Front {
+    /// Nothing is flushed.
+    Nothing,
+    /// Blocks that hold a byte.
+    Blocks,
+    /// Empty blocks, and then no block that holds a byte: `take_sent(0)` takes them away.
+    EmptyBlocks,
+    /// A region, which the caller sends.
+    Region,
+    /// Another message, which is the caller's.
+    Other,
+}
+
+impl Front {
+    pub(crate) fn of(number: u32) -> Front {
+        match number {
+            1 => Front::Blocks,
+            2 => Front::EmptyBlocks,
+            3 => Front::Region,
+            4 => Front::Other,
+            _ => Front::Nothing,
+        }
+    }
+}
+
+/// What is left of the first flushed message.
+#[derive(Clone, Copy, Debug, PartialEq, Eq)]
+pub enum Current {
+    /// A block of so many bytes.
+    Block(u64),
+    /// A region of so many bytes.
+    Region(u64),
+    /// Another message, by its number.
+    Other(u32),
+}
+
+impl Current {
+    pub(crate) fn of(told: sys::Current) -> Option<Current> {
+        match told.kind {
+            1 => Some(Current::Block(told.number)),
+            2 => Some(Current::Region(told.number)),
+            // the archive widens a number of 32 bits
+            3 => Some(Current::Other(told.number as u32)),
+            _ => None,
+        }
+    }
+}

@@ -1,0 +1,93 @@
+//! The echo server with fast, slow and dying clients on loopback.
+
+#[path = "../examples/echo.rs"]
+mod echo;
+
+use limekeel::Marks;
+use std::io::{Read, Write};
+use std::net::{Shutdown, SocketAddr, TcpListener, TcpStream};
+use std::sync::atomic::{AtomicBool, Ordering};
+use std::thread;
+use std::time::Duration;
+
+const FAST: u64 = 12_000_000;
+
+/// More than the kernel keeps for both ends of a connection.
+const SLOW: u64 = 32_000_000;
+
+const MARKS: Marks = Marks { low: 32768, high: 65536 };
+
+fn byte_at(seed: u64, place: u64) -> u8 {
+    (place.wrapping_mul(2654435761).wrapping_add(seed) >> 7) as u8
+}
+
+/// Sends so many bytes from one thread, and reads them in another after so long a wait.
+fn echoes(address: SocketAddr, seed: u64, count: u64, wait: Duration) {
+    let socket = TcpStream::connect(address).expect("it connects");
+    let mut sender = socket.try_clone().expect("it clones");
+    let sends = thread::spawn(move || {
+        let mut place = 0;
+        while place < count {
+            let until = (place + 30_011).min(count);
+            let bytes: Vec<u8> = (place..until).map(|at| byte_at(seed, at)).collect();
+            sender.write_all(&bytes).expect("the server takes it");
+            place = until;
+        }
+        sender.shutdown(Shutdown::Write).expect("it ends");
+    });
+    let (mut reader, mut place, mut bytes) = (socket, 0, [0; 8192]);
+    thread::sleep(wait);
+    loop {
+        let read = reader.read(&mut bytes).expect("the server answers");
+        if read == 0 {
+            break;
+        }
+        for byte in &bytes[..read] {
+            assert_eq!(*byte, byte_at(seed, place), "byte {place} of client {seed}");
+            place += 1;
+        }
+    }
+    assert_eq!(place, count, "each byte of client {seed} came back");
+    sends.join().expect("the sender ends");
+}
+
+/// Sends a lot, reads nothing and goes away.
+fn dies(address: SocketAddr) {
+    let mut socket = TcpStream::connect(address).expect("it connects");
+    socket.set_write_timeout(Some(Duration::from_millis(200))).expect("it can be set");
+    for _ in 0..64 {
+        if socket.write_all(&[7; 65536]).is_err() {
+            break;
+        }
+    }
+}
+
+#[test]
+fn no_client_fills_the_memory_or_stops_another() {
+    let listener = TcpListener::bind("127.0.0.1:0").expect("it binds");
+    let address = listener.local_addr().expect("it has one");
+    let stop = AtomicBool::new(false);
+    let seen = thread::scope(|scope| {
+        let server = scope.spawn(|| echo::serve(&listener, MARKS, &stop).expect("it serves"));
+        let mut clients = Vec::new();
+        for seed in 0..4 {
+            clients.push(scope.spawn(move || echoes(address, seed, FAST, Duration::ZERO)));
+        }
+        for seed in 4..8 {
+            clients.push(scope.spawn(move || echoes(address, seed, SLOW, Duration::from_millis(700))));
+        }
+        for _ in 0..4 {
+            clients.push(scope.spawn(move || dies(address)));
+        }
+        for client in clients {
+            client.join().expect("each client ends well");
+        }
+        stop.store(true, Ordering::Release);
+        server.join().expect("the server ends")
+    });
+    println!("{seen:?}");
+    assert!(seen.echoed >= 4 * FAST + 4 * SLOW);
+    assert!(seen.stops > 0, "slow clients stop the server");
+    let most = MARKS.high + echo::CHUNK as u32 + 96;
+    assert!(seen.peak <= most, "{} bytes were pending for one client", seen.peak);
+}
