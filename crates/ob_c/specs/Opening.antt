@@ -10,7 +10,7 @@ use Rattle.ob_connection.specs.Connected.{Connected}
 use Rattle.ob_connection.specs.Replies.{done_reply}
 use Rattle.ob_connection.specs.Standing.{StandsFor}
 use Rattle.ob_c.specs.Numbers.{done, no_memory, not_open, already_open, bad_estimate, status_in_c}
-use Rattle.ob_c.specs.Obeying.{ObeysFor}
+use Rattle.ob_c.specs.Obeying.{ObeysFrugallyFor}
 
 -- the settings of these marks, or the status of marks or of an estimate that are refused
 abbrev pub settings_with : Result Marks Refusal → ℕ → ℕ → Result Settings ℕ
@@ -35,4 +35,4 @@ Opens None (Ok settings) status (Some new) = (status ≡ done) × (new.unsent.se
 abbrev pub SetsMarks : Option Connected → Result Marks Refusal → ℕ → Option Connected → Type 0
 SetsMarks None marks status new = (status ≡ not_open) × (new ≡ None)
 SetsMarks (Some old) (Err refusal) status new = (status ≡ number_of refusal) × (new ≡ Some old)
-SetsMarks (Some old) (Ok marks) status new = ObeysFor (Some old) (SetMarks marks) done_reply status_in_c status new
+SetsMarks (Some old) (Ok marks) status new = ObeysFrugallyFor (Some old) (SetMarks marks) done_reply status_in_c status new

@@ -4,7 +4,7 @@ ghost use Rattle.ob_types.specs.WaterMark.{water_mark_of};
 ghost use Rattle.ob_types.specs.declared.command.Command.TheVariants.{Flush, Progress, Cancel, UserBit};
 ghost use Rattle.ob_connection.specs.Replies.{flushed_reply, done_reply, cancelled_reply, bit_reply};
 ghost use Rattle.ob_c.specs.Numbers.{status_in_c};
-ghost use Rattle.ob_c.specs.Obeying.{ObeysFor};
+ghost use Rattle.ob_c.specs.Obeying.{ObeysFrugallyFor};
 ghost use Rattle.ob_c.specs.Opening.{SetsMarks};
 ghost use Rattle.ob_c.specs.Replies.{flushed_in_c, cancelled_in_c, changed_in_c};
 
@@ -17,7 +17,7 @@ use std::alloc::Global;
 /// Lets the transport have all that was written so far.
 #[unsafe(no_mangle)]
 pub extern "C" fn limekeel_flush(alloc: Global, handle: &mut Handle) -> Flushed
-    ensures { ObeysFor handle.old.value Flush flushed_reply flushed_in_c result handle.new.value }
+    ensures { ObeysFrugallyFor handle.old.value Flush flushed_reply flushed_in_c result handle.new.value }
 {
     let Some(mut connection) = handle.connection(alloc) else {
         return Flushed::of(None);
@@ -30,7 +30,7 @@ pub extern "C" fn limekeel_flush(alloc: Global, handle: &mut Handle) -> Flushed
 /// Tells of so many more bytes of progress of the first flushed message.
 #[unsafe(no_mangle)]
 pub extern "C" fn limekeel_progress(alloc: Global, handle: &mut Handle, n: u64) -> u32
-    ensures { ObeysFor handle.old.value (Progress n) done_reply status_in_c result handle.new.value }
+    ensures { ObeysFrugallyFor handle.old.value (Progress n) done_reply status_in_c result handle.new.value }
 {
     let Some(mut connection) = handle.connection(alloc) else {
         return status_of(None);
@@ -43,7 +43,7 @@ pub extern "C" fn limekeel_progress(alloc: Global, handle: &mut Handle, n: u64) 
 /// Takes a promise back.
 #[unsafe(no_mangle)]
 pub extern "C" fn limekeel_cancel(alloc: Global, handle: &mut Handle, id: u64) -> Cancelled
-    ensures { ObeysFor handle.old.value (Cancel (record { 0 = id })) (cancelled_reply id) cancelled_in_c result
+    ensures { ObeysFrugallyFor handle.old.value (Cancel (record { 0 = id })) (cancelled_reply id) cancelled_in_c result
         handle.new.value }
 {
     let Some(mut connection) = handle.connection(alloc) else {
@@ -62,7 +62,7 @@ pub extern "C" fn limekeel_user_bit(
     index: u32,
     writable: bool,
 ) -> Changed
-    ensures { ObeysFor handle.old.value (UserBit index writable) bit_reply changed_in_c result handle.new.value }
+    ensures { ObeysFrugallyFor handle.old.value (UserBit index writable) bit_reply changed_in_c result handle.new.value }
 {
     let Some(mut connection) = handle.connection(alloc) else {
         return Changed::of(None);

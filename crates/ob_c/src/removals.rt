@@ -1,9 +1,10 @@
 //! The commands that take messages away.
 
 ghost use Rattle.ob_types.specs.declared.command.Command.TheVariants.{Remove, RemoveWith, RemoveBytes, FailFlushed, Close};
-ghost use Rattle.ob_connection.specs.Replies.{removed_reply, taken_reply};
-ghost use Rattle.ob_c.specs.Obeying.{ObeysFor};
-ghost use Rattle.ob_c.specs.Replies.{removed_in_c, taken_in_c};
+ghost use Rattle.ob_types.specs.declared.promise.Outcome.TheVariants.{Success, Failed};
+ghost use Rattle.ob_connection.specs.Replies.{removed_reply};
+ghost use Rattle.ob_c.specs.Obeying.{ObeysFrugallyFor, TakesFor};
+ghost use Rattle.ob_c.specs.Replies.{removed_in_c};
 
 use crate::handle::Handle;
 use crate::replies::{Removed, Taken};
@@ -13,7 +14,7 @@ use std::alloc::Global;
 /// Takes the first flushed message away, as sent.
 #[unsafe(no_mangle)]
 pub extern "C" fn limekeel_remove(alloc: Global, handle: &mut Handle) -> Removed
-    ensures { ObeysFor handle.old.value Remove removed_reply removed_in_c result handle.new.value }
+    ensures { ObeysFrugallyFor handle.old.value Remove removed_reply removed_in_c result handle.new.value }
 {
     let Some(mut connection) = handle.connection(alloc) else {
         return Removed::of(None);
@@ -26,7 +27,7 @@ pub extern "C" fn limekeel_remove(alloc: Global, handle: &mut Handle) -> Removed
 /// Takes the first flushed message away, as failed for this cause.
 #[unsafe(no_mangle)]
 pub extern "C" fn limekeel_remove_with(alloc: Global, handle: &mut Handle, cause: u32) -> Removed
-    ensures { ObeysFor handle.old.value (RemoveWith (record { 0 = cause })) removed_reply removed_in_c result
+    ensures { ObeysFrugallyFor handle.old.value (RemoveWith (record { 0 = cause })) removed_reply removed_in_c result
         handle.new.value }
 {
     let Some(mut connection) = handle.connection(alloc) else {
@@ -40,7 +41,7 @@ pub extern "C" fn limekeel_remove_with(alloc: Global, handle: &mut Handle, cause
 /// Takes so many bytes off the flushed blocks in front, as sent, and tells which messages it took away.
 #[unsafe(no_mangle)]
 pub extern "C" fn limekeel_take_sent(alloc: Global, handle: &mut Handle, n: u64) -> Taken
-    ensures { ObeysFor handle.old.value (RemoveBytes n) taken_reply taken_in_c result handle.new.value }
+    ensures { TakesFor handle.old.value (RemoveBytes n) Success result handle.new.value }
 {
     let Some(mut connection) = handle.connection(alloc) else {
         return Taken::of(None);
@@ -58,7 +59,7 @@ pub extern "C" fn limekeel_fail_flushed(
     cause: u32,
     notify: bool,
 ) -> Taken
-    ensures { ObeysFor handle.old.value (FailFlushed (record { 0 = cause }) notify) taken_reply taken_in_c result
+    ensures { TakesFor handle.old.value (FailFlushed (record { 0 = cause }) notify) (Failed (record { 0 = cause })) result
         handle.new.value }
 {
     let Some(mut connection) = handle.connection(alloc) else {
@@ -72,7 +73,7 @@ pub extern "C" fn limekeel_fail_flushed(
 /// Closes the connection for good: fails the messages that no flush has reached for this cause, and tells which they were.
 #[unsafe(no_mangle)]
 pub extern "C" fn limekeel_close(alloc: Global, handle: &mut Handle, cause: u32) -> Taken
-    ensures { ObeysFor handle.old.value (Close (record { 0 = cause })) taken_reply taken_in_c result handle.new.value }
+    ensures { TakesFor handle.old.value (Close (record { 0 = cause })) (Failed (record { 0 = cause })) result handle.new.value }
 {
     let Some(mut connection) = handle.connection(alloc) else {
         return Taken::of(None);

@@ -12,7 +12,7 @@
 //! let mut connection = Connection::open(Marks { low: 200, high: 400 }, Estimate::default())?;
 //! assert_eq!(connection.write(&[0; 304])?.change, None); // 400 bytes are pending, 96 of them for the message itself
 //! assert_eq!(connection.write(&[])?.change, Some(Change::Unwritable)); // stop
-//! connection.flush()?;
+//! let _ = connection.flush()?;
 //! let mut socket = Vec::new();
 //! let sent = connection.send_to(&mut socket)?;
 //! assert_eq!(sent.taken.change, Some(Change::Writable)); // go on
@@ -61,3 +61,8 @@ pub use replies::{Change, Flushed, Outcome, Refusal, Removed, Settled, Taken, Wr
 pub use send::Sent;
 pub use shared::{Guard, Shared};
 pub use views::{Current, Front, Look, Promise};
+
+/// The code of `ffi/README.md`, which a test compiles and runs.
+#[cfg(doctest)]
+#[doc = include_str!("../../README.md")]
+pub struct Readme;
