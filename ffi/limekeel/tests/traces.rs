@@ -66,7 +66,11 @@ fn line(dice: &mut Dice, text: &mut String) -> std::fmt::Result {
             _ => writeln!(text, "?"),
         },
         27 => writeln!(text, "u {} {}", dice.one_of(&[0, 1, 2, 31, 32, 255]), dice.below(2)),
-        28 => writeln!(text, "m {} {}", dice.below(500), dice.below(2000)),
+        28 => {
+            // marks that are none are a fault of the script
+            let high = dice.below(2000);
+            writeln!(text, "m {} {high}", dice.below(high + 1))
+        }
         29 => writeln!(text, "?"),
         _ => writeln!(text, "g {} {}", dice.one_of(&[1, 2, 5, 17, 64]), dice.one_of(&[1, 64, 300, 2147483647])),
     }
