@@ -35,20 +35,31 @@ static void open_at(struct limekeel_connection *connection, int depth)
     must(limekeel_flush(connection).status);
 }
 
-static void cycles(struct limekeel_connection *connection)
+/* Each message is copied, or shares a block. */
+static struct limekeel_block shared = LIMEKEEL_BLOCK;
+
+static void put(struct limekeel_connection *connection, bool copied)
+{
+    if (copied)
+        must(limekeel_write(connection, bytes, SIZE).status);
+    else
+        must(limekeel_write_block(connection, &shared).status);
+}
+
+static inline void cycles(struct limekeel_connection *connection, bool copied)
 {
     for (int at = 0; at < MESSAGES; at++) {
-        must(limekeel_write(connection, bytes, SIZE).status);
+        put(connection, copied);
         must(limekeel_flush(connection).status);
         must(limekeel_remove(connection).status);
     }
 }
 
-static void batches(struct limekeel_connection *connection)
+static inline void batches(struct limekeel_connection *connection, bool copied)
 {
     for (int at = 0; at < MESSAGES / BATCH; at++) {
         for (int message = 0; message < BATCH; message++)
-            must(limekeel_write(connection, bytes, SIZE).status);
+            put(connection, copied);
         must(limekeel_flush(connection).status);
         struct limekeel_piece pieces[BATCH];
         struct limekeel_gathered front = limekeel_gather(connection, pieces, BATCH, UINT32_MAX);
@@ -57,14 +68,14 @@ static void batches(struct limekeel_connection *connection)
     }
 }
 
-static double least(int depth, void (*turns)(struct limekeel_connection *))
+static double least(int depth, bool copied, void (*turns)(struct limekeel_connection *, bool))
 {
     struct limekeel_connection connection = LIMEKEEL_CONNECTION;
     open_at(&connection, depth);
     double best = 1e18;
     for (int time = 0; time < TIMES; time++) {
         double start = now();
-        turns(&connection);
+        turns(&connection, copied);
         double spent = now() - start;
         best = spent < best ? spent : best;
     }
@@ -75,8 +86,11 @@ static double least(int depth, void (*turns)(struct limekeel_connection *))
 int main(void)
 {
     static const int depths[] = {1, 16, 1000, 100000};
-    for (int at = 0; at < 4; at++)
-        printf("c %d %.1f %.1f\n", depths[at], least(depths[at], cycles),
-               least(depths[at], batches));
+    must(limekeel_block_new(&shared, bytes, SIZE));
+    for (int copied = 1; copied >= 0; copied--)
+        for (int at = 0; at < 4; at++)
+            printf("%s %d %.1f %.1f\n", copied ? "c" : "c-shared", depths[at], least(depths[at], copied, cycles),
+                   least(depths[at], copied, batches));
+    must(limekeel_block_free(&shared));
     return 0;
 }

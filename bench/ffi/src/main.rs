@@ -31,6 +31,7 @@ trait Queue {
     fn send(&mut self) -> usize;
 }
 
+/// Through the crate, each message copied. A call of the archive is done whether or not its answer is used.
 struct Copied(Connection);
 
 impl Queue for Copied {
@@ -39,55 +40,51 @@ impl Queue for Copied {
     }
 
     fn write(&mut self) {
-        let _ = black_box(self.0.write(black_box(&BYTES)).expect("it is accepted"));
+        let _ = self.0.write(&BYTES).expect("it is accepted");
     }
 
     fn flush(&mut self) {
-        let _ = black_box(self.0.flush().expect("it is open"));
+        let _ = self.0.flush().expect("it is open");
     }
 
     fn remove(&mut self) {
-        let _ = black_box(self.0.remove().expect("it is open"));
+        let _ = self.0.remove().expect("it is open");
     }
 
     fn send(&mut self) -> usize {
-        send_of(&mut self.0)
+        let pieces = self.0.pieces::<BATCH>(u32::MAX);
+        let count = black_box(&*pieces).iter().map(|piece| piece.len()).sum();
+        let _ = self.0.take_sent(ALL).expect("they wait");
+        count
     }
-}
-
-fn send_of(connection: &mut Connection) -> usize {
-    let pieces = connection.pieces::<BATCH>(u32::MAX);
-    let count = black_box(&*pieces).iter().map(|piece| piece.len()).sum();
-    let _ = black_box(connection.take_sent(ALL).expect("they wait"));
-    count
 }
 
 /// The same with a block that all messages share.
-struct Shared(Connection, Block);
+struct Shared(Copied, Block);
 
 impl Queue for Shared {
     fn open() -> Self {
-        Shared(Copied::open().0, Block::new(&BYTES).expect("there is memory"))
+        Shared(Copied::open(), Block::new(&BYTES).expect("there is memory"))
     }
 
     fn write(&mut self) {
-        let _ = black_box(self.0.write_block(black_box(&self.1)).expect("it is accepted"));
+        let _ = self.0.0.write_block(&self.1).expect("it is accepted");
     }
 
     fn flush(&mut self) {
-        let _ = black_box(self.0.flush().expect("it is open"));
+        self.0.flush();
     }
 
     fn remove(&mut self) {
-        let _ = black_box(self.0.remove().expect("it is open"));
+        self.0.remove();
     }
 
     fn send(&mut self) -> usize {
-        send_of(&mut self.0)
+        self.0.send()
     }
 }
 
-/// The same rules in plain Rust.
+/// The same rules in plain Rust, each message copied.
 struct ByHand(by_hand::Buffer);
 
 impl Queue for ByHand {
@@ -119,6 +116,32 @@ impl Queue for ByHand {
         black_box(&pieces);
         black_box(self.0.remove_bytes(ALL).expect("they wait"));
         count
+    }
+}
+
+/// The same with a block that all messages share.
+struct ByHandShared(ByHand, by_hand::Bytes);
+
+impl Queue for ByHandShared {
+    fn open() -> Self {
+        ByHandShared(ByHand::open(), by_hand::Bytes::new(&BYTES))
+    }
+
+    fn write(&mut self) {
+        let shared = black_box(&self.1).clone();
+        black_box(self.0.0.write(by_hand::Message::Block(shared)).expect("it is accepted"));
+    }
+
+    fn flush(&mut self) {
+        self.0.flush();
+    }
+
+    fn remove(&mut self) {
+        self.0.remove();
+    }
+
+    fn send(&mut self) -> usize {
+        self.0.send()
     }
 }
 
@@ -215,5 +238,6 @@ fn main() {
     time::<Copied>("rust");
     time::<Shared>("rust-shared");
     time::<ByHand>("by-hand");
+    time::<ByHandShared>("by-hand-shared");
     time::<Barest>("barest");
 }
