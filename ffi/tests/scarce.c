@@ -1,0 +1,123 @@
+/*
+ * Each growth of memory refused, in turn: the call that wanted it says LIMEKEEL_NO_MEMORY and changes nothing, and when it
+ * is made again all goes on as if nothing had been refused. Links no heap.c: the heap here refuses.
+ */
+#include <stdio.h>
+#include <stdlib.h>
+#include <string.h>
+
+#include "limekeel.h"
+
+struct block {
+    bool ok;
+    unsigned char *at;
+};
+
+static unsigned char nowhere;
+static int asked, refused_at;
+
+static struct block answer(bool may, unsigned char *at)
+{
+    struct block block = {may, may ? at : &nowhere};
+    return block;
+}
+
+static bool may_have(void)
+{
+    return ++asked != refused_at;
+}
+
+struct block rattle_alloc(size_t size, size_t align);
+struct block rattle_realloc(unsigned char *at, size_t kept, size_t size, size_t align);
+void rattle_dealloc(unsigned char *at);
+
+struct block rattle_alloc(size_t size, size_t align)
+{
+    (void)align;
+    return may_have() ? answer(true, malloc(size > 0 ? size : 1)) : answer(false, NULL);
+}
+
+struct block rattle_realloc(unsigned char *at, size_t kept, size_t size, size_t align)
+{
+    (void)kept;
+    (void)align;
+    return may_have() ? answer(true, realloc(at, size > 0 ? size : 1)) : answer(false, NULL);
+}
+
+void rattle_dealloc(unsigned char *at)
+{
+    free(at);
+}
+
+static void expect(const char *what, bool holds)
+{
+    if (!holds) {
+        fprintf(stderr, "growth %d refused: %s\n", refused_at, what);
+        exit(1);
+    }
+}
+
+static bool same(struct limekeel_look one, struct limekeel_look other)
+{
+    return one.status == other.status && one.total == other.total && one.word == other.word && one.size == other.size &&
+           one.before_unwritable == other.before_unwritable && one.before_writable == other.before_writable &&
+           one.current_progress == other.current_progress;
+}
+
+static int wanted;
+
+/* A write, made again if memory was wanted. */
+static struct limekeel_written written(struct limekeel_connection *connection, struct limekeel_block *block,
+                                       const char *text)
+{
+    struct limekeel_look before = limekeel_look(connection);
+    for (;;) {
+        struct limekeel_written told = text ? limekeel_write(connection, text, strlen(text))
+                                            : limekeel_write_block(connection, block);
+        if (told.status != LIMEKEEL_NO_MEMORY)
+            return told;
+        wanted++;
+        expect("a refused write changes nothing", same(before, limekeel_look(connection)) && told.id == 0);
+    }
+}
+
+/* A life of a connection. Answers how often memory was wanted. */
+static int life(void)
+{
+    struct limekeel_connection connection = LIMEKEEL_CONNECTION;
+    struct limekeel_block block = LIMEKEEL_BLOCK;
+    asked = wanted = 0;
+    while (limekeel_open(&connection, 1000, 2000, 96, 8) == LIMEKEEL_NO_MEMORY)
+        wanted++;
+    while (limekeel_block_new(&block, "shared", 6) == LIMEKEEL_NO_MEMORY)
+        wanted++;
+    for (uint64_t id = 0; id < 40; id++) {
+        struct limekeel_written told = written(&connection, &block, id % 3 == 0 ? NULL : "copied");
+        expect("ids rise by one", told.status == LIMEKEEL_OK && told.id == id);
+    }
+    expect("40 messages are flushed", limekeel_flush(&connection).count == 40);
+    struct limekeel_piece pieces[LIMEKEEL_PIECES];
+    struct limekeel_gathered front = limekeel_gather(&connection, pieces, LIMEKEEL_PIECES, UINT32_MAX);
+    expect("and gathered", front.count == 40);
+    for (size_t at = 0; at < front.count; at++)
+        expect("each as it was written", pieces[at].length == 6 &&
+                                             memcmp(pieces[at].at, at % 3 == 0 ? "shared" : "copied", 6) == 0);
+    struct limekeel_taken taken = limekeel_take_sent(&connection, 39 * 6 + 3);
+    expect("39 are gone", taken.status == LIMEKEEL_OK && taken.from == 0 && taken.to == 39);
+    front = limekeel_gather(&connection, pieces, 1, UINT32_MAX);
+    expect("and half of one is left", front.count == 1 && pieces[0].length == 3 && memcmp(pieces[0].at, "red", 3) == 0);
+    expect("it fails", limekeel_fail_flushed(&connection, 4, true).count == 1);
+    expect("free", limekeel_free(&connection) == LIMEKEEL_OK && limekeel_block_free(&block) == LIMEKEEL_OK);
+    return wanted;
+}
+
+int main(void)
+{
+    expect("nothing is wanted of a heap that gives", life() == 0);
+    int growths = asked;
+    int told = 0;
+    for (refused_at = 1; refused_at <= growths; refused_at++)
+        told += life();
+    printf("%d growths refused in turn, %d told\n", growths, told);
+    return told == 0;
+}
