@@ -3,11 +3,11 @@ ghost use Rattle.std.specs.Prelude.{◌≡◌};
 use crate::contents::Contents;
 
 /// How many entries the ring keeps room for while it is open.
-const KEPT_ROOM: usize = 16;
+const KEPT_ROOM: usize = 64;
 
 impl Contents {
-    /// Gives memory back if little of it is used: if the ring has room for more than 16 entries, and at most a quarter of
-    /// that is used, it keeps room for twice as many as there are, and for 16 at least. Once it is closed it keeps none. It
+    /// Gives memory back if little of it is used: if the ring has room for more than 64 entries, and at most a quarter of
+    /// that is used, it keeps room for twice as many as there are, and for 64 at least. Once it is closed it keeps none. It
     /// cannot fail: if the allocator refuses the smaller block, the ring keeps the one that it has.
     ///
     /// A ring with as many entries as half its room gives nothing back until half of them are gone, and one that gave back
