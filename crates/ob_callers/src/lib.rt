@@ -2,5 +2,6 @@
 #![tactic(auto)]
 
 pub mod caller;
+pub mod first;
 pub mod in_flight;
 pub mod shared;
