@@ -37,7 +37,7 @@ TakesFor None command outcome told new = (told ≡ taken_in_c None) × (new ≡ 
 TakesFor (Some old) command outcome told new =
     (result : Result TakenReply Refusal) × (after : Connected)
     × (told ≡ taken_in_c (Some result)) × (new ≡ Some after) × Obeys old command taken_reply result after
-    × IsNext old outcome result × ¬ IsErrOf result NoMemory
+    × IsNext old outcome result after × ¬ IsErrOf result NoMemory
 
 -- a connection obeys a command, but that memory may be wanted before it is asked, which changes nothing
 abbrev pub ObeysOrWants : {A : Type 0} → Connected → Command → (List PromiseState → A → Reply) → Result A Refusal →
