@@ -24,6 +24,7 @@ impl Connection {
     /// a region longer than 9223372036854775807, then `TooMuch` if more than 4294967295 bytes would be pending or 2^64 - 1
     /// writes were accepted, and then `NoMemory` if the allocator refused. Each leaves everything as it was, but for the
     /// message, which is dropped.
+    #[inline(always)]
     pub fn write(&mut self, message: Message) -> Result<Written, Refusal>
         ensures { Obeys self.old (Write message) written_reply result self.new }
     {

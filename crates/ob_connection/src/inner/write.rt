@@ -12,6 +12,8 @@ const MAX_WRITES: u64 = 18446744073709551615;
 
 impl Inner {
     /// The step of `Connection::write`.
+    // As at `Contents::add`.
+    #[inline(always)]
     pub fn write(&mut self, message: Message) -> Result<Written, Refusal>
         ensures moves { Moves self.old (Write message) written_reply result self.new }
         ensures refused { OnErr result (self.new ≡ self.old) }

@@ -22,6 +22,9 @@ impl Contents {
     }
 
     /// Adds a message for which there is room. The growth comes before any change.
+    // Else the message goes through memory once more, and is read there by other pieces than it was written in, for which
+    // the processor waits: a third of a cycle of write, flush and remove.
+    #[inline(always)]
     pub fn add(&mut self, message: Message, size: u32) -> Result<(), AllocError>
         requires fits { pending_total (whole [] self.old) + size ≤ greatest_total }
         ensures ok { OnOk result ((gone : List Outcome) →
