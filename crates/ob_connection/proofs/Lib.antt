@@ -1,3 +1,4 @@
+pub mod Answered
 pub mod Gathered
 pub mod GivingUp
 pub mod Kept

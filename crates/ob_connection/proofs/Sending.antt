@@ -1,19 +1,23 @@
 -- What was sent can be taken away.
-use Rattle.ob_connection.proofs.Words.{◌≡◌, ◌≤◌, ℕ, Bool, false, List, length, take, ltb, cond, sym, ap, ◌∙◌, whole}
+use Rattle.ob_connection.proofs.Words.{◌≡◌, ◌≤◌, ℕ, Bool, false, not, List, [], refl, subst, length, take, ltb, cond, sym, ap, ◌∙◌, whole}
 use Rattle.ob_connection.proofs.Words.{arith, nat_tests, Some, None, Option, Err, Refusal, Closed, Reply, Command, Settings}
 use Rattle.ob_connection.proofs.Words.{Connected, StandsFor, Gives, most_ids, true, ◌<◌}
 use Rattle.std.proofs.lemmas.List.{length-map}
 use Rattle.ob_types.specs.Limits.{greatest_total}
 use Rattle.ob_seq.specs.Entry.{PendingEntry, entry_of}
 use Rattle.ob_seq.specs.Line.{line}
-use Rattle.ob_seq.specs.State.{empty_after}
+use Rattle.ob_seq.specs.State.{closed_after, empty_after}
 use Rattle.ob_seq.specs.Unsent.{pending_entry}
 use Rattle.ob_seq.proofs.Rows.Limits.{run_within}
 use Rattle.ob_connection.specs.declared.ending.Ending.{Ending}
 use Rattle.ob_connection.specs.declared.ending.Ending.TheVariants.{Drained, Blocked as NoRoom, OtherInFront, TurnsUsed, Broken as IsBroken}
-use Rattle.ob_connection.specs.Sending.{Ends}
+use Rattle.ob_connection.specs.Sending.{Asks, bytes_or_fault, Ends, offered_after, sent_or_fault}
+use Rattle.ob_connection.specs.declared.connection.sending.SendFault.{SendFault}
+use Rattle.ob_connection.specs.declared.connection.sending.Sent.{Sent}
+use Rattle.ob_connection.specs.declared.inner.offer.Offer.{Offer}
+use Rattle.ob_connection.specs.declared.inner.offer.Offer.TheVariants.{Nothing, Took, Blocked as AskedBlocked, Broken as AskedBroken}
 use Rattle.std.specs.List.{concat}
-use Rattle.std.specs.Prelude.{min}
+use Rattle.std.specs.Prelude.{min, is_some, Result, ◌&&◌}
 use Rattle.ob_types.specs.declared.command.Command.TheVariants.{RemoveBytes}
 use Rattle.ob_types.specs.declared.refusal.Refusal.TheVariants.{TooManyBytes}
 use Rattle.ob_seq.specs.Answer.{reply_of, unless_refused}
@@ -25,7 +29,9 @@ use Rattle.ob_seq.specs.Pieces.{bytes_in}
 use Rattle.ob_seq.proofs.Inside.Gathered.{gathered_first, length_of_concat, more_gathered}
 use Rattle.ob_seq.proofs.Simulating.BytesRemoved.{run_is}
 use Rattle.ob_connection.specs.Limit.{answer_of_connection}
-use Rattle.ob_connection.specs.Offering.{EndsAt, most_pieces, offered, run_of}
+use Rattle.ob_connection.specs.Calls.{Call, calls_with, most_pieces}
+use Rattle.ob_connection.specs.Offering.{answer_of, EndsAt, offered, Offers, run_of}
+use Rattle.ob_connection.specs.Telling.{with_more}
 
 -- what a connection has left in front is what its history has
 pub run_after : (now : Connected) (commands : List Command) → StandsFor now commands →
@@ -111,3 +117,41 @@ few_in_front now commands stands =
       run_within now.unsent.settings most_ids commands stands.accepted,
       ap bytes_in (run_after now commands stands),
     )
+
+-- what is offered is what is offered after the history
+offered_is : (now : Connected) (commands : List Command) → StandsFor now commands → (max_count max_bytes : ℕ) →
+    offered (min most_pieces max_count) max_bytes now.unsent
+    ≡ offered_after max_count max_bytes now.unsent.settings commands
+offered_is now commands stands max_count max_bytes =
+    ap (λ blocks. first_blocks (min most_pieces max_count) max_bytes (with_bytes blocks)) (run_after now commands stands)
+
+-- a socket was asked if there was something to offer
+asked_for : (offer : Offer) (blocks : List (List ℕ)) → (offer ≡ Nothing → blocks ≡ []) →
+    (¬ (offer ≡ Nothing) → 0 < length blocks) → is_some (answer_of offer) ≡ ltb 0 (length blocks)
+asked_for Nothing blocks nothing something = rw (nothing refl) refl
+asked_for (Took count) blocks nothing something = let some = something (λ same. absurd (cc)) in grind (arith, nat_tests)
+asked_for AskedBlocked blocks nothing something = let some = something (λ same. absurd (cc)) in grind (arith, nat_tests)
+asked_for AskedBroken blocks nothing something = let some = something (λ same. absurd (cc)) in grind (arith, nat_tests)
+
+-- what an open connection asks of a socket that it made an offer, and tells
+pub asks_by : {inside now : Connected} → inside ≡ now → Gives now closed_after false → (max_count max_bytes : ℕ) →
+    (sent_before sent_after : Option (List ℕ)) (before after : Option (List Call)) (offer : Offer) →
+    Offers (min most_pieces max_count) max_bytes inside.unsent sent_before before offer sent_after after →
+    (result : Result Sent SendFault) → bytes_or_fault result ≡ sent_or_fault false (answer_of offer) →
+    Asks max_count max_bytes now before result after
+asks_by {now = now} view unclosed max_count max_bytes sent_before sent_after before after offer offers result told =
+    let here : Offers (min most_pieces max_count) max_bytes now.unsent sent_before before offer sent_after after =
+    subst
+    (λ (one : Connected). Offers (min most_pieces max_count) max_bytes one.unsent sent_before before offer sent_after after)
+    view offers in record {
+      answer = answer_of offer;
+      asked = λ commands stands. asked_for offer (offered (min most_pieces max_count) max_bytes now.unsent) here.nothing
+          here.something
+          ∙ ap (λ (blocks : List (List ℕ)). ltb 0 (length blocks)) (offered_is now commands stands max_count max_bytes)
+          ∙ ap (λ closed. not closed && ltb 0 (length (offered_after max_count max_bytes now.unsent.settings commands)))
+          (unclosed commands stands);
+      calls = λ commands stands. here.calls
+          ∙ ap (λ (blocks : List (List ℕ)). with_more before (calls_with (concat blocks) (answer_of offer)))
+          (offered_is now commands stands max_count max_bytes);
+      told = λ commands stands. told ∙ ap (λ closed. sent_or_fault closed (answer_of offer)) (unclosed commands stands);
+    }

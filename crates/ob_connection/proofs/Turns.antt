@@ -5,7 +5,7 @@ use Rattle.std.specs.List.{concat}
 use Rattle.ob_connection.proofs.Words.{Becomes, Connected, Unsent, held}
 use Rattle.std.specs.Prelude.{max, min}
 use Rattle.std.proofs.Math.Seq.{drop-append-add, take-add}
-use Rattle.std.proofs.lemmas.List.{drop-append-le, drop-drop, length-drop, length-map}
+use Rattle.std.proofs.lemmas.List.{drop-append-le, drop-drop, length-drop, length-map, length-take}
 use Rattle.std.proofs.lemmas.List.Sums.{sum_by-cons}
 use Rattle.ob_types.specs.declared.message.Message.{Message}
 use Rattle.ob_types.specs.declared.message.Message.TheVariants.{Block, Region, Other}
@@ -343,6 +343,38 @@ offered_none max_count max_bytes unsent some none =
     nothing_taken zero pieces some none = absurd (omega (arith, some))
     nothing_taken (suc n) [] some none = refl
     nothing_taken (suc n) (piece ∷ pieces) some none = absurd (omega (arith, ap (λ all. length all) none))
+
+-- blocks of which some hold a byte hold bytes together
+holds_bytes : (blocks : List (List ℕ)) → 0 < length (with_bytes blocks) → 0 < bytes_in blocks
+holds_bytes [] some = absurd (omega (arith, some))
+holds_bytes (block ∷ blocks) some = by_test (ltb 0 (length block)) refl (holds_bytes blocks) some
+  where
+    by_test : (holds : Bool) → ltb 0 (length block) ≡ holds →
+        (0 < length (with_bytes blocks) → 0 < bytes_in blocks) →
+        0 < length (cond holds (block ∷ with_bytes blocks) (with_bytes blocks)) → 0 < bytes_in (block ∷ blocks)
+    by_test true test rest some =
+        let size : 0 < length block = grind (arith, nat_tests) in
+        omega (arith, size, sum_by-cons (λ (one : List ℕ). length one) block blocks)
+    by_test false test rest some =
+        omega (arith, rest some, sum_by-cons (λ (one : List ℕ). length one) block blocks)
+
+-- if a socket is offered anything there are bytes in front
+pub offered_some : (max_count max_bytes : ℕ) (unsent : Unsent) → 0 < length (offered max_count max_bytes unsent) →
+    0 < bytes_in (run_of unsent)
+offered_some max_count max_bytes unsent some =
+    let holding = with_bytes (run_of unsent) in
+    holds_bytes (run_of unsent)
+    (omega (arith, some, length-take (min max_count (max 1 (pieces_within max_bytes holding))) holding))
+
+-- if there are bytes in front a message stands in line
+pub some_in_line : (unsent : Unsent) → 0 < bytes_in (run_of unsent) → 0 < length unsent.line
+some_in_line unsent some =
+    first (pending_entries unsent.line) some (length-map unsent.line pending_entry)
+  where
+    first : (entries : List PendingEntry) → 0 < bytes_in (blocks_left entries) → length entries ≡ length unsent.line →
+        0 < length unsent.line
+    first [] some same = absurd (omega (arith, some))
+    first (entry ∷ entries) some same = omega (arith, same)
 
 -- a turn behind another one
 module _ (old mid : Connected) (a : ℕ) (first : Becomes (removed a) old mid) (fits : a ≤ bytes_in (run_of old.unsent))

@@ -1,6 +1,6 @@
 -- The words that the proofs of this crate speak, passed on from one place. Declares nothing.
 pub use Rattle.std.proofs.Common.{◌≡◌, refl, sym, ap, ◌∙◌, subst, arith, ℕ, zero, suc, ◌+◌, ◌-◌, ◌<◌, ◌≤◌, List, [], ◌∷◌, ◌++◌}
-pub use Rattle.std.proofs.Common.{Bool, true, false, length, map, take, drop, ltb, cond, append_assoc, append-nil, not, inl, inr, ◌⊎◌}
+pub use Rattle.std.proofs.Common.{Bool, true, false, length, map, take, drop, ltb, cond, append_assoc, append-nil, length-append, not, inl, inr, ◌⊎◌}
 pub use Rattle.std.specs.Prelude.{Option, Some, None, Result, Ok, Err, is_ok, IsErrOf, OnErr, IfOk, if◌then◌else◌, ⊤}
 pub use Rattle.std.proofs.lemmas.Bool.Decides.{nat_tests}
 pub use Rattle.ob_types.specs.Change.{change_between}

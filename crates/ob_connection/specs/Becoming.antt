@@ -1,10 +1,9 @@
 -- What a call does to a connection, step by step. No public clause cites this module.
-use Rattle.std.specs.Prelude.{◌≡◌, ℕ, List, length, false, ◌-◌, None, Result, Ok}
+use Rattle.std.specs.Prelude.{◌≡◌, ℕ, List, length, false, Result, Ok}
 use Rattle.ob_types.specs.declared.command.Command.{Command}
-use Rattle.ob_types.specs.declared.command.Command.TheVariants.{Close, FailFlushed, RemoveBytes}
+use Rattle.ob_types.specs.declared.command.Command.TheVariants.{RemoveBytes}
 use Rattle.ob_types.specs.declared.promise.Cause.{Cause}
 use Rattle.ob_types.specs.declared.promise.Outcome.{Outcome}
-use Rattle.ob_types.specs.declared.promise.Outcome.TheVariants.{Failed}
 use Rattle.ob_types.specs.declared.promise.PromiseState.{PromiseState}
 use Rattle.ob_types.specs.declared.refusal.Refusal.{Refusal}
 use Rattle.ob_types.specs.declared.reply.Reply.{Reply}
@@ -17,8 +16,7 @@ use Rattle.ob_seq.specs.Unsent.{whole}
 use Rattle.ob_seq.specs.declared.contents.cut.Cut.{Cut}
 use Rattle.ob_connection.specs.Connected.{Connected}
 use Rattle.ob_connection.specs.Limit.{connection_limit}
-use Rattle.ob_connection.specs.GivingUp.{as_result}
-use Rattle.ob_connection.specs.Obeying.{IsNext, IsQuiet}
+use Rattle.ob_connection.specs.GivingUp.{as_result, GivesUpBy}
 use Rattle.ob_connection.specs.Replies.{taken_reply, told_by}
 use Rattle.ob_connection.specs.declared.replies.Taken.{Taken}
 
@@ -64,21 +62,7 @@ TakesSent old bytes taken new =
 abbrev pub HasNoLine : Connected → Type 0
 HasNoLine connection = (connection.unsent.closed ≡ false) × (length connection.unsent.line ≡ 0)
 
--- what is in line was failed without notice, and then the rest by a close; this tells which messages are gone by that
-pub record FailsAll (old : Connected) (cause : Cause) (taken : Taken) (new : Connected) : Type 0 where
-  pub between : Connected
-  pub failed : Taken
-  pub closed : Taken
-  pub fails : Moves old (FailFlushed cause false) taken_reply (as_result failed) between
-  pub closes : Moves between (Close cause) taken_reply (as_result closed) new
-  pub failed_next : IsNext old (Failed cause) (as_result failed) between
-  pub closed_next : IsNext between (Failed cause) (as_result closed) new
-  pub failed_quiet : IsQuiet (as_result failed)
-  pub closed_quiet : IsQuiet (as_result closed)
-  pub all : taken ≡ record {
-    count = new.gone - old.gone;
-    change = None;
-    from = old.gone;
-    to = new.gone;
-    outcome = Failed cause;
-  }
+-- a connection is given up by calls that each make the step of their command
+abbrev pub FailsAll : Connected → Cause → Taken → Connected → Type 0
+FailsAll old cause taken new =
+    GivesUpBy (λ before command told after. Moves before command taken_reply (as_result told) after) old cause taken new

@@ -1,4 +1,5 @@
 pub mod Becoming
+pub mod Calls
 pub mod Connected
 pub mod GivingUp
 pub mod Inside
@@ -9,4 +10,5 @@ pub mod Offering
 pub mod Replies
 pub mod Sending
 pub mod Standing
-pub mod Taking
+pub mod Telling
+pub mod Turns

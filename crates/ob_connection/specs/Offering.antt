@@ -1,19 +1,18 @@
 -- What a socket is offered, and what it made of that. No public clause cites this module.
 use Rattle.std.specs.List.{concat}
-use Rattle.std.specs.Prelude.{◌≡◌, ◌≤◌, ◌<◌, ℕ, List, [], length, take, Option}
+use Rattle.std.specs.Prelude.{◌≡◌, ◌≤◌, ◌<◌, ℕ, List, [], length, take, Option, Some, None, Result, Ok, Err}
 use Rattle.ob_seq.specs.Entry.{blocks_left}
 use Rattle.ob_seq.specs.Gathering.{first_blocks, with_bytes}
 use Rattle.ob_seq.specs.Unsent.{Unsent, pending_entries}
 use Rattle.ob_seq.specs.Pieces.{bytes_in}
 use Rattle.ob_connection.specs.declared.ending.Ending.{Ending}
-use Rattle.ob_connection.specs.declared.ending.Ending.TheVariants.{Drained, Blocked as NoRoom, OtherInFront, TurnsUsed, Broken as IsBroken}
-use Rattle.ob_connection.specs.Taking.{with_taken}
+use Rattle.ob_connection.specs.declared.ending.Ending.TheVariants.{Drained, Blocked as EndsBlocked, OtherInFront, TurnsUsed, Broken as EndsBroken}
+use Rattle.ob_connection.specs.Calls.{Call, calls_with}
+use Rattle.ob_connection.specs.Telling.{with_more}
+use Rattle.ob_connection.specs.declared.socket.SocketFault.{SocketFault}
+use Rattle.ob_connection.specs.declared.socket.SocketFault.TheVariants.{Blocked as HasNoRoom, Broken as IsBroken}
 use Rattle.ob_connection.specs.declared.inner.offer.Offer.{Offer}
 use Rattle.ob_connection.specs.declared.inner.offer.Offer.TheVariants.{Nothing, Took, Blocked, Broken}
-
--- how many pieces a socket is offered at once, at most
-abbrev pub most_pieces : ℕ
-most_pieces = 64
 
 -- the bytes left in each message in line before the first that is no block
 abbrev pub run_of : Unsent → List (List ℕ)
@@ -30,18 +29,28 @@ bytes_taken (Took bytes) = bytes
 bytes_taken Blocked = 0
 bytes_taken Broken = 0
 
+-- what the socket answered, if it was asked
+abbrev pub answer_of : Offer → Option (Result ℕ SocketFault)
+answer_of Nothing = None
+answer_of (Took bytes) = Some (Ok bytes)
+answer_of Blocked = Some (Err HasNoRoom)
+answer_of Broken = Some (Err IsBroken)
+
 -- a socket that had these bytes took the first of those that it was offered, and was not asked only if there were none
-pub record Offers (max_count max_bytes : ℕ) (unsent : Unsent) (sent_before : Option (List ℕ)) (offer : Offer)
-    (sent_after : Option (List ℕ)) : Type 0 where
+pub record Offers (max_count max_bytes : ℕ) (unsent : Unsent) (sent_before : Option (List ℕ))
+    (calls_before : Option (List Call)) (offer : Offer) (sent_after : Option (List ℕ)) (calls_after : Option (List Call))
+    : Type 0 where
   pub within : bytes_taken offer ≤ length (concat (offered max_count max_bytes unsent))
-  pub sent : sent_after ≡ with_taken sent_before (take (bytes_taken offer) (concat (offered max_count max_bytes unsent)))
+  pub sent : sent_after ≡ with_more sent_before (take (bytes_taken offer) (concat (offered max_count max_bytes unsent)))
+  pub calls : calls_after
+      ≡ with_more calls_before (calls_with (concat (offered max_count max_bytes unsent)) (answer_of offer))
   pub nothing : offer ≡ Nothing → offered max_count max_bytes unsent ≡ []
   pub something : ¬ (offer ≡ Nothing) → 0 < length (offered max_count max_bytes unsent)
 
 -- what is left where a sending ended so
 abbrev pub EndsAt : Unsent → Ending → Type 0
 EndsAt unsent Drained = length unsent.line ≡ 0
-EndsAt unsent NoRoom = 0 < length unsent.line
+EndsAt unsent EndsBlocked = 0 < length unsent.line
 EndsAt unsent OtherInFront = (0 < length unsent.line) × (bytes_in (run_of unsent) ≡ 0)
 EndsAt unsent TurnsUsed = 0 < length unsent.line
-EndsAt unsent IsBroken = 0 < length unsent.line
+EndsAt unsent EndsBroken = 0 < length unsent.line

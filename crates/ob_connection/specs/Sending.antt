@@ -1,6 +1,6 @@
 -- What a connection sends at once.
 use Rattle.std.specs.List.{concat}
-use Rattle.std.specs.Prelude.{ℕ, not, List, take, true, false, Option, Result, Ok, Err}
+use Rattle.std.specs.Prelude.{ℕ, Bool, not, nat_lt, length, ◌&&◌, List, take, min, max, true, false, Option, Some, None, is_some, Result, Ok, Err}
 use Rattle.ob_types.specs.declared.command.Command.{Command}
 use Rattle.ob_types.specs.declared.command.Command.TheVariants.{RemoveBytes}
 use Rattle.ob_types.specs.declared.promise.Outcome.TheVariants.{Success}
@@ -11,17 +11,21 @@ use Rattle.ob_seq.specs.Gathering.{gathered_after}
 use Rattle.ob_seq.specs.Pieces.{bytes_in}
 use Rattle.ob_seq.specs.Settings.{Settings}
 use Rattle.ob_seq.specs.State.{closed_after, empty_after}
+use Rattle.ob_connection.specs.Calls.{Call, calls_with, most_pieces}
 use Rattle.ob_connection.specs.Connected.{Connected}
 use Rattle.ob_connection.specs.Obeying.{IsNext, Obeys}
 use Rattle.ob_connection.specs.Replies.{taken_reply}
 use Rattle.ob_connection.specs.Standing.{Gives}
-use Rattle.ob_connection.specs.Taking.{with_taken}
+use Rattle.ob_connection.specs.Telling.{with_more}
+use Rattle.ob_connection.specs.Turns.{AsksInTurns}
 use Rattle.ob_connection.specs.declared.connection.sending.SendFault.{SendFault}
 use Rattle.ob_connection.specs.declared.connection.sending.SendFault.TheVariants.{Closed, Broken}
 use Rattle.ob_connection.specs.declared.connection.sending.Sent.{Sent}
 use Rattle.ob_connection.specs.declared.ending.Ending.{Ending}
 use Rattle.ob_connection.specs.declared.ending.Ending.TheVariants.{Drained, Blocked, OtherInFront, TurnsUsed, Broken as IsBroken}
 use Rattle.ob_connection.specs.declared.replies.SentTurns.{SentTurns}
+use Rattle.ob_connection.specs.declared.socket.SocketFault.{SocketFault}
+use Rattle.ob_connection.specs.declared.socket.SocketFault.TheVariants.{Blocked as HasNoRoom, Broken as FailedForGood}
 use Rattle.ob_connection.specs.declared.replies.Taken.{Taken}
 
 -- how many bytes stand in front of the first message that is no block, after a history
@@ -34,11 +38,43 @@ pub record Sends (max_count max_bytes : ℕ) (old : Connected) (sent_before : Op
     (new : Connected) (sent_after : Option (List ℕ)) : Type 0 where
   pub sent : Gives old
       (λ settings commands.
-      with_taken sent_before (take done.bytes (concat (gathered_after settings commands max_count max_bytes)))) sent_after
+      with_more sent_before (take done.bytes (concat (gathered_after settings commands max_count max_bytes)))) sent_after
   pub obeys : (let result : Result Taken Refusal = Ok done.taken in
       Obeys old (RemoveBytes done.bytes) taken_reply result new)
   pub next : (let result : Result Taken Refusal = Ok done.taken in IsNext old Success result new)
   pub more : Gives new (λ settings commands. not (empty_after settings commands)) done.more
+
+-- what a socket is offered at once: what is gathered, and at most 64 blocks
+abbrev pub offered_after : ℕ → ℕ → Settings → List Command → List (List ℕ)
+offered_after max_count max_bytes settings commands =
+    gathered_after settings commands (min most_pieces max_count) max_bytes
+
+-- how many bytes are sent, or why none, by whether the connection is closed and by what the socket answered, if it was asked
+abbrev pub sent_or_fault : Bool → Option (Result ℕ SocketFault) → Result ℕ SendFault
+sent_or_fault true answer = Err Closed
+sent_or_fault false None = Ok 0
+sent_or_fault false (Some (Ok count)) = Ok count
+sent_or_fault false (Some (Err HasNoRoom)) = Ok 0
+sent_or_fault false (Some (Err FailedForGood)) = Err Broken
+
+-- how many bytes a sending at once told of, or its fault
+abbrev pub bytes_or_fault : Result Sent SendFault → Result ℕ SendFault
+bytes_or_fault (Ok done) = Ok done.bytes
+bytes_or_fault (Err fault) = Err fault
+
+-- a sending at once asks the socket if the connection is open and there is something to offer, once, and offers it all;
+-- and it tells what the socket answered
+pub record Asks (max_count max_bytes : ℕ) (old : Connected) (before : Option (List Call)) (result : Result Sent SendFault)
+    (after : Option (List Call)) : Type 0 where
+  pub answer : Option (Result ℕ SocketFault)
+  pub asked : Gives old
+      (λ settings commands.
+      not (closed_after settings commands) && nat_lt 0 (length (offered_after max_count max_bytes settings commands)))
+      (is_some answer)
+  pub calls : Gives old
+      (λ settings commands.
+      with_more before (calls_with (concat (offered_after max_count max_bytes settings commands)) answer)) after
+  pub told : Gives old (λ settings commands. sent_or_fault (closed_after settings commands) answer) (bytes_or_fault result)
 
 -- how a sending of several turns ended, by what is left
 abbrev pub Ends : Connected → Ending → Type 0
@@ -50,15 +86,17 @@ Ends new IsBroken = Gives new empty_after false
 
 -- all turns together took the first bytes of those in front, as many as are told; they were taken away as by one removal,
 -- which answers what is told; and it is told how they ended
-pub record SendsInTurns (old : Connected) (sent_before : Option (List ℕ)) (done : SentTurns) (new : Connected)
-    (sent_after : Option (List ℕ)) : Type 0 where
+pub record SendsInTurns (max_turns : ℕ) (old : Connected) (sent_before : Option (List ℕ))
+    (calls_before : Option (List Call)) (done : SentTurns) (new : Connected) (sent_after : Option (List ℕ))
+    (calls_after : Option (List Call)) : Type 0 where
   pub sent : Gives old
       (λ settings commands.
-      with_taken sent_before (take done.bytes (concat (byte_run (rows_after settings.estimate commands)))))
+      with_more sent_before (take done.bytes (concat (byte_run (rows_after settings.estimate commands)))))
       sent_after
   pub obeys : (let result : Result Taken Refusal = Ok done.taken in
       Obeys old (RemoveBytes done.bytes) taken_reply result new)
   pub next : (let result : Result Taken Refusal = Ok done.taken in IsNext old Success result new)
+  pub asks : AsksInTurns (max 1 max_turns) done.bytes calls_before done.ending calls_after
   pub ends : Ends new done.ending
 
 -- a connection that is closed sends nothing, and no other tells that it is

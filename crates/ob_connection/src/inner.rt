@@ -1,6 +1,7 @@
-ghost use Rattle.std.specs.Prelude.{◌≡◌, ◌≤◌, [], false};
+ghost use Rattle.std.specs.Prelude.{◌≡◌, ◌≤◌};
 ghost use Rattle.ob_types.specs.Change.{change_between};
 ghost use Rattle.ob_types.specs.Limits.{greatest_overhead, greatest_unknown};
+ghost use Rattle.ob_seq.specs.Unsent.{nothing_unsent};
 ghost use Rattle.ob_connection.specs.Connected.{accepted_writes};
 ghost use Rattle.ob_connection.specs.Limit.{most_ids};
 
@@ -44,14 +45,7 @@ impl Inner {
         requires overhead { estimate.overhead ≤ greatest_overhead }
         requires unknown { estimate.unknown ≤ greatest_unknown }
         ensures { result ≡ record {
-          unsent = record {
-            settings = record { marks = marks; estimate = estimate };
-            marks = marks;
-            line = [];
-            unflushed = [];
-            word = 0;
-            closed = false;
-          };
+          unsent = nothing_unsent (record { marks = marks; estimate = estimate });
           gone = 0;
         } }
     {

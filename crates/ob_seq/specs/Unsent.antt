@@ -1,5 +1,5 @@
 -- What waits to be sent, each message with its promise.
-use Rattle.std.specs.Prelude.{ℕ, ◌+◌, Bool, false, List, ◌++◌, length, map, if◌then◌else◌}
+use Rattle.std.specs.Prelude.{ℕ, ◌+◌, Bool, false, List, [], ◌++◌, length, map, if◌then◌else◌}
 use Rattle.ob_types.specs.WaterMark.{Marks}
 use Rattle.ob_types.specs.declared.promise.Outcome.{Outcome}
 use Rattle.ob_types.specs.declared.promise.Outcome.TheVariants.{Cancelled}
@@ -19,6 +19,11 @@ pub record Unsent : Type 0 where
   pub unflushed : List Entry
   pub word : ℕ
   pub closed : Bool
+
+-- nothing, as after the opening
+abbrev pub nothing_unsent : Settings → Unsent
+nothing_unsent settings =
+    record { settings = settings; marks = settings.marks; line = []; unflushed = []; word = 0; closed = false }
 
 -- how many messages wait
 abbrev pub waiting_count : Unsent → ℕ

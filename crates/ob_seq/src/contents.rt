@@ -1,8 +1,8 @@
-ghost use Rattle.std.specs.Prelude.{◌≡◌, ◌≤◌, [], false, length};
+ghost use Rattle.std.specs.Prelude.{◌≡◌, ◌≤◌, [], length};
 ghost use Rattle.ob_types.specs.Limits.{greatest_overhead, greatest_unknown};
 ghost use Rattle.ob_seq.specs.Steps.Held.{pending_total};
 ghost use Rattle.ob_seq.specs.Steps.UserBit.{with_user_bit};
-ghost use Rattle.ob_seq.specs.Unsent.{whole, waiting_count};
+ghost use Rattle.ob_seq.specs.Unsent.{nothing_unsent, whole, waiting_count};
 
 mod add;
 mod cut;
@@ -65,14 +65,7 @@ impl Contents {
     pub fn new(alloc: Global, marks: WaterMark, estimate: Estimate) -> Contents
         requires overhead { estimate.overhead ≤ greatest_overhead }
         requires unknown { estimate.unknown ≤ greatest_unknown }
-        ensures { result ≡ record {
-          settings = record { marks = marks; estimate = estimate };
-          marks = marks;
-          line = [];
-          unflushed = [];
-          word = 0;
-          closed = false;
-        } }
+        ensures { result ≡ nothing_unsent (record { marks = marks; estimate = estimate }) }
     {
         Contents {
             opened: marks,

@@ -1,9 +1,9 @@
 //! How a connection sends.
 
-ghost use Rattle.std.specs.Prelude.{◌≡◌, IfOk, IfErr, OnErr};
+ghost use Rattle.std.specs.Prelude.{◌≡◌, false, IfOk, IfErr, OnErr};
 ghost use Rattle.ob_connection.specs.declared.connection.sending.SendFault.TheVariants.{Broken as IsBroken, Closed as IsClosed};
-ghost use Rattle.ob_connection.specs.Offering.{bytes_taken};
-ghost use Rattle.ob_connection.specs.Sending.{EndsSending, Sends, SendsInTurns};
+ghost use Rattle.ob_connection.specs.Offering.{answer_of, bytes_taken};
+ghost use Rattle.ob_connection.specs.Sending.{Asks, EndsSending, sent_or_fault, Sends, SendsInTurns};
 
 use crate::connection::Connection;
 use crate::inner::offer::Offer;
@@ -52,6 +52,7 @@ impl Connection {
     ) -> Result<Sent, SendFault>
         ensures sends { IfOk result (λ done.
             Sends max_count max_bytes self.old (S.sent socket.old) done self.new (S.sent socket.new)) }
+        ensures asks { Asks max_count max_bytes self.old (S.calls socket.old) result (S.calls socket.new) }
         ensures kept { OnErr result (self.new ≡ self.old) }
         ensures unsent { OnErr result (S.sent socket.new ≡ S.sent socket.old) }
         ensures ends { EndsSending self.old result }
@@ -92,9 +93,11 @@ impl Connection {
         max_bytes: u32,
     ) -> Result<SentTurns, SendFault>
         ensures sends { IfOk result (λ done.
-            SendsInTurns self.old (S.sent socket.old) done self.new (S.sent socket.new)) }
+            SendsInTurns max_turns self.old (S.sent socket.old) (S.calls socket.old) done self.new (S.sent socket.new)
+            (S.calls socket.new)) }
         ensures kept { OnErr result (self.new ≡ self.old) }
         ensures unsent { OnErr result (S.sent socket.new ≡ S.sent socket.old) }
+        ensures unasked { OnErr result (S.calls socket.new ≡ S.calls socket.old) }
         ensures ends { EndsSending self.old result }
         ensures closed { IfErr result (λ fault. fault ≡ IsClosed) }
     {
@@ -111,6 +114,7 @@ fn taken_of(offer: Offer) -> Result<u64, SendFault>
     ensures taken { IfOk result (λ bytes. bytes ≡ bytes_taken offer) }
     ensures none { OnErr result (bytes_taken offer ≡ 0) }
     ensures broken { IfErr result (λ fault. fault ≡ IsBroken) }
+    ensures told { result ≡ sent_or_fault false (answer_of offer) }
 {
     match offer {
         Offer::Took(bytes) => Ok(bytes),

@@ -3,8 +3,9 @@
 ghost use Rattle.std.specs.Io.Slices.{io_slice_bytes};
 ghost use Rattle.std.specs.List.{concat};
 ghost use Rattle.std.specs.Prelude.{◌≡◌, ◌≤◌, length, take, map, min};
-ghost use Rattle.ob_connection.specs.Offering.{bytes_taken, most_pieces, Offers};
-ghost use Rattle.ob_connection.specs.Taking.{with_taken};
+ghost use Rattle.ob_connection.specs.Calls.{calls_with, most_pieces};
+ghost use Rattle.ob_connection.specs.Offering.{answer_of, bytes_taken, Offers};
+ghost use Rattle.ob_connection.specs.Telling.{with_more};
 
 use crate::inner::Inner;
 use crate::socket::{Socket, SocketFault};
@@ -42,8 +43,8 @@ impl Inner {
     /// Offers a socket the blocks in front, at most `max_count` of them and at most 64, and together at most `max_bytes`
     /// bytes, but the first however long it is. It takes no memory.
     pub fn offer<S: Socket>(&self, socket: &mut S, max_count: u32, max_bytes: u32) -> Offer
-        ensures { Offers (min most_pieces max_count) max_bytes self.now.unsent (S.sent socket.old) result
-            (S.sent socket.new) }
+        ensures { Offers (min most_pieces max_count) max_bytes self.now.unsent (S.sent socket.old)
+            (S.calls socket.old) result (S.sent socket.new) (S.calls socket.new) }
     {
         let mut pieces = [IoSlice::new(&[]); MOST_PIECES];
         let most = MOST_PIECES.min(max_count as usize);
@@ -57,7 +58,8 @@ impl Inner {
         pieces: &mut [IoSlice<'a>],
         max_bytes: u32,
     ) -> Offer
-        ensures { Offers (length pieces.old) max_bytes self.now.unsent (S.sent socket.old) result (S.sent socket.new) }
+        ensures { Offers (length pieces.old) max_bytes self.now.unsent (S.sent socket.old) (S.calls socket.old) result
+            (S.sent socket.new) (S.calls socket.new) }
     {
         let count = self.contents.gather_into(pieces, max_bytes);
         if count == 0 {
@@ -72,7 +74,9 @@ fn ask<S: Socket>(socket: &mut S, pieces: &[IoSlice<'_>]) -> Offer
     ensures asked { ¬ (result ≡ Offer.Nothing) }
     ensures within { bytes_taken result ≤ length (concat (map io_slice_bytes pieces.now)) }
     ensures sent { S.sent socket.new
-        ≡ with_taken (S.sent socket.old) (take (bytes_taken result) (concat (map io_slice_bytes pieces.now))) }
+        ≡ with_more (S.sent socket.old) (take (bytes_taken result) (concat (map io_slice_bytes pieces.now))) }
+    ensures calls { S.calls socket.new
+        ≡ with_more (S.calls socket.old) (calls_with (concat (map io_slice_bytes pieces.now)) (answer_of result)) }
 {
     match socket.write_vectored(pieces) {
         Ok(bytes) => Offer::Took(bytes as u64),

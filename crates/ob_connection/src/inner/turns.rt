@@ -1,15 +1,17 @@
 //! A socket is offered what stands in front, turn by turn.
 
 ghost use Rattle.std.specs.List.{concat};
-ghost use Rattle.std.specs.Prelude.{◌≡◌, ◌≤◌, ◌+◌, take, false, Ok};
+ghost use Rattle.std.specs.Prelude.{◌≡◌, ◌≤◌, ◌<◌, ◌+◌, length, max, take, false, Ok};
 ghost use Rattle.ob_types.specs.Limits.{greatest_total};
 ghost use Rattle.ob_types.specs.declared.promise.Outcome.TheVariants.{Success};
 ghost use Rattle.ob_seq.specs.Pieces.{bytes_in};
 ghost use Rattle.ob_seq.specs.Steps.RemoveBytes.{whole_cut};
 ghost use Rattle.ob_connection.specs.Becoming.{Becomes, removed, TakesSent};
 ghost use Rattle.ob_connection.specs.Obeying.{IsNext};
-ghost use Rattle.ob_connection.specs.Offering.{bytes_taken, EndsAt, run_of};
-ghost use Rattle.ob_connection.specs.Taking.{with_taken};
+ghost use Rattle.ob_connection.specs.Calls.{answers_in};
+ghost use Rattle.ob_connection.specs.Offering.{answer_of, bytes_taken, EndsAt, run_of};
+ghost use Rattle.ob_connection.specs.Telling.{with_more};
+ghost use Rattle.ob_connection.specs.Turns.{AsksInTurns, EndsWithin};
 
 use crate::ending::Ending;
 use crate::inner::Inner;
@@ -31,7 +33,8 @@ impl Inner {
         ensures moves { TakesSent self.old result.bytes result.taken self.new }
         ensures next { IsNext self.old Success (Ok result.taken) self.new }
         ensures sent { S.sent socket.new
-            ≡ with_taken (S.sent socket.old) (take result.bytes (concat (run_of self.old.unsent))) }
+            ≡ with_more (S.sent socket.old) (take result.bytes (concat (run_of self.old.unsent))) }
+        ensures asks { AsksInTurns (max 1 max_turns) result.bytes (S.calls socket.old) result.ending (S.calls socket.new) }
         ensures ends { EndsAt self.new.unsent result.ending }
     {
         let (before, from) = (self.contents.word(), self.gone);
@@ -58,7 +61,8 @@ impl Inner {
         ensures gone { self.new.gone ≡ self.old.gone + (whole_cut result.0 (run_of self.old.unsent)).whole }
         ensures within { result.0 ≤ bytes_in (run_of self.old.unsent) }
         ensures sent { S.sent socket.new
-            ≡ with_taken (S.sent socket.old) (take result.0 (concat (run_of self.old.unsent))) }
+            ≡ with_more (S.sent socket.old) (take result.0 (concat (run_of self.old.unsent))) }
+        ensures asks { AsksInTurns 1 result.0 (S.calls socket.old) result.1 (S.calls socket.new) }
         ensures ends { EndsAt self.new.unsent result.1 }
     {
         let offer = self.offer(socket, u32::MAX, max_bytes);
@@ -81,16 +85,19 @@ impl Inner {
 
     /// How a sending ends that makes no further turn behind one that had this offer.
     fn ending_after(&self, offer: Offer) -> Ending
-        requires { offer ≡ Offer.Nothing → bytes_in (run_of self.now.unsent) ≡ 0 }
-        ensures { EndsAt self.now.unsent result }
+        requires nothing { offer ≡ Offer.Nothing → bytes_in (run_of self.now.unsent) ≡ 0 }
+        requires left { ¬ (offer ≡ Offer.Nothing) → bytes_taken offer ≡ 0 → 0 < length self.now.unsent.line }
+        ensures left { EndsAt self.now.unsent result }
+        ensures asked { EndsWithin 1 (answers_in (answer_of offer)) result }
     {
-        if self.contents.line_count() == 0 {
-            return Ending::Drained;
-        }
+        let is_drained = self.contents.line_count() == 0;
         match offer {
+            Offer::Nothing if is_drained => Ending::Drained,
             Offer::Nothing => Ending::OtherInFront,
-            Offer::Took(bytes) if bytes > 0 => Ending::TurnsUsed,
-            Offer::Took(_) | Offer::Blocked => Ending::Blocked,
+            Offer::Took(bytes) if bytes == 0 => Ending::Blocked,
+            Offer::Took(_) if is_drained => Ending::Drained,
+            Offer::Took(_) => Ending::TurnsUsed,
+            Offer::Blocked => Ending::Blocked,
             Offer::Broken => Ending::Broken,
         }
     }

@@ -17,9 +17,11 @@ struct Slow {
 }
 
 impl Socket for Slow {
-    ghost use Rattle.std.specs.Prelude.{Some};
+    ghost use Rattle.std.specs.Prelude.{Some, None};
 
     ghost sent = { λ socket. Some socket.log.items };
+
+    ghost calls = { λ _. None };
 
     fn write_vectored(&mut self, pieces: &[IoSlice<'_>]) -> Result<usize, SocketFault> {
         let Some(first) = pieces.first() else {

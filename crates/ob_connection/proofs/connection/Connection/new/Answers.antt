@@ -1,22 +1,13 @@
-use Rattle.ob_connection.proofs.Words.{[], false, refl, sym, Connected}
+use Rattle.ob_connection.proofs.Words.{[], refl, sym, Connected}
 use Rattle.ob_seq.proofs.Word.Marks.{word_at_start}
 use Rattle.ob_seq.specs.Settings.{Settings}
+use Rattle.ob_seq.specs.Unsent.{nothing_unsent}
 use Rattle.ob_connection.specs.Standing.{StandsFor}
 use Rattle.ob_connection.proofs.connection.Connection.new.Goals as goal
 
 -- a connection at its opening
 abbrev opened : Settings → Connected
-opened settings = record {
-  unsent = record {
-    settings = settings;
-    marks = settings.marks;
-    line = [];
-    unflushed = [];
-    word = 0;
-    closed = false;
-  };
-  gone = 0;
-}
+opened settings = record { unsent = nothing_unsent settings; gone = 0 }
 
 -- it stands for no commands
 begins : (settings : Settings) → StandsFor (opened settings) []

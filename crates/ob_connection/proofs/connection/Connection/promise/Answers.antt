@@ -1,6 +1,6 @@
 use Rattle.ob_connection.proofs.Words.{◌≡◌, ◌<◌, ◌≤◌, ◌+◌, ◌-◌, ◌++◌, ◌∷◌, [], ℕ, zero, suc, List, true, false, length, map, ltb, arith}
 use Rattle.ob_connection.proofs.Words.{nat_tests, sym, ap, ◌∙◌, refl, whole, Some, Unsent, Past, held, Connected}
-use Rattle.ob_connection.proofs.Words.{Command, Outcome, PromiseState, Pending, Leaves}
+use Rattle.ob_connection.proofs.Words.{Command, Outcome, PromiseState, Pending, Leaves, StandsFor, accepted_writes}
 use Rattle.std.proofs.Common.{get_or}
 use Rattle.std.specs.Prelude.{slice_get}
 use Rattle.std.proofs.lemmas.Option.{slice_get-get_or, slice_get-map}
@@ -48,15 +48,24 @@ behind gone id late Waiting = refl
 behind gone id late Fixed = refl
 behind gone id late (Settled outcome) = let test : ltb id gone ≡ false = grind (arith, nat_tests) in rw test refl
 
-told_late : (inner : Connected) (past : Past inner) (commands : List Command) → Leaves (held past) commands →
-    (id place : ℕ) (state : PromiseState) → inner.gone ≤ id → id < length (held past).promises →
-    place ≡ id - inner.gone → state ≡ state_at (held past) (length past.outcomes + place) →
-    Some (late_status state)
+-- the promise of a message that waits, by the state that is found at its place
+told_late : (inner : Connected) {unsent : Unsent} {first count : ℕ} (id : ℕ) {state named : PromiseState} →
+    named ≡ state → first ≡ inner.gone → inner.gone ≤ id → count ≡ accepted_writes inner → id < count →
+    unsent ≡ inner.unsent →
+    ((gone : List Outcome) → state ≡ state_at (whole gone unsent) (length gone + (id - first))) →
+    (commands : List Command) → StandsFor inner commands →
+    Some (late_status named)
     ≡ status_of inner.gone id (promise_after inner.unsent.settings commands (record { 0 = id }))
-told_late inner past commands leaves id place state late within at is =
-    let here : length past.outcomes + place ≡ id = omega (arith, past.count) in
-    ap (λ one. Some (late_status one)) (is ∙ ap (state_at (held past)) here)
-    ∙ behind inner.gone id late (state_at (held past) id) ∙ sym (told inner.gone id (held past) commands leaves within)
+told_late inner {unsent} {first} id {state} same begins late all within there is commands stands =
+    let past : Past inner = record { outcomes = stands.past; count = stands.forgotten } in
+    let here : length stands.past + (id - first) ≡ id = omega (arith, stands.forgotten, begins, late) in
+    let few : id < length (held past).promises = omega (arith, ids_are past, all, within) in
+    ap (λ one. Some (late_status one))
+    (same ∙ is stands.past
+    ∙ ap (λ (one : Unsent). state_at (whole stands.past one) (length stands.past + (id - first))) there
+    ∙ ap (state_at (held past)) here)
+    ∙ behind inner.gone id late (state_at (held past) id)
+    ∙ sym (told inner.gone id (held past) commands stands.leaves few)
 
 pub returns-then-id-gone : goal.returns-then-id-gone
 returns-then-id-gone c = rw (← c.self.view_is) (λ commands stands.
@@ -70,40 +79,19 @@ returns-then-id-gone c = rw (← c.self.view_is) (λ commands stands.
     ∙ sym (told c.self.inside.inner.gone c.args.id now commands stands.leaves within))
 
 pub returns-in-Waiting : goal.returns-in-Waiting
-returns-in-Waiting c = rw (← c.self.view_is) (λ commands stands.
-    let inner = c.self.inside.inner in
-    let past : Past inner = record { outcomes = stands.past; count = stands.forgotten } in
-    let place = c.args.id - c.gone-2.result in
-    ap (λ one. Some (late_status one)) (sym c.in-Waiting.is)
-    ∙ told_late inner past commands stands.leaves c.args.id place c.state_at.result
-    (omega (arith, c.gone.ensures, c.if-id-gone.false))
-    (omega (arith, ids_are past, c.accepted_writes.ensures.count, c.if-id-accepted_writes.false))
-    (ap (λ gone. c.args.id - gone) c.gone-2.ensures)
-    (c.state_at.ensures stands.past
-    ∙ ap (λ (one : Unsent). state_at (whole stands.past one) (length stands.past + place)) c.contents.ensures))
+returns-in-Waiting c =
+    rw (← c.self.view_is) (told_late c.self.inside.inner c.args.id (sym c.in-Waiting.is) c.gone-2.ensures
+    (omega (arith, c.gone.ensures, c.if-id-gone.false)) c.accepted_writes.ensures.count
+    (omega (arith, c.if-id-accepted_writes.false)) c.contents.ensures c.state_at.ensures)
 
 pub returns-in-Fixed : goal.returns-in-Fixed
-returns-in-Fixed c = rw (← c.self.view_is) (λ commands stands.
-    let inner = c.self.inside.inner in
-    let past : Past inner = record { outcomes = stands.past; count = stands.forgotten } in
-    let place = c.args.id - c.gone-2.result in
-    ap (λ one. Some (late_status one)) (sym c.in-Fixed.is)
-    ∙ told_late inner past commands stands.leaves c.args.id place c.state_at.result
-    (omega (arith, c.gone.ensures, c.if-id-gone.false))
-    (omega (arith, ids_are past, c.accepted_writes.ensures.count, c.if-id-accepted_writes.false))
-    (ap (λ gone. c.args.id - gone) c.gone-2.ensures)
-    (c.state_at.ensures stands.past
-    ∙ ap (λ (one : Unsent). state_at (whole stands.past one) (length stands.past + place)) c.contents.ensures))
+returns-in-Fixed c =
+    rw (← c.self.view_is) (told_late c.self.inside.inner c.args.id (sym c.in-Fixed.is) c.gone-2.ensures
+    (omega (arith, c.gone.ensures, c.if-id-gone.false)) c.accepted_writes.ensures.count
+    (omega (arith, c.if-id-accepted_writes.false)) c.contents.ensures c.state_at.ensures)
 
 pub returns-in-Settled : goal.returns-in-Settled
-returns-in-Settled c = rw (← c.self.view_is) (λ commands stands.
-    let inner = c.self.inside.inner in
-    let past : Past inner = record { outcomes = stands.past; count = stands.forgotten } in
-    let place = c.args.id - c.gone-2.result in
-    ap (λ one. Some (late_status one)) (sym c.in-Settled.is)
-    ∙ told_late inner past commands stands.leaves c.args.id place c.state_at.result
-    (omega (arith, c.gone.ensures, c.if-id-gone.false))
-    (omega (arith, ids_are past, c.accepted_writes.ensures.count, c.if-id-accepted_writes.false))
-    (ap (λ gone. c.args.id - gone) c.gone-2.ensures)
-    (c.state_at.ensures stands.past
-    ∙ ap (λ (one : Unsent). state_at (whole stands.past one) (length stands.past + place)) c.contents.ensures))
+returns-in-Settled c =
+    rw (← c.self.view_is) (told_late c.self.inside.inner c.args.id (sym c.in-Settled.is) c.gone-2.ensures
+    (omega (arith, c.gone.ensures, c.if-id-gone.false)) c.accepted_writes.ensures.count
+    (omega (arith, c.if-id-accepted_writes.false)) c.contents.ensures c.state_at.ensures)

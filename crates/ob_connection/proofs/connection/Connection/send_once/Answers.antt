@@ -1,11 +1,15 @@
 use Rattle.ob_connection.proofs.Words.{◌≡◌, ◌≤◌, List, ℕ, length, take, not, sym, ap, ◌∙◌, told_by, subst, Connected, Option}
 use Rattle.std.specs.List.{concat}
-use Rattle.std.specs.Prelude.{min}
+use Rattle.std.specs.Prelude.{min, IsErrAnd, Result, Ok, Err}
+use Rattle.ob_connection.specs.declared.connection.sending.SendFault.{SendFault}
+use Rattle.ob_connection.specs.declared.connection.sending.Sent.{Sent}
 use Rattle.ob_connection.specs.Obeying.{promises_after}
-use Rattle.ob_connection.specs.Offering.{most_pieces, offered}
+use Rattle.ob_connection.specs.Calls.{most_pieces}
+use Rattle.ob_connection.specs.Offering.{offered}
 use Rattle.ob_connection.specs.Replies.{taken_reply}
-use Rattle.ob_connection.specs.Taking.{with_taken}
-use Rattle.ob_connection.proofs.Sending.{not_refused, offered_are_gathered, offered_within}
+use Rattle.ob_connection.specs.Sending.{bytes_or_fault}
+use Rattle.ob_connection.specs.Telling.{with_more}
+use Rattle.ob_connection.proofs.Sending.{asks_by, not_refused, offered_are_gathered, offered_within}
 use Rattle.ob_connection.proofs.connection.Connection.send_once.Goals as goal
 
 module _ {inside now : Connected} (view : inside ≡ now) where
@@ -18,12 +22,18 @@ module _ {inside now : Connected} (view : inside ≡ now) where
       view (rw same within)
 
   sent_as : {bytes taken : ℕ} {after : Option (List ℕ)} (before : Option (List ℕ)) (max_count max_bytes : ℕ) → bytes ≡ taken →
-      after ≡ with_taken before (take taken (concat (offered (min most_pieces max_count) max_bytes inside.unsent))) →
-      after ≡ with_taken before (take bytes (concat (offered (min most_pieces max_count) max_bytes now.unsent)))
+      after ≡ with_more before (take taken (concat (offered (min most_pieces max_count) max_bytes inside.unsent))) →
+      after ≡ with_more before (take bytes (concat (offered (min most_pieces max_count) max_bytes now.unsent)))
   sent_as {bytes} {after = after} before max_count max_bytes same is =
       subst (λ (one : Connected).
-      after ≡ with_taken before (take bytes (concat (offered (min most_pieces max_count) max_bytes one.unsent))))
+      after ≡ with_more before (take bytes (concat (offered (min most_pieces max_count) max_bytes one.unsent))))
       view (rw same is)
+
+-- a fault that is passed on is told
+fault_kept : (result : Result Sent SendFault) (fault : SendFault) → IsErrAnd result (λ told. told ≡ fault) →
+    bytes_or_fault result ≡ Err fault
+fault_kept (Ok done) fault same = elim same [ ]
+fault_kept (Err told) fault same = ap Err same
 
 pub unreachable-requires : goal.unreachable-requires
 unreachable-requires g c =
@@ -41,7 +51,7 @@ pub returns-clause-sends : goal.returns-clause-sends
 returns-clause-sends g c = record {
   sent = λ commands stands. sent_as c.self.view_is (g.S.Socket.sent c.args.socket.now) c.args.max_count c.args.max_bytes
       c.in_ok-bytes.ensures.taken c.offer.ensures.sent
-      ∙ ap (with_taken (g.S.Socket.sent c.args.socket.now))
+      ∙ ap (with_more (g.S.Socket.sent c.args.socket.now))
       (offered_are_gathered c.args.self.now commands stands c.args.max_count c.args.max_bytes c.in_ok-bytes.bytes
       (taken_within c.self.view_is c.args.max_count c.args.max_bytes c.in_ok-bytes.ensures.taken
       c.offer.ensures.within));
@@ -49,3 +59,14 @@ returns-clause-sends g c = record {
   next = c.in-Ok.ensures.next;
   more = λ commands stands. ap not (c.is_empty.ensures commands stands);
 }
+
+pub returns-in_err-bytes-clause-asks : goal.returns-in_err-bytes-clause-asks
+returns-in_err-bytes-clause-asks g c =
+    asks_by c.self.view_is (λ commands stands. sym c.if-is_closed.false ∙ c.is_closed.ensures commands stands)
+    c.args.max_count c.args.max_bytes _ _ _ _ c.offer.result c.offer.ensures c.from_residual.result
+    (fault_kept c.from_residual.result c.in_err-bytes.field-0.0 c.from_residual.ensures.1 ∙ c.in_err-bytes.ensures.told)
+
+pub returns-clause-asks : goal.returns-clause-asks
+returns-clause-asks g c =
+    asks_by c.self.view_is (λ commands stands. sym c.if-is_closed.false ∙ c.is_closed.ensures commands stands)
+    c.args.max_count c.args.max_bytes _ _ _ _ c.offer.result c.offer.ensures _ (sym c.in_ok-bytes.was ∙ c.taken_of.ensures.told)

@@ -5,7 +5,7 @@ use Rattle.ob_types.specs.declared.promise.Outcome.TheVariants.{Success}
 use Rattle.ob_connection.specs.Obeying.{IsNext}
 use Rattle.ob_connection.specs.Offering.{run_of}
 use Rattle.ob_connection.specs.Replies.{taken_reply}
-use Rattle.ob_connection.specs.Taking.{with_taken}
+use Rattle.ob_connection.specs.Telling.{with_more}
 use Rattle.ob_connection.specs.declared.replies.Taken.{Taken}
 use Rattle.ob_connection.proofs.Obeyed.{obeys, stays}
 use Rattle.ob_connection.proofs.Sending.{ends_are, few_in_front, run_after}
@@ -31,11 +31,12 @@ returns-clause-sends g c =
     let new = c.send_turns.new.self in
     let before = g.S.Socket.sent c.args.socket.now in record {
       sent = λ commands stands. c.send_turns.ensures.sent
-          ∙ ap (λ (one : Connected). with_taken before (take bytes (concat (run_of one.unsent)))) c.self.view_is
-          ∙ ap (λ (run : List (List ℕ)). with_taken before (take bytes (concat run)))
+          ∙ ap (λ (one : Connected). with_more before (take bytes (concat (run_of one.unsent)))) c.self.view_is
+          ∙ ap (λ (run : List (List ℕ)). with_more before (take bytes (concat run)))
           (run_after c.args.self.now commands stands);
       obeys = subst (λ one. Obeys one (RemoveBytes bytes) taken_reply result new) c.self.view_is
           (obeys (RemoveBytes bytes) taken_reply _ _ result c.self.invariant c.send_turns.ensures.moves tt);
       next = subst (λ one. IsNext one Success result new) c.self.view_is c.send_turns.ensures.next;
+      asks = c.send_turns.ensures.asks;
       ends = ends_are new c.send_turns.result.ending c.send_turns.ensures.ends;
     }

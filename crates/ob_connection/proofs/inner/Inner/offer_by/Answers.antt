@@ -16,6 +16,7 @@ returns g c =
     let some : 0 < count = omega (arith, c.if-count-eq0.false) in record {
       within = rw blocks at c.ask.ensures.within;
       sent = rw blocks at c.ask.ensures.sent;
+      calls = rw blocks at c.ask.ensures.calls;
       nothing = λ none. absurd (c.ask.ensures.asked none);
       something = λ asked. omega (arith, some, filled, ap (λ blocks. length blocks) blocks, c.gather_into-count.auto.pieces, c.gather_into-count.ensures.within);
     }

@@ -2,9 +2,11 @@ use Rattle.ob_connection.proofs.Words.{◌≡◌, ◌≤◌, ℕ, List, length, 
 use Rattle.std.specs.List.{concat}
 use Rattle.std.proofs.lemmas.List.{length-drop}
 use Rattle.ob_seq.proofs.Inside.Gathered.{length_of_concat}
-use Rattle.ob_connection.specs.Offering.{most_pieces, offered, run_of}
-use Rattle.ob_connection.specs.Taking.{with_taken}
-use Rattle.ob_connection.proofs.Turns.{offered_first, offered_none, run_mid}
+use Rattle.ob_connection.specs.Calls.{calls_with, most_pieces}
+use Rattle.ob_connection.specs.Offering.{answer_of, offered, run_of}
+use Rattle.ob_connection.specs.Telling.{with_more}
+use Rattle.ob_connection.proofs.Answered.{answers_are, taken_by}
+use Rattle.ob_connection.proofs.Turns.{offered_first, offered_none, offered_some, run_mid, some_in_line}
 use Rattle.ob_connection.proofs.inner.Inner.send_turn.Goals as goal
 
 -- as many bytes as the socket took
@@ -18,8 +20,8 @@ take_bytes-requires g c =
     c.offer-offer.ensures.within in
     (offered_first most_pieces c.args.max_bytes c.bytes-bytes.result now within).1
 
-pub ending_after-requires : goal.ending_after-requires
-ending_after-requires g c nothing =
+pub ending_after-requires-clause-nothing : goal.ending_after-requires-clause-nothing
+ending_after-requires-clause-nothing g c nothing =
     let now = c.args.self.now.unsent in
     let new = c.take_bytes.new.self.unsent in
     let within = same_within (concat (offered most_pieces c.args.max_bytes now)) c.bytes-bytes.ensures
@@ -36,6 +38,27 @@ ending_after-requires g c nothing =
       length-drop c.bytes-bytes.result (concat (run_of now)),
     )
 
+pub ending_after-requires-clause-left : goal.ending_after-requires-clause-left
+ending_after-requires-clause-left g c asked none =
+    let now = c.args.self.now.unsent in
+    let new = c.take_bytes.new.self.unsent in
+    let within = same_within (concat (offered most_pieces c.args.max_bytes now)) c.bytes-bytes.ensures
+    c.offer-offer.ensures.within in
+    let few = (offered_first most_pieces c.args.max_bytes c.bytes-bytes.result now within).1 in
+    let some = offered_some most_pieces c.args.max_bytes now (c.offer-offer.ensures.something asked) in
+    let rest = run_mid c.args.self.now c.take_bytes.new.self c.bytes-bytes.result c.take_bytes.ensures.becomes few in
+    some_in_line new
+    (omega (
+      arith,
+      none,
+      c.bytes-bytes.ensures,
+      some,
+      length_of_concat (run_of new),
+      length_of_concat (run_of now),
+      ap (λ bytes. length bytes) rest,
+      length-drop c.bytes-bytes.result (concat (run_of now)),
+    ))
+
 pub returns : goal.returns
 returns g c =
     let now = c.args.self.now.unsent in
@@ -46,7 +69,13 @@ returns g c =
       gone = c.take_bytes.ensures.gone;
       within = first.1;
       sent = c.offer-offer.ensures.sent
-          ∙ ap (λ n. with_taken (g.S.Socket.sent c.args.socket.now) (take n all)) (sym c.bytes-bytes.ensures)
-          ∙ ap (with_taken (g.S.Socket.sent c.args.socket.now)) first.0;
-      ends = c.ending_after.ensures;
+          ∙ ap (λ n. with_more (g.S.Socket.sent c.args.socket.now) (take n all)) (sym c.bytes-bytes.ensures)
+          ∙ ap (with_more (g.S.Socket.sent c.args.socket.now)) first.0;
+      asks = record {
+        made = calls_with all (answer_of c.offer-offer.result);
+        calls = c.offer-offer.ensures.calls;
+        bytes = taken_by all c.offer-offer.result ∙ sym c.bytes-bytes.ensures;
+        ends = rw (answers_are all (answer_of c.offer-offer.result)) c.ending_after.ensures.asked;
+      };
+      ends = c.ending_after.ensures.left;
     }

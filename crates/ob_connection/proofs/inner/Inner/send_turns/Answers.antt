@@ -7,12 +7,17 @@ use Rattle.ob_seq.specs.Steps.RemoveBytes.{bytes_step, whole_cut}
 use Rattle.ob_connection.specs.Becoming.{removed}
 use Rattle.ob_connection.specs.Offering.{run_of}
 use Rattle.ob_connection.specs.Replies.{taken_reply}
-use Rattle.ob_connection.specs.Taking.{with_taken}
+use Rattle.ob_connection.specs.Telling.{with_more}
+use denote.Enum.Bare.{differs_false, differs_true}
+use Rattle.ob_connection.specs.contracts.ending.Ending.{the_type}
+use Rattle.ob_connection.specs.declared.ending.Ending.TheVariants.{TurnsUsed}
+use Rattle.ob_connection.proofs.Answered.{asks_all, asks_more, asks_within}
 use Rattle.ob_connection.proofs.Kept.{same_change}
 use Rattle.ob_connection.proofs.Making.{taken}
 use Rattle.ob_connection.proofs.Offered.{taken_twice}
 use Rattle.ob_connection.proofs.Settling.{line_replied}
 use Rattle.ob_connection.proofs.Turns.{both_become, both_sent, both_whole, both_within, few_gone, not_too_many}
+use Rattle.ob_connection.proofs.inner.Inner.send_turns.Goals.{else-loop-test, then-loop-test+then-ne}
 use Rattle.ob_connection.proofs.inner.Inner.send_turns.Goals as goal
 
 pub overflow_add-bytes : goal.overflow_add-bytes
@@ -43,10 +48,13 @@ loop-preserved g c =
         both_whole old c.loop.self c.loop.bytes now.becomes now.within new more turn.becomes turn.within,
       );
       within = both_within old c.loop.self c.loop.bytes now.becomes now.within new more turn.becomes turn.within;
-      sent = turn.sent ∙ ap (λ all. with_taken all (take more (concat (run_of c.loop.self.unsent)))) now.sent
+      sent = turn.sent ∙ ap (λ all. with_more all (take more (concat (run_of c.loop.self.unsent)))) now.sent
           ∙ taken_twice before (take c.loop.bytes bytes) (take more (concat (run_of c.loop.self.unsent)))
-          ∙ ap (with_taken before)
+          ∙ ap (with_more before)
           (both_sent old c.loop.self c.loop.bytes now.becomes now.within new more turn.becomes turn.within);
+      few = omega (arith, c.loop-test.true);
+      asks = asks_more (differs_false the_type tt c.loop.ending TurnsUsed (sym c.ne.ensures ∙ c.if-ne.false)) now.asks
+          turn.asks;
       ends = turn.ends;
     }
 
@@ -68,3 +76,13 @@ returns-clause-moves g c =
     (change_between (held past).word (removed bytes (held past)).word) end (few_gone bytes inside.unsent)
     (same_change c.word-before.ensures (ap (λ (one : Pending). one.word) (becomes past).1)))
     becomes
+
+pub returns-clause-asks : goal.returns-clause-asks
+returns-clause-asks g c =
+    let asks = c.loop.invariant.asks in
+    let few = c.loop.invariant.few in
+    elim c.loop-test.branch [
+      | else-loop-test w ↦ asks_all (omega (arith, few, w.loop-test.false, c.loop.auto.counter)) asks
+      | then-loop-test+then-ne w ↦ asks_within
+          (differs_true the_type c.loop.ending TurnsUsed (sym w.ne.ensures ∙ w.if-ne.true)) few asks
+    ]

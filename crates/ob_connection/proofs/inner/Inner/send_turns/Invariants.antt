@@ -1,10 +1,12 @@
 use Rattle.ob_connection.proofs.Words.{◌≡◌, ◌≤◌, ◌+◌, take, Becomes}
 use Rattle.std.specs.List.{concat}
+use Rattle.std.specs.Prelude.{max}
 use Rattle.ob_seq.specs.Pieces.{bytes_in}
 use Rattle.ob_seq.specs.Steps.RemoveBytes.{whole_cut}
 use Rattle.ob_connection.specs.Becoming.{removed}
 use Rattle.ob_connection.specs.Offering.{EndsAt, run_of}
-use Rattle.ob_connection.specs.Taking.{with_taken}
+use Rattle.ob_connection.specs.Telling.{with_more}
+use Rattle.ob_connection.specs.Turns.{AsksInTurns}
 use Rattle.ob_connection.proofs.inner.Inner.send_turns.Given as goal
 
 abbrev pub invariant-loop : goal.invariant-loop
@@ -13,6 +15,8 @@ invariant-loop g l = record {
   gone : l.self.gone ≡ l.fn.self.gone + (whole_cut l.bytes (run_of l.fn.self.unsent)).whole;
   within : l.bytes ≤ bytes_in (run_of l.fn.self.unsent);
   sent : g.S.Socket.sent l.socket
-      ≡ with_taken (g.S.Socket.sent l.fn.socket) (take l.bytes (concat (run_of l.fn.self.unsent)));
+      ≡ with_more (g.S.Socket.sent l.fn.socket) (take l.bytes (concat (run_of l.fn.self.unsent)));
+  few : l.counter ≤ max 1 l.fn.max_turns;
+  asks : AsksInTurns l.counter l.bytes (g.S.Socket.calls l.fn.socket) l.ending (g.S.Socket.calls l.socket);
   ends : EndsAt l.self.unsent l.ending;
 }

@@ -1,0 +1,114 @@
+-- How a sending of several turns ends, turn by turn.
+use Rattle.ob_connection.proofs.Words.{◌≡◌, ◌≤◌, ◌<◌, ◌+◌, ℕ, zero, suc, List, [], ◌∷◌, ◌++◌, map, refl, sym, ap, ◌∙◌, subst}
+use Rattle.ob_connection.proofs.Words.{append_assoc, arith, Option, Some, None, Result, Ok, length-append}
+use Rattle.std.specs.List.{sum_by}
+use Rattle.std.proofs.lemmas.List.{map-append}
+use Rattle.std.proofs.lemmas.List.Elements.{All-append, All-cons, All-nil}
+use Rattle.std.proofs.lemmas.List.Sums.{sum_by-append}
+use Rattle.ob_connection.specs.Calls.{Call, answers_in, bytes_of, calls_with}
+use Rattle.ob_connection.specs.Telling.{with_more}
+use Rattle.ob_connection.specs.Turns.{AllTook, AsksInTurns, ended_by, EndsWithin, Stopped}
+use Rattle.ob_connection.specs.declared.ending.Ending.{Ending}
+use Rattle.ob_connection.specs.declared.ending.Ending.TheVariants.{Drained, Blocked, OtherInFront, TurnsUsed, Broken}
+use Rattle.ob_connection.specs.declared.socket.SocketFault.{SocketFault}
+use Rattle.ob_connection.specs.Offering.{answer_of, bytes_taken}
+use Rattle.ob_connection.specs.declared.inner.offer.Offer.{Offer}
+use Rattle.ob_connection.specs.declared.inner.offer.Offer.TheVariants.{Nothing, Took, Blocked as AskedBlocked, Broken as AskedBroken}
+use Rattle.ob_connection.proofs.Offered.{taken_twice}
+
+abbrev Answered : Type 0
+Answered = Result ℕ SocketFault
+
+abbrev TookBytes : Answered → Type 0
+TookBytes answer = ended_by answer ≡ None
+
+pub none_took : AllTook []
+none_took = All-nil TookBytes
+
+pub one_took : (count : ℕ) → 0 < count → AllTook (Ok count ∷ [])
+one_took zero some = absurd (omega (arith, some))
+one_took (suc more) some = All-cons TookBytes (Ok (suc more)) [] refl none_took
+
+pub stopped_at_once : (last : Answered) (ending : Ending) → ended_by last ≡ Some ending → Stopped (last ∷ []) ending
+stopped_at_once last ending ends = record { earlier = []; last = last; all = refl; took = none_took; ends = ends }
+
+stopped_later : (earlier now : List Answered) (ending : Ending) → AllTook earlier → Stopped now ending →
+    Stopped (earlier ++ now) ending
+stopped_later earlier now ending took stopped = record {
+  earlier = earlier ++ stopped.earlier;
+  last = stopped.last;
+  all = ap (λ answers. earlier ++ answers) stopped.all ∙ sym (append_assoc earlier stopped.earlier (stopped.last ∷ []));
+  took = All-append TookBytes earlier stopped.earlier took stopped.took;
+  ends = stopped.ends;
+}
+
+-- a turn behind others that the socket took bytes in
+one_more : (turns : ℕ) (earlier now : List Answered) (ending : Ending) → EndsWithin turns earlier TurnsUsed →
+    EndsWithin 1 now ending → EndsWithin (turns + 1) (earlier ++ now) ending
+one_more turns earlier now Drained before ends =
+    (All-append TookBytes earlier now before.0 ends.0, omega (arith, length-append earlier now, before.1, ends.1))
+one_more turns earlier now OtherInFront before ends =
+    (All-append TookBytes earlier now before.0 ends.0, omega (arith, length-append earlier now, before.1, ends.1))
+one_more turns earlier now TurnsUsed before ends =
+    (All-append TookBytes earlier now before.0 ends.0, omega (arith, length-append earlier now, before.1, ends.1))
+one_more turns earlier now Blocked before ends =
+    (stopped_later earlier now Blocked before.0 ends.0, omega (arith, length-append earlier now, before.1, ends.1))
+one_more turns earlier now Broken before ends =
+    (stopped_later earlier now Broken before.0 ends.0, omega (arith, length-append earlier now, before.1, ends.1))
+
+-- a sending that ended before its turns were used up would have ended so within more of them
+more_turns : (few many : ℕ) (answers : List Answered) (ending : Ending) → ¬ (ending ≡ TurnsUsed) → few ≤ many →
+    EndsWithin few answers ending → EndsWithin many answers ending
+more_turns few many answers Drained other fit ends = (ends.0, omega (arith, ends.1, fit))
+more_turns few many answers OtherInFront other fit ends = (ends.0, omega (arith, ends.1, fit))
+more_turns few many answers TurnsUsed other fit ends = absurd (other refl)
+more_turns few many answers Blocked other fit ends = (ends.0, omega (arith, ends.1, fit))
+more_turns few many answers Broken other fit ends = (ends.0, omega (arith, ends.1, fit))
+
+abbrev answers_of : List Call → List Answered
+answers_of made = map (λ call. call.answer) made
+
+-- the answers of the one call that there is
+pub answers_are : (bytes : List ℕ) (answer : Option Answered) →
+    map (λ (call : Call). call.answer) (calls_with bytes answer) ≡ answers_in answer
+answers_are bytes None = refl
+answers_are bytes (Some answer) = refl
+
+-- the bytes of the one call that there is
+pub taken_by : (bytes : List ℕ) (offer : Offer) →
+    sum_by (λ (call : Call). bytes_of call.answer) (calls_with bytes (answer_of offer)) ≡ bytes_taken offer
+taken_by bytes Nothing = refl
+taken_by bytes (Took count) = omega arith
+taken_by bytes AskedBlocked = refl
+taken_by bytes AskedBroken = refl
+
+module _ {turns first : ℕ} {before : Option (List Call)} {mid : Option (List Call)} where
+  -- turns behind which the sending goes on, and one more
+  pub asks_more : {more : ℕ} {was ending : Ending} {after : Option (List Call)} → was ≡ TurnsUsed →
+      AsksInTurns turns first before was mid → AsksInTurns 1 more mid ending after →
+      AsksInTurns (turns + 1) (first + more) before ending after
+  asks_more {more} {was} {ending} {after} on earlier now = record {
+    made = earlier.made ++ now.made;
+    calls = now.calls ∙ ap (λ told. with_more told now.made) earlier.calls ∙ taken_twice before earlier.made now.made;
+    bytes = sum_by-append (λ call. bytes_of call.answer) earlier.made now.made
+        ∙ ap (λ count. count + sum_by (λ call. bytes_of call.answer) now.made) earlier.bytes
+        ∙ ap (λ count. first + count) now.bytes;
+    ends = rw (map-append (λ (call : Call). call.answer) earlier.made now.made)
+        (one_more turns (answers_of earlier.made) (answers_of now.made) ending
+        (subst (λ one. EndsWithin turns (answers_of earlier.made) one) on earlier.ends) now.ends);
+  }
+
+  -- a sending that ended early, of more turns
+  pub asks_within : {many : ℕ} {ending : Ending} → ¬ (ending ≡ TurnsUsed) → turns ≤ many →
+      AsksInTurns turns first before ending mid → AsksInTurns many first before ending mid
+  asks_within {many} {ending} other fit asks = record {
+    made = asks.made;
+    calls = asks.calls;
+    bytes = asks.bytes;
+    ends = more_turns turns many (answers_of asks.made) ending other fit asks.ends;
+  }
+
+  -- a sending that used up its turns
+  pub asks_all : {all : ℕ} {ending : Ending} → turns ≡ all → AsksInTurns turns first before ending mid →
+      AsksInTurns all first before ending mid
+  asks_all {ending = ending} same asks = subst (λ count. AsksInTurns count first before ending mid) same asks
