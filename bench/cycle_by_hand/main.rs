@@ -7,6 +7,7 @@ mod buffer;
 
 use buffer::{Buffer, Bytes, Estimate, Marks, Message, Refusal};
 use std::hint::black_box;
+use std::io::IoSlice;
 use std::time::{Duration, Instant};
 
 const MESSAGES: u32 = 480_000;
@@ -18,13 +19,14 @@ enum Shape {
     Single,
     Batch,
     BatchByBytes,
+    BatchSent,
 }
 
 fn main() {
     for depth in [0, 1, 1_000, 10_000, 100_000] {
-        let shapes = [Shape::Single, Shape::Batch, Shape::BatchByBytes];
-        let [single, batch, by_bytes] = shapes.map(|shape| picoseconds(depth, shape));
-        println!("{depth} {single} {batch} {by_bytes}");
+        let shapes = [Shape::Single, Shape::Batch, Shape::BatchByBytes, Shape::BatchSent];
+        let [single, batch, by_bytes, sent] = shapes.map(|shape| picoseconds(depth, shape));
+        println!("{depth} {single} {batch} {by_bytes} {sent}");
     }
 }
 
@@ -80,6 +82,13 @@ fn cycles(buffer: &mut Buffer, block: &Bytes, shape: Shape) -> Result<usize, Ref
                 settled += buffer.remove_bytes(u64::from(BATCH) * SIZE as u64)?.settled.len();
             }
         }
+        Shape::BatchSent => {
+            for _ in 0..MESSAGES / BATCH {
+                write_batch(buffer, block)?;
+                let taken = offer(buffer);
+                settled += buffer.remove_bytes(taken)?.settled.len();
+            }
+        }
     }
     Ok(settled)
 }
@@ -95,4 +104,15 @@ fn write_batch(buffer: &mut Buffer, block: &Bytes) -> Result<(), Refusal> {
     }
     buffer.flush()?;
     Ok(())
+}
+
+/// Offers a batch to a socket that takes all, and answers how many bytes that are.
+fn offer(buffer: &Buffer) -> u64 {
+    let mut pieces = [IoSlice::new(&[]); 64];
+    let mut count = 0;
+    for (piece, bytes) in pieces.iter_mut().zip(buffer.gather(BATCH as usize, u64::MAX)) {
+        *piece = IoSlice::new(bytes.as_slice());
+        count += 1;
+    }
+    pieces[..count].iter().map(|piece| piece.len() as u64).sum()
 }

@@ -16,7 +16,7 @@ public final class Cycles {
     private static final int BATCH = 16;
     private static final int SIZE = 64;
 
-    private enum Shape { SINGLE, BATCH, BATCH_BY_BYTES }
+    private enum Shape { SINGLE, BATCH, BATCH_BY_BYTES, BATCH_SENT }
 
     private final EmbeddedChannel channel = new EmbeddedChannel();
     private final ByteBuf block = Unpooled.buffer(SIZE).writeZero(SIZE);
@@ -76,6 +76,9 @@ public final class Cycles {
         buffer.addFlush();
         if (shape == Shape.BATCH_BY_BYTES) {
             buffer.removeBytes((long) BATCH * SIZE);
+        } else if (shape == Shape.BATCH_SENT) {
+            buffer.nioBuffers(BATCH, Integer.MAX_VALUE);
+            buffer.removeBytes(buffer.nioBufferSize());
         } else {
             for (int count = 0; count < BATCH; count++) {
                 buffer.remove();
