@@ -7,18 +7,18 @@ use Rattle.ob_connection.specs.declared.look.Look.{Look as LookReply}
 use Rattle.ob_connection.specs.declared.status.Status.{Status}
 use Rattle.ob_connection.specs.declared.status.Status.TheVariants.{Waiting, Fixed, Settled, SettledBefore}
 use Rattle.ob_c.specs.Numbers.{done, not_open, outcome_number, cause_number}
+use Rattle.ob_c.specs.Obeying.{Relays}
 use Rattle.ob_c.specs.declared.views.Current.{Current}
 use Rattle.ob_c.specs.declared.views.Front.{Front}
 use Rattle.ob_c.specs.declared.views.Look.{Look}
 use Rattle.ob_c.specs.declared.views.Promise.{Promise}
 use Rattle.ob_c.specs.declared.views.Truth.{Truth}
 
--- with no connection C is told so, and else what is so of the connection; and the handle stays as it was
+-- C is told what is so of the connection, if there is one, and nothing changes
 abbrev pub Tells : {A C : Type 0} → Option Connected → (Connected → A → Type 0) → (Option A → C) → C → Option Connected →
     Type 0
-Tells None is_so in_c told new = (told ≡ in_c None) × (new ≡ None)
-Tells {A = A} (Some old) is_so in_c told new =
-    (value : A) × (told ≡ in_c (Some value)) × is_so old value × (new ≡ Some old)
+Tells handle is_so in_c told new =
+    Relays handle (λ old value after. is_so old value × (after ≡ old)) in_c told new
 
 -- a look
 abbrev pub look_in_c : Option LookReply → Look

@@ -1,4 +1,4 @@
--- What an export promises of a command.
+-- What an export promises of the connection behind a handle, and of a command to it.
 use Rattle.std.specs.Prelude.{◌≡◌, List, Option, Some, None, Result, IsErrOf, OnErr}
 use Rattle.ob_types.specs.declared.command.Command.{Command}
 use Rattle.ob_types.specs.declared.promise.Outcome.{Outcome}
@@ -13,31 +13,34 @@ use Rattle.ob_connection.specs.declared.replies.Taken.{Taken as TakenReply}
 use Rattle.ob_c.specs.Replies.{taken_in_c}
 use Rattle.ob_c.specs.declared.replies.Taken.{Taken}
 
--- with no connection C is told so and nothing changes, and else the connection obeys the command with a result that C is
--- told
+-- with no connection C is told so and nothing changes, and else C is told a value that is so of the connection before and
+-- after
+abbrev pub Relays : {A C : Type 0} → Option Connected → (Connected → A → Connected → Type 0) → (Option A → C) → C →
+    Option Connected → Type 0
+Relays None is_so in_c told new = (told ≡ in_c None) × (new ≡ None)
+Relays {A = A} (Some old) is_so in_c told new =
+    (value : A) × (after : Connected) × (told ≡ in_c (Some value)) × (new ≡ Some after) × is_so old value after
+
+-- the connection obeys a command with the result that C is told
 abbrev pub ObeysFor : {A C : Type 0} → Option Connected → Command → (List PromiseState → A → Reply) →
     (Option (Result A Refusal) → C) → C → Option Connected → Type 0
-ObeysFor None command tell in_c told new = (told ≡ in_c None) × (new ≡ None)
-ObeysFor {A = A} (Some old) command tell in_c told new =
-    (result : Result A Refusal) × (after : Connected)
-    × (told ≡ in_c (Some result)) × (new ≡ Some after) × Obeys old command tell result after
+ObeysFor handle command tell in_c told new =
+    Relays handle (λ old result after. Obeys old command tell result after) in_c told new
 
 -- the same of a command that takes no memory, and so never tells that it is wanted
 abbrev pub ObeysFrugallyFor : {A C : Type 0} → Option Connected → Command → (List PromiseState → A → Reply) →
     (Option (Result A Refusal) → C) → C → Option Connected → Type 0
-ObeysFrugallyFor None command tell in_c told new = (told ≡ in_c None) × (new ≡ None)
-ObeysFrugallyFor {A = A} (Some old) command tell in_c told new =
-    (result : Result A Refusal) × (after : Connected)
-    × (told ≡ in_c (Some result)) × (new ≡ Some after) × Obeys old command tell result after
-    × ¬ IsErrOf result NoMemory
+ObeysFrugallyFor handle command tell in_c told new =
+    Relays handle (λ old result after. Obeys old command tell result after × ¬ IsErrOf result NoMemory) in_c told new
 
--- the same of a command that takes several messages away: those that come next, with this outcome
+-- a connection obeys a command that takes several messages away: those that come next, with this outcome
+abbrev pub Takes : Command → Outcome → Connected → Result TakenReply Refusal → Connected → Type 0
+Takes command outcome old result new =
+    Obeys old command taken_reply result new × IsNext old outcome result new × ¬ IsErrOf result NoMemory
+
+-- the same of a handle
 abbrev pub TakesFor : Option Connected → Command → Outcome → Taken → Option Connected → Type 0
-TakesFor None command outcome told new = (told ≡ taken_in_c None) × (new ≡ None)
-TakesFor (Some old) command outcome told new =
-    (result : Result TakenReply Refusal) × (after : Connected)
-    × (told ≡ taken_in_c (Some result)) × (new ≡ Some after) × Obeys old command taken_reply result after
-    × IsNext old outcome result after × ¬ IsErrOf result NoMemory
+TakesFor handle command outcome told new = Relays handle (Takes command outcome) taken_in_c told new
 
 -- a connection obeys a command, but that memory may be wanted before it is asked, which changes nothing
 abbrev pub ObeysOrWants : {A : Type 0} → Connected → Command → (List PromiseState → A → Reply) → Result A Refusal →
@@ -45,10 +48,8 @@ abbrev pub ObeysOrWants : {A : Type 0} → Connected → Command → (List Promi
 ObeysOrWants old command tell result new =
     OnErr result (new ≡ old) × (¬ IsErrOf result NoMemory → Obeys old command tell result new)
 
--- the same of a handle: with no connection C is told so
+-- the same of a handle
 abbrev pub ObeysOrWantsFor : {A C : Type 0} → Option Connected → Command → (List PromiseState → A → Reply) →
     (Option (Result A Refusal) → C) → C → Option Connected → Type 0
-ObeysOrWantsFor None command tell in_c told new = (told ≡ in_c None) × (new ≡ None)
-ObeysOrWantsFor {A = A} (Some old) command tell in_c told new =
-    (result : Result A Refusal) × (after : Connected)
-    × (told ≡ in_c (Some result)) × (new ≡ Some after) × ObeysOrWants old command tell result after
+ObeysOrWantsFor handle command tell in_c told new =
+    Relays handle (λ old result after. ObeysOrWants old command tell result after) in_c told new
