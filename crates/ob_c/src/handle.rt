@@ -1,7 +1,9 @@
 //! What C holds of a connection.
 
 ghost use Rattle.std.specs.Prelude.{◌≡◌, IsSome, is_some, Option, Some, None, option_map};
+ghost use Rattle.std.specs.Fn.{FnOnceReturnsAtMut};
 ghost use Rattle.ob_c.specs.Held.{held};
+ghost use Rattle.ob_c.specs.Obeying.{Relays};
 ghost use Rattle.ob_connection.specs.contracts.connection.Connection.{the_row as connection_row};
 ghost use Rattle.ob_connection.specs.Connected.{Connected};
 
@@ -36,6 +38,22 @@ impl Handle {
             return None;
         }
         Some(self.take(alloc).into_box())
+    }
+
+    /// Makes a call of the connection, if there is one, and keeps it.
+    pub(crate) fn with<T, F: FnOnce(&mut Connection) -> T>(
+        &mut self,
+        alloc: Global,
+        call: F,
+    ) -> Option<T>
+        requires { F.IsAlwaysCallable call }
+        ensures { Relays self.old.value (λ old value after. FnOnceReturnsAtMut F.FnOnce call old value after) (λ told. told)
+            result self.new.value }
+    {
+        let mut connection = self.connection(alloc)?;
+        let value = call(&mut connection);
+        self.keep(connection);
+        Some(value)
     }
 
     /// Puts a connection in.

@@ -14,12 +14,7 @@ use std::alloc::Global;
 pub extern "C" fn limekeel_look(alloc: Global, handle: &mut Handle) -> Look
     ensures { Tells handle.old.value Shows look_in_c result handle.new.value }
 {
-    let Some(connection) = handle.connection(alloc) else {
-        return Look::of(None);
-    };
-    let look = connection.look();
-    handle.keep(connection);
-    Look::of(Some(look))
+    Look::of(handle.with(alloc, |connection| connection.look()))
 }
 
 /// Whether writers may go on.
@@ -27,12 +22,7 @@ pub extern "C" fn limekeel_look(alloc: Global, handle: &mut Handle) -> Look
 pub extern "C" fn limekeel_is_writable(alloc: Global, handle: &mut Handle) -> Truth
     ensures { Tells handle.old.value (λ connection. Gives connection writable_after) truth_in_c result handle.new.value }
 {
-    let Some(connection) = handle.connection(alloc) else {
-        return Truth::of(None);
-    };
-    let writable = connection.is_writable();
-    handle.keep(connection);
-    Truth::of(Some(writable))
+    Truth::of(handle.with(alloc, |connection| connection.is_writable()))
 }
 
 /// Whether a close was accepted.
@@ -40,12 +30,7 @@ pub extern "C" fn limekeel_is_writable(alloc: Global, handle: &mut Handle) -> Tr
 pub extern "C" fn limekeel_is_closed(alloc: Global, handle: &mut Handle) -> Truth
     ensures { Tells handle.old.value (λ connection. Gives connection closed_after) truth_in_c result handle.new.value }
 {
-    let Some(connection) = handle.connection(alloc) else {
-        return Truth::of(None);
-    };
-    let closed = connection.is_closed();
-    handle.keep(connection);
-    Truth::of(Some(closed))
+    Truth::of(handle.with(alloc, |connection| connection.is_closed()))
 }
 
 /// What has become of a promise.
@@ -53,12 +38,7 @@ pub extern "C" fn limekeel_is_closed(alloc: Global, handle: &mut Handle) -> Trut
 pub extern "C" fn limekeel_promise(alloc: Global, handle: &mut Handle, id: u64) -> Promise
     ensures { Tells handle.old.value (λ connection. TellsOf connection id) promise_in_c result handle.new.value }
 {
-    let Some(connection) = handle.connection(alloc) else {
-        return Promise::of(None);
-    };
-    let promise = connection.promise(id);
-    handle.keep(connection);
-    Promise::of(Some(promise))
+    Promise::of(handle.with(alloc, |connection| connection.promise(id)))
 }
 
 /// The promise of the first flushed message.
@@ -66,12 +46,7 @@ pub extern "C" fn limekeel_promise(alloc: Global, handle: &mut Handle, id: u64) 
 pub extern "C" fn limekeel_front(alloc: Global, handle: &mut Handle) -> Front
     ensures { Tells handle.old.value IsFrontPromise front_in_c result handle.new.value }
 {
-    let Some(connection) = handle.connection(alloc) else {
-        return Front::of(None);
-    };
-    let front = connection.front();
-    handle.keep(connection);
-    Front::of(Some(front))
+    Front::of(handle.with(alloc, |connection| connection.front()))
 }
 
 /// What is left of the first flushed message.
@@ -79,10 +54,8 @@ pub extern "C" fn limekeel_front(alloc: Global, handle: &mut Handle) -> Front
 pub extern "C" fn limekeel_current(alloc: Global, handle: &mut Handle) -> Current
     ensures { Tells handle.old.value IsCurrent current_in_c result handle.new.value }
 {
-    let Some(connection) = handle.connection(alloc) else {
-        return Current::not_open();
-    };
-    let current = Current::of(connection.current());
-    handle.keep(connection);
-    current
+    match handle.with(alloc, |connection| Current::of(connection.current())) {
+        None => Current::not_open(),
+        Some(current) => current,
+    }
 }

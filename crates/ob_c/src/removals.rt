@@ -16,12 +16,7 @@ use std::alloc::Global;
 pub extern "C" fn limekeel_remove(alloc: Global, handle: &mut Handle) -> Removed
     ensures { ObeysFrugallyFor handle.old.value Remove removed_reply removed_in_c result handle.new.value }
 {
-    let Some(mut connection) = handle.connection(alloc) else {
-        return Removed::of(None);
-    };
-    let answer = connection.remove();
-    handle.keep(connection);
-    Removed::of(Some(answer))
+    Removed::of(handle.with(alloc, |connection| connection.remove()))
 }
 
 /// Takes the first flushed message away, as failed for this cause.
@@ -30,12 +25,7 @@ pub extern "C" fn limekeel_remove_with(alloc: Global, handle: &mut Handle, cause
     ensures { ObeysFrugallyFor handle.old.value (RemoveWith (record { 0 = cause })) removed_reply removed_in_c result
         handle.new.value }
 {
-    let Some(mut connection) = handle.connection(alloc) else {
-        return Removed::of(None);
-    };
-    let answer = connection.remove_with(Cause(cause));
-    handle.keep(connection);
-    Removed::of(Some(answer))
+    Removed::of(handle.with(alloc, |connection| connection.remove_with(Cause(cause))))
 }
 
 /// Takes so many bytes off the flushed blocks in front, as sent, and tells which messages it took away.
@@ -43,12 +33,7 @@ pub extern "C" fn limekeel_remove_with(alloc: Global, handle: &mut Handle, cause
 pub extern "C" fn limekeel_take_sent(alloc: Global, handle: &mut Handle, n: u64) -> Taken
     ensures { TakesFor handle.old.value (RemoveBytes n) Success result handle.new.value }
 {
-    let Some(mut connection) = handle.connection(alloc) else {
-        return Taken::of(None);
-    };
-    let answer = connection.take_sent(n);
-    handle.keep(connection);
-    Taken::of(Some(answer))
+    Taken::of(handle.with(alloc, |connection| connection.take_sent(n)))
 }
 
 /// Takes all flushed messages away, as failed for this cause, and tells which they were.
@@ -62,12 +47,10 @@ pub extern "C" fn limekeel_fail_flushed(
     ensures { TakesFor handle.old.value (FailFlushed (record { 0 = cause }) notify) (Failed (record { 0 = cause })) result
         handle.new.value }
 {
-    let Some(mut connection) = handle.connection(alloc) else {
-        return Taken::of(None);
-    };
-    let answer = connection.fail_flushed(Cause(cause), notify);
-    handle.keep(connection);
-    Taken::of(Some(answer))
+    Taken::of(handle.with(
+        alloc,
+        |connection| connection.fail_flushed(Cause(cause), notify),
+    ))
 }
 
 /// Closes the connection for good: fails the messages that no flush has reached for this cause, and tells which they were.
@@ -75,10 +58,5 @@ pub extern "C" fn limekeel_fail_flushed(
 pub extern "C" fn limekeel_close(alloc: Global, handle: &mut Handle, cause: u32) -> Taken
     ensures { TakesFor handle.old.value (Close (record { 0 = cause })) (Failed (record { 0 = cause })) result handle.new.value }
 {
-    let Some(mut connection) = handle.connection(alloc) else {
-        return Taken::of(None);
-    };
-    let answer = connection.close(Cause(cause));
-    handle.keep(connection);
-    Taken::of(Some(answer))
+    Taken::of(handle.with(alloc, |connection| connection.close(Cause(cause))))
 }

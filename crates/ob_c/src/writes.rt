@@ -25,12 +25,7 @@ pub extern "C" fn limekeel_write_bytes(alloc: Global, handle: &mut Handle, bytes
     ensures { ObeysOrWantsFor handle.old.value (Write (AsBlock bytes.now)) written_reply written_in_c result
         handle.new.value }
 {
-    let Some(mut connection) = handle.connection(alloc) else {
-        return Written::of(None);
-    };
-    let answer = write_copy(alloc, &mut connection, bytes);
-    handle.keep(connection);
-    Written::of(Some(answer))
+    Written::of(handle.with(alloc, |connection| write_copy(alloc, connection, bytes)))
 }
 
 /// Writes the bytes of a block, which the message shares: no byte is copied.
@@ -64,12 +59,10 @@ pub extern "C" fn limekeel_write_block(
 pub extern "C" fn limekeel_write_region(alloc: Global, handle: &mut Handle, length: u64) -> Written
     ensures { ObeysFor handle.old.value (Write (AsRegion length)) written_reply written_in_c result handle.new.value }
 {
-    let Some(mut connection) = handle.connection(alloc) else {
-        return Written::of(None);
-    };
-    let answer = connection.write(Message::Region(length));
-    handle.keep(connection);
-    Written::of(Some(answer))
+    Written::of(handle.with(
+        alloc,
+        |connection| connection.write(Message::Region(length)),
+    ))
 }
 
 /// Writes any other message, by a number that means something to the application alone.
@@ -77,12 +70,7 @@ pub extern "C" fn limekeel_write_region(alloc: Global, handle: &mut Handle, leng
 pub extern "C" fn limekeel_write_other(alloc: Global, handle: &mut Handle, value: u32) -> Written
     ensures { ObeysFor handle.old.value (Write (AsOther value)) written_reply written_in_c result handle.new.value }
 {
-    let Some(mut connection) = handle.connection(alloc) else {
-        return Written::of(None);
-    };
-    let answer = connection.write(Message::Other(value));
-    handle.keep(connection);
-    Written::of(Some(answer))
+    Written::of(handle.with(alloc, |connection| connection.write(Message::Other(value))))
 }
 
 /// Writes a copy of these bytes.
