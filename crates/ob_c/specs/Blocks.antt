@@ -1,5 +1,5 @@
 -- What an export promises of a block.
-use Rattle.std.specs.Prelude.{◌≡◌, ℕ, List, Option, Some, None}
+use Rattle.std.specs.Prelude.{◌≡◌, ℕ, List, Option, Some, None, Err}
 use Rattle.ob_types.specs.declared.command.Command.TheVariants.{Write}
 use Rattle.ob_types.specs.declared.message.Message.TheVariants.{Block as AsBlock}
 use Rattle.ob_connection.specs.Connected.{Connected}
@@ -22,7 +22,7 @@ IsLetGo (Some old) status new = (status ≡ done) × (new ≡ None)
 
 -- the bytes of a block are written, if there are both a connection and a block
 abbrev pub WritesBlock : Option Connected → Option (List ℕ) → Written → Option Connected → Type 0
-WritesBlock None bytes told new = (told ≡ written_in_c None) × (new ≡ None)
-WritesBlock (Some old) None told new = (told ≡ record { status = no_block; change = 0; id = 0 }) × (new ≡ Some old)
+WritesBlock None bytes told new = (told ≡ written_in_c (Err not_open)) × (new ≡ None)
+WritesBlock (Some old) None told new = (told ≡ written_in_c (Err no_block)) × (new ≡ Some old)
 WritesBlock (Some old) (Some bytes) told new =
     ObeysOrWantsFor (Some old) (Write (AsBlock bytes)) written_reply written_in_c told new

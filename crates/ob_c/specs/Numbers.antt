@@ -31,15 +31,16 @@ bad_estimate = 15
 abbrev pub no_block : ℕ
 no_block = 16
 
--- the status of a call: done, or the number of its refusal
-abbrev pub status_of : {A : Type 0} → Result A Refusal → ℕ
-status_of (Ok value) = done
-status_of (Err refusal) = number_of refusal
+-- what a call has to tell: its reply, or else the status of a handle that holds nothing, or of its refusal
+abbrev pub accepted : {A : Type 0} → Option (Result A Refusal) → Result A ℕ
+accepted None = Err not_open
+accepted (Some (Err refusal)) = Err (number_of refusal)
+accepted (Some (Ok reply)) = Ok reply
 
 -- the status of a call that has nothing more to say
-abbrev pub status_in_c : Option (Result ⊤ Refusal) → ℕ
-status_in_c None = not_open
-status_in_c (Some result) = status_of result
+abbrev pub status_in_c : Result ⊤ ℕ → ℕ
+status_in_c (Err status) = status
+status_in_c (Ok reply) = done
 
 -- the number of a change of writability
 abbrev pub change_number : Option Change → ℕ

@@ -1,5 +1,5 @@
 -- What an export promises of the connection behind a handle, and of a command to it.
-use Rattle.std.specs.Prelude.{◌≡◌, List, Option, Some, None, Result, IsErrOf, OnErr}
+use Rattle.std.specs.Prelude.{◌≡◌, ℕ, List, Option, Some, None, Result, IsErrOf, OnErr}
 use Rattle.ob_types.specs.declared.command.Command.{Command}
 use Rattle.ob_types.specs.declared.promise.Outcome.{Outcome}
 use Rattle.ob_types.specs.declared.promise.PromiseState.{PromiseState}
@@ -10,6 +10,7 @@ use Rattle.ob_connection.specs.Connected.{Connected}
 use Rattle.ob_connection.specs.Obeying.{Obeys, IsNext}
 use Rattle.ob_connection.specs.Replies.{taken_reply}
 use Rattle.ob_connection.specs.declared.replies.Taken.{Taken as TakenReply}
+use Rattle.ob_c.specs.Numbers.{accepted}
 use Rattle.ob_c.specs.Replies.{taken_in_c}
 use Rattle.ob_c.specs.declared.replies.Taken.{Taken}
 
@@ -21,17 +22,22 @@ Relays None is_so in_c told new = (told ≡ in_c None) × (new ≡ None)
 Relays {A = A} (Some old) is_so in_c told new =
     (value : A) × (after : Connected) × (told ≡ in_c (Some value)) × (new ≡ Some after) × is_so old value after
 
+-- the same of a command: C is told its reply, or why there is none
+abbrev pub Answers : {A C : Type 0} → Option Connected → (Connected → Result A Refusal → Connected → Type 0) →
+    (Result A ℕ → C) → C → Option Connected → Type 0
+Answers handle is_so in_c told new = Relays handle is_so (λ answer. in_c (accepted answer)) told new
+
 -- the connection obeys a command with the result that C is told
 abbrev pub ObeysFor : {A C : Type 0} → Option Connected → Command → (List PromiseState → A → Reply) →
-    (Option (Result A Refusal) → C) → C → Option Connected → Type 0
+    (Result A ℕ → C) → C → Option Connected → Type 0
 ObeysFor handle command tell in_c told new =
-    Relays handle (λ old result after. Obeys old command tell result after) in_c told new
+    Answers handle (λ old result after. Obeys old command tell result after) in_c told new
 
 -- the same of a command that takes no memory, and so never tells that it is wanted
 abbrev pub ObeysFrugallyFor : {A C : Type 0} → Option Connected → Command → (List PromiseState → A → Reply) →
-    (Option (Result A Refusal) → C) → C → Option Connected → Type 0
+    (Result A ℕ → C) → C → Option Connected → Type 0
 ObeysFrugallyFor handle command tell in_c told new =
-    Relays handle (λ old result after. Obeys old command tell result after × ¬ IsErrOf result NoMemory) in_c told new
+    Answers handle (λ old result after. Obeys old command tell result after × ¬ IsErrOf result NoMemory) in_c told new
 
 -- a connection obeys a command that takes several messages away: those that come next, with this outcome
 abbrev pub Takes : Command → Outcome → Connected → Result TakenReply Refusal → Connected → Type 0
@@ -40,7 +46,7 @@ Takes command outcome old result new =
 
 -- the same of a handle
 abbrev pub TakesFor : Option Connected → Command → Outcome → Taken → Option Connected → Type 0
-TakesFor handle command outcome told new = Relays handle (Takes command outcome) taken_in_c told new
+TakesFor handle command outcome told new = Answers handle (Takes command outcome) taken_in_c told new
 
 -- a connection obeys a command, but that memory may be wanted before it is asked, which changes nothing
 abbrev pub ObeysOrWants : {A : Type 0} → Connected → Command → (List PromiseState → A → Reply) → Result A Refusal →
@@ -50,6 +56,6 @@ ObeysOrWants old command tell result new =
 
 -- the same of a handle
 abbrev pub ObeysOrWantsFor : {A C : Type 0} → Option Connected → Command → (List PromiseState → A → Reply) →
-    (Option (Result A Refusal) → C) → C → Option Connected → Type 0
+    (Result A ℕ → C) → C → Option Connected → Type 0
 ObeysOrWantsFor handle command tell in_c told new =
-    Relays handle (λ old result after. ObeysOrWants old command tell result after) in_c told new
+    Answers handle (λ old result after. ObeysOrWants old command tell result after) in_c told new

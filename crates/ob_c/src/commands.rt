@@ -19,7 +19,7 @@ use std::alloc::Global;
 pub extern "C" fn limekeel_flush(alloc: Global, handle: &mut Handle) -> Flushed
     ensures { ObeysFrugallyFor handle.old.value Flush flushed_reply flushed_in_c result handle.new.value }
 {
-    Flushed::of(handle.with(alloc, |connection| connection.flush()))
+    Flushed::of(handle.command(alloc, |connection| connection.flush()))
 }
 
 /// Tells of so many more bytes of progress of the first flushed message.
@@ -27,7 +27,7 @@ pub extern "C" fn limekeel_flush(alloc: Global, handle: &mut Handle) -> Flushed
 pub extern "C" fn limekeel_progress(alloc: Global, handle: &mut Handle, n: u64) -> u32
     ensures { ObeysFrugallyFor handle.old.value (Progress n) done_reply status_in_c result handle.new.value }
 {
-    status_of(handle.with(alloc, |connection| connection.progress(n)))
+    status_of(handle.command(alloc, |connection| connection.progress(n)))
 }
 
 /// Takes a promise back.
@@ -36,7 +36,7 @@ pub extern "C" fn limekeel_cancel(alloc: Global, handle: &mut Handle, id: u64) -
     ensures { ObeysFrugallyFor handle.old.value (Cancel (record { 0 = id })) (cancelled_reply id) cancelled_in_c result
         handle.new.value }
 {
-    Cancelled::of(handle.with(alloc, |connection| connection.cancel(id)))
+    Cancelled::of(handle.command(alloc, |connection| connection.cancel(id)))
 }
 
 /// Sets the user bit of this index, or clears it if `writable` is set.
@@ -49,7 +49,7 @@ pub extern "C" fn limekeel_user_bit(
 ) -> Changed
     ensures { ObeysFrugallyFor handle.old.value (UserBit index writable) bit_reply changed_in_c result handle.new.value }
 {
-    Changed::of(handle.with(alloc, |connection| connection.user_bit(index, writable)))
+    Changed::of(handle.command(alloc, |connection| connection.user_bit(index, writable)))
 }
 
 /// Sets the marks that are in force from now on.
@@ -57,7 +57,7 @@ pub extern "C" fn limekeel_user_bit(
 pub extern "C" fn limekeel_set_marks(alloc: Global, handle: &mut Handle, low: u32, high: u32) -> u32
     ensures { SetsMarks handle.old.value (water_mark_of low high) result handle.new.value }
 {
-    status_of(handle.with(alloc, |connection| match WaterMark::new(low, high) {
+    status_of(handle.command(alloc, |connection| match WaterMark::new(low, high) {
         Ok(marks) => connection.set_marks(marks),
         Err(refusal) => Err(refusal),
     }))

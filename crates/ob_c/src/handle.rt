@@ -3,12 +3,15 @@
 ghost use Rattle.std.specs.Prelude.{◌≡◌, IsSome, is_some, Option, Some, None, option_map};
 ghost use Rattle.std.specs.Fn.{FnOnceReturnsAtMut};
 ghost use Rattle.ob_c.specs.Held.{held};
+ghost use Rattle.ob_c.specs.Numbers.{accepted};
 ghost use Rattle.ob_c.specs.Obeying.{Relays};
 ghost use Rattle.ob_connection.specs.contracts.connection.Connection.{the_row as connection_row};
 ghost use Rattle.ob_connection.specs.Connected.{Connected};
 
 use crate::loose::Loose;
+use crate::status::accepted;
 use ob_connection::Connection;
+use ob_types::Refusal;
 use std::alloc::Global;
 use std::marker::Model;
 use std::ptr::null_mut;
@@ -54,6 +57,19 @@ impl Handle {
         let value = call(&mut connection);
         self.keep(connection);
         Some(value)
+    }
+
+    /// Gives the connection a command.
+    pub(crate) fn command<T, F: FnOnce(&mut Connection) -> Result<T, Refusal>>(
+        &mut self,
+        alloc: Global,
+        call: F,
+    ) -> Result<T, u32>
+        requires { F.IsAlwaysCallable call }
+        ensures { Relays self.old.value (λ old answer after. FnOnceReturnsAtMut F.FnOnce call old answer after) accepted
+            result self.new.value }
+    {
+        accepted(self.with(alloc, call))
     }
 
     /// Puts a connection in.

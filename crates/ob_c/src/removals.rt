@@ -16,7 +16,7 @@ use std::alloc::Global;
 pub extern "C" fn limekeel_remove(alloc: Global, handle: &mut Handle) -> Removed
     ensures { ObeysFrugallyFor handle.old.value Remove removed_reply removed_in_c result handle.new.value }
 {
-    Removed::of(handle.with(alloc, |connection| connection.remove()))
+    Removed::of(handle.command(alloc, |connection| connection.remove()))
 }
 
 /// Takes the first flushed message away, as failed for this cause.
@@ -25,7 +25,7 @@ pub extern "C" fn limekeel_remove_with(alloc: Global, handle: &mut Handle, cause
     ensures { ObeysFrugallyFor handle.old.value (RemoveWith (record { 0 = cause })) removed_reply removed_in_c result
         handle.new.value }
 {
-    Removed::of(handle.with(alloc, |connection| connection.remove_with(Cause(cause))))
+    Removed::of(handle.command(alloc, |connection| connection.remove_with(Cause(cause))))
 }
 
 /// Takes so many bytes off the flushed blocks in front, as sent, and tells which messages it took away.
@@ -33,7 +33,7 @@ pub extern "C" fn limekeel_remove_with(alloc: Global, handle: &mut Handle, cause
 pub extern "C" fn limekeel_take_sent(alloc: Global, handle: &mut Handle, n: u64) -> Taken
     ensures { TakesFor handle.old.value (RemoveBytes n) Success result handle.new.value }
 {
-    Taken::of(handle.with(alloc, |connection| connection.take_sent(n)))
+    Taken::of(handle.command(alloc, |connection| connection.take_sent(n)))
 }
 
 /// Takes all flushed messages away, as failed for this cause, and tells which they were.
@@ -47,7 +47,7 @@ pub extern "C" fn limekeel_fail_flushed(
     ensures { TakesFor handle.old.value (FailFlushed (record { 0 = cause }) notify) (Failed (record { 0 = cause })) result
         handle.new.value }
 {
-    Taken::of(handle.with(
+    Taken::of(handle.command(
         alloc,
         |connection| connection.fail_flushed(Cause(cause), notify),
     ))
@@ -58,5 +58,5 @@ pub extern "C" fn limekeel_fail_flushed(
 pub extern "C" fn limekeel_close(alloc: Global, handle: &mut Handle, cause: u32) -> Taken
     ensures { TakesFor handle.old.value (Close (record { 0 = cause })) (Failed (record { 0 = cause })) result handle.new.value }
 {
-    Taken::of(handle.with(alloc, |connection| connection.close(Cause(cause))))
+    Taken::of(handle.command(alloc, |connection| connection.close(Cause(cause))))
 }

@@ -2,11 +2,11 @@
 
 ghost use Rattle.std.specs.Prelude.{◌≡◌};
 ghost use Rattle.ob_c.specs.Replies.{written_in_c, flushed_in_c, removed_in_c, taken_in_c, cancelled_in_c, changed_in_c};
-ghost use Rattle.ob_c.specs.Replies.{not_removed, removed_with, not_taken};
+ghost use Rattle.ob_c.specs.Replies.{removed_with};
 ghost use Rattle.ob_c.specs.Numbers.{change_number};
 
-use crate::status::{DONE, NOT_OPEN, cause_number, change_number, outcome_number};
-use ob_types::{Change, Refusal};
+use crate::status::{DONE, cause_number, change_number, outcome_number};
+use ob_types::Change;
 
 /// What a write tells.
 #[repr(C)]
@@ -21,25 +21,17 @@ pub struct Written {
 }
 
 impl Written {
-    /// A write that was refused.
-    pub(crate) fn refused(status: u32) -> Written
-        ensures { result ≡ record { status = status; change = 0; id = 0 } }
-    {
-        Written {
-            status,
-            change: 0,
-            id: 0,
-        }
-    }
-
     /// What C is told of this answer.
-    pub(crate) fn of(reply: Option<Result<ob_connection::Written, Refusal>>) -> Written
-        ensures { result ≡ written_in_c reply }
+    pub(crate) fn of(answer: Result<ob_connection::Written, u32>) -> Written
+        ensures { result ≡ written_in_c answer }
     {
-        match reply {
-            None => Written::refused(NOT_OPEN),
-            Some(Err(refusal)) => Written::refused(u32::from(refusal.number())),
-            Some(Ok(reply)) => Written {
+        match answer {
+            Err(status) => Written {
+                status,
+                change: 0,
+                id: 0,
+            },
+            Ok(reply) => Written {
                 status: DONE,
                 change: change_number(reply.change),
                 id: reply.id,
@@ -61,25 +53,17 @@ pub struct Flushed {
 }
 
 impl Flushed {
-    /// A flush that was refused.
-    fn refused(status: u32) -> Flushed
-        ensures { result ≡ record { status = status; change = 0; count = 0 } }
-    {
-        Flushed {
-            status,
-            change: 0,
-            count: 0,
-        }
-    }
-
     /// What C is told of this answer.
-    pub(crate) fn of(reply: Option<Result<ob_connection::Flushed, Refusal>>) -> Flushed
-        ensures { result ≡ flushed_in_c reply }
+    pub(crate) fn of(answer: Result<ob_connection::Flushed, u32>) -> Flushed
+        ensures { result ≡ flushed_in_c answer }
     {
-        match reply {
-            None => Flushed::refused(NOT_OPEN),
-            Some(Err(refusal)) => Flushed::refused(u32::from(refusal.number())),
-            Some(Ok(reply)) => Flushed {
+        match answer {
+            Err(status) => Flushed {
+                status,
+                change: 0,
+                count: 0,
+            },
+            Ok(reply) => Flushed {
                 status: DONE,
                 change: change_number(reply.change),
                 count: reply.count,
@@ -109,29 +93,21 @@ pub struct Removed {
 }
 
 impl Removed {
-    /// A removal that was refused.
-    fn refused(status: u32) -> Removed
-        ensures { result ≡ not_removed status }
-    {
-        Removed {
-            status,
-            change: 0,
-            any: false,
-            settled: false,
-            outcome: 0,
-            cause: 0,
-            id: 0,
-        }
-    }
-
     /// What C is told of this answer.
-    pub(crate) fn of(reply: Option<Result<ob_connection::Removed, Refusal>>) -> Removed
-        ensures { result ≡ removed_in_c reply }
+    pub(crate) fn of(answer: Result<ob_connection::Removed, u32>) -> Removed
+        ensures { result ≡ removed_in_c answer }
     {
-        match reply {
-            None => Removed::refused(NOT_OPEN),
-            Some(Err(refusal)) => Removed::refused(u32::from(refusal.number())),
-            Some(Ok(reply)) => Removed::done(reply),
+        match answer {
+            Err(status) => Removed {
+                status,
+                change: 0,
+                any: false,
+                settled: false,
+                outcome: 0,
+                cause: 0,
+                id: 0,
+            },
+            Ok(reply) => Removed::done(reply),
         }
     }
 
@@ -185,29 +161,21 @@ pub struct Taken {
 }
 
 impl Taken {
-    /// A removal that was refused.
-    fn refused(status: u32) -> Taken
-        ensures { result ≡ not_taken status }
-    {
-        Taken {
-            status,
-            change: 0,
-            outcome: 0,
-            cause: 0,
-            count: 0,
-            from: 0,
-            to: 0,
-        }
-    }
-
     /// What C is told of this answer.
-    pub(crate) fn of(reply: Option<Result<ob_connection::Taken, Refusal>>) -> Taken
-        ensures { result ≡ taken_in_c reply }
+    pub(crate) fn of(answer: Result<ob_connection::Taken, u32>) -> Taken
+        ensures { result ≡ taken_in_c answer }
     {
-        match reply {
-            None => Taken::refused(NOT_OPEN),
-            Some(Err(refusal)) => Taken::refused(u32::from(refusal.number())),
-            Some(Ok(reply)) => Taken {
+        match answer {
+            Err(status) => Taken {
+                status,
+                change: 0,
+                outcome: 0,
+                cause: 0,
+                count: 0,
+                from: 0,
+                to: 0,
+            },
+            Ok(reply) => Taken {
                 status: DONE,
                 change: change_number(reply.change),
                 outcome: outcome_number(reply.outcome),
@@ -232,13 +200,12 @@ pub struct Cancelled {
 
 impl Cancelled {
     /// What C is told of this answer.
-    pub(crate) fn of(reply: Option<Result<bool, Refusal>>) -> Cancelled
-        ensures { result ≡ cancelled_in_c reply }
+    pub(crate) fn of(answer: Result<bool, u32>) -> Cancelled
+        ensures { result ≡ cancelled_in_c answer }
     {
-        let (status, in_time) = match reply {
-            None => (NOT_OPEN, false),
-            Some(Err(refusal)) => (u32::from(refusal.number()), false),
-            Some(Ok(in_time)) => (DONE, in_time),
+        let (status, in_time) = match answer {
+            Err(status) => (status, false),
+            Ok(in_time) => (DONE, in_time),
         };
         Cancelled { status, in_time }
     }
@@ -256,13 +223,12 @@ pub struct Changed {
 
 impl Changed {
     /// What C is told of this answer.
-    pub(crate) fn of(reply: Option<Result<Option<Change>, Refusal>>) -> Changed
-        ensures { result ≡ changed_in_c reply }
+    pub(crate) fn of(answer: Result<Option<Change>, u32>) -> Changed
+        ensures { result ≡ changed_in_c answer }
     {
-        let (status, change) = match reply {
-            None => (NOT_OPEN, 0),
-            Some(Err(refusal)) => (u32::from(refusal.number()), 0),
-            Some(Ok(change)) => (DONE, change_number(change)),
+        let (status, change) = match answer {
+            Err(status) => (status, 0),
+            Ok(change) => (DONE, change_number(change)),
         };
         Changed { status, change }
     }

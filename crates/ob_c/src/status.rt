@@ -1,7 +1,7 @@
 //! The numbers that C sees.
 
 ghost use Rattle.std.specs.Prelude.{◌≡◌};
-ghost use Rattle.ob_c.specs.Numbers.{change_number, outcome_number, cause_number, status_in_c};
+ghost use Rattle.ob_c.specs.Numbers.{accepted, change_number, outcome_number, cause_number, status_in_c};
 
 use ob_types::{Change, Outcome, Refusal};
 
@@ -23,14 +23,24 @@ pub(crate) const BAD_ESTIMATE: u32 = 15;
 /// The status of a write of a block that holds no bytes.
 pub(crate) const NO_BLOCK: u32 = 16;
 
-/// The status of a call that has nothing more to say.
-pub(crate) fn status_of(reply: Option<Result<(), Refusal>>) -> u32
-    ensures { result ≡ status_in_c reply }
+/// What a call has to tell: its reply, or else the status of a handle that holds nothing, or of its refusal.
+pub(crate) fn accepted<T>(answer: Option<Result<T, Refusal>>) -> Result<T, u32>
+    ensures { result ≡ accepted answer }
 {
-    match reply {
-        None => NOT_OPEN,
-        Some(Err(refusal)) => u32::from(refusal.number()),
-        Some(Ok(())) => DONE,
+    match answer {
+        None => Err(NOT_OPEN),
+        Some(Err(refusal)) => Err(u32::from(refusal.number())),
+        Some(Ok(reply)) => Ok(reply),
+    }
+}
+
+/// The status of a call that has nothing more to say.
+pub(crate) fn status_of(answer: Result<(), u32>) -> u32
+    ensures { result ≡ status_in_c answer }
+{
+    match answer {
+        Err(status) => status,
+        Ok(()) => DONE,
     }
 }
 

@@ -11,7 +11,7 @@ ghost use Rattle.ob_c.specs.Replies.{written_in_c};
 use crate::block::Block;
 use crate::handle::Handle;
 use crate::replies::Written;
-use crate::status::NO_BLOCK;
+use crate::status::{NO_BLOCK, NOT_OPEN, accepted};
 use bytes::Bytes;
 use ob_connection::Connection;
 use ob_types::{Message, Refusal};
@@ -25,7 +25,7 @@ pub extern "C" fn limekeel_write_bytes(alloc: Global, handle: &mut Handle, bytes
     ensures { ObeysOrWantsFor handle.old.value (Write (AsBlock bytes.now)) written_reply written_in_c result
         handle.new.value }
 {
-    Written::of(handle.with(alloc, |connection| write_copy(alloc, connection, bytes)))
+    Written::of(handle.command(alloc, |connection| write_copy(alloc, connection, bytes)))
 }
 
 /// Writes the bytes of a block, which the message shares: no byte is copied.
@@ -42,16 +42,16 @@ pub extern "C" fn limekeel_write_block(
     ensures block { block.new.value ≡ block.old.value }
 {
     let Some(mut connection) = handle.connection(alloc) else {
-        return Written::of(None);
+        return Written::of(Err(NOT_OPEN));
     };
     let Some(bytes) = block.bytes(alloc) else {
         handle.keep(connection);
-        return Written::refused(NO_BLOCK);
+        return Written::of(Err(NO_BLOCK));
     };
     let answer = write_shared(&mut connection, &bytes);
     block.keep(bytes);
     handle.keep(connection);
-    Written::of(Some(answer))
+    Written::of(accepted(Some(answer)))
 }
 
 /// Writes a region of so many bytes, which the transport sends by itself.
@@ -59,7 +59,7 @@ pub extern "C" fn limekeel_write_block(
 pub extern "C" fn limekeel_write_region(alloc: Global, handle: &mut Handle, length: u64) -> Written
     ensures { ObeysFor handle.old.value (Write (AsRegion length)) written_reply written_in_c result handle.new.value }
 {
-    Written::of(handle.with(
+    Written::of(handle.command(
         alloc,
         |connection| connection.write(Message::Region(length)),
     ))
@@ -70,7 +70,7 @@ pub extern "C" fn limekeel_write_region(alloc: Global, handle: &mut Handle, leng
 pub extern "C" fn limekeel_write_other(alloc: Global, handle: &mut Handle, value: u32) -> Written
     ensures { ObeysFor handle.old.value (Write (AsOther value)) written_reply written_in_c result handle.new.value }
 {
-    Written::of(handle.with(alloc, |connection| connection.write(Message::Other(value))))
+    Written::of(handle.command(alloc, |connection| connection.write(Message::Other(value))))
 }
 
 /// Writes a copy of these bytes.
