@@ -45,7 +45,7 @@ impl Block {
     }
 
     /// Whether it holds bytes.
-    fn is_open(&mut self) -> bool
+    pub(crate) fn is_open(&mut self) -> bool
         ensures { (result ≡ is_some self.old.value) × (self.new ≡ self.old) }
     {
         !self.at.is_null()

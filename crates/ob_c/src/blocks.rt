@@ -14,8 +14,7 @@ use std::alloc::Global;
 pub extern "C" fn limekeel_block_of_bytes(alloc: Global, block: &mut Block, bytes: &[u8]) -> u32
     ensures { IsMadeOf block.old.value bytes.now result block.new.value }
 {
-    if let Some(old) = block.bytes(alloc) {
-        block.keep(old);
+    if block.is_open() {
         return ALREADY_OPEN;
     }
     let Ok(copy) = Bytes::copy_from_slice(alloc, bytes) else {

@@ -30,8 +30,7 @@ pub extern "C" fn limekeel_open(
 ) -> u32
     ensures { Opens handle.old.value (settings_of low high overhead unknown) result handle.new.value }
 {
-    if let Some(connection) = handle.connection(alloc) {
-        handle.keep(connection);
+    if handle.is_open() {
         return ALREADY_OPEN;
     }
     let marks = match WaterMark::new(low, high) {

@@ -80,7 +80,7 @@ impl Handle {
     }
 
     /// Whether it holds a connection.
-    fn is_open(&mut self) -> bool
+    pub(crate) fn is_open(&mut self) -> bool
         ensures { (result ≡ is_some self.old.value) × (self.new ≡ self.old) }
     {
         !self.at.is_null()

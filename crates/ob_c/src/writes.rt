@@ -11,7 +11,7 @@ ghost use Rattle.ob_c.specs.Replies.{written_in_c};
 use crate::block::Block;
 use crate::handle::Handle;
 use crate::replies::Written;
-use crate::status::{NO_BLOCK, NOT_OPEN, accepted};
+use crate::status::{NO_BLOCK, NOT_OPEN};
 use bytes::Bytes;
 use ob_connection::Connection;
 use ob_types::{Message, Refusal};
@@ -41,17 +41,15 @@ pub extern "C" fn limekeel_write_block(
     ensures writes { WritesBlock handle.old.value block.old.value result handle.new.value }
     ensures block { block.new.value ≡ block.old.value }
 {
-    let Some(mut connection) = handle.connection(alloc) else {
+    if !handle.is_open() {
         return Written::of(Err(NOT_OPEN));
-    };
+    }
     let Some(bytes) = block.bytes(alloc) else {
-        handle.keep(connection);
         return Written::of(Err(NO_BLOCK));
     };
-    let answer = write_shared(&mut connection, &bytes);
+    let answer = handle.command(alloc, |connection| write_shared(connection, &bytes));
     block.keep(bytes);
-    handle.keep(connection);
-    Written::of(accepted(Some(answer)))
+    Written::of(answer)
 }
 
 /// Writes a region of so many bytes, which the transport sends by itself.
