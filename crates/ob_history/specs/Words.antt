@@ -1,4 +1,13 @@
--- The words of this crate's contracts in one place, for a file that cites many: each is defined in the file of its notion.
+-- The words of this crate's contracts in one place, and those of the crates below that its laws speak of, for a file that
+-- cites many: each is defined in the file of its notion.
+pub use Rattle.ob_types.specs.declared.command.Command.{Command}
+pub use Rattle.ob_types.specs.declared.promise.Outcome.{Outcome}
+pub use Rattle.ob_types.specs.declared.promise.PromiseId.{PromiseId}
+pub use Rattle.ob_seq.specs.Answer.{commands_after}
+pub use Rattle.ob_seq.specs.Looks.{promise_after}
+pub use Rattle.ob_seq.specs.Settings.{Settings}
+pub use Rattle.ob_seq.specs.Settles.{times_settled}
+pub use Rattle.ob_seq.specs.Writes.{writes_in}
 pub use Rattle.ob_history.specs.Accepted.{accepted_commands, is_accepted}
 pub use Rattle.ob_history.specs.Beginning.{IsBeginning}
 pub use Rattle.ob_history.specs.Call.{IsCall, history_after, next_record}

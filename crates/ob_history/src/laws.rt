@@ -3,16 +3,10 @@
 ghost use Rattle.std.specs.List.{All, Contains};
 ghost use Rattle.std.specs.Prelude.{◌≡◌, ℕ, ◌<◌, ◌≤◌, ◌↔◌, true, List, [], ◌∷◌, ◌++◌, None, Some, map, take};
 ghost use Rattle.ob_types.specs.Limits.{greatest_total};
-ghost use Rattle.ob_types.specs.declared.command.Command.{Command};
 ghost use Rattle.ob_types.specs.declared.command.Command.TheVariants.{RemoveBytes};
-ghost use Rattle.ob_types.specs.declared.promise.Outcome.{Outcome};
-ghost use Rattle.ob_types.specs.declared.promise.PromiseId.{PromiseId};
 ghost use Rattle.ob_types.specs.declared.promise.PromiseState.TheVariants.{Settled};
-ghost use Rattle.ob_seq.specs.Answer.{commands_after};
-ghost use Rattle.ob_seq.specs.Looks.{promise_after};
-ghost use Rattle.ob_seq.specs.Settings.{Settings};
-ghost use Rattle.ob_seq.specs.Settles.{times_settled};
-ghost use Rattle.ob_seq.specs.Writes.{writes_in};
+ghost use Rattle.ob_history.specs.Words.{Command, Outcome, PromiseId, Settings};
+ghost use Rattle.ob_history.specs.Words.{commands_after, promise_after, times_settled, writes_in};
 ghost use Rattle.ob_history.specs.Words.{accepted_commands, is_accepted, IsBeginning, history_after, next_record};
 ghost use Rattle.ob_history.specs.Words.{glance_after, History, IsBounded, IsLegal, HoldAll, Holding, records_of};
 ghost use Rattle.ob_history.specs.Words.{IsReceiptIn, record_of, IsSeenIn, seen_now, settlements_in};
