@@ -2,6 +2,7 @@
 use Rattle.std.specs.Prelude.{ℕ, ◌+◌, ◌-◌, min, true, [], ◌∷◌, ◌++◌, bit_and, bit_or, bit_xor, None}
 use Rattle.ob_core.specs.declared.lane.Lane.{Lane}
 use Rattle.ob_core.specs.Parts.{spent_lane}
+use Rattle.ob_lanes.specs.Facts.{first_facts}
 use Rattle.ob_lanes.specs.declared.facts.Facts.{Facts}
 
 -- a lane without this room and these bits
@@ -56,13 +57,4 @@ spent_facts facts = record facts { lane = spent_lane; seen = []; taken = []; spe
 
 -- nothing is known
 abbrev pub no_facts : Facts
-no_facts = record {
-  grant = record { marks = record { low = 0; high = 0 }; room = 0; bits = 0 };
-  lane = spent_lane;
-  made = [];
-  seen = [];
-  name = [];
-  splits = 0;
-  taken = [];
-  spent = true;
-}
+no_facts = spent_facts (first_facts (record { marks = record { low = 0; high = 0 }; room = 0; bits = 0 }))
