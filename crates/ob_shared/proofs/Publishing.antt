@@ -136,23 +136,29 @@ module _ (settings : Settings) (slots id : ℕ) (me : Knows) where
         },
       )
 
+-- what holds between two steps still does with other views that fit
+with_views : (settings : Settings) (s : St) (ruled : Ruled settings s) (views : List View)
+    → AllFit ruled.publisher ruled.log views
+    → Ruled settings (record { words = s.words; homes = s.homes; views = views })
+with_views settings s ruled views fits = record {
+  log = ruled.log;
+  publisher = ruled.publisher;
+  legal = ruled.legal;
+  words = ruled.words;
+  shown = ruled.shown;
+  fits = fits;
+}
+
 -- a seat may be cut, and the new one reads
 pub may_cut : (settings : Settings) (id : ℕ) (view : View) → Splits (Ruled settings) id view view (reading view.seen [])
 may_cut settings id view s ruled at =
     let mine = ruled.fits id view at in
     let kept = fits_set s.views id view ruled.log ruled.log ruled.publisher (begins_itself ruled.log) (inl refl) ruled.fits
     mine in
-    record {
-      log = ruled.log;
-      publisher = ruled.publisher;
-      legal = ruled.legal;
-      words = ruled.words;
-      shown = ruled.shown;
-      fits = λ seat one there. ⊎_elim (kept seat one)
-          (λ is. subst (λ (v : View). Fits ruled.publisher ruled.log seat v) is
-          (reading_fits ruled.publisher ruled.log view.seen [] seat mine.part))
-          (at_snoc (set s.views id view) (reading view.seen []) one seat there);
-    }
+    with_views settings s ruled (set s.views id view ++ reading view.seen [] ∷ []) (λ seat one there. ⊎_elim (kept seat one)
+    (λ is. subst (λ (v : View). Fits ruled.publisher ruled.log seat v) is
+    (reading_fits ruled.publisher ruled.log view.seen [] seat mine.part))
+    (at_snoc (set s.views id view) (reading view.seen []) one seat there))
 
 -- the seat that publishes may take in another one, and is told what it had seen
 pub may_take : (settings : Settings) (id : ℕ) (view : View) (other : ℕ) (theirs : View)
@@ -170,13 +176,7 @@ may_take settings id view other theirs s ruled at apart then_at =
     } in
     let kept = fits_set s.views id both ruled.log ruled.log ruled.publisher (begins_itself ruled.log) (inl refl) ruled.fits
     fresh in
-    record {
-      log = ruled.log;
-      publisher = ruled.publisher;
-      legal = ruled.legal;
-      words = ruled.words;
-      shown = ruled.shown;
-      fits = fits_set (set s.views id both) other (reading [] []) ruled.log ruled.log ruled.publisher
-          (begins_itself ruled.log) (inl refl) kept
-          (reading_fits ruled.publisher ruled.log [] [] other (none_begin ruled.log));
-    }
+    with_views settings s ruled (set (set s.views id both) other (reading [] []))
+    (fits_set (set s.views id both) other (reading [] []) ruled.log ruled.log ruled.publisher
+    (begins_itself ruled.log) (inl refl) kept
+    (reading_fits ruled.publisher ruled.log [] [] other (none_begin ruled.log)))

@@ -123,15 +123,9 @@ impl<'b, L: Named> Booked for Desk<'b, L> {
         ensures caller { self.new.maker.caller ≡ self.old.maker.caller }
         ensures none_made { OnErr result (self.new.maker ≡ self.old.maker) }
     {
-        let Desk {
-            shared,
-            locked,
-            share,
-            settled,
-        } = self;
-        let locked = &mut **locked;
-        let receipt = locked.call(shared.words(), share, command)?;
-        *settled |= settles(&receipt.reply);
+        let locked = &mut *self.locked;
+        let receipt = locked.call(self.shared.words(), &mut self.share, command)?;
+        self.settled |= settles(&receipt.reply);
         Ok(receipt)
     }
 
@@ -140,14 +134,7 @@ impl<'b, L: Named> Booked for Desk<'b, L> {
         ensures caller { self.new.maker.caller ≡ self.old.maker.caller }
         ensures made { self.new.maker.made ≡ self.old.maker.made }
     {
-        let Desk {
-            shared: _,
-            locked,
-            share: _,
-            settled: _,
-        } = self;
-        let locked = &mut **locked;
-        locked.reserve(count)
+        self.locked.reserve(count)
     }
 
     fn buffer(&self) -> &Buffer

@@ -58,7 +58,7 @@ impl<L: Named> Publisher<L> {
         ensures reader { result ≡ sight_of self.old }
         ensures same { self.new ≡ self.old }
     {
-        Reader::new(words.cut(&mut self.seat))
+        words.reader(&mut self.seat)
     }
 
     /// Takes in a reader, which had seen a beginning of what was published.

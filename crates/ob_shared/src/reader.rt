@@ -63,7 +63,7 @@ impl<L: Named> Reader<L> {
         ensures another { result ≡ sight_of self.old.seen }
         ensures same { self.new ≡ self.old }
     {
-        Reader::new(words.cut(&mut self.seat))
+        words.reader(&mut self.seat)
     }
 
     /// The seat of the reader.

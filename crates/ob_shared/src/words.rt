@@ -3,9 +3,11 @@ ghost use Rattle.ob_history.specs.Beginning.{IsBeginning};
 ghost use Rattle.ob_history.specs.Legal.{IsLegal};
 ghost use Rattle.ob_shared.specs.Reads.{Reads};
 ghost use Rattle.ob_shared.specs.Ruled.{publishing, reading};
+ghost use Rattle.ob_shared.specs.Sight.{sight_of};
 
 use crate::named::Named;
 use crate::plays::{Cut, Learn, Publish, Read, Records, Take};
+use crate::reader::Reader;
 use crate::rule::{PUBLISHED, Rule};
 use crate::view::View;
 use atomic_table::{Seat, Table};
@@ -69,8 +71,19 @@ impl<L: Named> Words<L> {
         self.table.shared.load::<Read<L>>(seat, PUBLISHED)
     }
 
+    /// A reader with a new seat, which has seen what this one has. It costs a load.
+    pub fn reader(&self, seat: &mut Seat<(), View>) -> Reader<L>
+        requires table { seat.old.table_id ≡ L.opened.table }
+        requires legal { IsLegal L.opened.settings seat.old.me.0.seen }
+        ensures table { seat.new.table_id ≡ seat.old.table_id }
+        ensures me { seat.new.me ≡ seat.old.me }
+        ensures reader { result ≡ sight_of seat.old.me.0.seen }
+    {
+        Reader::new(self.cut(seat))
+    }
+
     /// A new seat that reads, and has seen what this one has. It costs a load.
-    pub fn cut(&self, seat: &mut Seat<(), View>) -> Seat<(), View>
+    fn cut(&self, seat: &mut Seat<(), View>) -> Seat<(), View>
         requires table { seat.old.table_id ≡ L.opened.table }
         ensures table { seat.new.table_id ≡ seat.old.table_id }
         ensures me { seat.new.me ≡ seat.old.me }

@@ -1,12 +1,7 @@
-use Rattle.ob_shared.proofs.Seats.{cut_reads, still_reads}
+use Rattle.ob_shared.proofs.Seats.{still_reads}
 use Rattle.ob_shared.proofs.reader.Reader.another.Goals as goal
-
-pub new-requires : goal.new-requires
-new-requires g c =
-    cut_reads g.L.Named.opened c.self.inside.seat c.cut.result c.cut.ensures.other c.self.invariant.table
-    c.self.invariant.legal c.cut.ensures.given
 
 pub invariant_of-self : goal.invariant_of-self
 invariant_of-self g c =
-    still_reads g.L.Named.opened c.self.inside.seat c.cut.new.seat c.cut.ensures.table c.self.invariant
-    c.cut.ensures.me
+    still_reads g.L.Named.opened c.self.inside.seat c.reader.new.seat c.reader.ensures.table c.self.invariant
+    c.reader.ensures.me
