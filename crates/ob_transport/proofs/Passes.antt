@@ -17,6 +17,7 @@ use Rattle.ob_seq.specs.Line.{front, is_in_line, line}
 use Rattle.ob_seq.specs.Looks.{progress_of}
 use Rattle.ob_seq.specs.Pieces.{bytes_in}
 use Rattle.ob_seq.specs.Row.{Row, unread_part}
+use Rattle.ob_seq.proofs.Inside.Gathered.{gathered_first, length_of_concat}
 use Rattle.ob_history.specs.Accepted.{accepted_commands}
 use Rattle.ob_history.specs.Call.{history_after, is_full}
 use Rattle.ob_history.specs.History.{History, LacksPlaces}
@@ -37,8 +38,7 @@ use Rattle.ob_transport.specs.declared.fault.PassFault.TheVariants.{Sink, Histor
 use Rattle.ob_transport.specs.declared.limits.Limits.{Limits}
 use Rattle.ob_transport.proofs.Covered.{first_has_place}
 use Rattle.ob_transport.proofs.Open.{open_with_front, region_within, rows_more}
-use Rattle.ob_transport.proofs.Sent.{bytes_sent, gathered_first, length_of_concat, no_bytes_sent, no_units_sent}
-use Rattle.ob_transport.proofs.Sent.{one_more, units_sent}
+use Rattle.ob_transport.proofs.Sent.{bytes_sent, no_bytes_sent, no_units_sent, one_more, units_sent}
 
 -- the row of what stands in front
 pub record FrontRow (rows : List Row) (message : Message) : Type 0 where

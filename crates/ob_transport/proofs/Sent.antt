@@ -1,20 +1,15 @@
 -- What one more call sends.
-use Rattle.std.proofs.Common.{◌≡◌, ℕ, suc, ◌+◌, ◌≤◌, min, max, Bool, true, false, List, [], ◌∷◌, ◌++◌, length, take}
-use Rattle.std.proofs.Common.{drop, refl, sym, ap, ◌∙◌, cond, ltb, arith, append-nil, length-append}
+use Rattle.std.proofs.Common.{◌≡◌, ℕ, ◌+◌, Bool, true, false, List, [], ◌∷◌, ◌++◌}
+use Rattle.std.proofs.Common.{refl, ap, ◌∙◌, cond, arith, append-nil}
 use Rattle.std.specs.Prelude.{Option, None, fold, is_ok, sum_by}
-use Rattle.std.specs.List.{concat, flat_map}
-use Rattle.std.proofs.lemmas.Bool.Decides.{nat_tests}
+use Rattle.std.specs.List.{flat_map}
 use Rattle.std.proofs.lemmas.Grind.{flat_map-append}
-use Rattle.std.proofs.lemmas.List.{take-append-drop, take-append-le}
-use Rattle.std.proofs.lemmas.List.Folds.{concat-append}
 use Rattle.std.proofs.lemmas.List.Sums.{sum_by-append, sum_by-cons}
 use Rattle.ob_types.specs.declared.command.Command.{Command}
 use Rattle.ob_types.specs.declared.estimate.Estimate.{Estimate}
 use Rattle.ob_types.specs.declared.refusal.Refusal.{Refusal}
 use Rattle.ob_seq.specs.Answer.{answer_to, commands_after, first_refusal, reply_of, unless_refused}
 use Rattle.ob_seq.specs.Effect.{effect, rows_after}
-use Rattle.ob_seq.specs.Gathering.{first_blocks, with_bytes}
-use Rattle.ob_seq.specs.Pieces.{bytes_in, pieces_within}
 use Rattle.ob_seq.specs.Row.{Row}
 use Rattle.ob_seq.specs.Settings.{Settings}
 use Rattle.ob_history.specs.Accepted.{accepted_commands}
@@ -160,46 +155,3 @@ module _ (history : History) (caller : ℕ) (command : Command) where
         ≡ sent_units history.settings history.records + units_sent_by
         (rows_after history.settings.estimate (accepted_commands history.records)) command
     units_sent = one_more units_of ∙ units_more history.settings (accepted_commands history.records) command
-
--- the blocks that hold a byte have all the bytes
-all_bytes : (blocks : List (List ℕ)) → concat (with_bytes blocks) ≡ concat blocks
-all_bytes [] = refl
-all_bytes (block ∷ blocks) = by_test (ltb 0 (length block)) refl (all_bytes blocks)
-  where
-    empty : (bytes : List ℕ) → ltb 0 (length bytes) ≡ false → bytes ≡ []
-    empty [] is = refl
-    empty (byte ∷ bytes) is = absurd (impossible (length bytes) is)
-      where
-        impossible : (n : ℕ) → ltb 0 (suc n) ≡ false → ⊥
-        impossible n is = grind (arith, nat_tests)
-
-    by_test : (some : Bool) → ltb 0 (length block) ≡ some → concat (with_bytes blocks) ≡ concat blocks →
-        concat (cond some (block ∷ with_bytes blocks) (with_bytes blocks)) ≡ block ++ concat blocks
-    by_test true is rest = ap (λ more. block ++ more) rest
-    by_test false is rest = rest ∙ ap (λ bytes. bytes ++ concat blocks) (sym (empty block is))
-
--- the bytes of blocks are as many as their lengths add up to
-pub length_of_concat : (blocks : List (List ℕ)) → length (concat blocks) ≡ bytes_in blocks
-length_of_concat [] = refl
-length_of_concat (block ∷ blocks) =
-    let all = sum_by-cons (λ (piece : List ℕ). length piece) block blocks in
-    omega (arith, length-append block (concat blocks), length_of_concat blocks, all)
-
--- gathered bytes are the first of all of them
-module _ (max_count max_bytes : ℕ) (blocks : List (List ℕ)) where
-  in_two : (first_bytes rest : List ℕ) → concat blocks ≡ first_bytes ++ rest → (n : ℕ) → n ≤ length first_bytes →
-      (take n first_bytes ≡ take n (concat blocks)) × (n ≤ length (concat blocks))
-  in_two first_bytes rest is n within = (
-    sym (take-append-le n first_bytes rest within) ∙ ap (take n) (sym is),
-    omega (arith, ap (λ bytes. length bytes) is, length-append first_bytes rest),
-  )
-
-  pub gathered_first : (n : ℕ) → n ≤ length (concat (first_blocks max_count max_bytes (with_bytes blocks))) →
-      (take n (concat (first_blocks max_count max_bytes (with_bytes blocks))) ≡ take n (concat blocks))
-      × (n ≤ length (concat blocks))
-  gathered_first n within =
-      let holding = with_bytes blocks in
-      let count = min max_count (max 1 (pieces_within max_bytes holding)) in
-      in_two (concat (take count holding)) (concat (drop count holding))
-      (sym (all_bytes blocks) ∙ sym (ap concat (take-append-drop count holding))
-      ∙ concat-append (take count holding) (drop count holding)) n within
