@@ -1,5 +1,5 @@
 -- What is counted of records, all numbers at once. No public clause cites this module.
-use Rattle.std.specs.Prelude.{◌+◌, ◌<◌, ◌^◌, ℕ, cond, List, count_by}
+use Rattle.std.specs.Prelude.{◌+◌, ◌<◌, ◌^◌, ℕ, cond, List, [], count_by}
 use Rattle.ob_types.specs.Write.{is_write}
 use Rattle.ob_types.specs.declared.command.Command.{Command}
 use Rattle.ob_types.specs.declared.promise.Outcome.{Outcome}
@@ -8,20 +8,6 @@ use Rattle.ob_history.specs.declared.record.Record.{Record}
 use Rattle.ob_pool.specs.Report.Counts.{bits_of, cancels_of, flushes_of, refused_of, settled_as, taken_of, writes_of}
 use Rattle.ob_pool.specs.Report.Counts.{is_cancel, is_cancelled, is_failed, is_flush, is_success, is_user_bit, removed_by}
 use Rattle.ob_pool.specs.declared.report.counts.Counts.{Counts}
-
--- nothing is counted
-abbrev pub no_counts : Counts
-no_counts = record {
-  writes = 0;
-  flushes = 0;
-  cancels = 0;
-  bits = 0;
-  refused = 0;
-  taken = 0;
-  success = 0;
-  failed = 0;
-  cancelled = 0;
-}
 
 -- the counts of records, of which so many callers are writers
 abbrev pub counts_of : ℕ → List Record → Counts
@@ -36,6 +22,10 @@ counts_of writers records = record {
   failed = settled_as is_failed records;
   cancelled = settled_as is_cancelled records;
 }
+
+-- nothing is counted of no records
+abbrev pub no_counts : Counts
+no_counts = counts_of 0 []
 
 -- what an accepted command is counted as
 abbrev pub counts_by : Command → Counts

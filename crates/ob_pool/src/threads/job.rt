@@ -36,7 +36,7 @@ impl<L: Named> Model for Job<L> {
 
 impl<L: Named> Job<L> {
     /// Carries the plan out with a lane that has room for it, and gives the lane back. What it hands in has a receipt
-    /// of each command, in order.
+    /// of each command, in order. Before each command it reads whether the buffer is writable, and asks its gate.
     pub fn run<R: Wait + Clock, G: Gate>(
         self,
         rt: &R,
@@ -61,10 +61,16 @@ impl<L: Named> Job<L> {
         if receipts.reserve(plan.commands.len()).is_err() {
             return (lane, Err(DriveFault::NoMemory));
         }
+        let writer = share.caller();
         let mut lane = lane;
         let mut share = share;
         let mut step = 0;
         'steps: for command in plan.commands {
+            // what a writer of a server would ask first; a plan is carried out whatever it is
+            let _glance = share.read(&context.shared);
+            if gate.before(rt, writer, step).is_err() {
+                return (lane, Err(DriveFault::Stuck { writer }));
+            }
             let kept = &mut receipts;
             let (same, end) = one_step(rt, gate, context, lane, share, step, command, kept);
             lane = same;
@@ -72,6 +78,7 @@ impl<L: Named> Job<L> {
                 Ok(counted) => share = counted,
                 Err(fault) => return (lane, Err(fault)),
             }
+            gate.after(rt, writer, step);
             step += 1;
         }
         let done = Done {
@@ -84,8 +91,8 @@ impl<L: Named> Job<L> {
     }
 }
 
-/// One step of a writer, with its gate before and after it. It reads whether the buffer is writable before it asks its
-/// gate. The receipt goes behind the others.
+/// One step of a writer: one call of the shared buffer, of a write with its charge in the lane meanwhile. The receipt goes
+/// behind the others.
 fn one_step<L: Named, R: Wait + Clock, G: Gate>(
     rt: &R,
     gate: &G,
@@ -106,45 +113,9 @@ fn one_step<L: Named, R: Wait + Clock, G: Gate>(
     ensures places { vec_capacity receipts.new ≡ vec_capacity receipts.old }
     ensures fault { IfErr result.1 (ComesOfWork context.now.writers) }
 {
-    let writer = share.caller();
-    let mut share = share;
-    // what a writer of a server would ask first; a plan is carried out whatever it is
-    let _glance = share.read(&context.shared);
-    if gate.before(rt, writer, step).is_err() {
-        return (lane, Err(DriveFault::Stuck { writer }));
+    if !matches!(command, Command::Write(_)) {
+        return (lane, one_call(rt, context, share, command, receipts));
     }
-    let (lane, end) = if matches!(command, Command::Write(_)) {
-        charged_call(rt, gate, context, lane, share, step, command, receipts)
-    } else {
-        (lane, one_call(rt, context, share, command, receipts))
-    };
-    if end.is_ok() {
-        gate.after(rt, writer, step);
-    }
-    (lane, end)
-}
-
-/// One call of the shared buffer, with the charge of its command in the lane meanwhile.
-fn charged_call<L: Named, R: Wait + Clock, G: Gate>(
-    rt: &R,
-    gate: &G,
-    context: &Context<L>,
-    lane: Lane,
-    share: Share<L>,
-    step: usize,
-    command: Command,
-    receipts: &mut Vec<Receipt>,
-) -> (Lane, Result<Share<L>, DriveFault>)
-    requires words { lane.words ≡ context.now.words }
-    requires room { charge_for context.now.estimate context.now.task command ≤ lane.lane.room }
-    requires numbered { share.maker.caller < context.now.writers }
-    requires place { vec_len receipts.old < vec_capacity receipts.old }
-    ensures lane { IsBack lane result.0 }
-    ensures call { IfOk result.1 (IsOneCall share command receipts.old.items receipts.new.items) }
-    ensures count { IfOk result.1 (λ share. vec_len receipts.new ≡ vec_len receipts.old + 1) }
-    ensures places { vec_capacity receipts.new ≡ vec_capacity receipts.old }
-    ensures fault { IfErr result.1 (ComesOfWork context.now.writers) }
-{
     let writer = share.caller();
     let charge = charge_for(context.estimate, context.task, &command) as u32;
     let Ok((mut charged, _change)) = lane.charge(rt, &context.words, charge) else {

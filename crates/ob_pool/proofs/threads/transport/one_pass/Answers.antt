@@ -16,11 +16,9 @@ use Rattle.ob_pool.proofs.threads.transport.one_pass.Goals as goal
 
 pub returns-clause-made : goal.returns-clause-made
 returns-clause-made g c = if_some_weaker c.leave-share.result.1 _ _ (λ kept since.
-    let begun = g.K.Started.start in
-    let held = c.pass_or_fail-end.new.booked.held in
     omega (
       arith,
-      made_since begun held kept.items since,
+      made_since g.K.Started.start c.pass_or_fail-end.new.booked.held kept.items since,
       ap (λ (share : ShareValue). share.maker.made) c.leave-share.ensures.share,
       c.requires.start_made,
       ap (λ (its : List Receipt). length its) c.requires.start_receipts,
@@ -28,11 +26,9 @@ returns-clause-made g c = if_some_weaker c.leave-share.result.1 _ _ (λ kept sin
 
 pub returns-clause-failings : goal.returns-clause-failings
 returns-clause-failings g c = if_some_weaker c.leave-share.result.1 _ _ (λ kept since.
-    let begun = g.K.Started.start in
-    let held = c.pass_or_fail-end.new.booked.held in
     omega (
       arith,
-      failings_since begun held kept.items since,
+      failings_since g.K.Started.start c.pass_or_fail-end.new.booked.held kept.items since,
       c.pass_or_fail-end.ensures.failings,
       ap (λ (log : LogValue). failings_of log.held.history.records) c.new-log.ensures,
       ap failings_of c.requires.records,
