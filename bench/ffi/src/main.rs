@@ -31,6 +31,14 @@ trait Queue {
     fn send(&mut self) -> usize;
 }
 
+/// What is timed with a block that messages share, too.
+trait Shares: Queue {
+    type Block;
+
+    fn block() -> Self::Block;
+    fn write_shared(&mut self, block: &Self::Block);
+}
+
 /// Through the crate, each message copied. A call of the archive is done whether or not its answer is used.
 struct Copied(Connection);
 
@@ -59,28 +67,15 @@ impl Queue for Copied {
     }
 }
 
-/// The same with a block that all messages share.
-struct Shared(Copied, Block);
+impl Shares for Copied {
+    type Block = Block;
 
-impl Queue for Shared {
-    fn open() -> Self {
-        Shared(Copied::open(), Block::new(&BYTES).expect("there is memory"))
+    fn block() -> Block {
+        Block::new(&BYTES).expect("there is memory")
     }
 
-    fn write(&mut self) {
-        let _ = self.0.0.write_block(&self.1).expect("it is accepted");
-    }
-
-    fn flush(&mut self) {
-        self.0.flush();
-    }
-
-    fn remove(&mut self) {
-        self.0.remove();
-    }
-
-    fn send(&mut self) -> usize {
-        self.0.send()
+    fn write_shared(&mut self, block: &Block) {
+        let _ = self.0.write_block(block).expect("it is accepted");
     }
 }
 
@@ -119,17 +114,29 @@ impl Queue for ByHand {
     }
 }
 
-/// The same with a block that all messages share.
-struct ByHandShared(ByHand, by_hand::Bytes);
+impl Shares for ByHand {
+    type Block = by_hand::Bytes;
 
-impl Queue for ByHandShared {
+    fn block() -> by_hand::Bytes {
+        by_hand::Bytes::new(&BYTES)
+    }
+
+    fn write_shared(&mut self, block: &by_hand::Bytes) {
+        let shared = black_box(block).clone();
+        black_box(self.0.write(by_hand::Message::Block(shared)).expect("it is accepted"));
+    }
+}
+
+/// The same with a block that all messages share.
+struct Shared<Q: Shares>(Q, Q::Block);
+
+impl<Q: Shares> Queue for Shared<Q> {
     fn open() -> Self {
-        ByHandShared(ByHand::open(), by_hand::Bytes::new(&BYTES))
+        Shared(Q::open(), Q::block())
     }
 
     fn write(&mut self) {
-        let shared = black_box(&self.1).clone();
-        black_box(self.0.0.write(by_hand::Message::Block(shared)).expect("it is accepted"));
+        self.0.write_shared(&self.1);
     }
 
     fn flush(&mut self) {
@@ -236,8 +243,8 @@ fn time<Q: Queue>(name: &str) {
 
 fn main() {
     time::<Copied>("rust");
-    time::<Shared>("rust-shared");
+    time::<Shared<Copied>>("rust-shared");
     time::<ByHand>("by-hand");
-    time::<ByHandShared>("by-hand-shared");
+    time::<Shared<ByHand>>("by-hand-shared");
     time::<Barest>("barest");
 }
