@@ -2,7 +2,9 @@
 use Rattle.std.specs.Prelude.{ℕ, List, [], ◌∷◌, ◌++◌, codes}
 use Rattle.std.specs.Fmt.{decimal}
 use Rattle.ob_pool.specs.declared.report.Report.{Report}
+use Rattle.ob_tool.specs.Summary.Text.{settlements_text}
 use Rattle.ob_tool.specs.Tracing.Text.{eight_hex, number_line}
+use Rattle.ob_tool.specs.declared.summary.settlements.Settlements.{Settlements}
 
 -- the lines of what the writers did
 abbrev pub commands_text : Report → List ℕ
@@ -11,11 +13,14 @@ commands_text report =
     ++ number_line (codes "cancels") report.cancels ++ number_line (codes "bits") report.bits
     ++ number_line (codes "refused") report.refused
 
+-- how many promises are settled, by outcome
+abbrev pub settled_in : Report → Settlements
+settled_in report = record { success = report.success; failed = report.failed; cancelled = report.cancelled }
+
 -- the lines of what became of the messages
 abbrev pub messages_text : Report → List ℕ
 messages_text report =
-    number_line (codes "taken") report.taken ++ number_line (codes "success") report.success
-    ++ number_line (codes "failed") report.failed ++ number_line (codes "cancelled") report.cancelled
+    number_line (codes "taken") report.taken ++ settlements_text (settled_in report)
     ++ number_line (codes "left") report.left
 
 -- the line of the words of the hand-off: the total, and the word in eight hexadecimal digits

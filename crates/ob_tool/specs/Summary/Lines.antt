@@ -58,6 +58,11 @@ is_stop line = option_map_or is_unwritable_change line.change false
 abbrev pub is_go : TraceLine → Bool
 is_go line = option_map_or (λ change. not (is_unwritable_change change)) line.change false
 
+-- a line tells of this change
+abbrev pub tells_of : Change → TraceLine → Bool
+tells_of Unwritable = is_stop
+tells_of Writable = is_go
+
 -- the pending bytes behind the last line that shows them; 0 where none does
 abbrev pub pending_behind : List TraceLine → ℕ
 pending_behind lines = option_map_or (λ line. line.total) (find shows_bytes (reverse lines)) 0

@@ -1,6 +1,8 @@
 ghost use Rattle.std.specs.Prelude.{◌≡◌, ◌++◌, OnOk, string_bytes};
-ghost use Rattle.ob_tool.specs.Drive.Text.{commands_text, hand_text, messages_text, report_text};
+ghost use Rattle.ob_tool.specs.Drive.Text.{commands_text, hand_text, messages_text, report_text, settled_in};
 
+use crate::summary::settlements::Settlements;
+use crate::summary::text::push_settlements;
 use crate::tracing::text::push_number_line;
 use ob_pool::Report;
 use std::alloc::AllocError;
@@ -30,10 +32,19 @@ fn push_messages(text: &mut String, report: &Report) -> Result<(), AllocError>
     ensures { OnOk result (string_bytes text.new ≡ string_bytes text.old ++ messages_text report.now) }
 {
     push_number_line(text, "taken", report.taken)?;
-    push_number_line(text, "success", report.success)?;
-    push_number_line(text, "failed", report.failed)?;
-    push_number_line(text, "cancelled", report.cancelled)?;
+    push_settlements(text, settled_in(report))?;
     push_number_line(text, "left", report.left)
+}
+
+/// How many promises are settled, by outcome.
+fn settled_in(report: &Report) -> Settlements
+    ensures { result ≡ settled_in report.now }
+{
+    Settlements {
+        success: report.success,
+        failed: report.failed,
+        cancelled: report.cancelled,
+    }
 }
 
 /// Adds the line of the words of the hand-off.

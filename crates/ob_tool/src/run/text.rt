@@ -35,11 +35,8 @@ pub fn push_look(text: &mut String, look: &Look) -> Result<(), AllocError>
     ensures { OnOk result (string_bytes text.new ≡ string_bytes text.old ++ look_text look.now) }
 {
     write!(text, "size={} cur={}", look.size, look.current_progress)?;
-    write!(
-        text,
-        " bu={} bw={}",
-        look.before_unwritable, look.before_writable
-    )?;
+    let (stop, go) = (look.before_unwritable, look.before_writable);
+    write!(text, " bu={stop} bw={go}")?;
     push_levels(text, look)?;
     text.push('\n')
 }

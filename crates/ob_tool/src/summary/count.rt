@@ -1,6 +1,6 @@
 ghost use Rattle.std.specs.Prelude.{◌≡◌, count_by, IfOk, map};
 ghost use Rattle.std.specs.List.{range_with_len};
-ghost use Rattle.ob_tool.specs.Summary.Lines.{is_accepted, is_go, is_refused, is_refused_as, is_stop, pending_behind};
+ghost use Rattle.ob_tool.specs.Summary.Lines.{is_accepted, is_refused, is_refused_as, pending_behind, tells_of};
 
 use crate::traces::line::{Told, TraceLine};
 use ob_types::Change;
@@ -49,23 +49,13 @@ fn count_refusal(lines: &[TraceLine], number: u8) -> usize
         .count()
 }
 
-/// How many lines tell writers to stop.
-pub fn count_stops(lines: &[TraceLine]) -> usize
-    ensures { result ≡ count_by is_stop lines.now }
+/// How many lines tell of this change.
+pub fn count_changes(lines: &[TraceLine], change: Change) -> usize
+    ensures { result ≡ count_by (tells_of change) lines.now }
 {
     lines
         .iter()
-        .filter(|line| line.change == Some(Change::Unwritable))
-        .count()
-}
-
-/// How many lines tell writers to go on.
-pub fn count_goes(lines: &[TraceLine]) -> usize
-    ensures { result ≡ count_by is_go lines.now }
-{
-    lines
-        .iter()
-        .filter(|line| line.change == Some(Change::Writable))
+        .filter(|line| line.change == Some(change))
         .count()
 }
 

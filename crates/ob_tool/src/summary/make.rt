@@ -3,11 +3,12 @@ ghost use Rattle.ob_tool.specs.Reading.Script.{greatest_script};
 ghost use Rattle.ob_tool.specs.Summary.Summarizes.{Summarizes};
 
 use crate::summary::count::{
-    count_accepted, count_goes, count_refusals, count_refused, count_stops, pending,
+    count_accepted, count_changes, count_refusals, count_refused, pending,
 };
 use crate::summary::settlements::{Settlements, count_settlements};
 use crate::summary::top::{Top, longest_unwritable, peak};
 use crate::traces::line::TraceLine;
+use ob_types::Change;
 use std::alloc::{AllocError, Global};
 
 /// What the lines of a trace come to.
@@ -40,8 +41,8 @@ pub fn make_summary(alloc: Global, lines: &[TraceLine]) -> Result<Summary, Alloc
         refused: count_refused(lines),
         refusals: count_refusals(alloc, lines)?,
         peak: peak(lines),
-        stops: count_stops(lines),
-        goes: count_goes(lines),
+        stops: count_changes(lines, Change::Unwritable),
+        goes: count_changes(lines, Change::Writable),
         longest: longest_unwritable(lines),
         pending: pending(lines),
         settled: count_settlements(lines),

@@ -118,7 +118,7 @@ fn first_of(top: Top) -> u64
 }
 
 /// Adds the lines of the promises, by outcome.
-fn push_settlements(text: &mut String, settled: Settlements) -> Result<(), AllocError>
+pub fn push_settlements(text: &mut String, settled: Settlements) -> Result<(), AllocError>
     ensures { OnOk result (string_bytes text.new ≡ string_bytes text.old ++ settlements_text settled) }
 {
     push_number_line(text, "success", settled.success)?;

@@ -1,6 +1,6 @@
 -- Where the reading of a script stands, one line after another.
 use Rattle.std.proofs.Common.{◌≡◌, ◌∙◌, ℕ, zero, suc, ◌+◌, ◌++◌, Bool, true, false, not, List, [], ◌∷◌, length, take, drop, Result, Ok}
-use Rattle.std.proofs.Common.{Err, Some, None, refl, ap, sym, arith, append-nil, add-one, eqb, take-append-drop, cond}
+use Rattle.std.proofs.Common.{Err, Some, None, refl, ap, sym, subst, arith, append-nil, add-one, eqb, take-append-drop, cond}
 use Rattle.std.specs.Prelude.{map}
 use Rattle.std.proofs.lemmas.Bool.{both_ways, eqb-true}
 use Rattle.ob_tool.specs.Reading.Cursor.{EndsAt, IsFollowed, StandsAt}
@@ -126,3 +126,14 @@ followed grammar script count rest line others read asked first reads is stands 
             ∙ ap (λ b. first_fault (count + 1 + 1) (readings_behind grammar b others)) (sym more.0);
       },
     )
+
+-- then one more line is read, and the cursor stands behind it
+pub read_further : {L : Type 0} (grammar : Grammar L) (script : List ℕ) (n count : ℕ) (asked : L) (rest : List ℕ)
+    → count ≡ n + 1 → IsFollowed grammar script n asked rest
+    → (take count (script_lines grammar script) ≡ take n (script_lines grammar script) ++ asked ∷ [])
+    × StandsAt grammar script count rest
+read_further grammar script n count asked rest more follows = (
+  ap (λ k. take k (script_lines grammar script)) more
+      ∙ (take-one_more n (script_lines grammar script) _ asked follows.0).0,
+  subst (λ k. StandsAt grammar script k rest) (sym more) follows.1,
+)

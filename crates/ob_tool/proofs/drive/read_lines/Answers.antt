@@ -1,27 +1,24 @@
-use Rattle.std.proofs.Common.{◌∙◌, ap, subst, sym, take}
+use Rattle.std.proofs.Common.{◌∙◌, subst, sym, take}
 use Rattle.ob_tool.specs.Drive.Script.{drive_grammar}
 use Rattle.ob_tool.specs.Drive.Session.{HasKept}
-use Rattle.ob_tool.specs.Reading.Cursor.{StandsAt}
 use Rattle.ob_tool.specs.Reading.Script.{script_lines}
-use Rattle.ob_tool.proofs.Lemmas.Reading.Cursor.{ends_at_nil, is_placed, take-one_more}
+use Rattle.ob_tool.proofs.Lemmas.Reading.Cursor.{ends_at_nil, is_placed, read_further}
 use Rattle.ob_tool.proofs.drive.read_lines.Goals as goal
 
 pub loop-cursor-preserved : goal.loop-cursor-preserved
 loop-cursor-preserved c =
     let script = c.args.script.now in
-    let lines = script_lines drive_grammar script in
     let n = c.loop-cursor.cursor.count in
     let inv = c.loop-cursor.invariant in
-    let before = take n lines in
+    let before = take n (script_lines drive_grammar script) in
     let done = c.in_ok-keep.ensures in
     let placed = is_placed c.in_ok-keep.field-0 _ (done.fits before inv.kept) c.if-not-branch.false in
-    let follows = c.in_ok-line.ensures.placed script inv.stands placed in
-    let more = take-one_more n lines _ c.in_ok-line.line follows.0 in
-    let count = c.in_ok-line.ensures.count in
+    let further =
+    read_further drive_grammar script n c.read.new.self.count c.in_ok-line.line c.read.new.self.rest.now
+    c.in_ok-line.ensures.count (c.in_ok-line.ensures.placed script inv.stands placed) in
     record {
-      kept = subst (HasKept c.keep.new.self) (sym (ap (λ k. take k lines) count ∙ more.0))
-          (done.done c.if-not-branch.false before inv.kept);
-      stands = subst (λ k. StandsAt drive_grammar script k c.read.new.self.rest.now) (sym count) follows.1;
+      kept = subst (HasKept c.keep.new.self) (sym further.0) (done.done c.if-not-branch.false before inv.kept);
+      stands = further.1;
     }
 
 pub returns-clause-kept : goal.returns-clause-kept

@@ -1,10 +1,9 @@
 use Rattle.std.proofs.Common.{◌≡◌, ◌∙◌, ◌++◌, ap, subst, sym, None, take}
-use Rattle.ob_tool.specs.Reading.Cursor.{StandsAt}
 use Rattle.ob_tool.specs.Reading.Script.{script_lines}
 use Rattle.ob_tool.specs.Tracing.Ending.{HasTraced}
 use Rattle.ob_tool.specs.Tracing.Language.{Language, Texts}
 use Rattle.ob_tool.specs.Tracing.Trace.{trace_of_first}
-use Rattle.ob_tool.proofs.Lemmas.Reading.Cursor.{ends_at_nil, is_placed, take-one_more}
+use Rattle.ob_tool.proofs.Lemmas.Reading.Cursor.{ends_at_nil, is_placed, read_further}
 use Rattle.ob_tool.proofs.Lemmas.Tracing.Trace.{HasTraced-kept, HasTraced-more, trace_of_first-more, traced_whole}
 use Rattle.ob_tool.proofs.tracing.trace.trace_lines.Goals as goal
 
@@ -13,16 +12,16 @@ loop-cursor-preserved g c =
     let grammar = g.I.Grammar.grammar in
     let language : Language _ = record { grammar = grammar; texts = g.I.Interpreter.texts c.args.interpreter.now } in
     let script = c.args.script.now in
-    let lines = script_lines grammar script in
     let n = c.loop-cursor.cursor.count in
     let inv = c.loop-cursor.invariant in
-    let before = take n lines in
+    let before = take n (script_lines grammar script) in
     let asked = c.in_ok-line.line in
     let done = c.in_ok-trace_line.ensures in
     let placed = is_placed c.in_ok-trace_line.field-0 _ (done.fits before inv.done) c.if-not-branch.false in
     let follows = c.in_ok-line.ensures.placed script inv.stands placed in
-    let more = take-one_more n lines _ asked follows.0 in
     let count = c.in_ok-line.ensures.count in
+    let further =
+    read_further grammar script n c.read.new.self.count asked c.read.new.self.rest.now count follows in
     let told : c.trace_line.new.waiting.items ≡ c.loop-cursor.waiting.items ++ language.texts.line_text before asked =
     done.text c.if-not-branch.false before inv.done
     ∙ ap (λ (texts : Texts _). c.loop-cursor.waiting.items ++ texts.line_text before asked) inv.same in
@@ -38,13 +37,13 @@ loop-cursor-preserved g c =
     record {
       same = done.texts ∙ inv.same;
       done = subst (g.I.Interpreter.HasDone c.trace_line.new.interpreter)
-          (sym (ap (λ k. take k lines) count ∙ more.0))
+          (sym further.0)
           (done.done c.if-not-branch.false before inv.done);
       traced =
           subst (HasTraced start (g.W.Write.contents c.spill.new.writer) c.spill.new.waiting.items)
           (sym (ap (λ k. trace_of_first k language script) count ∙ trace_of_first-more n language script asked _ follows.0))
           kept;
-      stands = subst (λ k. StandsAt grammar script k c.read.new.self.rest.now) (sym count) follows.1;
+      stands = further.1;
     }
 
 pub returns-clause-lines : goal.returns-clause-lines

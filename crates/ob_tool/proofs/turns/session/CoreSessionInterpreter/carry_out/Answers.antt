@@ -4,13 +4,9 @@ use Rattle.ob_tool.proofs.turns.session.CoreSessionInterpreter.carry_out.Goals a
 pub returns-in-Lane-clause-done : goal.returns-in-Lane-clause-done
 returns-in-Lane-clause-done c =
     let done = c.add_lane.ensures in
-    rw c.in-Lane.is
-    (lane_done c.add_lane.result c.args.self.now c.add_lane.new.self c.in-Lane.start done.marks done.starts
-    done.core done.turned)
+    rw c.in-Lane.is (lane_done _ c.args.self.now c.add_lane.new.self _ done.marks done.starts done.core done.turned)
 
 pub returns-in-Turn-clause-done : goal.returns-in-Turn-clause-done
 returns-in-Turn-clause-done c =
     let done = c.play_turn.ensures in
-    rw c.in-Turn.is
-    (turn_done c.play_turn.result c.args.self.now c.play_turn.new.self c.in-Turn.turn done.marks done.starts
-    done.core done.turned)
+    rw c.in-Turn.is (turn_done _ c.args.self.now c.play_turn.new.self _ done.marks done.starts done.core done.turned)
