@@ -1,7 +1,7 @@
 ghost use Rattle.std.specs.Prelude.{◌≡◌, false, []};
 ghost use Rattle.ob_history.specs.Legal.{IsLegal};
 ghost use Rattle.ob_shared.specs.Seats.{IsReader};
-ghost use Rattle.ob_shared.specs.Sight.{IsRead, sight_of};
+ghost use Rattle.ob_shared.specs.Sight.{IsRead, Sight, sight_of};
 
 use crate::named::Named;
 use crate::shared_buffer::SharedBuffer;
@@ -23,9 +23,6 @@ pub struct Reader<L: Named> {
 }
 
 impl<L: Named> Model for Reader<L> {
-    ghost use Rattle.ob_shared.specs.Seats.{IsReader};
-    ghost use Rattle.ob_shared.specs.Sight.{Sight};
-
     ghost Value = { Sight };
 
     ghost view = { λ reader. record { seen = reader.seat.me.0.seen; reads = reader.seat.me.0.reads } };

@@ -1,43 +1,42 @@
-use Rattle.std.proofs.Common.{◌≡◌, List, Some, ap, refl, subst, rules}
-use Rattle.std.specs.Prelude.{◌↔◌, IsNone, slice_get}
+use Rattle.std.proofs.Common.{◌≡◌, List, None, Some, ap, refl, subst, rules}
+use Rattle.std.specs.Prelude.{◌↔◌, IsNone, Result, slice_get}
 use Rattle.std.specs.List.{Contains}
 use Rattle.std.specs.Result.{is_ok}
 use Rattle.ob_types.specs.declared.promise.Outcome.{Outcome}
 use Rattle.ob_types.specs.declared.promise.PromiseId.{PromiseId}
 use Rattle.ob_types.specs.declared.promise.PromiseState.{PromiseState}
 use Rattle.ob_types.specs.declared.promise.PromiseState.TheVariants.{Settled}
+use Rattle.ob_types.specs.declared.refusal.Refusal.{Refusal}
 use Rattle.ob_history.specs.History.{History}
 use Rattle.ob_history.specs.Settlements.{settlements_in}
+use Rattle.ob_history.specs.declared.receipt.Receipt.{Receipt}
 use Rattle.ob_history.specs.declared.record.Record.{Record}
 use Rattle.ob_shared.specs.Told.{IsUnknown, IsUnsettled}
 use Rattle.ob_shared.proofs.Promises.{copied_freely}
 use Rattle.ob_shared.proofs.locked.Locked.told.Goals as goal
 
--- a promise whose state is no settlement is known and not settled
-is_open : (records : List Record) (id : PromiseId) (state : PromiseState) → (IsNone (Some state) ↔ IsUnknown records id)
+-- of a promise whose state is no settlement nothing is told, and it is known and not settled
+is_open : (records : List Record) (id : PromiseId) (state : PromiseState)
+    → (IsNone (Some state) ↔ IsUnknown records id)
     → ((outcome : Outcome) → (Some state ≡ Some (Settled outcome)) ↔ Contains (settlements_in records) (id, outcome))
     → ((outcome : Outcome) → ¬ (Some state ≡ Some (Settled outcome)))
-    → (¬ IsUnknown records id) × IsUnsettled records id
+    → IsNone {T = Result Receipt Refusal} None ↔ ((¬ IsUnknown records id) × IsUnsettled records id)
 is_open records id state unknown settled unsettled = (
-  λ is. absurd (cc (unknown.1 is)),
-  λ outcome there. unsettled outcome ((settled outcome).1 there),
+  λ _. (λ is. absurd (cc (unknown.1 is)), λ outcome there. unsettled outcome ((settled outcome).1 there)),
+  λ _. refl,
 )
 
 pub returns-in-Some-Waiting-clause-waits : goal.returns-in-Some-Waiting-clause-waits
 returns-in-Some-Waiting-clause-waits g c =
-    let its = c.in-Some-Waiting in (
-      λ _. is_open c.args.self.now.records c.args.id its.field-0 its.ensures.unknown its.ensures.settled
-          (λ outcome is. absurd (cc (is, its.field-0-is))),
-      λ _. refl,
-    )
+    let its = c.in-Some-Waiting in
+    is_open c.args.self.now.records c.args.id its.field-0 its.ensures.unknown its.ensures.settled
+    (λ outcome is. absurd (cc (is, its.field-0-is)))
 
 pub returns-in-Some-Fixed-clause-waits : goal.returns-in-Some-Fixed-clause-waits
 returns-in-Some-Fixed-clause-waits g c =
-    let its = c.in-Some-Fixed in (
-      λ _. is_open c.args.self.now.records c.args.id its.field-0 its.ensures.unknown its.ensures.settled
-          (λ outcome is. absurd (cc (is, its.field-0-is))),
-      λ _. refl,
-    )
+    let its = c.in-Some-Fixed in
+    is_open c.args.self.now.records c.args.id its.field-0 its.ensures.unknown its.ensures.settled
+    (λ outcome is. absurd (cc (is, its.field-0-is)))
 
 pub returns-in_ok-settling-in-Some-Settled-clause-waits : goal.returns-in_ok-settling-in-Some-Settled-clause-waits
 returns-in_ok-settling-in-Some-Settled-clause-waits g c =
