@@ -56,11 +56,13 @@ impl Connection {
     }
 
     /// Writes a copy of these bytes behind all else. They are not sent before a flush.
+    #[inline]
     pub fn write(&mut self, bytes: &[u8]) -> Result<Written, Refusal> {
         Written::of(self.handle.write(bytes))
     }
 
     /// Writes the bytes of a block, which the message then shares: nothing is copied.
+    #[inline]
     pub fn write_block(&mut self, block: &Block) -> Result<Written, Refusal> {
         Written::of(self.handle.write_block(&block.slot))
     }
@@ -76,11 +78,13 @@ impl Connection {
     }
 
     /// Lets the transport have all that was written so far, and fixes its promises.
+    #[inline]
     pub fn flush(&mut self) -> Result<Flushed, Refusal> {
         Flushed::of(self.handle.flush())
     }
 
     /// Takes the first flushed message away, as sent.
+    #[inline]
     pub fn remove(&mut self) -> Result<Removed, Refusal> {
         let removed = Removed::of(self.handle.remove())?;
         self.forget_the_first(&removed);
@@ -88,6 +92,7 @@ impl Connection {
     }
 
     /// Takes the first flushed message away, as failed for this cause.
+    #[inline]
     pub fn remove_with(&mut self, cause: u32) -> Result<Removed, Refusal> {
         let removed = Removed::of(self.handle.remove_with(cause))?;
         self.forget_the_first(&removed);
@@ -96,6 +101,7 @@ impl Connection {
 
     /// Takes *n* bytes off the flushed blocks in front, as sent, and with them each message that is sent whole; 0 bytes take
     /// away the empty messages in front.
+    #[inline]
     pub fn take_sent(&mut self, n: u64) -> Result<Taken, Refusal> {
         let taken = Taken::of(self.handle.take_sent(n))?;
         Ok(self.settled_by(taken))
@@ -185,10 +191,17 @@ impl Connection {
     }
 
     /// A message that was cancelled and is gone.
+    #[inline]
     fn forget_the_first(&mut self, removed: &Removed) {
         if removed.any && removed.settled.is_none() {
-            self.cancelled.pop_first();
+            self.forget_one();
         }
+    }
+
+    // Few messages are cancelled: apart, so that a removal is small enough to be inlined.
+    #[cold]
+    fn forget_one(&mut self) {
+        self.cancelled.pop_first();
     }
 
     /// Tells which of these promises were cancelled before, and forgets them.
@@ -200,6 +213,7 @@ impl Connection {
         taken.without(cancelled)
     }
 
+    #[cold]
     fn forget(&mut self, promises: &Range<u64>) -> Vec<u64> {
         let left = self.cancelled.split_off(&promises.end);
         std::mem::replace(&mut self.cancelled, left).into_iter().collect()

@@ -31,6 +31,7 @@ unsafe impl Send for Handle {}
 macro_rules! commands {
     ($($name:ident($($argument:ident: $kind:ty),*) -> $answer:ty = $export:ident;)*) => {
         $(
+            #[inline]
             pub(crate) fn $name(&mut self $(, $argument: $kind)*) -> $answer {
                 // SAFETY: the handle is this value's own, and `&mut` says that no other call uses it.
                 unsafe { sys::$export(self.inner.get() $(, $argument)*) }
@@ -43,6 +44,7 @@ macro_rules! commands {
 macro_rules! looks {
     ($($name:ident($($argument:ident: $kind:ty),*) -> $answer:ty = $export:ident;)*) => {
         $(
+            #[inline]
             pub(crate) fn $name(&self $(, $argument: $kind)*) -> $answer {
                 // SAFETY: the handle is this value's own, and not `Sync`, so that no other call uses it meanwhile; no
                 // reference into the cell is ever made.
@@ -83,11 +85,13 @@ impl Handle {
         current() -> sys::Current = limekeel_current;
     }
 
+    #[inline]
     pub(crate) fn write(&mut self, bytes: &[u8]) -> sys::Written {
         // SAFETY: the handle is this value's own; the pointer and the length are those of one slice.
         unsafe { sys::limekeel_write_bytes(self.inner.get(), bytes.as_ptr(), bytes.len()) }
     }
 
+    #[inline]
     pub(crate) fn write_block(&mut self, block: &Slot) -> sys::Written {
         // SAFETY: both handles are their values' own, and two values; neither type is `Sync`, so that no other call uses
         // one of them meanwhile.

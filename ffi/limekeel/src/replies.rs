@@ -58,6 +58,7 @@ impl Refusal {
         }
     }
 
+    #[cold]
     fn of(status: u32) -> Refusal {
         match status {
             1 => Refusal::Oversize,
@@ -100,6 +101,7 @@ impl fmt::Display for Refusal {
 impl Error for Refusal {}
 
 /// Whether a status says that the call was accepted.
+#[inline]
 pub(crate) fn done(status: u32) -> Result<(), Refusal> {
     if status == 0 { Ok(()) } else { Err(Refusal::of(status)) }
 }
@@ -114,6 +116,7 @@ pub enum Change {
 }
 
 impl Change {
+    #[inline]
     pub(crate) fn of(number: u32) -> Option<Change> {
         match number {
             1 => Some(Change::Unwritable),
@@ -135,6 +138,7 @@ pub enum Outcome {
 }
 
 impl Outcome {
+    #[inline]
     pub(crate) fn of(number: u32, cause: u32) -> Outcome {
         match number {
             2 => Outcome::Failed(cause),
@@ -155,6 +159,7 @@ pub struct Written {
 }
 
 impl Written {
+    #[inline]
     pub(crate) fn of(told: sys::Written) -> Result<Written, Refusal> {
         done(told.status)?;
         Ok(Written { id: told.id, change: Change::of(told.change) })
@@ -172,6 +177,7 @@ pub struct Flushed {
 }
 
 impl Flushed {
+    #[inline]
     pub(crate) fn of(told: sys::Flushed) -> Result<Flushed, Refusal> {
         done(told.status)?;
         Ok(Flushed { count: told.count, change: Change::of(told.change) })
@@ -191,6 +197,7 @@ pub struct Removed {
 }
 
 impl Removed {
+    #[inline]
     pub(crate) fn of(told: sys::Removed) -> Result<Removed, Refusal> {
         done(told.status)?;
         let settled = told.settled.then(|| (told.id, Outcome::of(told.outcome, told.cause)));
@@ -215,6 +222,7 @@ pub struct Taken {
 }
 
 impl Taken {
+    #[inline]
     pub(crate) fn of(told: sys::Taken) -> Result<Taken, Refusal> {
         done(told.status)?;
         Ok(Taken {
