@@ -1,5 +1,3 @@
-ghost use Rattle.std.specs.Prelude.{◌≡◌, IfOk, IfErr};
-
 mod end;
 mod seats;
 mod steps;
