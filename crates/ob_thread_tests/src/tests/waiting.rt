@@ -8,7 +8,6 @@ use ob_players::buffers::Options;
 use ob_players::story::{Again, Story};
 use ob_shared::{Done, Named, Opening, SharedBuffer};
 use ob_stories::{SENDS, WAITS, WRITES};
-use std::alloc::Global;
 use std::marker::Brand;
 use std::process::Abort;
 use std::sync::Wait;
@@ -24,13 +23,13 @@ fn told_of_a_settlement(rt: HostRuntime) -> Result<(), Fail> {
 }
 
 /// What a caller hands in that has played a story.
-pub fn played<L: Named, R: Wait + Abort>(
+pub fn played<L: Named, R: AllocGlobal + Wait + Abort>(
     rt: &R,
-    alloc: Global,
     buffer: &SharedBuffer<L>,
     done: Option<Done<L>>,
     story: &str,
 ) -> Option<Done<L>> {
+    let alloc = rt.alloc();
     let mut caller = Again(Caller {
         rt,
         alloc,
@@ -46,15 +45,14 @@ pub fn played<L: Named, R: Wait + Abort>(
 fn waits_for_another<L: Named + Send + Sync>(rt: &impl Host, opening: Opening) -> Result<(), Fail>
     requires { IsNameOf opening L.opened L.name L.parts }
 {
-    let alloc = rt.alloc();
-    let (buffer, mut dones) = begin::<L>(alloc, opening)?;
+    let (buffer, mut dones) = begin::<L>(rt.alloc(), opening)?;
     let second = dones.pop();
-    let first = played(rt, alloc, &buffer, dones.pop(), WRITES);
+    let first = played(rt, &buffer, dones.pop(), WRITES);
     let shared = &buffer;
     let (first, second) = join(
         rt,
-        move || played(rt, alloc, shared, first, WAITS),
-        move || played(rt, alloc, shared, second, SENDS),
+        move || played(rt, shared, first, WAITS),
+        move || played(rt, shared, second, SENDS),
     );
     dones.push(first.ok_or("a first caller")?)?;
     dones.push(second.ok_or("a second caller")?)?;

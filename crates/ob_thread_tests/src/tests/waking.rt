@@ -11,7 +11,6 @@ use ob_players::meeting::wait_for;
 use ob_shared::{Done, FinishFault, Named, Opening, SharedBuffer};
 use ob_stories::{TOLD, WRITES};
 use ob_types::{Command, Message, PromiseId};
-use std::alloc::Global;
 use std::hint::spin_loop;
 use std::marker::Brand;
 use std::process::Abort;
@@ -58,20 +57,19 @@ fn wakes_all<L: Named + Send + Sync>(
 ) -> Result<(), Fail>
     requires { IsNameOf opening L.opened L.name L.parts }
 {
-    let alloc = rt.alloc();
-    let (buffer, mut dones) = begin::<L>(alloc, opening)?;
-    let third = played(rt, alloc, &buffer, dones.pop(), WRITES);
+    let (buffer, mut dones) = begin::<L>(rt.alloc(), opening)?;
+    let third = played(rt, &buffer, dones.pop(), WRITES);
     let second = dones.pop();
     let first = dones.pop();
     let come = AtomicU64::new(0);
     let (shared, coming) = (&buffer, &come);
     let (first, (second, third)) = join(
         rt,
-        move || waits(rt, alloc, shared, first, coming),
+        move || waits(rt, shared, first, coming),
         move || {
             join(
                 rt,
-                move || waits(rt, alloc, shared, second, coming),
+                move || waits(rt, shared, second, coming),
                 move || settles(rt, shared, third, coming, then),
             )
         },
@@ -82,15 +80,14 @@ fn wakes_all<L: Named + Send + Sync>(
 }
 
 /// Says that it comes, and waits.
-fn waits<L: Named, R: Wait + Abort>(
+fn waits<L: Named, R: AllocGlobal + Wait + Abort>(
     rt: &R,
-    alloc: Global,
     buffer: &SharedBuffer<L>,
     done: Option<Done<L>>,
     coming: &AtomicU64,
 ) -> Option<Done<L>> {
     coming.fetch_add(1, Ordering::SeqCst);
-    played(rt, alloc, buffer, done, TOLD)
+    played(rt, buffer, done, TOLD)
 }
 
 /// Flushes and removes at one desk when two others wait.
