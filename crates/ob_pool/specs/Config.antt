@@ -2,6 +2,7 @@
 use Rattle.std.specs.Prelude.{◌<◌, ◌≤◌}
 use Rattle.ob_types.specs.Limits.{greatest_overhead, greatest_unknown}
 use Rattle.ob_history.specs.History.{History, most_records, new_history}
+use Rattle.ob_transport.specs.MayOffer.{MayOffer}
 use Rattle.ob_pool.specs.declared.config.Config.{Config}
 
 -- the numbers of a drive are within their limits: overhead, unknown size and what a hand-off adds are at most 65535
@@ -12,8 +13,7 @@ pub record AreWithin (config : Config) : Type 0 where
   pub task : config.task ≤ greatest_overhead
   pub some_record : 0 < config.limit
   pub few_records : config.limit ≤ most_records
-  pub some_block : 1 ≤ config.limits.max_count
-  pub some_byte : 1 ≤ config.limits.max_bytes
+  pub offers : MayOffer config.limits
 
 -- the history of a drive before its first call: its buffer has the marks and sizes of the drive, and it may hold as many
 -- records as its limit

@@ -6,8 +6,9 @@ mod jobs;
 mod receipt_log;
 mod transport;
 
-ghost use Rattle.std.specs.Prelude.{◌≡◌, ◌≤◌, IfErr, IfOk, IfSome, IsSome, IsSomeAnd};
+ghost use Rattle.std.specs.Prelude.{◌≡◌, IfErr, IfOk, IfSome, IsSome, IsSomeAnd};
 ghost use Rattle.std.specs.Thread.{IsSync};
+ghost use Rattle.ob_transport.specs.MayOffer.{MayOffer};
 ghost use Rattle.ob_pool.specs.DriveFault.{ComesOfWork};
 ghost use Rattle.ob_pool.specs.Threads.Job.{JobsHaveEnded, MayBegin};
 ghost use Rattle.ob_pool.specs.Threads.ReceiptLog.{HasTransported};
@@ -44,8 +45,7 @@ pub fn run<
     config: Config,
 ) -> (JobsEnd<L>, Result<Done<L>, DriveFault>)
     requires ready { MayBegin context.now.words context.now.estimate context.now.task context.now.writers lane jobs.items }
-    requires some_block { 1 ≤ config.limits.max_count }
-    requires some_byte { 1 ≤ config.limits.max_bytes }
+    requires offers { MayOffer config.limits }
     ensures jobs { JobsHaveEnded context.now.writers jobs.items lane result.0.0 result.0.1 }
     ensures transported { IfOk result.1 (HasTransported L.opened.settings share.maker (S.content sink.old) (S.content sink.new)) }
     ensures transport { IfErr result.1 (ComesOfWork 0) }
@@ -81,8 +81,7 @@ fn transport_side<L: Named, R: Wait + Clock, S: Sink>(
     sink: &mut S,
 ) -> Result<Done<L>, DriveFault>
     requires share { IsSome side.old.share }
-    requires some_block { 1 ≤ config.limits.max_count }
-    requires some_byte { 1 ≤ config.limits.max_bytes }
+    requires offers { MayOffer config.limits }
     ensures transported { IfSome side.old.share (λ share.
         IfOk result (HasTransported L.opened.settings share.maker (S.content sink.old) (S.content sink.new))) }
     ensures fault { IfErr result (ComesOfWork 0) }

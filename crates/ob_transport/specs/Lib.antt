@@ -7,6 +7,7 @@ pub mod GrowAlike
 pub mod InFront
 pub mod IsAccounted
 pub mod IsPass
+pub mod MayOffer
 pub mod Offer
 pub mod Outcome
 pub mod PassFault

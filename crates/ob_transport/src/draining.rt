@@ -1,7 +1,8 @@
-ghost use Rattle.std.specs.Prelude.{◌≡◌, ◌≤◌, None, IfOk};
+ghost use Rattle.std.specs.Prelude.{◌≡◌, None, IfOk};
 ghost use Rattle.ob_transport.specs.Drains.{Drains};
 ghost use Rattle.ob_transport.specs.InFront.{current_in};
 ghost use Rattle.ob_transport.specs.IsAccounted.{IsAccounted};
+ghost use Rattle.ob_transport.specs.MayOffer.{MayOffer};
 ghost use Rattle.ob_transport.specs.Standing.{standing};
 
 use crate::fault::{Pass, PassFault};
@@ -40,8 +41,7 @@ pub fn drain<B: Booked, S: Sink>(
     limits: Limits,
     turns: u64,
 ) -> Result<Drained, PassFault>
-    requires some_block { 1 ≤ limits.max_count }
-    requires some_byte { 1 ≤ limits.max_bytes }
+    requires offers { MayOffer limits }
     ensures passes { Drains limits (B.caller booked.old) turns
         (standing (B.history booked.old) (S.content sink.old)) result
         (standing (B.history booked.new) (S.content sink.new)) }

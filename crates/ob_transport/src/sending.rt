@@ -1,10 +1,11 @@
 ghost use Rattle.std.specs.List.{concat};
-ghost use Rattle.std.specs.Prelude.{◌≡◌, ◌≤◌, None, Ok};
+ghost use Rattle.std.specs.Prelude.{◌≡◌, None, Ok};
 ghost use Rattle.ob_transport.specs.Asking.{IsAskedOnce, OfBytes, OfUnits, StandsInFront, answer_told};
 ghost use Rattle.ob_transport.specs.Content.{Content};
 ghost use Rattle.ob_transport.specs.InFront.{current_in};
 ghost use Rattle.ob_transport.specs.IsAccounted.{IsAccounted};
 ghost use Rattle.ob_transport.specs.IsPass.{IsPass};
+ghost use Rattle.ob_transport.specs.MayOffer.{MayOffer};
 ghost use Rattle.ob_transport.specs.Offer.{Ends, IsOffered, offer_of};
 ghost use Rattle.ob_transport.specs.Outcome.{Clears, SendsBytes, SendsUnits};
 ghost use Rattle.ob_transport.specs.Standing.{standing};
@@ -38,8 +39,7 @@ pub fn pass<B: Booked, S: Sink>(
     sink: &mut S,
     limits: Limits,
 ) -> Result<Pass, PassFault>
-    requires some_block { 1 ≤ limits.max_count }
-    requires some_byte { 1 ≤ limits.max_bytes }
+    requires offers { MayOffer limits }
     ensures by_front { IsPass limits (B.caller booked.old)
         (standing (B.history booked.old) (S.content sink.old)) result
         (standing (B.history booked.new) (S.content sink.new)) }

@@ -4,6 +4,7 @@ ghost use Rattle.std.specs.Prelude.{◌≡◌, ◌+◌, ◌≤◌, length, IfErr
 ghost use Rattle.ob_shared.specs.Opened.{IsAsOpened};
 ghost use Rattle.ob_transport.specs.Content.{Content};
 ghost use Rattle.ob_transport.specs.GrowAlike.{GrowAlike};
+ghost use Rattle.ob_transport.specs.MayOffer.{MayOffer};
 ghost use Rattle.ob_transport.specs.Standing.{standing};
 ghost use Rattle.ob_pool.specs.Report.Counts.{failings_of};
 ghost use Rattle.ob_pool.specs.DriveFault.{ComesOfWork};
@@ -47,8 +48,7 @@ pub fn transport<L: Named, S: Sink, R: Wait + Clock>(
     config: Config,
     ended: &AtomicBool,
 ) -> Result<Done<L>, DriveFault>
-    requires some_block { 1 ≤ config.limits.max_count }
-    requires some_byte { 1 ≤ config.limits.max_bytes }
+    requires offers { MayOffer config.limits }
     ensures transported { IfOk result
         (HasTransported L.opened.settings share.maker (S.content sink.old) (S.content sink.new)) }
     ensures fault { IfErr result (ComesOfWork 0) }
@@ -94,8 +94,7 @@ fn one_pass<L: Named, K: Started, S: Sink>(
     requires start_made { K.start.made ≡ desk.maker.made }
     requires start_receipts { K.start.receipts ≡ receipts.items }
     requires opened { IsAsOpened L.opened desk.history }
-    requires some_block { 1 ≤ limits.max_count }
-    requires some_byte { 1 ≤ limits.max_bytes }
+    requires offers { MayOffer limits }
     ensures caller { result.0.maker.caller ≡ desk.entry.maker.caller }
     ensures made { IfSome result.1 (λ kept.
         result.0.maker.made + length receipts.items ≡ desk.entry.maker.made + length kept.items) }
@@ -118,8 +117,7 @@ fn pass_or_fail<B: Booked, S: Sink>(
     sink: &mut S,
     limits: Limits,
 ) -> Result<AfterPass, DriveFault>
-    requires some_block { 1 ≤ limits.max_count }
-    requires some_byte { 1 ≤ limits.max_bytes }
+    requires offers { MayOffer limits }
     ensures caller { B.caller booked.new ≡ B.caller booked.old }
     ensures alike { IfOk result (λ next. GrowAlike
         (standing (B.history booked.old) (S.content sink.old))

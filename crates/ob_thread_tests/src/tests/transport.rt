@@ -1,6 +1,6 @@
 //! The transport: passes over a recorded buffer of one thread, and over a desk that is lent.
 
-ghost use Rattle.std.specs.Prelude.{◌≤◌};
+ghost use Rattle.ob_transport.specs.MayOffer.{MayOffer};
 ghost use Rattle.ob_shared.specs.Opened.{IsNameOf};
 
 use crate::tests::callers::{finished, opening};
@@ -66,8 +66,7 @@ impl<B: Booked> Transport<B> {
     }
 
     fn limits(&self) -> Limits
-        ensures some_block { 1 ≤ result.max_count }
-        ensures some_byte { 1 ≤ result.max_bytes }
+        ensures { MayOffer result }
     {
         Limits {
             max_count: if self.max_count == 1 { 1 } else { 16 },
