@@ -4,6 +4,7 @@ ghost use Rattle.std.specs.Prelude.{◌≡◌};
 ghost use Rattle.ob_tool.specs.Draw.Picture.{TellsPicture};
 ghost use Rattle.ob_tool.specs.Traces.Telling.{TellsOfTrace};
 
+pub mod drawn;
 pub mod numbers;
 pub mod picture;
 pub mod piece;

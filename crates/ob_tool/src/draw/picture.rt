@@ -1,10 +1,10 @@
 ghost use Rattle.std.specs.Prelude.{◌≡◌, ◌++◌, ◌≤◌, IfOk, OnOk, filter, length};
-ghost use Rattle.std.specs.List.{flat_map};
 ghost use Rattle.ob_tool.specs.Draw.Picture.{axes_pieces, before_pieces, behind_pieces, curve_pieces, end_pieces, mark_pieces, picture_pieces, shade_pieces};
-ghost use Rattle.ob_tool.specs.Draw.Picture.{shades_pieces, step_pieces, turn_pieces, turns_pieces};
+ghost use Rattle.ob_tool.specs.Draw.Picture.{step_pieces, turn_pieces};
 ghost use Rattle.ob_tool.specs.Draw.Point.{points_of};
 ghost use Rattle.ob_tool.specs.Reading.Script.{greatest_script};
 
+use crate::draw::drawn::{Drawn, push_each};
 use crate::draw::piece::{Fixed, Piece};
 use crate::draw::point::{Point, points};
 use crate::draw::scale::Scale;
@@ -39,7 +39,7 @@ fn push_behind(
     ensures { OnOk result (pieces.new.items ≡ pieces.old.items ++ behind_pieces scale marks points.now) }
 {
     pieces.push(Piece::Fixed(Fixed::Head))?;
-    push_shades(pieces, scale, points)?;
+    push_each::<Shades>(pieces, scale, points)?;
     push_axes(pieces, scale, marks)
 }
 
@@ -48,36 +48,30 @@ fn push_before(pieces: &mut Vec<Piece>, scale: Scale, points: &[Point]) -> Resul
     ensures { OnOk result (pieces.new.items ≡ pieces.old.items ++ before_pieces scale points.now) }
 {
     push_curve(pieces, scale, points)?;
-    push_turns(pieces, scale, points)?;
+    push_each::<Turns>(pieces, scale, points)?;
     push_end(pieces, scale)
 }
 
-/// Adds the shade of each stretch of lines with a buffer that is not writable.
-fn push_shades(pieces: &mut Vec<Piece>, scale: Scale, points: &[Point]) -> Result<(), AllocError>
-    ensures { OnOk result (pieces.new.items ≡ pieces.old.items ++ shades_pieces scale points.now) }
-{
-    for point in points {
-        push_shade(pieces, scale, *point)?;
-    }
-    Ok(())
-}
+/// The shade of the stretch that begins with a line with a buffer that is not writable, if one does.
+struct Shades;
 
-/// Adds the shade of the stretch that begins with a line, if one does.
-fn push_shade(pieces: &mut Vec<Piece>, scale: Scale, point: Point) -> Result<(), AllocError>
-    ensures { OnOk result (pieces.new.items ≡ pieces.old.items ++ shade_pieces scale point) }
-{
-    if point.stretch == 0 {
-        return Ok(());
+impl Drawn for Shades {
+    ghost drawn = { shade_pieces };
+
+    fn push(pieces: &mut Vec<Piece>, scale: Scale, point: Point) -> Result<(), AllocError> {
+        if point.stretch == 0 {
+            return Ok(());
+        }
+        let begin = scale.x(u64::from(point.place));
+        let end = scale.x(u64::from(point.place) + u64::from(point.stretch));
+        pieces.extend_from_slice(&[
+            Piece::Fixed(Fixed::ShadeAt),
+            Piece::Tenths(begin),
+            Piece::Fixed(Fixed::ShadeWide),
+            Piece::Tenths(end.saturating_sub(begin)),
+            Piece::Fixed(Fixed::ShadeEnd),
+        ])
     }
-    let begin = scale.x(u64::from(point.place));
-    let end = scale.x(u64::from(point.place) + u64::from(point.stretch));
-    pieces.extend_from_slice(&[
-        Piece::Fixed(Fixed::ShadeAt),
-        Piece::Tenths(begin),
-        Piece::Fixed(Fixed::ShadeWide),
-        Piece::Tenths(end.saturating_sub(begin)),
-        Piece::Fixed(Fixed::ShadeEnd),
-    ])
 }
 
 /// Adds the axes and the two marks.
@@ -120,58 +114,46 @@ fn push_curve(pieces: &mut Vec<Piece>, scale: Scale, points: &[Point]) -> Result
         Piece::Fixed(Fixed::Space),
         Piece::Tenths(scale.y(0)),
     ])?;
-    push_steps(pieces, scale, points)?;
+    push_each::<Steps>(pieces, scale, points)?;
     Ok(pieces.push(Piece::Fixed(Fixed::CurveEnd))?)
 }
 
-/// Adds the steps of the curve.
-fn push_steps(pieces: &mut Vec<Piece>, scale: Scale, points: &[Point]) -> Result<(), AllocError>
-    ensures { OnOk result (pieces.new.items ≡ pieces.old.items ++ flat_map (step_pieces scale) points.now) }
-{
-    for point in points {
-        push_step(pieces, scale, *point)?;
+/// A step of the curve: to the height of a line, and along to the next one.
+struct Steps;
+
+impl Drawn for Steps {
+    ghost drawn = { step_pieces };
+
+    fn push(pieces: &mut Vec<Piece>, scale: Scale, point: Point) -> Result<(), AllocError> {
+        pieces.extend_from_slice(&[
+            Piece::Fixed(Fixed::Down),
+            Piece::Tenths(scale.y(point.total)),
+            Piece::Fixed(Fixed::Along),
+            Piece::Tenths(scale.x(u64::from(point.place) + 1)),
+        ])
     }
-    Ok(())
 }
 
-/// Adds a step of the curve: to the height of a line, and along to the next one.
-fn push_step(pieces: &mut Vec<Piece>, scale: Scale, point: Point) -> Result<(), AllocError>
-    ensures { OnOk result (pieces.new.items ≡ pieces.old.items ++ step_pieces scale point) }
-{
-    pieces.extend_from_slice(&[
-        Piece::Fixed(Fixed::Down),
-        Piece::Tenths(scale.y(point.total)),
-        Piece::Fixed(Fixed::Along),
-        Piece::Tenths(scale.x(u64::from(point.place) + 1)),
-    ])
-}
+/// The triangle of a line's change, if it tells one.
+struct Turns;
 
-/// Adds the triangle of each change.
-fn push_turns(pieces: &mut Vec<Piece>, scale: Scale, points: &[Point]) -> Result<(), AllocError>
-    ensures { OnOk result (pieces.new.items ≡ pieces.old.items ++ turns_pieces scale points.now) }
-{
-    for point in points {
-        push_turn(pieces, scale, *point)?;
+impl Drawn for Turns {
+    ghost drawn = { turn_pieces };
+
+    fn push(pieces: &mut Vec<Piece>, scale: Scale, point: Point) -> Result<(), AllocError> {
+        let turn = match point.change {
+            None => return Ok(()),
+            Some(Change::Unwritable) => Fixed::Stop,
+            Some(Change::Writable) => Fixed::Go,
+        };
+        pieces.extend_from_slice(&[
+            Piece::Fixed(Fixed::PathAt),
+            Piece::Tenths(scale.x(u64::from(point.place))),
+            Piece::Fixed(Fixed::Space),
+            Piece::Tenths(scale.y(point.total)),
+            Piece::Fixed(turn),
+        ])
     }
-    Ok(())
-}
-
-/// Adds the triangle of a line's change, if it tells one.
-fn push_turn(pieces: &mut Vec<Piece>, scale: Scale, point: Point) -> Result<(), AllocError>
-    ensures { OnOk result (pieces.new.items ≡ pieces.old.items ++ turn_pieces scale point) }
-{
-    let turn = match point.change {
-        None => return Ok(()),
-        Some(Change::Unwritable) => Fixed::Stop,
-        Some(Change::Writable) => Fixed::Go,
-    };
-    pieces.extend_from_slice(&[
-        Piece::Fixed(Fixed::PathAt),
-        Piece::Tenths(scale.x(u64::from(point.place))),
-        Piece::Fixed(Fixed::Space),
-        Piece::Tenths(scale.y(point.total)),
-        Piece::Fixed(turn),
-    ])
 }
 
 /// Adds the texts below and above the picture.
