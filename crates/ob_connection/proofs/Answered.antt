@@ -4,10 +4,10 @@ use Rattle.ob_connection.proofs.Words.{append_assoc, arith, Option, Some, None, 
 use Rattle.std.specs.List.{sum_by}
 use Rattle.std.proofs.lemmas.List.{map-append}
 use Rattle.std.proofs.lemmas.List.Elements.{All-append, All-cons, All-nil}
-use Rattle.std.proofs.lemmas.List.Sums.{sum_by-append}
+use Rattle.std.proofs.lemmas.List.Sums.{sum_by-append, sum_by-cons}
 use Rattle.ob_connection.specs.Calls.{Call, answers_in, bytes_of, calls_with}
 use Rattle.ob_connection.specs.Telling.{with_more}
-use Rattle.ob_connection.specs.Turns.{AllTook, AsksInTurns, ended_by, EndsWithin, Stopped}
+use Rattle.ob_connection.specs.Turns.{AllTook, AsksInTurns, ended_by, EndsWithin, OffersInTurns, Stopped}
 use Rattle.ob_connection.specs.declared.ending.Ending.{Ending}
 use Rattle.ob_connection.specs.declared.ending.Ending.TheVariants.{Drained, Blocked, OtherInFront, TurnsUsed, Broken}
 use Rattle.ob_connection.specs.declared.socket.SocketFault.{SocketFault}
@@ -74,6 +74,14 @@ pub answers_are : (bytes : List ℕ) (answer : Option Answered) →
 answers_are bytes None = refl
 answers_are bytes (Some answer) = refl
 
+-- the one call that there is was offered what is due at once
+pub due_at_once : (Due : ℕ → List ℕ → Type 0) {bytes : List ℕ} (offer : Offer) →
+    (¬ (offer ≡ Nothing) → Due 0 bytes) → OffersInTurns Due 0 (calls_with bytes (answer_of offer))
+due_at_once Due Nothing due = tt
+due_at_once Due (Took count) due = (due (λ same. absurd (cc)), tt)
+due_at_once Due AskedBlocked due = (due (λ same. absurd (cc)), tt)
+due_at_once Due AskedBroken due = (due (λ same. absurd (cc)), tt)
+
 -- the bytes of the one call that there is
 pub taken_by : (bytes : List ℕ) (offer : Offer) →
     sum_by (λ (call : Call). bytes_of call.answer) (calls_with bytes (answer_of offer)) ≡ bytes_taken offer
@@ -82,33 +90,75 @@ taken_by bytes (Took count) = omega arith
 taken_by bytes AskedBlocked = refl
 taken_by bytes AskedBroken = refl
 
-module _ {turns first : ℕ} {before : Option (List Call)} {mid : Option (List Call)} where
-  -- turns behind which the sending goes on, and one more
-  pub asks_more : {more : ℕ} {was ending : Ending} {after : Option (List Call)} → was ≡ TurnsUsed →
-      AsksInTurns turns first before was mid → AsksInTurns 1 more mid ending after →
-      AsksInTurns (turns + 1) (first + more) before ending after
-  asks_more {more} {was} {ending} {after} on earlier now = record {
-    made = earlier.made ++ now.made;
-    calls = now.calls ∙ ap (λ told. with_more told now.made) earlier.calls ∙ taken_twice before earlier.made now.made;
-    bytes = sum_by-append (λ call. bytes_of call.answer) earlier.made now.made
-        ∙ ap (λ count. count + sum_by (λ call. bytes_of call.answer) now.made) earlier.bytes
-        ∙ ap (λ count. first + count) now.bytes;
-    ends = rw (map-append (λ (call : Call). call.answer) earlier.made now.made)
-        (one_more turns (answers_of earlier.made) (answers_of now.made) ending
-        (subst (λ one. EndsWithin turns (answers_of earlier.made) one) on earlier.ends) now.ends);
-  }
+module _ (Due : ℕ → List ℕ → Type 0) where
+  -- what is due by another rule is due by this one, some bytes further on
+  offers_as : (Here : ℕ → List ℕ → Type 0) (further : ℕ) →
+      ((taken : ℕ) (bytes : List ℕ) → Here taken bytes → Due (further + taken) bytes) →
+      (taken : ℕ) (calls : List Call) → OffersInTurns Here taken calls → OffersInTurns Due (further + taken) calls
+  offers_as Here further same taken [] offers = tt
+  offers_as Here further same taken (call ∷ calls) offers = (
+    same taken call.offered offers.0,
+    subst (λ behind. OffersInTurns Due behind calls) (omega arith)
+        (offers_as Here further same (taken + bytes_of call.answer) calls offers.1),
+  )
 
-  -- a sending that ended early, of more turns
-  pub asks_within : {many : ℕ} {ending : Ending} → ¬ (ending ≡ TurnsUsed) → turns ≤ many →
-      AsksInTurns turns first before ending mid → AsksInTurns many first before ending mid
-  asks_within {many} {ending} other fit asks = record {
-    made = asks.made;
-    calls = asks.calls;
-    bytes = asks.bytes;
-    ends = more_turns turns many (answers_of asks.made) ending other fit asks.ends;
-  }
+  -- calls behind others
+  offers_more : (taken : ℕ) (earlier now : List Call) → OffersInTurns Due taken earlier →
+      OffersInTurns Due (taken + sum_by (λ call. bytes_of call.answer) earlier) now →
+      OffersInTurns Due taken (earlier ++ now)
+  offers_more taken [] now before offers = subst (λ behind. OffersInTurns Due behind now) (omega arith) offers
+  offers_more taken (call ∷ earlier) now before offers = (
+    before.0,
+    offers_more (taken + bytes_of call.answer) earlier now before.1
+        (subst (λ behind. OffersInTurns Due behind now)
+        (omega (arith, sum_by-cons (λ (call : Call). bytes_of call.answer) call earlier)) offers),
+  )
 
-  -- a sending that used up its turns
-  pub asks_all : {all : ℕ} {ending : Ending} → turns ≡ all → AsksInTurns turns first before ending mid →
-      AsksInTurns all first before ending mid
-  asks_all {ending = ending} same asks = subst (λ count. AsksInTurns count first before ending mid) same asks
+  module _ {turns first : ℕ} {before : Option (List Call)} {mid : Option (List Call)} where
+    -- turns behind which the sending goes on, and one more
+    pub asks_more : {more : ℕ} {was ending : Ending} {after : Option (List Call)} → was ≡ TurnsUsed →
+        (Here : ℕ → List ℕ → Type 0) → ((taken : ℕ) (bytes : List ℕ) → Here taken bytes → Due (first + taken) bytes) →
+        AsksInTurns Due turns first before was mid → AsksInTurns Here 1 more mid ending after →
+        AsksInTurns Due (turns + 1) (first + more) before ending after
+    asks_more {more} {was} {ending} {after} on Here further earlier now = record {
+      made = earlier.made ++ now.made;
+      calls = now.calls ∙ ap (λ told. with_more told now.made) earlier.calls ∙ taken_twice before earlier.made now.made;
+      offers = offers_more 0 earlier.made now.made earlier.offers
+          (subst (λ behind. OffersInTurns Due behind now.made) (omega (arith, earlier.bytes))
+          (offers_as Here first further 0 now.made now.offers));
+      bytes = sum_by-append (λ call. bytes_of call.answer) earlier.made now.made
+          ∙ ap (λ count. count + sum_by (λ call. bytes_of call.answer) now.made) earlier.bytes
+          ∙ ap (λ count. first + count) now.bytes;
+      ends = rw (map-append (λ (call : Call). call.answer) earlier.made now.made)
+          (one_more turns (answers_of earlier.made) (answers_of now.made) ending
+          (subst (λ one. EndsWithin turns (answers_of earlier.made) one) on earlier.ends) now.ends);
+    }
+
+    -- a sending that ended early, of more turns
+    pub asks_within : {many : ℕ} {ending : Ending} → ¬ (ending ≡ TurnsUsed) → turns ≤ many →
+        AsksInTurns Due turns first before ending mid → AsksInTurns Due many first before ending mid
+    asks_within {many} {ending} other fit asks = record {
+      made = asks.made;
+      calls = asks.calls;
+      offers = asks.offers;
+      bytes = asks.bytes;
+      ends = more_turns turns many (answers_of asks.made) ending other fit asks.ends;
+    }
+
+    -- a sending whose calls were offered what is due by this rule too
+    pub asks_as : {ending : Ending} → (Here : ℕ → List ℕ → Type 0) →
+        ((taken : ℕ) (bytes : List ℕ) → Here taken bytes → Due taken bytes) →
+        AsksInTurns Here turns first before ending mid → AsksInTurns Due turns first before ending mid
+    asks_as Here same asks = record {
+      made = asks.made;
+      calls = asks.calls;
+      offers = offers_as Here 0 (λ taken bytes here. subst (λ n. Due n bytes) (omega arith) (same taken bytes here)) 0
+          asks.made asks.offers;
+      bytes = asks.bytes;
+      ends = asks.ends;
+    }
+
+    -- a sending that used up its turns
+    pub asks_all : {all : ℕ} {ending : Ending} → turns ≡ all → AsksInTurns Due turns first before ending mid →
+        AsksInTurns Due all first before ending mid
+    asks_all {ending = ending} same asks = subst (λ count. AsksInTurns Due count first before ending mid) same asks

@@ -11,13 +11,14 @@ use Rattle.ob_seq.specs.Unsent.{pending_entry}
 use Rattle.ob_seq.proofs.Rows.Limits.{run_within}
 use Rattle.ob_connection.specs.declared.ending.Ending.{Ending}
 use Rattle.ob_connection.specs.declared.ending.Ending.TheVariants.{Drained, Blocked as NoRoom, OtherInFront, TurnsUsed, Broken as IsBroken}
-use Rattle.ob_connection.specs.Sending.{Asks, bytes_or_fault, Ends, offered_after, sent_or_fault}
+use Rattle.ob_connection.specs.Sending.{Asks, bytes_or_fault, Ends, IsDue, offered_after, sent_or_fault}
 use Rattle.ob_connection.specs.declared.connection.sending.SendFault.{SendFault}
 use Rattle.ob_connection.specs.declared.connection.sending.Sent.{Sent}
 use Rattle.ob_connection.specs.declared.inner.offer.Offer.{Offer}
 use Rattle.ob_connection.specs.declared.inner.offer.Offer.TheVariants.{Nothing, Took, Blocked as AskedBlocked, Broken as AskedBroken}
 use Rattle.std.specs.List.{concat}
 use Rattle.std.specs.Prelude.{min, is_some, Result, ◌&&◌}
+use Rattle.ob_connection.proofs.Words.{◌∷◌, ◌++◌, Past, held, connection_limit}
 use Rattle.ob_types.specs.declared.command.Command.TheVariants.{RemoveBytes}
 use Rattle.ob_types.specs.declared.refusal.Refusal.TheVariants.{TooManyBytes}
 use Rattle.ob_seq.specs.Answer.{reply_of, unless_refused}
@@ -30,8 +31,12 @@ use Rattle.ob_seq.proofs.Inside.Gathered.{gathered_first, length_of_concat, more
 use Rattle.ob_seq.proofs.Simulating.BytesRemoved.{run_is}
 use Rattle.ob_connection.specs.Limit.{answer_of_connection}
 use Rattle.ob_connection.specs.Calls.{Call, calls_with, most_pieces}
-use Rattle.ob_connection.specs.Offering.{answer_of, EndsAt, offered, Offers, run_of}
+use Rattle.ob_connection.specs.Becoming.{removed}
+use Rattle.ob_connection.specs.Offering.{answer_of, EndsAt, IsLeft, offered, Offers, run_of}
 use Rattle.ob_connection.specs.Telling.{with_more}
+use Rattle.ob_connection.proofs.Turns.{not_too_many}
+use Rattle.ob_seq.proofs.Inside.Looked.{gathered_is}
+use Rattle.ob_seq.proofs.Simulating.Simulated.{goes_on, simulated}
 
 -- what a connection has left in front is what its history has
 pub run_after : (now : Connected) (commands : List Command) → StandsFor now commands →
@@ -155,3 +160,20 @@ asks_by {now = now} view unclosed max_count max_bytes sent_before sent_after bef
           (offered_is now commands stands max_count max_bytes);
       told = λ commands stands. told ∙ ap (λ closed. sent_or_fault closed (answer_of offer)) (unclosed commands stands);
     }
+
+-- what is left once so many bytes were taken away is what is gathered behind a removal of them
+pub due_after : {now : Connected} → Gives now closed_after false → (max_bytes taken : ℕ) (bytes : List ℕ) →
+    IsLeft max_bytes now taken bytes → IsDue max_bytes now taken bytes
+due_after {now} unclosed max_bytes taken bytes left = record {
+  some = left.some;
+  gathered = λ commands stands.
+      let past : Past now = record { outcomes = stands.past; count = stands.forgotten } in
+      let old = held past in
+      let command = RemoveBytes taken in
+      let on = goes_on connection_limit command old commands stands.accepted stands.leaves
+      (stands.leaves.closed ∙ sym (unclosed commands stands)) (not_too_many taken old left.within) in
+      left.left past
+      ∙ ap concat (gathered_is (removed taken old) most_pieces max_bytes (commands ++ command ∷ []) on.1)
+      ∙ ap (λ settings. concat (gathered_after settings (commands ++ command ∷ []) most_pieces max_bytes))
+      (simulated connection_limit command old).settings;
+}

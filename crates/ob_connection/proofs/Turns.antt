@@ -1,6 +1,6 @@
 -- Bytes that are removed in several turns are removed as by one.
 use Rattle.ob_connection.proofs.Words.{◌≡◌, ◌≤◌, ◌<◌, ℕ, zero, suc, ◌+◌, ◌-◌, Bool, true, false, List, [], ◌∷◌, ◌++◌, length, take, drop, ltb}
-use Rattle.ob_connection.proofs.Words.{refl, sym, ap, ◌∙◌, arith, nat_tests, Pending, inl, inr, ◌⊎◌, cond, Option, Some, None, if◌then◌else◌}
+use Rattle.ob_connection.proofs.Words.{refl, sym, ap, ◌∙◌, arith, length-append, nat_tests, Pending, inl, inr, ◌⊎◌, cond, Option, Some, None, if◌then◌else◌}
 use Rattle.std.specs.List.{concat}
 use Rattle.ob_connection.proofs.Words.{Becomes, Connected, Unsent, held}
 use Rattle.std.specs.Prelude.{max, min}
@@ -11,7 +11,7 @@ use Rattle.ob_types.specs.declared.message.Message.{Message}
 use Rattle.ob_types.specs.declared.message.Message.TheVariants.{Block, Region, Other}
 use Rattle.ob_types.specs.declared.promise.Outcome.TheVariants.{Success}
 use Rattle.ob_seq.specs.Entry.{PendingEntry, blocks_left}
-use Rattle.ob_seq.specs.Gathering.{with_bytes}
+use Rattle.ob_seq.specs.Gathering.{first_blocks, with_bytes}
 use Rattle.ob_seq.specs.Pieces.{bytes_in, pieces_within}
 use Rattle.ob_seq.specs.Row.{without_skipped}
 use Rattle.ob_seq.specs.Steps.Held.{first_changed, front_changed}
@@ -24,7 +24,8 @@ use Rattle.ob_seq.proofs.Inside.Gathered.{all_bytes, gathered_first, length_of_c
 use Rattle.ob_seq.proofs.Inside.Pieces.{fitting, within_is_fitting}
 use Rattle.ob_seq.proofs.Inside.Times.{times_first}
 use Rattle.ob_connection.specs.Becoming.{cut_at, removed}
-use Rattle.ob_connection.specs.Offering.{offered, run_of}
+use Rattle.ob_connection.specs.Calls.{most_pieces}
+use Rattle.ob_connection.specs.Offering.{IsLeft, offered, run_of}
 use Rattle.ob_connection.proofs.Kept.{some_past}
 
 -- what is held once the front is sent
@@ -311,6 +312,71 @@ run_behind (entry ∷ entries) now is n within =
     by_message (Region units) other behind = none (λ bytes block. let both = sym other ∙ block in absurd (cc)) n within
     by_message (Other value) other behind = none (λ bytes block. let both = sym other ∙ block in absurd (cc)) n within
 
+-- a removal of nothing leaves the same blocks that hold a byte: it takes the empty ones in front away
+nothing_removed : (line : List PendingEntry) (now : Pending) → now.line ≡ line →
+    with_bytes (blocks_left (removed 0 now).line) ≡ with_bytes (blocks_left line)
+nothing_removed [] now is =
+    ap (λ (one : Pending). with_bytes (blocks_left one.line)) (removed_none now (ap blocks_left is))
+    ∙ ap (λ line. with_bytes (blocks_left line)) is
+nothing_removed (entry ∷ entries) now is =
+    by_message entry.message refl (nothing_removed entries (sent now) (ap (drop 1) is))
+  where
+    none : ((bytes : List ℕ) → entry.message ≡ Block bytes → ⊥) →
+        with_bytes (blocks_left (removed 0 now).line) ≡ with_bytes (blocks_left (entry ∷ entries))
+    none other =
+        ap (λ (one : Pending). with_bytes (blocks_left one.line))
+        (removed_none now (ap blocks_left is ∙ left_from_other entry entries other))
+        ∙ ap (λ line. with_bytes (blocks_left line)) is
+
+    no_byte : (bytes : List ℕ) (blocks : List (List ℕ)) → length bytes ≤ 0 →
+        with_bytes blocks ≡ with_bytes (bytes ∷ blocks)
+    no_byte [] blocks few = refl
+    no_byte (byte ∷ bytes) blocks few = absurd (omega (arith, few))
+
+    by_message : (message : Message) → entry.message ≡ message →
+        with_bytes (blocks_left (removed 0 (sent now)).line) ≡ with_bytes (blocks_left entries) →
+        with_bytes (blocks_left (removed 0 now).line) ≡ with_bytes (blocks_left (entry ∷ entries))
+    by_message (Block bytes) block behind = elim (order (length bytes) 0) [
+      | inl fits ↦
+          let rest : 0 - length bytes ≡ 0 = omega arith in
+          ap (λ (one : Pending). with_bytes (blocks_left one.line)) (removed_behind now entry entries is block 0 fits)
+          ∙ ap (λ n. with_bytes (blocks_left (removed n (sent now)).line)) rest
+          ∙ behind
+          ∙ no_byte bytes (blocks_left entries) fits
+          ∙ ap with_bytes (sym (left_from_block entry entries block))
+      | inr few ↦
+          ap (λ (one : Pending). with_bytes (blocks_left one.line)) (removed_in now entry entries is block 0 few)
+          ∙ ap (λ line. with_bytes (blocks_left line)) is
+    ]
+    by_message (Region units) other behind = none (λ bytes block. let both = sym other ∙ block in absurd (cc))
+    by_message (Other value) other behind = none (λ bytes block. let both = sym other ∙ block in absurd (cc))
+
+-- some of the blocks that hold a byte hold one
+some_bytes : (blocks : List (List ℕ)) (n : ℕ) → 0 < length (take n (with_bytes blocks)) →
+    0 < length (concat (take n (with_bytes blocks)))
+some_bytes [] n some = absurd (omega (arith, some, length-take n (with_bytes [])))
+some_bytes (block ∷ blocks) n some = by_test (ltb 0 (length block)) refl n (some_bytes blocks) some
+  where
+    by_test : (holds : Bool) → ltb 0 (length block) ≡ holds → (n : ℕ) →
+        ((n : ℕ) → 0 < length (take n (with_bytes blocks)) → 0 < length (concat (take n (with_bytes blocks)))) →
+        0 < length (take n (cond holds (block ∷ with_bytes blocks) (with_bytes blocks))) →
+        0 < length (concat (take n (cond holds (block ∷ with_bytes blocks) (with_bytes blocks))))
+    by_test true test zero rest some = absurd (omega (arith, some))
+    by_test true test (suc n) rest some =
+        let size : 0 < length block = grind (arith, nat_tests) in
+        omega (arith, size, length-append block (concat (take n (with_bytes blocks))))
+    by_test false test n rest some = rest n some
+
+-- what the first turn offers is what is left before anything was taken away
+pub first_offer : (max_bytes : ℕ) (old : Connected) → 0 < length (offered most_pieces max_bytes old.unsent) →
+    IsLeft max_bytes old 0 (concat (offered most_pieces max_bytes old.unsent))
+first_offer max_bytes old some = record {
+  some = some_bytes (run_of old.unsent) _ some;
+  within = omega arith;
+  left = λ past. ap (λ blocks. concat (first_blocks most_pieces max_bytes blocks))
+      (sym (nothing_removed (held past).line (held past) refl));
+}
+
 -- a removal of no more bytes than are left is not refused
 pub not_too_many : (n : ℕ) (now : Pending) → n ≤ bytes_in (blocks_left now.line) → (bytes_step n now).refusal ≡ None
 not_too_many n now within =
@@ -385,19 +451,37 @@ module _ (old mid : Connected) (a : ℕ) (first : Becomes (removed a) old mid) (
         ap (λ (one : Pending). concat (blocks_left one.line)) (first past).1
         ∙ run_behind (held past).line (held past) refl a fits
 
+    within_both : (b : ℕ) → b ≤ bytes_in (run_of mid.unsent) → a + b ≤ bytes_in (run_of old.unsent)
+    within_both b more =
+        omega (
+          arith,
+          fits,
+          more,
+          length_of_concat (run_of mid.unsent),
+          length_of_concat (run_of old.unsent),
+          ap (λ bytes. length bytes) run_mid,
+          length-drop a (concat (run_of old.unsent)),
+        )
+
+    -- what is left in the middle is left from the start, so many bytes further on
+    pub left_further : (max_bytes taken : ℕ) (bytes : List ℕ) → IsLeft max_bytes mid taken bytes →
+        IsLeft max_bytes old (a + taken) bytes
+    left_further max_bytes taken bytes left =
+        let within = within_both taken left.within in record {
+          some = left.some;
+          within = within;
+          left = λ past.
+              let there = first past in
+              let turns = in_turns (held past).line (held past) refl a taken within in
+              left.left there.0
+              ∙ ap (λ (one : Pending). concat (first_blocks most_pieces max_bytes (with_bytes (blocks_left one.line))))
+              (ap (removed taken) there.1 ∙ turns.state);
+        }
+
     module _ (new : Connected) (b : ℕ) (second : Becomes (removed b) mid new) (more : b ≤ bytes_in (run_of mid.unsent))
       where
         pub both_within : a + b ≤ bytes_in (run_of old.unsent)
-        both_within =
-            omega (
-              arith,
-              fits,
-              more,
-              length_of_concat (run_of mid.unsent),
-              length_of_concat (run_of old.unsent),
-              ap (λ bytes. length bytes) run_mid,
-              length-drop a (concat (run_of old.unsent)),
-            )
+        both_within = within_both b more
 
         pub both_become : Becomes (removed (a + b)) old new
         both_become past =

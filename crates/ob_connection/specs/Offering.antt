@@ -7,7 +7,9 @@ use Rattle.ob_seq.specs.Unsent.{Unsent, pending_entries}
 use Rattle.ob_seq.specs.Pieces.{bytes_in}
 use Rattle.ob_connection.specs.declared.ending.Ending.{Ending}
 use Rattle.ob_connection.specs.declared.ending.Ending.TheVariants.{Drained, Blocked as EndsBlocked, OtherInFront, TurnsUsed, Broken as EndsBroken}
-use Rattle.ob_connection.specs.Calls.{Call, calls_with}
+use Rattle.ob_connection.specs.Becoming.{Past, held, removed}
+use Rattle.ob_connection.specs.Calls.{Call, calls_with, most_pieces}
+use Rattle.ob_connection.specs.Connected.{Connected}
 use Rattle.ob_connection.specs.Telling.{with_more}
 use Rattle.ob_connection.specs.declared.socket.SocketFault.{SocketFault}
 use Rattle.ob_connection.specs.declared.socket.SocketFault.TheVariants.{Blocked as HasNoRoom, Broken as IsBroken}
@@ -46,6 +48,14 @@ pub record Offers (max_count max_bytes : ℕ) (unsent : Unsent) (sent_before : O
       ≡ with_more calls_before (calls_with (concat (offered max_count max_bytes unsent)) (answer_of offer))
   pub nothing : offer ≡ Nothing → offered max_count max_bytes unsent ≡ []
   pub something : ¬ (offer ≡ Nothing) → 0 < length (offered max_count max_bytes unsent)
+
+-- these bytes are what a turn offers once so many of those in front were taken away, whatever outcomes the messages had
+-- that are gone
+pub record IsLeft (max_bytes : ℕ) (old : Connected) (taken : ℕ) (bytes : List ℕ) : Type 0 where
+  pub some : 0 < length bytes
+  pub within : taken ≤ bytes_in (run_of old.unsent)
+  pub left : (past : Past old) →
+      bytes ≡ concat (first_blocks most_pieces max_bytes (with_bytes (blocks_left (removed taken (held past)).line)))
 
 -- what is left where a sending ended so
 abbrev pub EndsAt : Unsent → Ending → Type 0

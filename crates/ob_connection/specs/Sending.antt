@@ -1,6 +1,6 @@
 -- What a connection sends at once.
 use Rattle.std.specs.List.{concat}
-use Rattle.std.specs.Prelude.{ℕ, Bool, not, nat_lt, length, ◌&&◌, List, take, min, max, true, false, Option, Some, None, is_some, Result, Ok, Err}
+use Rattle.std.specs.Prelude.{◌<◌, ℕ, Bool, not, nat_lt, length, ◌&&◌, List, [], ◌∷◌, ◌++◌, take, min, max, true, false, Option, Some, None, is_some, Result, Ok, Err}
 use Rattle.ob_types.specs.declared.command.Command.{Command}
 use Rattle.ob_types.specs.declared.command.Command.TheVariants.{RemoveBytes}
 use Rattle.ob_types.specs.declared.promise.Outcome.TheVariants.{Success}
@@ -84,9 +84,17 @@ Ends new OtherInFront = Gives new empty_after false × Gives new bytes_in_front_
 Ends new TurnsUsed = Gives new empty_after false
 Ends new IsBroken = Gives new empty_after false
 
+-- these bytes are what a turn offers once so many were taken away: what is gathered then, and that is not nothing
+pub record IsDue (max_bytes : ℕ) (old : Connected) (taken : ℕ) (bytes : List ℕ) : Type 0 where
+  pub some : 0 < length bytes
+  pub gathered : Gives old
+      (λ settings commands. concat (gathered_after settings (commands ++ RemoveBytes taken ∷ []) most_pieces max_bytes))
+      bytes
+
 -- all turns together took the first bytes of those in front, as many as are told; they were taken away as by one removal,
--- which answers what is told; and it is told how they ended
-pub record SendsInTurns (max_turns : ℕ) (old : Connected) (sent_before : Option (List ℕ))
+-- which answers what is told; each turn offered what is gathered behind the bytes of those before it; and it is told how
+-- they ended
+pub record SendsInTurns (max_turns max_bytes : ℕ) (old : Connected) (sent_before : Option (List ℕ))
     (calls_before : Option (List Call)) (done : SentTurns) (new : Connected) (sent_after : Option (List ℕ))
     (calls_after : Option (List Call)) : Type 0 where
   pub sent : Gives old
@@ -96,7 +104,7 @@ pub record SendsInTurns (max_turns : ℕ) (old : Connected) (sent_before : Optio
   pub obeys : (let result : Result Taken Refusal = Ok done.taken in
       Obeys old (RemoveBytes done.bytes) taken_reply result new)
   pub next : (let result : Result Taken Refusal = Ok done.taken in IsNext old Success result new)
-  pub asks : AsksInTurns (max 1 max_turns) done.bytes calls_before done.ending calls_after
+  pub asks : AsksInTurns (IsDue max_bytes old) (max 1 max_turns) done.bytes calls_before done.ending calls_after
   pub ends : Ends new done.ending
 
 -- a connection that is closed sends nothing, and no other tells that it is

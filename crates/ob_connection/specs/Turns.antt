@@ -1,5 +1,5 @@
 -- What a sending of several turns asks of a socket, and how it ends.
-use Rattle.std.specs.Prelude.{◌≡◌, ◌≤◌, ◌<◌, ℕ, zero, suc, List, [], ◌∷◌, ◌++◌, length, map, Option, Some, None, Result, Ok, Err}
+use Rattle.std.specs.Prelude.{◌≡◌, ◌≤◌, ◌<◌, ◌+◌, ℕ, zero, suc, List, [], ◌∷◌, ◌++◌, length, map, ⊤, Option, Some, None, Result, Ok, Err}
 use Rattle.std.specs.List.{All, sum_by}
 use Rattle.ob_connection.specs.Calls.{Call, bytes_of}
 use Rattle.ob_connection.specs.Telling.{with_more}
@@ -36,11 +36,19 @@ EndsWithin turns answers TurnsUsed = AllTook answers × (length answers ≡ turn
 EndsWithin turns answers Blocked = Stopped answers Blocked × (length answers ≤ turns)
 EndsWithin turns answers Broken = Stopped answers Broken × (length answers ≤ turns)
 
--- the calls of a socket that a sending of at most so many turns made: together they took the bytes that it tells of, and
--- it ended so by what they answered
-pub record AsksInTurns (turns sent : ℕ) (before : Option (List Call)) (ending : Ending) (after : Option (List Call))
-    : Type 0 where
+-- the calls of a socket from where it took so many bytes: each was offered what is due behind the bytes that it took until
+-- then
+abbrev pub OffersInTurns : (ℕ → List ℕ → Type 0) → ℕ → List Call → Type 0
+OffersInTurns IsDue taken [] = ⊤
+OffersInTurns IsDue taken (call ∷ calls) =
+    IsDue taken call.offered × OffersInTurns IsDue (taken + bytes_of call.answer) calls
+
+-- the calls of a socket that a sending of at most so many turns made: each was offered what is due, together they took the
+-- bytes that it tells of, and it ended so by what they answered
+pub record AsksInTurns (IsDue : ℕ → List ℕ → Type 0) (turns sent : ℕ) (before : Option (List Call)) (ending : Ending)
+    (after : Option (List Call)) : Type 0 where
   pub made : List Call
   pub calls : after ≡ with_more before made
+  pub offers : OffersInTurns IsDue 0 made
   pub bytes : sum_by (λ call. bytes_of call.answer) made ≡ sent
   pub ends : EndsWithin turns (map (λ call. call.answer) made) ending

@@ -55,7 +55,6 @@ impl Connection {
         ensures asks { Asks max_count max_bytes self.old (S.calls socket.old) result (S.calls socket.new) }
         ensures kept { OnErr result (self.new ≡ self.old) }
         ensures unsent { OnErr result (S.sent socket.new ≡ S.sent socket.old) }
-        ensures ends { EndsSending self.old result }
     {
         if self.is_closed() {
             return Err(SendFault::Closed);
@@ -93,8 +92,8 @@ impl Connection {
         max_bytes: u32,
     ) -> Result<SentTurns, SendFault>
         ensures sends { IfOk result (λ done.
-            SendsInTurns max_turns self.old (S.sent socket.old) (S.calls socket.old) done self.new (S.sent socket.new)
-            (S.calls socket.new)) }
+            SendsInTurns max_turns max_bytes self.old (S.sent socket.old) (S.calls socket.old) done self.new
+            (S.sent socket.new) (S.calls socket.new)) }
         ensures kept { OnErr result (self.new ≡ self.old) }
         ensures unsent { OnErr result (S.sent socket.new ≡ S.sent socket.old) }
         ensures unasked { OnErr result (S.calls socket.new ≡ S.calls socket.old) }

@@ -9,7 +9,7 @@ ghost use Rattle.ob_seq.specs.Steps.RemoveBytes.{whole_cut};
 ghost use Rattle.ob_connection.specs.Becoming.{Becomes, removed, TakesSent};
 ghost use Rattle.ob_connection.specs.Obeying.{IsNext};
 ghost use Rattle.ob_connection.specs.Calls.{answers_in};
-ghost use Rattle.ob_connection.specs.Offering.{answer_of, bytes_taken, EndsAt, run_of};
+ghost use Rattle.ob_connection.specs.Offering.{answer_of, bytes_taken, EndsAt, IsLeft, run_of};
 ghost use Rattle.ob_connection.specs.Telling.{with_more};
 ghost use Rattle.ob_connection.specs.Turns.{AsksInTurns, EndsWithin};
 
@@ -34,7 +34,8 @@ impl Inner {
         ensures next { IsNext self.old Success (Ok result.taken) self.new }
         ensures sent { S.sent socket.new
             ≡ with_more (S.sent socket.old) (take result.bytes (concat (run_of self.old.unsent))) }
-        ensures asks { AsksInTurns (max 1 max_turns) result.bytes (S.calls socket.old) result.ending (S.calls socket.new) }
+        ensures asks { AsksInTurns (IsLeft max_bytes self.old) (max 1 max_turns) result.bytes (S.calls socket.old)
+            result.ending (S.calls socket.new) }
         ensures ends { EndsAt self.new.unsent result.ending }
     {
         let (before, from) = (self.contents.word(), self.gone);
@@ -62,7 +63,8 @@ impl Inner {
         ensures within { result.0 ≤ bytes_in (run_of self.old.unsent) }
         ensures sent { S.sent socket.new
             ≡ with_more (S.sent socket.old) (take result.0 (concat (run_of self.old.unsent))) }
-        ensures asks { AsksInTurns 1 result.0 (S.calls socket.old) result.1 (S.calls socket.new) }
+        ensures asks { AsksInTurns (IsLeft max_bytes self.old) 1 result.0 (S.calls socket.old) result.1
+            (S.calls socket.new) }
         ensures ends { EndsAt self.new.unsent result.1 }
     {
         let offer = self.offer(socket, u32::MAX, max_bytes);

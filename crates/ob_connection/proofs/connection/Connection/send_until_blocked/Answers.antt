@@ -3,12 +3,14 @@ use Rattle.std.specs.List.{concat}
 use Rattle.ob_types.specs.declared.command.Command.TheVariants.{RemoveBytes}
 use Rattle.ob_types.specs.declared.promise.Outcome.TheVariants.{Success}
 use Rattle.ob_connection.specs.Obeying.{IsNext}
-use Rattle.ob_connection.specs.Offering.{run_of}
+use Rattle.ob_connection.specs.Offering.{IsLeft, run_of}
 use Rattle.ob_connection.specs.Replies.{taken_reply}
 use Rattle.ob_connection.specs.Telling.{with_more}
 use Rattle.ob_connection.specs.declared.replies.Taken.{Taken}
 use Rattle.ob_connection.proofs.Obeyed.{obeys, stays}
-use Rattle.ob_connection.proofs.Sending.{ends_are, few_in_front, run_after}
+use Rattle.ob_connection.specs.Sending.{IsDue}
+use Rattle.ob_connection.proofs.Answered.{asks_as}
+use Rattle.ob_connection.proofs.Sending.{due_after, ends_are, few_in_front, run_after}
 use Rattle.ob_connection.proofs.connection.Connection.send_until_blocked.Goals as goal
 
 pub send_turns-requires : goal.send_turns-requires
@@ -37,6 +39,11 @@ returns-clause-sends g c =
       obeys = subst (λ one. Obeys one (RemoveBytes bytes) taken_reply result new) c.self.view_is
           (obeys (RemoveBytes bytes) taken_reply _ _ result c.self.invariant c.send_turns.ensures.moves tt);
       next = subst (λ one. IsNext one Success result new) c.self.view_is c.send_turns.ensures.next;
-      asks = c.send_turns.ensures.asks;
+      asks = asks_as (IsDue c.args.max_bytes c.args.self.now) (IsLeft c.args.max_bytes c.self.inside.inner)
+          (λ taken offered left.
+          due_after (λ commands stands. sym c.if-is_closed.false ∙ c.is_closed.ensures commands stands)
+          c.args.max_bytes taken offered
+          (subst (λ one. IsLeft c.args.max_bytes one taken offered) c.self.view_is left))
+          c.send_turns.ensures.asks;
       ends = ends_are new c.send_turns.result.ending c.send_turns.ensures.ends;
     }

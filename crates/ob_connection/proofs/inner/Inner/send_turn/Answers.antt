@@ -3,10 +3,10 @@ use Rattle.std.specs.List.{concat}
 use Rattle.std.proofs.lemmas.List.{length-drop}
 use Rattle.ob_seq.proofs.Inside.Gathered.{length_of_concat}
 use Rattle.ob_connection.specs.Calls.{calls_with, most_pieces}
-use Rattle.ob_connection.specs.Offering.{answer_of, offered, run_of}
+use Rattle.ob_connection.specs.Offering.{answer_of, IsLeft, offered, run_of}
 use Rattle.ob_connection.specs.Telling.{with_more}
-use Rattle.ob_connection.proofs.Answered.{answers_are, taken_by}
-use Rattle.ob_connection.proofs.Turns.{offered_first, offered_none, offered_some, run_mid, some_in_line}
+use Rattle.ob_connection.proofs.Answered.{answers_are, due_at_once, taken_by}
+use Rattle.ob_connection.proofs.Turns.{first_offer, offered_first, offered_none, offered_some, run_mid, some_in_line}
 use Rattle.ob_connection.proofs.inner.Inner.send_turn.Goals as goal
 
 -- as many bytes as the socket took
@@ -74,6 +74,8 @@ returns g c =
       asks = record {
         made = calls_with all (answer_of c.offer-offer.result);
         calls = c.offer-offer.ensures.calls;
+        offers = due_at_once (IsLeft c.args.max_bytes c.args.self.now) c.offer-offer.result
+            (λ asked. first_offer c.args.max_bytes c.args.self.now (c.offer-offer.ensures.something asked));
         bytes = taken_by all c.offer-offer.result ∙ sym c.bytes-bytes.ensures;
         ends = rw (answers_are all (answer_of c.offer-offer.result)) c.ending_after.ensures.asked;
       };

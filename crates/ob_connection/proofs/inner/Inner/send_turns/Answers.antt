@@ -5,7 +5,7 @@ use Rattle.ob_types.specs.declared.promise.Outcome.TheVariants.{Success}
 use Rattle.ob_seq.specs.Pieces.{bytes_in}
 use Rattle.ob_seq.specs.Steps.RemoveBytes.{bytes_step, whole_cut}
 use Rattle.ob_connection.specs.Becoming.{removed}
-use Rattle.ob_connection.specs.Offering.{run_of}
+use Rattle.ob_connection.specs.Offering.{IsLeft, run_of}
 use Rattle.ob_connection.specs.Replies.{taken_reply}
 use Rattle.ob_connection.specs.Telling.{with_more}
 use denote.Enum.Bare.{differs_false, differs_true}
@@ -16,7 +16,7 @@ use Rattle.ob_connection.proofs.Kept.{same_change}
 use Rattle.ob_connection.proofs.Making.{taken}
 use Rattle.ob_connection.proofs.Offered.{taken_twice}
 use Rattle.ob_connection.proofs.Settling.{line_replied}
-use Rattle.ob_connection.proofs.Turns.{both_become, both_sent, both_whole, both_within, few_gone, not_too_many}
+use Rattle.ob_connection.proofs.Turns.{both_become, both_sent, both_whole, both_within, few_gone, left_further, not_too_many}
 use Rattle.ob_connection.proofs.inner.Inner.send_turns.Goals.{else-loop-test, then-loop-test+then-ne}
 use Rattle.ob_connection.proofs.inner.Inner.send_turns.Goals as goal
 
@@ -53,8 +53,10 @@ loop-preserved g c =
           ∙ ap (with_more before)
           (both_sent old c.loop.self c.loop.bytes now.becomes now.within new more turn.becomes turn.within);
       few = omega (arith, c.loop-test.true);
-      asks = asks_more (differs_false the_type tt c.loop.ending TurnsUsed (sym c.ne.ensures ∙ c.if-ne.false)) now.asks
-          turn.asks;
+      asks = asks_more (IsLeft c.args.max_bytes old)
+          (differs_false the_type tt c.loop.ending TurnsUsed (sym c.ne.ensures ∙ c.if-ne.false))
+          (IsLeft c.args.max_bytes c.loop.self)
+          (left_further old c.loop.self c.loop.bytes now.becomes now.within c.args.max_bytes) now.asks turn.asks;
       ends = turn.ends;
     }
 
@@ -81,8 +83,9 @@ pub returns-clause-asks : goal.returns-clause-asks
 returns-clause-asks g c =
     let asks = c.loop.invariant.asks in
     let few = c.loop.invariant.few in
+    let due = IsLeft c.args.max_bytes c.args.self.now in
     elim c.loop-test.branch [
-      | else-loop-test w ↦ asks_all (omega (arith, few, w.loop-test.false, c.loop.auto.counter)) asks
-      | then-loop-test+then-ne w ↦ asks_within
+      | else-loop-test w ↦ asks_all due (omega (arith, few, w.loop-test.false, c.loop.auto.counter)) asks
+      | then-loop-test+then-ne w ↦ asks_within due
           (differs_true the_type c.loop.ending TurnsUsed (sym w.ne.ensures ∙ w.if-ne.true)) few asks
     ]

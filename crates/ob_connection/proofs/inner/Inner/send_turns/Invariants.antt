@@ -4,7 +4,7 @@ use Rattle.std.specs.Prelude.{max}
 use Rattle.ob_seq.specs.Pieces.{bytes_in}
 use Rattle.ob_seq.specs.Steps.RemoveBytes.{whole_cut}
 use Rattle.ob_connection.specs.Becoming.{removed}
-use Rattle.ob_connection.specs.Offering.{EndsAt, run_of}
+use Rattle.ob_connection.specs.Offering.{EndsAt, IsLeft, run_of}
 use Rattle.ob_connection.specs.Telling.{with_more}
 use Rattle.ob_connection.specs.Turns.{AsksInTurns}
 use Rattle.ob_connection.proofs.inner.Inner.send_turns.Given as goal
@@ -17,6 +17,7 @@ invariant-loop g l = record {
   sent : g.S.Socket.sent l.socket
       ≡ with_more (g.S.Socket.sent l.fn.socket) (take l.bytes (concat (run_of l.fn.self.unsent)));
   few : l.counter ≤ max 1 l.fn.max_turns;
-  asks : AsksInTurns l.counter l.bytes (g.S.Socket.calls l.fn.socket) l.ending (g.S.Socket.calls l.socket);
+  asks : AsksInTurns (IsLeft l.fn.max_bytes l.fn.self) l.counter l.bytes (g.S.Socket.calls l.fn.socket) l.ending
+      (g.S.Socket.calls l.socket);
   ends : EndsAt l.self.unsent l.ending;
 }
