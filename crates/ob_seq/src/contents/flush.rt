@@ -37,6 +37,9 @@ impl Contents {
 }
 
 /// Makes an entry whose promise was taken back an empty block that counts nothing, and answers what it counted.
+// Few promises are taken back: apart, a flush of the others is a nanosecond shorter.
+#[cold]
+#[inline(never)]
 fn void(entry: &mut Entry) -> u32
     requires { entry.old.taken_back ≡ true }
     ensures size { result ≡ entry.old.size }
