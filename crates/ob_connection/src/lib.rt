@@ -10,8 +10,6 @@ mod look;
 mod replies;
 mod socket;
 mod status;
-#[cfg(test)]
-mod tests;
 
 pub use connection::{Connection, SendFault, Sent};
 pub use ending::Ending;

@@ -1,8 +1,8 @@
 //! What want of memory leaves, and what giving up tells.
 
-use super::open;
-use bytes::Bytes;
-use ob_types::{Cause, Message, Refusal};
+use super::{four_bytes, open};
+use ob_connection::Taken;
+use ob_types::{Cause, Refusal};
 use std::test::Fail;
 
 #[test]
@@ -11,19 +11,25 @@ fn a_refused_write_changes_nothing_and_all_is_given_up(rt: HostRuntime) -> Resul
     let mut accepted = 0u64;
     for _ in 0..40 {
         let before = connection.look();
-        match connection.write(Message::Block(Bytes::from_static(b"four"))) {
+        match connection.write(four_bytes()) {
             Ok(_written) => accepted = accepted.saturating_add(1),
             Err(refusal) => {
                 assert_eq!(rt; (refusal, connection.look()), (Refusal::NoMemory, before));
             }
         }
     }
-    assert_eq!(rt; connection.flush()?.count, accepted);
-    let all = connection.give_up(Cause(7))?;
+    let told = |all: Taken| (all.ids(), all.count, all.change);
     assert_eq!(rt;
-        (all.ids(), all.count, all.change),
-        (0..accepted, accepted, None)
+        (
+            connection.flush().map(|flushed| flushed.count),
+            connection.give_up(Cause(7)).map(told),
+            connection.give_up(Cause(7)).map(told),
+        ),
+        (
+            Ok(accepted),
+            Ok((0..accepted, accepted, None)),
+            Err(Refusal::Closed),
+        )
     );
-    assert_eq!(rt; connection.give_up(Cause(7)), Err(Refusal::Closed));
     Ok(())
 }
