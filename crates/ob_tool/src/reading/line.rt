@@ -1,4 +1,5 @@
-ghost use Rattle.std.specs.Prelude.{◌≡◌, ◌<◌, length, slice_index};
+ghost use Rattle.std.specs.Prelude.{◌≡◌, ◌<◌, ◌∷◌, [], length, slice_index};
+ghost use Rattle.std.specs.Str.{bytes_eq};
 ghost use Rattle.ob_tool.specs.Reading.Lines.{words_after};
 ghost use Rattle.ob_tool.specs.Reading.Line.{kind_reading, line_reading};
 ghost use Rattle.ob_tool.specs.Reading.Table.{word_named};
@@ -29,7 +30,46 @@ pub fn read_line<W: FirstWord>(line: &[u8]) -> Result<W::Line, LineFault>
 fn named<W: FirstWord>(text: &[u8]) -> Option<W>
     ensures { result ≡ word_named W.table text.now }
 {
-    W::all().iter().copied().find(|word| word.text() == text)
+    // nearly every first word has one byte or two, and these are compared without a loop
+    match *text {
+        [byte] => named_by_byte(byte),
+        [first, second] => named_by_pair(first, second),
+        _ => W::all().iter().copied().find(|word| word.text() == text),
+    }
+}
+
+/// The first word that a byte writes, if it is one.
+fn named_by_byte<W: FirstWord>(byte: u8) -> Option<W>
+    ensures { result ≡ word_named W.table (byte ∷ []) }
+{
+    W::all()
+        .iter()
+        .copied()
+        .find(|word| is_byte(word.text(), byte))
+}
+
+/// The first word that two bytes write, if it is one.
+fn named_by_pair<W: FirstWord>(first: u8, second: u8) -> Option<W>
+    ensures { result ≡ word_named W.table (first ∷ second ∷ []) }
+{
+    W::all()
+        .iter()
+        .copied()
+        .find(|word| is_pair(word.text(), first, second))
+}
+
+/// Whether a text is one byte, and this one.
+fn is_byte(text: &[u8], byte: u8) -> bool
+    ensures { result ≡ bytes_eq text.now (byte ∷ []) }
+{
+    text.len() == 1 && text[0] == byte
+}
+
+/// Whether a text is two bytes, and these.
+fn is_pair(text: &[u8], first: u8, second: u8) -> bool
+    ensures { result ≡ bytes_eq text.now (first ∷ second ∷ []) }
+{
+    text.len() == 2 && text[0] == first && text[1] == second
 }
 
 /// What a line with this first word asks, or its first fault, by what follows the word.

@@ -1,10 +1,10 @@
-ghost use Rattle.std.specs.Prelude.{◌≡◌, ◌==◌, ◌<◌, ◌≤◌, length, count_by, slice_index};
+ghost use Rattle.std.specs.Prelude.{◌≡◌, ◌==◌, ◌<◌, ◌≤◌, [], length, count_by, slice_index, Ok, IfSome};
 ghost use Rattle.ob_tool.specs.Reading.Lines.{words_after};
-ghost use Rattle.ob_tool.specs.Reading.Numbers.{all_numbers_in, numbers_in, HoldsNumbers};
+ghost use Rattle.ob_tool.specs.Reading.Numbers.{all_numbers_in, before_numbers, numbers_in, HoldsNumbers};
 
 use crate::reading::fault::LineFault;
 use crate::reading::lines::first_word;
-use crate::reading::range::Range;
+use crate::reading::range::{Range, short_number};
 
 /// The most numbers that a line has.
 const MAX_NUMBERS: usize = 3;
@@ -16,6 +16,15 @@ pub fn read_all_numbers(ranges: &[Range], after: &[u8]) -> Result<[u64; MAX_NUMB
     requires space { 0 < length after.now → slice_index after.now 0 ≡ 32 }
     ensures { HoldsNumbers result (all_numbers_in ranges.now (words_after after.now)) }
 {
+    if after.is_empty() && ranges.is_empty() {
+        return Ok([0; MAX_NUMBERS]);
+    }
+    if let Some(number) = one_number(ranges, after) {
+        return match number {
+            Ok(number) => Ok([number, 0, 0]),
+            Err(fault) => Err(fault),
+        };
+    }
     let count = count_spaces(after);
     if count < ranges.len() {
         return Err(LineFault::TooFewWords);
@@ -24,6 +33,19 @@ pub fn read_all_numbers(ranges: &[Range], after: &[u8]) -> Result<[u64; MAX_NUMB
         return Err(LineFault::TooManyWords);
     }
     read_numbers(ranges, after)
+}
+
+/// The number behind a space where one is asked for, or its fault. Nothing is said of other lines.
+fn one_number(ranges: &[Range], after: &[u8]) -> Option<Result<u64, LineFault>>
+    requires space { 0 < length after.now → slice_index after.now 0 ≡ 32 }
+    ensures { IfSome result (λ number. all_numbers_in ranges.now (words_after after.now)
+        ≡ before_numbers number (Ok [])) }
+{
+    if ranges.len() != 1 || after.is_empty() {
+        return None;
+    }
+    let number = short_number(&after[1..])?;
+    Some(ranges[0].hold(number))
 }
 
 /// How many spaces there are.

@@ -1,9 +1,10 @@
-ghost use Rattle.std.specs.Prelude.{◌≡◌, ◌+◌, ◌-◌, ◌*◌, ◌<◌, ◌≤◌, ◌^◌, IsTrue, length, nat_lt, Some, None, if◌then◌else◌};
+ghost use Rattle.std.specs.Prelude.{◌≡◌, ◌+◌, ◌-◌, ◌*◌, ◌<◌, ◌^◌, IsTrue, true, nat_lt, Some, None, IfSome, Ok, Err, if◌then◌else◌};
 ghost use Rattle.std.specs.Option.{SomeIff};
 ghost use Rattle.std.specs.List.{list_all};
 ghost use Rattle.std.specs.Char.{is_ascii_digit};
 ghost use Rattle.std.specs.Str.Parse.{digits_value};
-ghost use Rattle.ob_tool.specs.Reading.Numbers.{is_number, number_in};
+ghost use Rattle.ob_tool.specs.Reading.Numbers.{holds, is_number, number_in};
+ghost use Rattle.ob_tool.specs.declared.reading.fault.LineFault.TheVariants.{OutOfRange};
 
 use crate::reading::fault::LineFault;
 
@@ -52,13 +53,26 @@ impl Range {
     pub fn read(self, word: &[u8]) -> Result<u64, LineFault>
         ensures { result ≡ number_in self word.now }
     {
+        if let Some(number) = short_number(word) {
+            return self.hold(number);
+        }
         if !is_digits(word) {
             return Err(LineFault::NotANumber);
         }
-        match value_of(word) {
-            Some(value) if self.least <= value && value <= self.greatest => Ok(value),
-            _ => Err(LineFault::OutOfRange),
+        match long_value(word) {
+            Some(number) => self.hold(number),
+            None => Err(LineFault::OutOfRange),
         }
+    }
+
+    /// The number, if it is in the range.
+    pub fn hold(self, number: u64) -> Result<u64, LineFault>
+        ensures { result ≡ (if holds self number then Ok number else Err OutOfRange) }
+    {
+        if self.least <= number && number <= self.greatest {
+            return Ok(number);
+        }
+        Err(LineFault::OutOfRange)
     }
 }
 
@@ -79,29 +93,21 @@ fn has_digits_alone(word: &[u8]) -> bool
 /// The most digits of which each number has 64 bits.
 const SHORT: usize = 19;
 
-/// The number that the digits write, or nothing where it is 2^64 or more.
-fn value_of(word: &[u8]) -> Option<u64>
-    requires { IsTrue (list_all is_ascii_digit word.now) }
-    ensures { result ≡ (if nat_lt (digits_value 10 word.now) (2 ^ 64) then Some (digits_value 10 word.now) else None) }
+/// The number that a word of a few digits writes, by one walk over it. Nothing is said of other words.
+pub fn short_number(word: &[u8]) -> Option<u64>
+    ensures { IfSome result (λ number. (is_number word.now ≡ true) × (number ≡ digits_value 10 word.now)) }
 {
-    if word.len() <= SHORT {
-        return Some(short_value(word));
+    if word.is_empty() || SHORT < word.len() {
+        return None;
     }
-    long_value(word)
-}
-
-/// The number that a few digits write.
-fn short_value(word: &[u8]) -> u64
-    requires digits { IsTrue (list_all is_ascii_digit word.now) }
-    requires few { length word.now ≤ 19 }
-    ensures value { result ≡ digits_value 10 word.now }
-    ensures small { digits_value 10 word.now < 2 ^ 64 }
-{
     let mut value: u64 = 0;
     for byte in word {
+        if !byte.is_ascii_digit() {
+            return None;
+        }
         value = value * 10 + u64::from(*byte - b'0');
     }
-    value
+    Some(value)
 }
 
 /// The number that any digits write, or nothing where it is 2^64 or more.

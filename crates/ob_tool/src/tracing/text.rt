@@ -18,9 +18,12 @@ pub fn push_words(text: &mut String, total: u32, word: u32) -> Result<(), AllocE
 fn push_word(text: &mut String, word: u32) -> Result<(), AllocError>
     ensures { OnOk result (string_bytes text.new ≡ string_bytes text.old ++ word_text word) }
 {
-    // while a buffer is writable its word is 0
+    // while a buffer is writable its word is 0, and while its marks alone stop the writers it is 1
     if word == 0 {
         return text.push_str(" w=00000000");
+    }
+    if word == 1 {
+        return text.push_str(" w=00000001");
     }
     text.push_str(" w=")?;
     push_eight_hex(text, word)
@@ -55,6 +58,11 @@ pub fn push_change(text: &mut String, change: Option<Change>) -> Result<(), Allo
 fn push_eight_hex(text: &mut String, number: u32) -> Result<(), AllocError>
     ensures { OnOk result (string_bytes text.new ≡ string_bytes text.old ++ eight_hex number) }
 {
+    // the first user bits have few digits
+    if number < 256 {
+        text.push_str("000000")?;
+        return push_two_hex(text, number as u8);
+    }
     push_two_hex(text, (number / 16777216) as u8)?;
     push_two_hex(text, (number / 65536 % 256) as u8)?;
     push_two_hex(text, (number / 256 % 256) as u8)?;

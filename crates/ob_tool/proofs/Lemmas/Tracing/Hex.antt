@@ -2,7 +2,7 @@
 use Rattle.std.proofs.Common.{◌≡◌, ◌∙◌, ℕ, zero, suc, ◌+◌, ◌-◌, ◌*◌, ◌/◌, ◌%◌, ◌^◌, ◌<◌, false, List, [], ◌∷◌, ◌++◌}
 use Rattle.std.proofs.Common.{append-nil, append_assoc, ap, arith, inl, inr, length, refl, replicate, sym}
 use Rattle.std.specs.Fmt.{char_count, digit_glyph, digits, digits_onto, padded_integral}
-use Rattle.std.specs.Prelude.{◌==◌}
+use Rattle.std.specs.Prelude.{◌==◌, codes}
 use Rattle.std.proofs.lemmas.Bool.{cases_Bool, eqb-true}
 use Rattle.ob_tool.specs.Tracing.Text.{eight_hex}
 
@@ -73,6 +73,15 @@ eight_hex-bytes number small =
     let g : number % 256 / 16 ≡ number / 16 % 16 = omega arith in
     let h : number % 256 % 16 ≡ number % 16 = omega arith in
     rw (a, b, c, d, e, f, g, h) (eight_hex-onto number small)
+
+-- where it is a byte, six zeros stand before that
+pub eight_hex-byte : (number : ℕ) → number < 256 → eight_hex number ≡ codes "000000" ++ two_hex number
+eight_hex-byte number small =
+    let a : number / 16777216 ≡ 0 = omega arith in
+    let b : number / 65536 % 256 ≡ 0 = omega arith in
+    let c : number / 256 % 256 ≡ 0 = omega arith in
+    let d : number % 256 ≡ number = omega arith in
+    eight_hex-bytes number (omega arith) ∙ rw (a, b, c, d) refl
 
 -- four texts, one after the other
 pub four_more : (old first second third fourth a b c d : List ℕ) → first ≡ old ++ a → second ≡ first ++ b

@@ -11,3 +11,11 @@ no_bit word none = rw none
 
 pub returns-then-word-eq0 : goal.returns-then-word-eq0
 returns-then-word-eq0 c = rw (no_bit c.args.word c.if-word-eq0.true) (search rules)
+
+-- and the one that the marks set
+mark_bit : (word : ℕ) → word ≡ 1 → eight_hex word ≡ codes "00000001"
+unfolding digits padded_integral char_count
+mark_bit word one = rw one
+
+pub returns-then-word-eq1 : goal.returns-then-word-eq1
+returns-then-word-eq1 c = rw (mark_bit c.args.word c.if-word-eq1.true) (search rules)
