@@ -1,4 +1,5 @@
-ghost use Rattle.std.specs.Prelude.{◌≡◌, ◌++◌, OnOk, Ok, Err, string_bytes};
+ghost use Rattle.std.specs.Prelude.{◌≡◌, ◌++◌, OnOk, Ok, Err, codes, string_bytes};
+ghost use Rattle.std.specs.Fmt.{decimal};
 ghost use Rattle.std.specs.List.{flat_map};
 ghost use Rattle.ob_tool.specs.Run.Text.{answer_text, command_text, gathered_text, length_text, levels_text};
 ghost use Rattle.ob_tool.specs.Run.Text.{look_text, outcome_text, settlement_text};
@@ -24,8 +25,8 @@ pub fn push_reply(text: &mut String, reply: &Reply, look: &Look) -> Result<(), A
 pub fn push_refusal(text: &mut String, refusal: Refusal, look: &Look) -> Result<(), AllocError>
     ensures { OnOk result (string_bytes text.new ≡ string_bytes text.old ++ command_text (Err refusal) look.now) }
 {
-    let number = refusal.number();
-    write!(text, "!{number}")?;
+    text.push('!')?;
+    push_number(text, u64::from(refusal.number()))?;
     push_levels(text, look)?;
     text.push('\n')
 }
@@ -34,11 +35,32 @@ pub fn push_refusal(text: &mut String, refusal: Refusal, look: &Look) -> Result<
 pub fn push_look(text: &mut String, look: &Look) -> Result<(), AllocError>
     ensures { OnOk result (string_bytes text.new ≡ string_bytes text.old ++ look_text look.now) }
 {
-    write!(text, "size={} cur={}", look.size, look.current_progress)?;
-    let (stop, go) = (look.before_unwritable, look.before_writable);
-    write!(text, " bu={stop} bw={go}")?;
+    push_queue(text, look)?;
+    push_distances(text, look)?;
     push_levels(text, look)?;
     text.push('\n')
+}
+
+/// Adds how many messages are flushed, and the progress of the first.
+fn push_queue(text: &mut String, look: &Look) -> Result<(), AllocError>
+    ensures { OnOk result (string_bytes text.new ≡ string_bytes text.old
+        ++ codes "size=" ++ decimal look.now.size ++ codes " cur=" ++ decimal look.now.current_progress) }
+{
+    text.push_str("size=")?;
+    push_number(text, u64::from(look.size))?;
+    text.push_str(" cur=")?;
+    push_number(text, look.current_progress)
+}
+
+/// Adds how many bytes more stop the writers, and how many fewer let them go on.
+fn push_distances(text: &mut String, look: &Look) -> Result<(), AllocError>
+    ensures { OnOk result (string_bytes text.new ≡ string_bytes text.old
+        ++ codes " bu=" ++ decimal look.now.before_unwritable ++ codes " bw=" ++ decimal look.now.before_writable) }
+{
+    text.push_str(" bu=")?;
+    push_number(text, u64::from(look.before_unwritable))?;
+    text.push_str(" bw=")?;
+    push_number(text, u64::from(look.before_writable))
 }
 
 /// Adds the trace line of a gathering, by its blocks and the look.
@@ -56,7 +78,8 @@ fn push_lengths(text: &mut String, blocks: &[Bytes]) -> Result<(), AllocError>
     ensures { OnOk result (string_bytes text.new ≡ string_bytes text.old ++ flat_map length_text blocks.now) }
 {
     for block in blocks {
-        write!(text, " {}", block.len())?;
+        text.push(' ')?;
+        push_number(text, block.len() as u64)?;
     }
     Ok(())
 }
