@@ -99,6 +99,8 @@ impl RunSession {
     }
 
     /// Gives a command to the buffer, and adds its trace to the text.
+    // A call that is not inlined would pass the command through memory, in pieces of other sizes than it is read in.
+    #[inline(always)]
     fn trace_command(&mut self, command: Command, text: &mut String) -> Result<(), AllocError>
         ensures options { self.new.options ≡ self.old.options }
         ensures after { OnOk result (self.new.recorded ≡ history_after self.old.recorded 0 command) }
