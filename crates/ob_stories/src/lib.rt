@@ -21,5 +21,5 @@ pub use history::HISTORY;
 pub use looks::{LIMITS, LOOKS};
 pub use passes::{PASSES, SCARCE, SIX};
 pub use run::{FULL, RUN};
-pub use shared::{SENDS, SHARED, TOLD, WAITS, WRITES};
+pub use shared::{CROSSING, SHARED, TOLD};
 pub use turns::CORE;

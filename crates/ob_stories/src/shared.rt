@@ -7,7 +7,7 @@
 /// the other, and `twice` puts the first receipt of a caller in the place of its last one too. The same line puts that
 /// back, the last one first.
 /// `why` asks for the text of the last fault. `read`, behind the number of a caller, is a glance without the lock; `watch`
-/// makes a reader of a caller's share, `watched` is its glance, and `check` its look under the lock.
+/// makes a reader of a caller's share, `watched` is the glance of the last one, and `check` its look under the lock.
 pub static SHARED: &str = "
 # two callers finish: the first writes and the second flushes
 $ shared --callers 2 --limit 8
@@ -116,9 +116,9 @@ finish / receipts of 0 missing
 short 0
 without 0
 finish / shares missing
-short 0
+short 1
 finish / shares missing
-short 0
+short 1
 without 0
 finish / 2 records: size=0 cur=0 bu=65329 bw=0 t=208 w=00000000
 
@@ -166,27 +166,159 @@ forge 64 0
 finish / 2 records: size=1 cur=0 bu=65437 bw=0 t=100 w=00000000
 ";
 
-/// One caller writes, and then waits while another sends.
-pub static WRITES: &str = "a caller writes
+/// Scenes: between per cent signs stands what each caller plays in a thread of its own, in the order of their numbers, and
+/// the last part is played by all that are left. `come` says that one comes, `until N` waits until so many have come,
+/// and `pause N` lets milliseconds pass. `calls N of A, B` makes so many calls of these commands in turn, and `calls N`
+/// by chance; `sees N` waits for that total, without the lock. `desk` flushes and removes at one desk, which it `leaves`
+/// then, or `goes-on` at with one call more, or `drops`. `waits N` waits for so many promises, one by one, each of which
+/// another caller `settles` when the wait for it begins. Behind the last sign stands what is asked in turn when all have
+/// played. `ends` is `finish` without what is pending; `same` asks whether a buffer of one thread makes the same
+/// history, `left` how many writes are left, and `glances` how many readers saw glances of the history in order.
+pub static CROSSING: &str = "
+# both who wait for one promise are told of it by a desk that is left
+$ shared --callers 3 --limit 8
+2 b 4 / place 0: id 0 t=100 w=00000000
+%
+come
+wait 0 / place 2 of caller 2: 0:ok
+%
+come
+wait 0 / place 2 of caller 2: 0:ok
+%
+until 2
+pause 20
+desk leaves / 3 receipts
+%
+finish / 3 records: size=0 cur=0 bu=65537 bw=0 t=0 w=00000000
+
+# both are told of it by a desk at which one more call is made, which settles nothing
+$ shared --callers 3 --limit 8
+2 b 4 / place 0: id 0 t=100 w=00000000
+%
+come
+wait 0 / place 2 of caller 2: 0:ok
+%
+come
+wait 0 / place 2 of caller 2: 0:ok
+%
+until 2
+pause 20
+desk goes-on / 4 receipts
+%
+finish / 4 records: size=0 cur=0 bu=65537 bw=0 t=0 w=00000000
+
+# both are told of it by a desk that is dropped, and the buffer is not finished without its share
+$ shared --callers 3 --limit 8
+2 b 4 / place 0: id 0 t=100 w=00000000
+%
+come
+wait 0 / place 2 of caller 2: 0:ok
+%
+come
+wait 0 / place 2 of caller 2: 0:ok
+%
+until 2
+pause 20
+desk drops /
+%
+finish / shares missing
+
+# one caller waits for one promise after another, and another settles each when the wait begins: none is missed
+$ shared --callers 2 --limit 1000
+%
+waits 300 / 300 told
+%
+settles 300 /
+%
+finish / 900 records: size=0 cur=0 bu=65537 bw=0 t=0 w=00000000
+
+# two callers write, and each reads until it has seen what both wrote
 $ shared --callers 2 --limit 8
-b 4 / place 0: id 0 t=100 w=00000000
+%
+calls 1 of r 0 / 1 calls
+sees 192 /
+%
+finish / 2 records: size=0 cur=0 bu=65345 bw=0 t=192 w=00000000
+
+# four callers of 250 calls make a history of one thread
+$ shared --callers 4 --limit 1000
+%
+calls 250 of b 4, f, rm / 250 calls
+%
+ends / 1000 records
+same / yes
+
+# eight callers of 250 calls by chance make a history of one thread
+$ shared --callers 8 --limit 2000
+%
+calls 250 / 250 calls
+%
+ends / 2000 records
+same / yes
+
+# three of eight callers end at a command that the buffer refuses, and the others go on when these have ended
+$ shared --callers 8 --limit 2000
+%
+calls 10 of b 4 / 10 calls
+until 3
+calls 10 of b 4 / 10 calls
+%
+calls 5 of b 4 / 5 calls
+calls 1 of r 18446744073709551615 / 1 calls
+come
+%
+calls 10 of b 4 / 10 calls
+until 3
+calls 10 of b 4 / 10 calls
+%
+calls 10 of b 4 / 10 calls
+until 3
+calls 10 of b 4 / 10 calls
+%
+calls 5 of b 4 / 5 calls
+calls 1 of r 18446744073709551615 / 1 calls
+come
+%
+calls 10 of b 4 / 10 calls
+until 3
+calls 10 of b 4 / 10 calls
+%
+calls 5 of b 4 / 5 calls
+calls 1 of r 18446744073709551615 / 1 calls
+come
+%
+calls 10 of b 4 / 10 calls
+until 3
+calls 10 of b 4 / 10 calls
+%
+finish / 118 records: size=0 cur=0 bu=54037 bw=0 t=11500 w=00000000
+same / yes
+left / 1048461
+
+# four readers read without a pause while two callers make their calls: what each sees never goes back
+$ shared --callers 2 --low 50 --high 100 --limit 20000
+watch 0
+watch 0
+watch 1
+watch 1
+%
+calls 10000 of r 0, f, rm / 10000 calls
+come
+%
+ends / 20000 records
+glances / 4 in order of 20001
 ";
 
-/// The wait of the first caller.
-pub static WAITS: &str = "the first caller is told of the removal
+/// A scene in which each growth may be refused.
+pub static TOLD: &str = "
+# a caller is told of what another settles
 $ shared --callers 2 --limit 8
+0 b 4 / place 0: id 0 t=100 w=00000000
+%
 wait 0 / place 2 of caller 1: 0:ok
-";
-
-/// The calls of the second caller meanwhile.
-pub static SENDS: &str = "the second caller sends
-$ shared --callers 2 --limit 8
+%
 f / place 1: n 1 t=100 w=00000000
 rm / place 2: yes t=0 w=00000000 0:ok
-";
-
-/// The wait of each of two callers, while a third flushes and removes what it wrote.
-pub static TOLD: &str = "both who wait are told of one removal
-$ shared --callers 3 --limit 8
-wait 0 / place 2 of caller 2: 0:ok
+%
+finish / 3 records: size=0 cur=0 bu=65537 bw=0 t=0 w=00000000
 ";

@@ -1,10 +1,13 @@
 mod callers;
+mod chance;
+mod changes;
+mod crew;
 mod dice;
+mod endings;
 mod host;
 mod keeping;
-mod readers;
+mod members;
+mod settling;
 mod shared;
 mod threads;
 mod transport;
-mod waiting;
-mod waking;

@@ -1,142 +1,181 @@
-//! The callers of a shared buffer, each call from a desk of its own, and what they hand in.
+//! A caller of a shared buffer, who plays lines: in turn with others, or in a thread of its own.
 
-ghost use Rattle.ob_shared.specs.Opened.{IsNameOf};
-
-use ob_history::{Receipt, Recorded};
-use ob_players::buffers::Options;
+use crate::tests::chance::{calls_by, push_made};
+use crate::tests::settling::{at_one_desk, settles_each, waits_for_each};
+use ob_history::{Receipt, Seen};
 use ob_players::commands::wanted;
+use ob_players::meeting::wait_for;
 use ob_players::story::Player;
 use ob_players::trace::{push_answer, push_glance, push_look, push_refusal, push_settled};
 use ob_players::words::{NoAnswer, Words};
 use ob_seq::Look;
-use ob_shared::{Done, Named, Opening, SharedBuffer};
+use ob_shared::{Done, Named, Share, SharedBuffer};
 use ob_types::{Command, PromiseId, Refusal};
-use std::alloc::Global;
 use std::sync::Wait;
-use std::test::Fail;
+use std::sync::atomic::{AtomicU64, Ordering};
+use std::thread::sleep;
+use std::time::{Clock, Duration};
 
-/// A shared buffer of so many callers is to be opened with these options.
-pub fn opening(alloc: Global, options: Options, callers: u32) -> Result<Opening, Refusal> {
-    let limit = options.limit.clamp(1, 1048576);
-    let callers = callers.clamp(1, 65);
-    Opening::new(alloc, options.marks()?, options.estimate(), limit, callers)
-}
-
-/// The shared buffer of an opening, and what its callers hand in before their first calls.
-pub fn begin<L: Named>(
-    alloc: Global,
-    opening: Opening,
-) -> Result<(SharedBuffer<L>, Vec<Done<L>>), NoAnswer>
-    requires { IsNameOf opening L.opened L.name L.parts }
-{
-    let (buffer, shares) = opening.begin::<L>()?;
-    let mut dones = Vec::new(alloc);
-    for share in shares {
-        dones.push(Done::new(alloc, share))?;
-    }
-    Ok((buffer, dones))
-}
-
-/// The history of a buffer that can be finished.
-pub fn finished<L: Named>(buffer: SharedBuffer<L>, dones: Vec<Done<L>>) -> Result<Recorded, Fail> {
-    match buffer.finish(dones) {
-        Ok(finished) => Ok(finished.recorded),
-        Err(_) => Err(Fail::from("the buffer is finished")),
-    }
-}
-
-/// A caller that plays lines: a command, `?` for a look, `wait` and a promise, `again` for all its receipts anew, or
-/// `read` for a glance without the lock. It keeps all that it hands in.
+/// A caller that plays lines, and keeps all that it hands in.
 #[derive(Drop)]
 pub struct Caller<'b, L: Named, R> {
     pub rt: &'b R,
-    pub alloc: Global,
     pub buffer: &'b SharedBuffer<L>,
+    /// How often one of those who play has said that it comes.
+    pub come: &'b AtomicU64,
+    /// What it hands in, until it has dropped that.
     pub done: Option<Done<L>>,
 }
 
-impl<'b, L: Named, R: Wait> Player for Caller<'b, L, R> {
+/// What a caller hands in after a line, and whether that was answered.
+pub type Told<L> = (Option<Done<L>>, Result<(), NoAnswer>);
+
+impl<'b, L: Named, R: AllocGlobal + Wait + Clock> Player for Caller<'b, L, R> {
     fn answer(&mut self, asked: &str, text: &mut String) -> Result<(), NoAnswer> {
+        let (rt, buffer, come) = (self.rt, self.buffer, self.come);
         let mut words = Words::of(asked);
-        match words.word() {
-            "?" => self.look(text),
-            "wait" => self.wait(PromiseId(words.small()?), text),
-            "again" => self.again(text),
-            "read" => self.read(text),
-            _ => self.call(wanted(self.alloc, &mut Words::of(asked))?, text),
+        let word = words.word();
+        if matches!(word, "come" | "until" | "pause") {
+            return meets(rt, come, word, &mut words);
+        }
+        let Some(done) = self.done.take() else {
+            return Err(NoAnswer::Unread);
+        };
+        let (done, told) = match word {
+            "waits" | "settles" | "desk" => crosses(rt, buffer, come, done, asked, text),
+            "calls" | "sees" => plays_on(rt, buffer, done, asked, text),
+            _ => in_turn(rt, buffer, done, asked, text),
+        };
+        self.done = done;
+        told
+    }
+}
+
+/// Says that it comes, waits until so many have come, or pauses for milliseconds.
+fn meets<R: Clock>(
+    rt: &R,
+    come: &AtomicU64,
+    word: &str,
+    words: &mut Words,
+) -> Result<(), NoAnswer> {
+    match word {
+        "until" => wait_for(rt, come, words.number()?).map_err(|_late| NoAnswer::Unread),
+        "pause" => {
+            sleep(rt, Duration::from_millis(words.number()?));
+            Ok(())
+        }
+        _ => {
+            come.fetch_add(1, Ordering::SeqCst);
+            Ok(())
         }
     }
 }
 
-impl<'b, L: Named, R: Wait> Caller<'b, L, R> {
-    fn call(&mut self, command: Command, text: &mut String) -> Result<(), NoAnswer> {
-        let caller = self.done.take().ok_or(NoAnswer::Unread)?;
-        let (caller, answer) = self.buffer.call(self.rt, caller, command);
-        let desk = self.buffer.desk(self.rt, caller.share);
-        let look = desk.look().look;
-        let share = desk.leave();
-        let caller = Done { share, ..caller };
-        let told = push_call(text, &caller, answer, look);
-        self.done = Some(caller);
-        told
-    }
-
-    /// Lets all receipts go, and has them again from a desk.
-    fn again(&mut self, text: &mut String) -> Result<(), NoAnswer> {
-        let caller = self.done.take().ok_or(NoAnswer::Unread)?;
-        let desk = self.buffer.desk(self.rt, caller.share);
-        let receipts = desk.receipts_since(0);
-        let share = desk.leave();
-        let mut caller = Done { share, ..caller };
-        let told = match receipts {
-            Ok(receipts) => {
-                caller.receipts = receipts;
-                write!(text, "{} receipts", caller.receipts.len()).map_err(NoAnswer::from)
-            }
-            Err(refusal) => push_refusal(text, refusal),
-        };
-        self.done = Some(caller);
-        told
-    }
-
-    /// Reads without the lock.
-    fn read(&mut self, text: &mut String) -> Result<(), NoAnswer> {
-        let caller = self.done.as_mut().ok_or(NoAnswer::Unread)?;
-        Ok(push_glance(text, caller.share.read(self.buffer))?)
-    }
-
-    fn look(&mut self, text: &mut String) -> Result<(), NoAnswer> {
-        let caller = self.done.take().ok_or(NoAnswer::Unread)?;
-        let desk = self.buffer.desk(self.rt, caller.share);
-        let look = desk.look();
-        let share = desk.leave();
-        let mut caller = Done { share, ..caller };
-        let kept = caller.seen.push(look);
-        self.done = Some(caller);
-        kept?;
-        write!(text, "place {}: ", look.place)?;
-        Ok(push_look(text, look.look)?)
-    }
-
-    fn wait(&mut self, id: PromiseId, text: &mut String) -> Result<(), NoAnswer> {
-        let caller = self.done.take().ok_or(NoAnswer::Unread)?;
-        let (desk, answer) = self.buffer.wait_settled(self.rt, caller.share, id);
-        let share = desk.leave();
-        let mut caller = Done { share, ..caller };
-        let told = push_told(text, &mut caller.told, answer);
-        self.done = Some(caller);
-        told
+/// A command, `?` for a look, `wait` and a promise, `again` for all its receipts anew, or `read` for a glance without the
+/// lock.
+fn in_turn<L: Named, R: AllocGlobal + Wait>(
+    rt: &R,
+    buffer: &SharedBuffer<L>,
+    done: Done<L>,
+    asked: &str,
+    text: &mut String,
+) -> Told<L> {
+    let mut words = Words::of(asked);
+    match words.word() {
+        "?" => looks(rt, buffer, done, text),
+        "wait" => waits(rt, buffer, done, words.small(), text),
+        "again" => has_again(rt, buffer, done, text),
+        "read" => reads(buffer, done, text),
+        _ => calls(
+            rt,
+            buffer,
+            done,
+            wanted(rt.alloc(), &mut Words::of(asked)),
+            text,
+        ),
     }
 }
 
-/// Adds what a call came to, whose receipt is the last that the caller has.
-fn push_call<L: Named>(
+/// `waits` for so many promises, one after another, which another caller `settles`; or `desk`, which sends what is
+/// written at one desk.
+fn crosses<L: Named, R: Wait>(
+    rt: &R,
+    buffer: &SharedBuffer<L>,
+    come: &AtomicU64,
+    done: Done<L>,
+    asked: &str,
     text: &mut String,
-    caller: &Done<L>,
+) -> Told<L> {
+    let mut words = Words::of(asked);
+    match words.word() {
+        "waits" => waits_for_each(rt, buffer, come, done, words.small(), text),
+        "settles" => settles_each(rt, buffer, come, done, words.small()),
+        _ => at_one_desk(rt, buffer, done, words.word(), text),
+    }
+}
+
+/// `calls` and how many of the commands behind an `of` it makes in turn, or by chance with none; or `sees` and the total
+/// that it waits for.
+fn plays_on<L: Named, R: AllocGlobal + Wait + Clock>(
+    rt: &R,
+    buffer: &SharedBuffer<L>,
+    done: Done<L>,
+    asked: &str,
+    text: &mut String,
+) -> Told<L> {
+    let mut done = done;
+    let mut words = Words::of(asked);
+    if words.word() == "sees" {
+        let told = sees(rt, buffer, &mut done.share, words.small());
+        return (Some(done), told);
+    }
+    let (_, commands) = asked.split_once(" of ").unwrap_or(("", ""));
+    let (done, made) = calls_by(rt, buffer, done, words.small(), commands);
+    (Some(done), push_made(text, made))
+}
+
+/// Reads each millisecond, ten thousand times, until it sees this total.
+fn sees<L: Named, R: Clock>(
+    rt: &R,
+    buffer: &SharedBuffer<L>,
+    share: &mut Share<L>,
+    total: Result<u32, NoAnswer>,
+) -> Result<(), NoAnswer> {
+    for _ in 0..10_000u32 {
+        if Ok(share.read(buffer).total) == total {
+            return Ok(());
+        }
+        sleep(rt, Duration::from_millis(1));
+    }
+    Err(NoAnswer::Unread)
+}
+
+/// Makes a call, and looks at what is pending then.
+fn calls<L: Named, R: Wait>(
+    rt: &R,
+    buffer: &SharedBuffer<L>,
+    done: Done<L>,
+    command: Result<Command, NoAnswer>,
+    text: &mut String,
+) -> Told<L> {
+    let command = match command {
+        Ok(command) => command,
+        Err(told) => return (Some(done), Err(told)),
+    };
+    let (done, answer) = buffer.call(rt, done, command);
+    let (done, seen) = seen_by(rt, buffer, done);
+    let told = push_call(text, done.receipts.last(), answer, seen.look);
+    (Some(done), told)
+}
+
+/// Adds what a call came to, by its receipt and the look after it.
+fn push_call(
+    text: &mut String,
+    receipt: Option<&Receipt>,
     answer: Result<(), Refusal>,
     look: Look,
 ) -> Result<(), NoAnswer> {
-    match (answer, caller.receipts.last()) {
+    match (answer, receipt) {
         (Ok(()), Some(receipt)) => {
             write!(text, "place {}: ", receipt.place)?;
             Ok(push_answer(text, &receipt.reply, look)?)
@@ -146,22 +185,105 @@ fn push_call<L: Named>(
     }
 }
 
-/// Adds what a caller was told, and keeps its receipt.
-fn push_told(
+/// What a caller sees at a desk.
+fn seen_by<L: Named, R: Wait>(rt: &R, buffer: &SharedBuffer<L>, done: Done<L>) -> (Done<L>, Seen) {
+    let desk = buffer.desk(rt, done.share);
+    let seen = desk.look();
+    let share = desk.leave();
+    (Done { share, ..done }, seen)
+}
+
+fn looks<L: Named, R: Wait>(
+    rt: &R,
+    buffer: &SharedBuffer<L>,
+    done: Done<L>,
     text: &mut String,
-    told: &mut Vec<Receipt>,
-    answer: Result<Receipt, Refusal>,
+) -> Told<L> {
+    let (done, seen) = seen_by(rt, buffer, done);
+    let mut done = done;
+    let told = keep_seen(&mut done.seen, seen, text);
+    (Some(done), told)
+}
+
+fn keep_seen(kept: &mut Vec<Seen>, seen: Seen, text: &mut String) -> Result<(), NoAnswer> {
+    kept.push(seen)?;
+    write!(text, "place {}: ", seen.place)?;
+    Ok(push_look(text, seen.look)?)
+}
+
+/// Lets all receipts go, and has them again from a desk.
+fn has_again<L: Named, R: Wait>(
+    rt: &R,
+    buffer: &SharedBuffer<L>,
+    done: Done<L>,
+    text: &mut String,
+) -> Told<L> {
+    let desk = buffer.desk(rt, done.share);
+    let receipts = desk.receipts_since(0);
+    let share = desk.leave();
+    let mut done = Done { share, ..done };
+    let told = keep_again(&mut done.receipts, receipts, text);
+    (Some(done), told)
+}
+
+/// Keeps receipts in place of others, and adds how many they are.
+pub fn keep_again(
+    kept: &mut Vec<Receipt>,
+    receipts: Result<Vec<Receipt>, Refusal>,
+    text: &mut String,
 ) -> Result<(), NoAnswer> {
-    match answer {
-        Ok(receipt) => {
-            write!(
-                text,
-                "place {} of caller {}:",
-                receipt.place, receipt.caller
-            )?;
-            push_settled(text, &receipt)?;
-            Ok(told.push(receipt)?)
+    match receipts {
+        Ok(receipts) => {
+            *kept = receipts;
+            Ok(write!(text, "{} receipts", kept.len())?)
         }
         Err(refusal) => push_refusal(text, refusal),
     }
+}
+
+/// Reads without the lock.
+fn reads<L: Named>(buffer: &SharedBuffer<L>, done: Done<L>, text: &mut String) -> Told<L> {
+    let mut done = done;
+    let told = push_glance(text, done.share.read(buffer)).map_err(NoAnswer::from);
+    (Some(done), told)
+}
+
+fn waits<L: Named, R: Wait>(
+    rt: &R,
+    buffer: &SharedBuffer<L>,
+    done: Done<L>,
+    id: Result<u32, NoAnswer>,
+    text: &mut String,
+) -> Told<L> {
+    let id = match id {
+        Ok(id) => PromiseId(id),
+        Err(told) => return (Some(done), Err(told)),
+    };
+    let (desk, answer) = buffer.wait_settled(rt, done.share, id);
+    let share = desk.leave();
+    let mut done = Done { share, ..done };
+    let told = keep_told(&mut done.told, answer, text);
+    (Some(done), told)
+}
+
+/// Keeps the receipt that a caller was told of, and adds what it tells.
+fn keep_told(
+    kept: &mut Vec<Receipt>,
+    answer: Result<Receipt, Refusal>,
+    text: &mut String,
+) -> Result<(), NoAnswer> {
+    match answer {
+        Ok(receipt) => {
+            kept.push(receipt)?;
+            push_told(text, kept.last())
+        }
+        Err(refusal) => push_refusal(text, refusal),
+    }
+}
+
+fn push_told(text: &mut String, receipt: Option<&Receipt>) -> Result<(), NoAnswer> {
+    let receipt = receipt.ok_or(NoAnswer::Unread)?;
+    let (place, caller) = (receipt.place, receipt.caller);
+    write!(text, "place {place} of caller {caller}:")?;
+    Ok(push_settled(text, receipt)?)
 }

@@ -1,186 +1,154 @@
-//! Callers of a shared buffer in threads of their own, and the one history that they make.
+//! Callers and readers of a shared buffer in threads of their own.
 
-ghost use Rattle.ob_shared.specs.Opened.{IsNameOf};
-
-use crate::tests::callers::{finished, opening};
-use crate::tests::dice::Dice;
-use ob_history::Recorded;
-use ob_players::buffers::Options;
-use ob_players::commands::block;
-use ob_players::meeting::wait_for;
+use crate::tests::callers::Caller;
+use crate::tests::crew::Crew;
+use crate::tests::host::Host;
+use crate::tests::members::Member;
+use ob_history::Glance;
+use ob_players::story::{Again, Story};
 use ob_players::words::NoAnswer;
-use ob_shared::{Done, Named, Opening, Share, SharedBuffer};
-use ob_types::{Command, Message, Refusal};
-use std::alloc::{AllocError, Global};
-use std::marker::Brand;
+use ob_shared::{Done, Named, Reader, SharedBuffer};
 use std::process::Abort;
 use std::sync::Wait;
 use std::sync::atomic::{AtomicU64, Ordering};
-use std::test::Fail;
-use std::thread::{Threads, map_vec};
+use std::thread::map_vec;
 use std::time::Clock;
 
-/// What a caller asks for, call by call.
+/// A story with parts: what is asked in turn before and after, and between these, behind per cent signs, what each caller
+/// plays in a thread of its own, in the order of their numbers.
 #[derive(Clone, Copy)]
-pub enum Mix {
-    /// Writes of blocks, flushes and removals in turn.
-    BlocksInTurn,
-    /// Writes of regions, flushes and removals in turn.
-    RegionsInTurn,
-    /// Commands of all eleven kinds, by chance.
-    ByChance,
+pub struct Scene<'a> {
+    pub before: Story<'a>,
+    pub parts: &'a str,
+    pub after: Story<'a>,
 }
 
-#[test]
-fn four_threads_of_250_calls(rt: HostRuntime) -> Result<(), Fail> {
-    let opening = opening(rt.alloc(), Options::of("--limit 1000")?, 4)?;
-    let recorded = all_made::<Brand, _>(&rt, rt.alloc(), opening, Mix::BlocksInTurn)?;
-    is_of_one_thread(&rt, rt.alloc(), &recorded, 1000)
+impl<'a> Scene<'a> {
+    pub fn of(text: &'a str) -> Scene<'a> {
+        let (before, rest) = text.split_once('%').unwrap_or((text, ""));
+        let (parts, lines) = rest.rsplit_once('%').unwrap_or((rest, ""));
+        let before = Story::of(before);
+        Scene {
+            before,
+            parts,
+            after: Story { lines, ..before },
+        }
+    }
 }
 
-#[test]
-fn eight_threads_of_250_calls_by_chance(rt: HostRuntime) -> Result<(), Fail> {
-    let opening = opening(rt.alloc(), Options::of("--limit 2000")?, 8)?;
-    let recorded = all_made::<Brand, _>(&rt, rt.alloc(), opening, Mix::ByChance)?;
-    is_of_one_thread(&rt, rt.alloc(), &recorded, 2000)
-}
-
-/// Three of eight callers end at a command that the buffer refuses, and the others go on when these have ended: at the end
-/// there are the records and the bytes of all.
-#[test]
-fn three_refused_callers_leave_the_others_going(rt: HostRuntime) -> Result<(), Fail> {
-    let opening = opening(rt.alloc(), Options::of("--limit 2000")?, 8)?;
-    let recorded = some_refused::<Brand, _>(&rt, rt.alloc(), opening)?;
-    is_of_one_thread(&rt, rt.alloc(), &recorded, 118)?;
-    let left = recorded.buffer().writes_left();
-    assert_eq!(rt; (recorded.look().look.total, left), (11500, 1048461));
+/// All parts are played in threads of their own, while the readers read.
+pub fn in_threads<L: Named + Send + Sync, R: Host>(
+    rt: &R,
+    crew: &mut Crew<'_, L, R>,
+    parts: &str,
+) -> Result<(), NoAnswer> {
+    let Some(buffer) = &crew.buffer else {
+        return Ok(());
+    };
+    if parts.is_empty() {
+        return Ok(());
+    }
+    let come = AtomicU64::new(0);
+    let members = std::mem::replace(&mut crew.members, Vec::new(rt.alloc()));
+    crew.members = all_play(rt, buffer, &come, members, parts)?;
     Ok(())
 }
 
-fn some_refused<L: Named + Send + Sync, R: Threads + Wait + Clock + Sync>(
+fn all_play<L: Named + Send + Sync, R: Host>(
     rt: &R,
-    alloc: Global,
-    opening: Opening,
-) -> Result<Recorded, Fail>
-    requires { IsNameOf opening L.opened L.name L.parts }
-{
-    let (buffer, shares) = opening.begin::<L>()?;
-    let ended = AtomicU64::new(0);
-    let (shared, count) = (&buffer, &ended);
-    let dones = map_vec(
-        rt,
-        shares,
-        &|share| { writes(rt, alloc, shared, share, count) },
-    )?;
-    finished(buffer, dones)
-}
-
-/// Writes twenty blocks of 4 bytes, or five and a region that is too long. The others write their second ten when three
-/// have ended so.
-fn writes<L: Named, R: Wait + Clock>(
-    rt: &R,
-    alloc: Global,
     buffer: &SharedBuffer<L>,
-    share: Share<L>,
-    ended: &AtomicU64,
-) -> Done<L> {
-    let is_refused = matches!(share.caller(), 1 | 4 | 6);
-    let mut caller = Done::new(alloc, share);
-    for number in 0..20u32 {
-        if is_refused && number == 5 {
-            let region = Command::Write(Message::Region(u64::MAX));
-            caller = buffer.call(rt, caller, region).0;
-            ended.fetch_add(1, Ordering::SeqCst);
-            break;
-        }
-        if number == 10 && wait_for(rt, ended, 3).is_err() {
-            break;
-        }
-        let Ok(message) = block(alloc, 0, 4) else {
-            break;
-        };
-        caller = buffer.call(rt, caller, Command::Write(message)).0;
-    }
-    caller
-}
-
-/// The history after each caller has made 250 calls in a thread of its own.
-fn all_made<L: Named + Send + Sync, R: Threads + Wait + Sync>(
-    rt: &R,
-    alloc: Global,
-    opening: Opening,
-    asks: Mix,
-) -> Result<Recorded, Fail>
-    requires { IsNameOf opening L.opened L.name L.parts }
-{
-    let (buffer, shares) = opening.begin::<L>()?;
-    let shared = &buffer;
-    let dones = map_vec(
+    come: &AtomicU64,
+    members: Vec<Member<L>>,
+    parts: &str,
+) -> Result<Vec<Member<L>>, NoAnswer> {
+    Ok(map_vec(
         rt,
-        shares,
-        &|share| calls(rt, alloc, shared, share, 250, asks),
-    )?;
-    finished(buffer, dones)
+        members,
+        &|member| plays(rt, buffer, come, member, parts),
+    )?)
 }
 
-/// Makes so many calls, each from a desk of its own, and stops where one is refused.
-pub fn calls<L: Named, R: Wait>(
+/// Plays the part of a caller, or reads as a reader.
+fn plays<L: Named, R: AllocGlobal + Wait + Clock + Abort>(
     rt: &R,
-    alloc: Global,
     buffer: &SharedBuffer<L>,
-    share: Share<L>,
-    count: u32,
-    asks: Mix,
-) -> Done<L> {
-    let mut dice = Dice::new(share.caller());
-    let mut caller = Done::new(alloc, share);
-    for number in 0..count {
-        let Ok(command) = command(alloc, &mut dice, asks, number) else {
-            break;
-        };
-        let (same, answer) = buffer.call(rt, caller, command);
-        caller = same;
-        if answer.is_err() {
+    come: &AtomicU64,
+    member: Member<L>,
+    parts: &str,
+) -> Member<L> {
+    let Member {
+        number,
+        done,
+        reader,
+        glances,
+    } = member;
+    let (done, glances) = match reader {
+        Some(reader) => (done, reads(buffer, come, reader, glances)),
+        None => (played(rt, buffer, come, done, part(parts, number)), glances),
+    };
+    Member {
+        number,
+        done,
+        reader: None,
+        glances,
+    }
+}
+
+/// The part of a caller by its number, or the last one.
+fn part(parts: &str, number: usize) -> &str {
+    let last = match parts.rsplit_once('%') {
+        Some((_, last)) => last,
+        None => parts,
+    };
+    parts.split('%').nth(number).unwrap_or(last)
+}
+
+/// What a caller hands in that has played its part.
+fn played<L: Named, R: AllocGlobal + Wait + Clock + Abort>(
+    rt: &R,
+    buffer: &SharedBuffer<L>,
+    come: &AtomicU64,
+    done: Option<Done<L>>,
+    part: &str,
+) -> Option<Done<L>> {
+    let mut caller = Again(Caller {
+        rt,
+        buffer,
+        come,
+        done,
+    });
+    let story = Story {
+        about: "the part of a caller",
+        command: "",
+        lines: part,
+    };
+    if let Err(otherwise) = story.play(rt.alloc(), &mut caller) {
+        panic!(rt; "{otherwise:?}");
+    }
+    caller.into_inner().done
+}
+
+/// The most glances that a reader takes, so that it ends also where no second thread could be had.
+const MOST_READS: u32 = 20_000_000;
+
+/// Reads without a pause until two callers have come: what is seen, each glance once that differs from the one before.
+fn reads<L: Named>(
+    buffer: &SharedBuffer<L>,
+    come: &AtomicU64,
+    reader: Reader<L>,
+    seen: Vec<Glance>,
+) -> Vec<Glance> {
+    let mut reader = reader;
+    let mut glances = seen;
+    for _ in 0..MOST_READS {
+        let last = come.load(Ordering::SeqCst) >= 2;
+        let glance = reader.read(buffer);
+        if glances.last() != Some(&glance) {
+            let _ = glances.push(glance);
+        }
+        if last {
             break;
         }
     }
-    caller
-}
-
-fn command(alloc: Global, dice: &mut Dice, asks: Mix, number: u32) -> Result<Command, AllocError> {
-    match (asks, number % 3) {
-        (Mix::ByChance, _) => dice.command(alloc),
-        (Mix::BlocksInTurn, 0) => Ok(Command::Write(block(alloc, 0, 4)?)),
-        (Mix::RegionsInTurn, 0) => Ok(Command::Write(Message::Region(0))),
-        (_, 1) => Ok(Command::Flush),
-        _ => Ok(Command::Remove),
-    }
-}
-
-/// There are so many records, and a buffer of one thread makes the same.
-fn is_of_one_thread(
-    rt: &impl Abort,
-    alloc: Global,
-    recorded: &Recorded,
-    records: usize,
-) -> Result<(), Fail> {
-    let same = is_made_again(alloc, recorded)?;
-    assert_eq!(rt; (recorded.records().len(), same), (records, true));
-    Ok(())
-}
-
-/// Whether a new buffer that is given the commands of the records, in their order, makes the same records.
-fn is_made_again(alloc: Global, recorded: &Recorded) -> Result<bool, NoAnswer> {
-    let mut alone = Options::of("--limit 2000")?.recorded(alloc)?;
-    Ok(answers_the_same(recorded, &mut alone)? && alone.look() == recorded.look())
-}
-
-fn answers_the_same(recorded: &Recorded, alone: &mut Recorded) -> Result<bool, Refusal> {
-    for kept in recorded.records() {
-        let receipt = alone.call(kept.caller, kept.command.copy()?)?;
-        if !recorded.check(&receipt) {
-            return Ok(false);
-        }
-    }
-    Ok(true)
+    glances
 }

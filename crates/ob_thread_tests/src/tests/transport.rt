@@ -3,23 +3,23 @@
 ghost use Rattle.ob_transport.specs.MayOffer.{MayOffer};
 ghost use Rattle.ob_shared.specs.Opened.{IsNameOf};
 
-use crate::tests::callers::{finished, opening};
 use crate::tests::host::Host;
 use crate::tests::keeping::{Keeping, Scarce};
+use crate::tests::shared::opening;
 use ob_history::{As, Booked, Receipt};
 use ob_players::buffers::Options;
 use ob_players::run::Single;
-use ob_players::story::{Again, Player, Story};
+use ob_players::story::{Again, Otherwise, Player, Story};
 use ob_players::trace::{push_change, push_refusal, push_settled, push_settlements};
 use ob_players::words::{MOST, NoAnswer, Words};
 use ob_seq::Look;
-use ob_shared::{Done, Named, Opening};
+use ob_shared::{Desk, Done, Named, Opening, Share, SharedBuffer};
 use ob_stories::{PASSES, SCARCE, SIX};
 use ob_transport::{
-    Limits, Pass, PassFault, ScriptSink, SinkFault, SinkStep, Stop, book, drain, pass,
+    Drained, Limits, Pass, PassFault, ScriptSink, SinkFault, SinkStep, Stop, book, drain, pass,
 };
-use ob_types::{Answer, Command};
-use std::alloc::{AllocError, Global};
+use ob_types::{Answer, Command, Reply};
+use std::alloc::Global;
 use std::marker::Brand;
 use std::process::Abort;
 use std::sync::Wait;
@@ -35,23 +35,56 @@ struct Transport<B> {
     unbooked: u64,
 }
 
+/// What the command line of a story gives.
+#[derive(Drop)]
+struct Means {
+    steps: Vec<SinkStep>,
+    /// The most bytes that a call of the sink takes behind its steps.
+    after: u64,
+    max_count: u32,
+}
+
+impl Means {
+    /// Takes in what a word begins.
+    fn take(&mut self, word: &str, words: &mut Words) -> Result<(), NoAnswer> {
+        match word {
+            "take" => push_step(&mut self.steps, words.number().map(SinkStep::Take)),
+            "fail" => push_step(&mut self.steps, words.small().map(SinkStep::Fail)),
+            "then" => {
+                self.after = words.number()?;
+                Ok(())
+            }
+            "--count" => {
+                self.max_count = words.small()?;
+                Ok(())
+            }
+            _ => Ok(()),
+        }
+    }
+}
+
+fn push_step(steps: &mut Vec<SinkStep>, step: Result<SinkStep, NoAnswer>) -> Result<(), NoAnswer> {
+    Ok(steps.push(step?)?)
+}
+
 /// The sink of a story and how many blocks it is offered at once, both by the command line, and room for receipts, so
 /// that none is lost for want of memory.
 fn given(alloc: Global, story: Story) -> Result<(ScriptSink, u32, Vec<Receipt>), NoAnswer> {
-    let mut steps = Vec::new(alloc);
-    let (mut after, mut max_count) = (0, 16);
+    let mut means = Means {
+        steps: Vec::new(alloc),
+        after: 0,
+        max_count: 16,
+    };
     let mut words = Words::of(story.command);
     for _ in 0..MOST {
-        match words.word() {
-            "take" => steps.push(SinkStep::Take(words.number()?))?,
-            "fail" => steps.push(SinkStep::Fail(words.small()?))?,
-            "then" => after = words.number()?,
-            "--count" => max_count = words.small()?,
-            _ => {}
-        }
+        means.take(words.word(), &mut words)?;
     }
     let receipts = Vec::with_capacity(alloc, MOST as usize)?;
-    Ok((ScriptSink::new(steps, after), max_count, receipts))
+    Ok((
+        ScriptSink::new(means.steps, means.after),
+        means.max_count,
+        receipts,
+    ))
 }
 
 impl<B: Booked> Transport<B> {
@@ -79,75 +112,66 @@ impl<B: Booked> Player for Transport<B> {
     fn answer(&mut self, asked: &str, text: &mut String) -> Result<(), NoAnswer> {
         let mut words = Words::of(asked);
         match words.word() {
-            "pass" => self.pass(text)?,
-            "send" => self.send(text)?,
-            "drain" => self.drain(words.number()?, text)?,
-            "book" => self.book(words.number()?, text)?,
-            "sink" => {
-                let (units, failures) = (self.sink.units(), self.sink.failures());
-                return Ok(write!(text, "{units} units, {failures} failures")?);
+            "sink" => push_sink(text, self.sink.units(), self.sink.failures()),
+            "settled" => push_all_settled(text, &self.single.kept.receipts),
+            "pass" | "send" | "drain" | "book" => {
+                let told = self.moves(&mut words, asked, text);
+                let (place, look) = self.seen();
+                told.and(push_seen(text, place, look, self.sink.taken()))
             }
-            "settled" => {
-                for receipt in &self.single.kept.receipts {
-                    push_settled(text, receipt)?;
-                }
-                return Ok(());
-            }
-            _ => return self.single.answer(asked, text),
+            _ => self.single.answer(asked, text),
         }
-        Ok(self.push_seen(text)?)
     }
 }
 
 impl<B: Booked> Transport<B> {
+    /// A pass, a drain of so many turns, or a booking of so many bytes.
+    fn moves(&mut self, words: &mut Words, asked: &str, text: &mut String) -> Result<(), NoAnswer> {
+        if asked == "pass" {
+            return self.pass(text);
+        }
+        if asked == "send" {
+            return self.send(text);
+        }
+        let count = words.number()?;
+        if asked.starts_with("drain") {
+            let limits = self.limits();
+            push_drained(
+                text,
+                drain(&mut self.single.kept, &mut self.sink, limits, count),
+            )
+        } else {
+            self.book(count, text)
+        }
+    }
+
     /// Makes a pass. If it fails, all that can be seen of the buffer is as before.
     fn pass(&mut self, text: &mut String) -> Result<(), NoAnswer> {
         let before = self.seen();
         let limits = self.limits();
         let passed = pass(&mut self.single.kept, &mut self.sink, limits);
-        if passed.is_err() && self.seen() != before {
-            text.push_str("the buffer changed: ")?;
+        if let Err(PassFault::Unbooked { taken }) = passed {
+            self.unbooked = taken;
         }
-        match passed {
-            Ok(Pass::Idle) => text.push_str("idle")?,
-            Ok(Pass::Stalled) => text.push_str("stalled")?,
-            Ok(Pass::Cleared) => text.push_str("cleared")?,
-            Ok(Pass::Took(n)) => write!(text, "took {n}")?,
-            Err(PassFault::Unbooked { taken }) => {
-                self.unbooked = taken;
-                write!(text, "{taken} unbooked")?;
-            }
-            Err(fault) => push_fault(text, fault)?,
-        }
-        Ok(())
+        let is_same = passed.is_ok() || self.seen() == before;
+        push_passed(text, passed, is_same)
     }
 
     /// Makes a pass that is booked in the end, however often that is asked.
     fn send(&mut self, text: &mut String) -> Result<(), NoAnswer> {
-        if self.unbooked == 0 {
-            self.pass(text)?;
-        }
+        let passed = if self.unbooked == 0 {
+            self.pass(text)
+        } else {
+            Ok(())
+        };
         text.clear();
-        if self.unbooked > 0 {
-            self.book(self.unbooked, text)?;
-        }
+        let booked = if passed.is_ok() && self.unbooked > 0 {
+            self.book(self.unbooked, text)
+        } else {
+            passed
+        };
         text.clear();
-        Ok(())
-    }
-
-    fn drain(&mut self, turns: u64, text: &mut String) -> Result<(), NoAnswer> {
-        let limits = self.limits();
-        match drain(&mut self.single.kept, &mut self.sink, limits, turns) {
-            Ok(drained) => {
-                let stop = match drained.stop {
-                    Stop::Idle => "idle",
-                    Stop::Stalled => "stalled",
-                    Stop::TurnsUsed => "turns used",
-                };
-                Ok(write!(text, "{} turns, {stop}", drained.turns_used)?)
-            }
-            Err(fault) => push_fault(text, fault),
-        }
+        booked
     }
 
     /// Books taken bytes. The receipt is of their removal.
@@ -155,7 +179,7 @@ impl<B: Booked> Transport<B> {
         match book(&mut self.single.kept, taken) {
             Ok(receipt) => {
                 self.unbooked = 0;
-                Ok(push_booked(text, &receipt, taken)?)
+                push_booked(text, &receipt, taken)
             }
             Err(refusal) => push_refusal(text, refusal),
         }
@@ -166,17 +190,61 @@ impl<B: Booked> Transport<B> {
         let kept = &self.single.kept;
         (kept.receipts.len(), kept.buffer().look())
     }
+}
 
-    /// Adds how many calls are recorded, what is pending, and what the sink has taken.
-    fn push_seen(&self, text: &mut String) -> Result<(), AllocError> {
-        let (place, look) = self.seen();
-        let (total, progress) = (look.total, look.current_progress);
-        write!(text, ": place {place}, t={total} cur={progress}, ")?;
-        for byte in self.sink.taken() {
-            write!(text, "{byte:02x}")?;
-        }
-        Ok(())
+/// Adds how many calls are recorded, what is pending, and what the sink has taken.
+fn push_seen(text: &mut String, place: usize, look: Look, taken: &[u8]) -> Result<(), NoAnswer> {
+    let (total, progress) = (look.total, look.current_progress);
+    write!(text, ": place {place}, t={total} cur={progress}, ")?;
+    for byte in taken {
+        write!(text, "{byte:02x}")?;
     }
+    Ok(())
+}
+
+fn push_sink(text: &mut String, units: u128, failures: u64) -> Result<(), NoAnswer> {
+    Ok(write!(text, "{units} units, {failures} failures")?)
+}
+
+fn push_all_settled(text: &mut String, receipts: &[Receipt]) -> Result<(), NoAnswer> {
+    for receipt in receipts {
+        push_settled(text, receipt)?;
+    }
+    Ok(())
+}
+
+/// Adds what a pass came to, and whether a failed one changed the buffer.
+fn push_passed(
+    text: &mut String,
+    passed: Result<Pass, PassFault>,
+    is_same: bool,
+) -> Result<(), NoAnswer> {
+    if !is_same {
+        text.push_str("the buffer changed: ")?;
+    }
+    match passed {
+        Ok(Pass::Idle) => text.push_str("idle")?,
+        Ok(Pass::Stalled) => text.push_str("stalled")?,
+        Ok(Pass::Cleared) => text.push_str("cleared")?,
+        Ok(Pass::Took(n)) => write!(text, "took {n}")?,
+        Err(PassFault::Unbooked { taken }) => write!(text, "{taken} unbooked")?,
+        Err(fault) => return push_fault(text, fault),
+    }
+    Ok(())
+}
+
+/// Adds how many turns a drain used, and why it stopped.
+fn push_drained(text: &mut String, drained: Result<Drained, PassFault>) -> Result<(), NoAnswer> {
+    let drained = match drained {
+        Ok(drained) => drained,
+        Err(fault) => return push_fault(text, fault),
+    };
+    let stop = match drained.stop {
+        Stop::Idle => "idle",
+        Stop::Stalled => "stalled",
+        Stop::TurnsUsed => "turns used",
+    };
+    Ok(write!(text, "{} turns, {stop}", drained.turns_used)?)
 }
 
 fn push_fault(text: &mut String, fault: PassFault) -> Result<(), NoAnswer> {
@@ -187,18 +255,22 @@ fn push_fault(text: &mut String, fault: PassFault) -> Result<(), NoAnswer> {
     }
 }
 
-fn push_booked(text: &mut String, receipt: &Receipt, taken: u64) -> Result<(), AllocError> {
+fn push_booked(text: &mut String, receipt: &Receipt, taken: u64) -> Result<(), NoAnswer> {
     if receipt.command != Command::RemoveBytes(taken) {
         text.push_str("another command ")?;
     }
-    if let Ok(reply) = &receipt.reply {
-        if let Answer::Count(count) = reply.answer {
-            write!(text, "n {count}")?;
-        }
-        push_change(text, reply.change)?;
-        push_settlements(text, reply.settled.as_slice())?;
+    match &receipt.reply {
+        Ok(reply) => push_removal(text, reply),
+        Err(_) => Ok(()),
     }
-    Ok(())
+}
+
+fn push_removal(text: &mut String, reply: &Reply) -> Result<(), NoAnswer> {
+    if let Answer::Count(count) = reply.answer {
+        write!(text, "n {count}")?;
+    }
+    push_change(text, reply.change)?;
+    Ok(push_settlements(text, reply.settled.as_slice())?)
 }
 
 /// A recorded buffer of one thread, as a story asks for it.
@@ -223,20 +295,45 @@ fn over_a_new_desk(rt: &impl Host, story: Story) -> Result<(), Fail> {
 fn over_a_desk<L: Named>(rt: &impl Host, opening: Opening, story: Story) -> Result<(), Fail>
     requires { IsNameOf opening L.opened L.name L.parts }
 {
-    let alloc = rt.alloc();
-    let given = given(alloc, story)?;
-    let (buffer, mut shares) = opening.begin::<L>()?;
+    let (buffer, shares) = opening.begin::<L>()?;
+    let dones = lends(rt, &buffer, shares, story)?;
+    match buffer.finish(dones) {
+        Ok(_finished) => Ok(()),
+        Err(_unfinished) => Err(Fail::from("the buffer is finished")),
+    }
+}
+
+/// Lends a desk to a story: what the caller hands in then.
+fn lends<L: Named, R: Host>(
+    rt: &R,
+    buffer: &SharedBuffer<L>,
+    shares: Vec<Share<L>>,
+    story: Story,
+) -> Result<Vec<Done<L>>, Fail> {
+    let mut shares = shares;
     let share = shares.pop().ok_or("a share")?;
-    let mut lent = Again(Transport::new(alloc, given, buffer.desk(rt, share)));
-    story.play(alloc, &mut lent)?;
+    let given = given(rt.alloc(), story)?;
+    let (done, told) = plays_at(rt, buffer.desk(rt, share), given, story);
+    told?;
+    Ok(vec![in rt.alloc(); done]?)
+}
+
+/// Plays a story over a desk.
+fn plays_at<'s, L: Named, R: Host>(
+    rt: &R,
+    desk: Desk<'_, L>,
+    given: (ScriptSink, u32, Vec<Receipt>),
+    story: Story<'s>,
+) -> (Done<L>, Result<(), Otherwise<'s>>) {
+    let alloc = rt.alloc();
+    let mut lent = Again(Transport::new(alloc, given, desk));
+    let told = story.play(alloc, &mut lent);
     let (desk, receipts) = lent.into_inner().into_parts();
-    let mut dones = Vec::new(alloc);
-    dones.push(Done {
+    let done = Done {
         receipts,
         ..Done::new(alloc, desk.leave())
-    })?;
-    let _recorded = finished(buffer, dones)?;
-    Ok(())
+    };
+    (done, told)
 }
 
 impl<B> Transport<B> {
@@ -245,26 +342,36 @@ impl<B> Transport<B> {
     }
 }
 
+/// Plays a story over a buffer of one thread.
+fn plays_alone(alloc: Global, story: Story) -> Result<(), Fail> {
+    story.play(alloc, &mut alone(alloc, story)?)?;
+    Ok(())
+}
+
 #[test]
 fn passes_of_a_transport(rt: HostRuntime) -> Result<(), Fail> {
     for text in PASSES.split('#') {
-        let story = Story::of(text);
-        story.play(rt.alloc(), &mut alone(rt.alloc(), story)?)?;
-        over_a_new_desk(&rt, story)?;
+        plays_alone(rt.alloc(), Story::of(text))?;
+        over_a_new_desk(&rt, Story::of(text))?;
     }
+    Ok(())
+}
+
+/// Plays a story over a buffer that wants memory at times.
+fn plays_scarce(alloc: Global, story: Story) -> Result<(), Fail> {
+    let scarce = Scarce {
+        booked: booked(alloc, story)?,
+        is_ready: false,
+    };
+    let mut transport = Transport::new(alloc, given(alloc, story)?, scarce);
+    story.play(alloc, &mut transport)?;
     Ok(())
 }
 
 #[test]
 fn unbooked_bytes_are_booked_later(rt: HostRuntime) -> Result<(), Fail> {
     for text in SCARCE.split('#') {
-        let story = Story::of(text);
-        let scarce = Scarce {
-            booked: booked(rt.alloc(), story)?,
-            is_ready: false,
-        };
-        let given = given(rt.alloc(), story)?;
-        story.play(rt.alloc(), &mut Transport::new(rt.alloc(), given, scarce))?;
+        plays_scarce(rt.alloc(), Story::of(text))?;
     }
     assert_eq!(rt; PassFault::Unbooked { taken: 5 }.number(), 4);
     Ok(())

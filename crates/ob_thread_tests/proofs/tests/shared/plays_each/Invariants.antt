@@ -1,4 +1,4 @@
-use Rattle.ob_thread_tests.proofs.tests.shared.callers_in_turn.Given as goal
+use Rattle.ob_thread_tests.proofs.tests.shared.plays_each.Given as goal
 
 -- the opening that was just made
 abbrev pub ghosts-plays-L-Named : goal.ghosts-plays-L-Named

@@ -1,0 +1,106 @@
+//! What is asked of a history when all callers have handed in.
+
+use crate::tests::members::Member;
+use ob_history::{Glance, Recorded};
+use ob_players::buffers::Options;
+use ob_players::words::NoAnswer;
+use ob_shared::{FinishFault, Named};
+use ob_types::{Command, Refusal};
+use std::alloc::Global;
+
+/// Adds whether a buffer of one thread makes the `same` history, how many writes are `left`, or how many readers saw
+/// `glances` of it in order.
+pub fn push_end<L: Named>(
+    alloc: Global,
+    options: Options,
+    recorded: &Recorded,
+    members: &[Member<L>],
+    word: &str,
+    text: &mut String,
+) -> Result<(), NoAnswer> {
+    let mut alone = options.recorded(alloc)?;
+    match word {
+        "same" => text.push_str(if answers_the_same(recorded, &mut alone)?
+            && alone.look() == recorded.look()
+        {
+            "yes"
+        } else {
+            "no"
+        })?,
+        "left" => write!(text, "{}", recorded.buffer().writes_left())?,
+        _ => {
+            let shown = shown_after(alloc, recorded, &mut alone)?;
+            let in_order = in_order(members, &shown);
+            write!(text, "{in_order} in order of {}", shown.len())?;
+        }
+    }
+    Ok(())
+}
+
+/// Whether a new buffer that is given the commands of the records, in their order, makes the same records.
+fn answers_the_same(recorded: &Recorded, alone: &mut Recorded) -> Result<bool, Refusal> {
+    for kept in recorded.records() {
+        if !is_made(recorded, alone, kept.caller, &kept.command)? {
+            return Ok(false);
+        }
+    }
+    Ok(true)
+}
+
+/// Whether a call of a new buffer answers as the history says.
+fn is_made(
+    recorded: &Recorded,
+    alone: &mut Recorded,
+    caller: u32,
+    command: &Command,
+) -> Result<bool, Refusal> {
+    let receipt = alone.call(caller, command.copy()?)?;
+    Ok(recorded.check(&receipt))
+}
+
+/// The glance of a new buffer, and that after each record, by that buffer, which is given the same commands.
+fn shown_after(
+    alloc: Global,
+    recorded: &Recorded,
+    alone: &mut Recorded,
+) -> Result<Vec<Glance>, NoAnswer> {
+    let mut shown = Vec::new(alloc);
+    shown.push(alone.glance())?;
+    for kept in recorded.records() {
+        let _ = is_made(recorded, alone, kept.caller, &kept.command)?;
+        shown.push(alone.glance())?;
+    }
+    Ok(shown)
+}
+
+/// How many members saw glances that stand among those that were shown, one behind another.
+fn in_order<L: Named>(members: &[Member<L>], shown: &[Glance]) -> u32 {
+    let mut count = 0u32;
+    for member in members {
+        if !member.glances.is_empty() && stand_in_order(&member.glances, shown) {
+            count = count.saturating_add(1);
+        }
+    }
+    count
+}
+
+fn stand_in_order(glances: &[Glance], shown: &[Glance]) -> bool {
+    let mut rest = shown.iter();
+    glances
+        .iter()
+        .all(|glance| rest.any(|other| other == glance))
+}
+
+/// Adds why a buffer was not finished.
+pub fn push_fault(text: &mut String, fault: FinishFault) -> Result<(), NoAnswer> {
+    match fault {
+        FinishFault::SharesMissing => text.push_str("shares missing")?,
+        FinishFault::ReceiptsMissing { caller } => write!(text, "receipts of {caller} missing")?,
+        FinishFault::ForeignReceipt { caller, place } => write!(
+            text,
+            "foreign: {caller} at {place}"
+        )?,
+        FinishFault::NoMemory => return Err(NoAnswer::NoMemory),
+    }
+    Ok(())
+}
