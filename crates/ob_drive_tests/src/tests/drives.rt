@@ -36,17 +36,100 @@ fn config(options: Options, turns: u64) -> Result<Config, Refusal>
     })
 }
 
-/// What is to be driven, and what came of it.
+/// What a story gives to be driven.
 #[derive(Drop)]
-pub struct Driven {
+struct Given {
     alloc: Global,
-    options: Options,
     /// The most passes of the transport.
     turns: u64,
     plans: Vec<Plan>,
     steps: Vec<SinkStep>,
     /// The most bytes that a call of the sink takes behind its steps.
     most: u64,
+}
+
+impl Given {
+    /// Takes in what a line gives.
+    fn take(&mut self, asked: &str) -> Result<(), NoAnswer> {
+        let mut words = Words::of(asked);
+        match words.word() {
+            "" | "sink" | "why" | "fails" | "among" => Ok(()),
+            "take" => push_step(&mut self.steps, words.number().map(SinkStep::Take)),
+            "fail" => push_step(&mut self.steps, words.small().map(SinkStep::Fail)),
+            "then" => {
+                self.most = words.number()?;
+                Ok(())
+            }
+            "turns" => {
+                self.turns = words.number()?;
+                Ok(())
+            }
+            word => give(self.alloc, &mut self.plans, word, &mut words),
+        }
+    }
+}
+
+fn push_step(steps: &mut Vec<SinkStep>, step: Result<SinkStep, NoAnswer>) -> Result<(), NoAnswer> {
+    Ok(steps.push(step?)?)
+}
+
+/// Gives a command to a writer, or to `each` of the first so many, a block as often as the last word says.
+fn give(
+    alloc: Global,
+    plans: &mut Vec<Plan>,
+    word: &str,
+    words: &mut Words,
+) -> Result<(), NoAnswer> {
+    let number = words.small()?;
+    let (from, to, word) = if word == "each" {
+        (0, number, words.word())
+    } else {
+        (number, number.saturating_add(1), word)
+    };
+    widen(alloc, plans, to as usize)?;
+    let command = command(alloc, word, words, 0)?.ok_or(NoAnswer::Unread)?;
+    let count = if word == "b" { words.small() } else { Ok(1) };
+    push_to_each(plans, (from, to), &command, count)
+}
+
+/// Makes plans until there are so many.
+fn widen(alloc: Global, plans: &mut Vec<Plan>, count: usize) -> Result<(), NoAnswer> {
+    for _ in plans.len()..count {
+        plans.push(Plan {
+            commands: Vec::new(alloc),
+        })?;
+    }
+    Ok(())
+}
+
+/// Gives a command so many times to the writers from one number to before another.
+fn push_to_each(
+    plans: &mut [Plan],
+    (from, to): (u32, u32),
+    command: &Command,
+    count: Result<u32, NoAnswer>,
+) -> Result<(), NoAnswer> {
+    let count = count?;
+    for writer in from..to {
+        if let Some(plan) = plans.get_mut(writer as usize) {
+            push_times(&mut plan.commands, command, count)?;
+        }
+    }
+    Ok(())
+}
+
+fn push_times(commands: &mut Vec<Command>, command: &Command, count: u32) -> Result<(), NoAnswer> {
+    for _ in 0..count {
+        commands.push(command.copy()?)?;
+    }
+    Ok(())
+}
+
+/// What is to be driven, and what came of it.
+#[derive(Drop)]
+pub struct Driven {
+    options: Options,
+    given: Given,
     /// How many bytes the sink took, and how often it failed.
     pub sink: (usize, u64),
     end: Option<Result<Report, DriveFault>>,
@@ -55,45 +138,67 @@ pub struct Driven {
 impl Player for Driven {
     /// The lines that give something were given before.
     fn answer(&mut self, asked: &str, text: &mut String) -> Result<(), NoAnswer> {
-        let (bytes, failures) = self.sink;
-        if let (Some(count), Some(Ok(report))) = (asked.strip_prefix("among "), &self.end) {
-            return push_callers(text, report, number_in(count)? as usize);
+        if asked == "sink" {
+            return push_sink(text, self.sink);
         }
-        match (asked, &self.end) {
-            ("", Some(Ok(report))) => push_report(text, report)?,
-            ("", Some(Err(fault))) => write!(text, "drive: fault {}", fault.number())?,
-            ("why", Some(Err(fault))) => write!(text, "{fault}")?,
-            ("fails", Some(Ok(report))) => push_fails(text, report)?,
-            ("sink", _) => write!(text, "{bytes} bytes, {failures} failures")?,
-            _ => {}
+        match &self.end {
+            Some(Ok(report)) => push_of_report(text, report, asked),
+            Some(Err(fault)) => push_of_fault(text, fault, asked),
+            None => Ok(()),
         }
-        Ok(())
+    }
+}
+
+fn push_sink(text: &mut String, (bytes, failures): (usize, u64)) -> Result<(), NoAnswer> {
+    Ok(write!(text, "{bytes} bytes, {failures} failures")?)
+}
+
+fn push_of_report(text: &mut String, report: &Report, asked: &str) -> Result<(), NoAnswer> {
+    if let Some(count) = asked.strip_prefix("among ") {
+        return push_callers(text, report, number_in(count)? as usize);
+    }
+    match asked {
+        "" => Ok(push_report(text, report)?),
+        "fails" => Ok(push_fails(text, report)?),
+        _ => Ok(()),
+    }
+}
+
+fn push_of_fault(text: &mut String, fault: &DriveFault, asked: &str) -> Result<(), NoAnswer> {
+    match asked {
+        "" => Ok(write!(text, "drive: fault {}", fault.number())?),
+        "why" => Ok(write!(text, "{fault}")?),
+        _ => Ok(()),
     }
 }
 
 impl Driven {
     /// What a story gives, before it is driven.
     pub fn of(alloc: Global, story: Story) -> Result<Driven, NoAnswer> {
-        let mut driven = Driven {
+        let options = Options::of(story.command)?;
+        let mut given = Given {
             alloc,
-            options: Options::of(story.command)?,
             turns: 16777216,
             plans: Vec::new(alloc),
             steps: Vec::new(alloc),
             most: u64::MAX,
-            sink: (0, 0),
-            end: None,
         };
         for line in story.lines.lines() {
-            driven.take(parts(line).0)?;
+            given.take(parts(line).0)?;
         }
-        Ok(driven)
+        Ok(Driven {
+            options,
+            given,
+            sink: (0, 0),
+            end: None,
+        })
     }
 
     /// The sink of a story.
     pub fn script(&mut self) -> ScriptSink {
-        let steps = std::mem::replace(&mut self.steps, Vec::new(self.alloc));
-        ScriptSink::new(steps, self.most)
+        let given = &mut self.given;
+        let steps = std::mem::replace(&mut given.steps, Vec::new(given.alloc));
+        ScriptSink::new(steps, given.most)
     }
 
     /// Drives what a story gives, with its writers behind a gate.
@@ -103,53 +208,9 @@ impl Driven {
         gate: &G,
         sink: &mut S,
     ) -> Result<(), NoAnswer> {
-        let config = config(self.options, self.turns)?;
-        let plans = std::mem::replace(&mut self.plans, Vec::new(self.alloc));
+        let config = config(self.options, self.given.turns)?;
+        let plans = std::mem::replace(&mut self.given.plans, Vec::new(rt.alloc()));
         self.end = Some(drive(rt, rt.alloc(), gate, plans, sink, config));
-        Ok(())
-    }
-
-    /// Takes in what a line gives.
-    fn take(&mut self, asked: &str) -> Result<(), NoAnswer> {
-        let mut words = Words::of(asked);
-        match words.word() {
-            "" | "sink" | "why" | "fails" | "among" => {}
-            "take" => self.steps.push(SinkStep::Take(words.number()?))?,
-            "fail" => self.steps.push(SinkStep::Fail(words.small()?))?,
-            "then" => self.most = words.number()?,
-            "turns" => self.turns = words.number()?,
-            "each" => {
-                let (count, word) = (words.small()?, words.word());
-                self.give((0, count), word, &mut words)?;
-            }
-            word => {
-                let writer = words.small()?;
-                self.give((writer, writer.saturating_add(1)), word, &mut words)?;
-            }
-        }
-        Ok(())
-    }
-
-    /// Gives a command to the writers from one number to before another, a block as often as the last word says.
-    fn give(
-        &mut self,
-        (from, to): (u32, u32),
-        word: &str,
-        words: &mut Words,
-    ) -> Result<(), NoAnswer> {
-        let command = command(self.alloc, word, words, 0)?.ok_or(NoAnswer::Unread)?;
-        let count = if word == "b" { words.small()? } else { 1 };
-        for _ in self.plans.len()..to as usize {
-            self.plans.push(Plan {
-                commands: Vec::new(self.alloc),
-            })?;
-        }
-        for writer in from..to {
-            let plan = self.plans.get_mut(writer as usize).ok_or(NoAnswer::Unread)?;
-            for _ in 0..count {
-                plan.commands.push(command.copy()?)?;
-            }
-        }
         Ok(())
     }
 }
