@@ -1,5 +1,6 @@
 -- How what waits to be sent, and what is gone, are kept. No public clause cites this module.
-use Rattle.std.specs.Prelude.{◌≡◌, ◌≤◌, ◌+◌, ℕ, List, sum_by, take, drop, vec_len, vec_capacity}
+use Rattle.std.specs.List.{list_all}
+use Rattle.std.specs.Prelude.{◌≡◌, ◌≤◌, ◌+◌, ℕ, Bool, true, false, not, List, sum_by, take, drop, vec_len, vec_capacity}
 use Rattle.std.specs.VecDeque.{deque_len}
 use Rattle.ob_types.specs.Limits.{greatest_overhead, greatest_unknown, most_writes}
 use Rattle.ob_seq.specs.Pending.{Pending}
@@ -11,6 +12,10 @@ use Rattle.ob_seq.specs.declared.whole.Whole.TheInside.{Inside as WholeInside}
 -- the bytes that entries count together
 abbrev pub counted : List Entry → ℕ
 counted entries = sum_by (λ entry. entry.size) entries
+
+-- whether none of some entries was taken back
+abbrev pub none_taken_back : List Entry → Bool
+none_taken_back entries = list_all (λ entry. not entry.taken_back) entries
 
 -- the marks of the opening are kept beside those in force, and the entries are those in line and then those that no
 -- flush has reached
@@ -24,13 +29,14 @@ unsent_of inside = record {
   closed = inside.closed;
 }
 
--- what every call keeps: the line is within the entries, the numbers fit, and the running total is the sum of the
--- pending sizes of the entries
+-- what every call keeps: the line is within the entries, the numbers fit, the running total is the sum of the pending
+-- sizes of the entries, and if no flag says else no entry behind the line was taken back
 pub record IsSound (inside : Inside) : Type 0 where
   pub line_within : inside.flushed ≤ deque_len inside.entries
   pub total : inside.total ≡ counted inside.entries.items
   pub small_overhead : inside.estimate.overhead ≤ greatest_overhead
   pub small_unknown : inside.estimate.unknown ≤ greatest_unknown
+  pub none_back : inside.any_taken_back ≡ false → none_taken_back (drop inside.flushed inside.entries.items) ≡ true
 
 -- what a buffer holds, by what waits and the outcomes of what is gone
 abbrev pub whole_of : WholeInside → Pending

@@ -29,8 +29,8 @@ use std::marker::Model;
 /// does what the step of a buffer does, whatever outcomes are gone.
 ///
 /// No call goes over entries that it neither takes away, voids nor hands out, but for the one where it ends: the bytes
-/// that are pending are kept as they change, a flush moves the end of the line over the entries, and a removal takes
-/// the first of them off the ring.
+/// that are pending are kept as they change, a flush moves the end of the line behind the last entry, and a removal
+/// takes the first of them off the ring. A flush looks at each entry that it reaches only if one of them may be voided.
 #[derive(Debug, Drop)]
 pub struct Contents {
     /// The marks of the opening. No call reads them: contracts judge a history by what its buffer was opened with.
@@ -46,6 +46,8 @@ pub struct Contents {
     total: u32,
     word: u32,
     closed: bool,
+    /// Whether a promise was taken back since the last flush. If none was, a flush goes over no entry.
+    any_taken_back: bool,
 }
 
 impl Model for Contents {
@@ -76,6 +78,7 @@ impl Contents {
             total: 0,
             word: 0,
             closed: false,
+            any_taken_back: false,
         }
     }
 

@@ -1,8 +1,8 @@
 -- Entries, as the code keeps them and as contracts see them.
 use Rattle.ob_seq.proofs.Words.{[], ◌≡◌, ℕ, ◌+◌, ◌<◌, List, ◌∷◌, length, map, take, drop, get_or, refl, sym, ap, ◌∙◌, sum_by}
 use Rattle.ob_seq.proofs.Words.{take-append-drop, sum_by-append, sum_by-cons, Entry, PendingEntry, pending_entry}
-use Rattle.ob_seq.proofs.Words.{pending_entries, counted, Outcome, Unsent, whole, pending_total}
-use Rattle.std.proofs.lemmas.List.{get_or-map}
+use Rattle.ob_seq.proofs.Words.{Bool, true, false, not, ◌&&◌, none_taken_back, drop, arith, pending_entries, counted, Outcome, Unsent, whole, pending_total}
+use Rattle.std.proofs.lemmas.List.{get_or-map, drop_more}
 
 -- what is counted of entries as contracts see them is counted of them as the code keeps them
 pub sum_seen : (see : Entry → PendingEntry) (f : PendingEntry → ℕ) (items : List Entry) →
@@ -30,3 +30,17 @@ both_runs n items =
 pub entry_at : (items : List Entry) (i : ℕ) (entry : Entry) (d : PendingEntry) → i < length items →
     entry ≡ get_or items i entry → pending_entry entry ≡ get_or (pending_entries items) i d
 entry_at items i entry d within is = ap pending_entry is ∙ sym (get_or-map pending_entry items i entry d within)
+
+-- where no entry was taken back, neither was the first, nor was one behind it
+module _ (entry : Entry) (entries : List Entry) (none : none_taken_back (entry ∷ entries) ≡ true) where
+  pub first_not_back : entry.taken_back ≡ false
+  first_not_back = grind (arith, none)
+
+  pub rest_not_back : none_taken_back entries ≡ true
+  rest_not_back = grind (arith, none)
+
+-- nor was one behind a place
+pub behind_not_back : (items : List Entry) (n : ℕ) (entry : Entry) → n < length items →
+    none_taken_back (drop n items) ≡ true → none_taken_back (drop (n + 1) items) ≡ true
+behind_not_back items n entry within none =
+    rest_not_back (get_or items n entry) (drop (n + 1) items) (rw (drop_more items n entry within) at none)

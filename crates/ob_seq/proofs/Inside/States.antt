@@ -5,12 +5,13 @@ use Rattle.ob_seq.proofs.Words.{set-append_seam, get_or-append_seam, take, drop,
 use Rattle.ob_seq.proofs.Words.{Marks, Settings, Outcome, Cancelled, PromiseState, Waiting, Fixed, Settled, is_cancelled}
 use Rattle.ob_seq.proofs.Words.{Entry, PendingEntry, Pending, pending_entry, pending_entries, unreached_entry, fixed_state}
 use Rattle.ob_seq.proofs.Words.{waiting_state, whole, Unsent, ended, pending_total, counted, next_flushed, reached_entry, front_taken}
-use Rattle.ob_seq.proofs.Words.{word_after_fall, word_after_rise, unflushed_id, front_id, promise_set, Message}
+use Rattle.ob_seq.proofs.Words.{none_taken_back, times, word_after_fall, word_after_rise, unflushed_id, front_id, promise_set, Message}
 use Rattle.std.proofs.Math.Seq.{map-set_same}
 use Rattle.std.proofs.lemmas.List.{drop_at, take_at, get_or-append_right, get_or-map, set-append_right, map-set}
 use Rattle.std.proofs.lemmas.List.{drop_more, drop-set-lt, take_more_set, get_or_default, set-get_or, length-take, length-drop}
 use Rattle.std.proofs.lemmas.List.{get_or-take, get_or-drop, take-set-le, drop-set-add}
-use Rattle.ob_seq.proofs.Inside.Entries.{total_of, both_runs}
+use Rattle.ob_seq.proofs.Inside.Entries.{total_of, both_runs, first_not_back, rest_not_back}
+use Rattle.ob_seq.proofs.Inside.Times.{times_first}
 use Rattle.std.proofs.Math.ListN.{get_or-append}
 use Rattle.ob_seq.specs.Steps.Flush.{is_next_cancelled}
 use Rattle.ob_seq.specs.Steps.Held.{state_at}
@@ -188,6 +189,19 @@ module _ (gone : List Outcome) (settings : Settings) (marks : Marks) (closed : B
       let same : slice_set items n entry ≡ items = ap (slice_set items n) read ∙ set-get_or items n entry in
       let reached : pending_entry entry ≡ reached_entry entry.taken_back (pending_entry entry) = rw flag refl in
       rw same at (kept_next items n entry entry word word within read reached (rw flag refl))
+
+  -- all entries in line, where none of those that no flush had reached was taken back
+  pub all_fixed : (line unflushed : List Entry) (word : ℕ) → none_taken_back unflushed ≡ true →
+      whole gone (there (line ++ unflushed) [] word)
+      ≡ times (length unflushed) next_flushed (whole gone (there line unflushed word))
+  all_fixed line [] word none = rw append-nil refl
+  all_fixed line (entry ∷ unflushed) word none =
+      let flag = first_not_back entry unflushed none in
+      let more = next_is line entry entry unflushed word word (rw flag refl) (rw flag refl) in
+      let fixed = all_fixed (line ++ entry ∷ []) unflushed word (rest_not_back entry unflushed none) in
+      rw (append_assoc line (entry ∷ []) unflushed) at fixed
+      ∙ ap (times (length unflushed) next_flushed) more
+      ∙ times_first next_flushed (length unflushed) (whole gone (there line (entry ∷ unflushed) word))
 
   -- without the first of them
   pub kept_taken : (notice : Bool) (outcome : Outcome) (entry : Entry) (items : List Entry) (n : ℕ) (word word' : ℕ) →

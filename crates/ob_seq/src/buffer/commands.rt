@@ -26,7 +26,8 @@ impl Buffer {
 
     /// Lets the transport have all that was written so far (Netty's `addFlush`), fixes the promises of those
     /// messages, and answers how many they are. A message whose promise was cancelled is voided: it becomes an
-    /// empty block that counts nothing, and stays in line. It goes once over the messages that it reaches, and takes no
+    /// empty block that counts nothing, and stays in line. It takes the same few steps whatever is pending, unless a
+    /// promise was cancelled since the last flush: then it goes once over the messages that it reaches. It takes no
     /// memory.
     ///
     /// `Closed` comes where the buffer is closed.

@@ -11,14 +11,30 @@ use ob_types::Message;
 use std::mem;
 
 impl Contents {
-    /// Puts all unflushed entries into line.
+    /// Puts all unflushed entries into line. It goes over them if a promise was taken back since the last flush.
     pub fn flush_all(&mut self)
+        ensures { (gone : List Outcome) →
+            whole gone self.new ≡ times (length self.old.unflushed) next_flushed (whole gone self.old) }
+    {
+        if self.any_taken_back {
+            self.flush_one_by_one();
+        } else {
+            self.flushed = self.entries.len();
+        }
+    }
+
+    /// The same, one entry after the other.
+    // Few promises are taken back: apart, a flush of the others saves no registers.
+    #[cold]
+    #[inline(never)]
+    fn flush_one_by_one(&mut self)
         ensures { (gone : List Outcome) →
             whole gone self.new ≡ times (length self.old.unflushed) next_flushed (whole gone self.old) }
     {
         for _ in 0..self.unflushed_count() {
             self.flush_next();
         }
+        self.any_taken_back = false;
     }
 
     /// Puts the first unflushed entry into line: voided where its promise was taken back, and else its promise is fixed
@@ -37,9 +53,6 @@ impl Contents {
 }
 
 /// Makes an entry whose promise was taken back an empty block that counts nothing, and answers what it counted.
-// Few promises are taken back: apart, a flush of the others is a nanosecond shorter.
-#[cold]
-#[inline(never)]
 fn void(entry: &mut Entry) -> u32
     requires { entry.old.taken_back ≡ true }
     ensures size { result ≡ entry.old.size }

@@ -32,5 +32,6 @@ impl Contents {
             whole gone self.new ≡ promise_set (length gone + place) (Settled Cancelled) (whole gone self.old) }
     {
         self.entries[place].taken_back = true;
+        self.any_taken_back = true;
     }
 }

@@ -1,11 +1,17 @@
-use Rattle.ob_seq.proofs.Words.{[], length, ap, ◌∙◌, arith, length-map, Pending, whole, unreached_entry}
-use Rattle.ob_seq.proofs.Inside.Times.{unflushed_left}
+use Rattle.ob_seq.proofs.Words.{◌≡◌, ◌≤◌, length, ap, ◌∙◌, arith, Settings, Unsent, take, drop, take-append-drop, take_all}
+use Rattle.ob_seq.proofs.Words.{drop_all, whole, next_flushed, times}
+use Rattle.ob_seq.proofs.Inside.States.{all_fixed}
 use Rattle.ob_seq.proofs.contents.Contents.flush_all.Goals as goal
 
-pub flush_next-requires : goal.flush_next-requires
-flush_next-requires c =
-    let left = ap (λ (held : Pending). length held.unflushed) (c.loop.invariant [])
-    ∙ unflushed_left c.loop.counter (whole [] c.args.self.now) in
-    let now = length-map c.loop.self.unflushed unreached_entry in
-    let before = length-map c.args.self.now.unflushed unreached_entry in
-    omega (arith, c.loop-test.true, c.unflushed_count-end.ensures)
+pub returns-else-self : goal.returns-else-self
+returns-else-self c gone =
+    let inside = c.self.inside in
+    let settings : Settings = record { marks = inside.opened; estimate = inside.estimate } in
+    let items = inside.entries.items in
+    let count = c.len-self-inside.result in
+    let all : length items ≤ count = omega (arith, inside.entries.ok, c.len-self-inside.ensures) in
+    let fixed = all_fixed gone settings inside.marks inside.closed (take inside.flushed items) (drop inside.flushed items)
+    inside.word (c.self.invariant.none_back c.if-self.false) in
+    rw (take_all count items all, drop_all count items all)
+    (rw (take-append-drop inside.flushed items) at fixed
+    ∙ ap (λ (held : Unsent). times (length held.unflushed) next_flushed (whole gone held)) c.self.view_is)

@@ -1,6 +1,8 @@
-use Rattle.ob_seq.proofs.Words.{◌≡◌, ◌<◌, length, sym, ap, ◌∙◌, arith, Settings, Entry}
+use Rattle.ob_seq.proofs.Words.{◌≡◌, ◌<◌, ◌+◌, length, sym, ap, ◌∙◌, arith, Settings, Entry}
 use Rattle.ob_seq.proofs.Words.{refl, whole, next_flushed, Unsent, ℕ, PendingEntry}
+use Rattle.std.proofs.lemmas.List.{drop-set-lt}
 use Rattle.std.proofs.lemmas.List.Sums.{sum_by-set}
+use Rattle.ob_seq.proofs.Inside.Entries.{behind_not_back}
 use Rattle.std.proofs.lemmas.Grind.{common_steps}
 use Rattle.ob_seq.proofs.Inside.Fields.{unflushed_count}
 use Rattle.ob_seq.proofs.Inside.States.{kept_fixed, kept_next, same_read}
@@ -60,6 +62,9 @@ invariant_of-self c =
             total = omega (arith, sound.total);
             small_overhead = sound.small_overhead;
             small_unknown = sound.small_unknown;
+            none_back = λ none.
+                rw (drop-set-lt (n + 1) items n voided (omega arith))
+                (behind_not_back items n voided (inner c) (sound.none_back none));
           }
       | goal.else-index w ↦
           rw w.self-inside-is record {
@@ -67,5 +72,6 @@ invariant_of-self c =
             total = sound.total;
             small_overhead = sound.small_overhead;
             small_unknown = sound.small_unknown;
+            none_back = λ none. behind_not_back items n c.index.result.now (inner c) (sound.none_back none);
           }
     ]
