@@ -1,4 +1,5 @@
 pub mod Inside
+pub mod Opening
 pub mod Rows
 pub mod Simulating
 pub mod Word

@@ -51,7 +51,8 @@ pub use Rattle.ob_seq.specs.Effect.{failed_row, skipped_row, with_cancelled}
 pub use Rattle.ob_seq.specs.Entry.{entry_of, PendingEntry, blocks_left, messages_to_send}
 pub use Rattle.ob_seq.specs.Gathering.{with_bytes, first_blocks}
 pub use Rattle.ob_seq.specs.Leaves.{Leaves}
-pub use Rattle.ob_seq.specs.Inside.{IsSound, IsRoomy, unsent_of, whole_of, counted, none_taken_back}
+pub use Rattle.ob_seq.specs.Inside.{IsSound, unsent_of, counted, none_taken_back}
+pub use Rattle.ob_seq.specs.Room.{IsRoomy}
 pub use Rattle.ob_seq.specs.Unsent.{pending_entry, pending_entries, unreached_entry, fixed_state, waiting_state, whole}
 pub use Rattle.ob_seq.specs.Unsent.{Unsent, states_of, ended, waiting_count}
 pub use Rattle.ob_seq.specs.Line.{is_in_line, line, unflushed, front}

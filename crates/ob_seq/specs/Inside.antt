@@ -1,13 +1,11 @@
--- How what waits to be sent, and what is gone, are kept. No public clause cites this module.
+-- How what waits to be sent is kept. No public clause cites this module.
 use Rattle.std.specs.List.{list_all}
-use Rattle.std.specs.Prelude.{◌≡◌, ◌≤◌, ◌+◌, ℕ, Bool, true, false, not, List, sum_by, take, drop, vec_len, vec_capacity}
+use Rattle.std.specs.Prelude.{◌≡◌, ◌≤◌, ℕ, Bool, true, false, not, List, sum_by, take, drop}
 use Rattle.std.specs.VecDeque.{deque_len}
-use Rattle.ob_types.specs.Limits.{greatest_overhead, greatest_unknown, most_writes}
-use Rattle.ob_seq.specs.Pending.{Pending}
-use Rattle.ob_seq.specs.Unsent.{Unsent, whole, waiting_count}
+use Rattle.ob_types.specs.Limits.{greatest_overhead, greatest_unknown}
+use Rattle.ob_seq.specs.Unsent.{Unsent}
 use Rattle.ob_seq.specs.declared.entry.Entry.{Entry}
 use Rattle.ob_seq.specs.declared.contents.Contents.TheInside.{Inside}
-use Rattle.ob_seq.specs.declared.whole.Whole.TheInside.{Inside as WholeInside}
 
 -- the bytes that entries count together
 abbrev pub counted : List Entry → ℕ
@@ -37,12 +35,3 @@ pub record IsSound (inside : Inside) : Type 0 where
   pub small_overhead : inside.estimate.overhead ≤ greatest_overhead
   pub small_unknown : inside.estimate.unknown ≤ greatest_unknown
   pub none_back : inside.any_taken_back ≡ false → none_taken_back (drop inside.flushed inside.entries.items) ≡ true
-
--- what a buffer holds, by what waits and the outcomes of what is gone
-abbrev pub whole_of : WholeInside → Pending
-whole_of inside = whole inside.gone.items inside.contents
-
--- what every call keeps of both: the writes are within the limit, and each message that waits has room for its outcome
-pub record IsRoomy (inside : WholeInside) : Type 0 where
-  pub few_writes : vec_len inside.gone + waiting_count inside.contents ≤ most_writes
-  pub room : vec_len inside.gone + waiting_count inside.contents ≤ vec_capacity inside.gone

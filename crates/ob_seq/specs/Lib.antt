@@ -17,6 +17,7 @@ pub mod Moment
 pub mod Order
 pub mod Pending
 pub mod Pieces
+pub mod Room
 pub mod Row
 pub mod Settings
 pub mod Settles

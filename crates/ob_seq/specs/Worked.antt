@@ -119,14 +119,8 @@ ProgressTold =
 
 -- a look at an empty buffer with Netty's marks
 abbrev pub empty_look : Look
-empty_look = record {
-  total = 0;
-  word = 0;
-  size = 0;
-  before_unwritable = 65537;
-  before_writable = 0;
-  current_progress = 0;
-}
+empty_look =
+    record { total = 0; word = 0; size = 0; before_unwritable = 65537; before_writable = 0; current_progress = 0 }
 
 -- a look at an empty buffer, and at one that is unwritable
 abbrev pub Looks : Type 0

@@ -88,11 +88,11 @@ VoidedRegion =
 abbrev pub LeftOfAVoidedRegion : Type 0
 LeftOfAVoidedRegion =
     (current_after (marked 200 400) voided_region ≡ Some (Block []))
+    × (current_after (marked 200 400) (voided_region ++ RemoveBytes 1 ∷ []) ≡ Some (Block (6 ∷ [])))
     × (gathered_after (marked 200 400) voided_region 8 100 ≡ (5 ∷ 6 ∷ []) ∷ [])
     × (flushed_after (marked 200 400) voided_region ≡ Block (5 ∷ 6 ∷ []) ∷ [])
     × (look_after (marked 200 400) voided_region
     ≡ record { total = 98; word = 0; size = 2; before_unwritable = 303; before_writable = 0; current_progress = 7 })
-    × (current_after (marked 200 400) (voided_region ++ RemoveBytes 1 ∷ []) ≡ Some (Block (6 ∷ [])))
     × (look_after (marked 200 400) (voided_region ++ RemoveBytes 1 ∷ [])
     ≡ record { total = 98; word = 0; size = 1; before_unwritable = 303; before_writable = 0; current_progress = 1 })
 

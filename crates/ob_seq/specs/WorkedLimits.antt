@@ -1,5 +1,5 @@
 -- The definitions at the limits, computed by hand beforehand.
-use Rattle.std.specs.Prelude.{◌≡◌, true, List, [], ◌∷◌, ◌++◌, Some, None}
+use Rattle.std.specs.Prelude.{◌≡◌, ℕ, true, List, [], ◌∷◌, ◌++◌, Some, None}
 use Rattle.ob_types.specs.declared.command.Command.{Command}
 use Rattle.ob_types.specs.declared.command.Command.TheVariants.{Write, Flush, Remove, RemoveBytes, Progress}
 use Rattle.ob_types.specs.declared.message.Message.TheVariants.{Block, Region, Other}
@@ -11,12 +11,16 @@ use Rattle.ob_seq.specs.Settings.{Settings}
 use Rattle.ob_seq.specs.Worked.{empty_look, marked, refused, replied, shown, succeeds}
 use Rattle.ob_seq.specs.WorkedBytes.{block_of}
 
+-- the widest marks above 0, with this overhead and this size of an unknown message
+abbrev pub wide : ℕ → ℕ → Settings
+wide overhead unknown = record {
+  marks = record { low = 1; high = 2147483647 };
+  estimate = record { overhead = overhead; unknown = unknown };
+}
+
 -- no overhead, and the greatest pending size for an unknown message
 abbrev pub light : Settings
-light = record {
-  marks = record { low = 1; high = 2147483647 };
-  estimate = record { overhead = 0; unknown = 2147483647 };
-}
+light = wide 0 2147483647
 
 -- the pending bytes come to their limit, and one more byte is too much; an empty block is none, and a removal makes
 -- room again
@@ -39,10 +43,7 @@ LookAtTheLimit =
 
 -- an overhead with which a block of one byte has the greatest pending size
 abbrev pub heavy : Settings
-heavy = record {
-  marks = record { low = 1; high = 2147483647 };
-  estimate = record { overhead = 2147483646; unknown = 2 };
-}
+heavy = wide 2147483646 2
 
 -- a message with the greatest pending size is taken, and so is the longest region; one byte more is oversize, and told
 -- as that also where it would be too much as well

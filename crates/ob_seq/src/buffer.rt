@@ -2,7 +2,7 @@ ghost use Rattle.std.specs.Prelude.{◌≡◌, ◌≤◌, false, [], List, IsTru
 ghost use Rattle.ob_types.specs.Limits.{greatest_overhead, greatest_unknown};
 ghost use Rattle.ob_types.specs.Write.{is_write};
 ghost use Rattle.ob_types.specs.declared.command.Command.{Command};
-ghost use Rattle.ob_seq.specs.Pending.{StandsFor, Obeys, takes_no_memory};
+ghost use Rattle.ob_seq.specs.Pending.{Pending, StandsFor, Obeys, takes_no_memory};
 ghost use Rattle.ob_seq.specs.Settles.{SparesMemory};
 
 mod commands;
@@ -25,10 +25,6 @@ pub struct Buffer {
 
 /// Each buffer holds what some list of accepted commands leaves.
 impl Model for Buffer {
-    ghost use Rattle.std.specs.Prelude.{List};
-    ghost use Rattle.ob_types.specs.declared.command.Command.{Command};
-    ghost use Rattle.ob_seq.specs.Pending.{Pending, StandsFor};
-
     ghost Value = { Pending };
 
     ghost view = { λ buffer. buffer.contents };

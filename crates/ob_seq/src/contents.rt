@@ -1,8 +1,9 @@
 ghost use Rattle.std.specs.Prelude.{◌≡◌, ◌≤◌, [], length};
 ghost use Rattle.ob_types.specs.Limits.{greatest_overhead, greatest_unknown};
+ghost use Rattle.ob_seq.specs.Inside.{unsent_of, IsSound};
 ghost use Rattle.ob_seq.specs.Steps.Held.{pending_total};
 ghost use Rattle.ob_seq.specs.Steps.UserBit.{with_user_bit};
-ghost use Rattle.ob_seq.specs.Unsent.{nothing_unsent, whole, waiting_count};
+ghost use Rattle.ob_seq.specs.Unsent.{Unsent, nothing_unsent, whole, waiting_count};
 
 mod add;
 mod cut;
@@ -51,11 +52,7 @@ pub struct Contents {
 }
 
 impl Model for Contents {
-    ghost use Rattle.ob_seq.specs.Unsent.{Unsent};
-
     ghost Value = { Unsent };
-
-    ghost use Rattle.ob_seq.specs.Inside.{unsent_of, IsSound};
 
     ghost view = { unsent_of };
 

@@ -2,21 +2,20 @@ ghost use Rattle.std.specs.Prelude.{◌≡◌, ◌<◌, ◌≤◌, [], length};
 ghost use Rattle.ob_types.specs.Change.{change_between};
 ghost use Rattle.ob_types.specs.Limits.{greatest_overhead, greatest_unknown, most_writes};
 ghost use Rattle.ob_seq.specs.Looks.{before_unwritable, before_writable};
-ghost use Rattle.ob_seq.specs.Pending.{StandsFor};
+ghost use Rattle.ob_seq.specs.Pending.{Pending};
+ghost use Rattle.ob_seq.specs.Room.{IsRoomy};
 ghost use Rattle.ob_seq.specs.Steps.Held.{first_progress, front_id, pending_total, state_at, unflushed_id};
+ghost use Rattle.ob_seq.specs.Unsent.{nothing_unsent, whole};
 
+mod bits;
 mod cancel;
 mod close;
-mod fail_flushed;
 mod flush;
-mod progress;
 mod remove;
-mod remove_bytes;
 mod seen;
-mod set_marks;
 mod settles;
+mod take;
 mod taking;
-mod user_bit;
 pub(crate) mod write;
 
 use crate::contents::Contents;
@@ -37,13 +36,9 @@ pub struct Whole {
 }
 
 impl Model for Whole {
-    ghost use Rattle.ob_seq.specs.Pending.{Pending};
-
     ghost Value = { Pending };
 
-    ghost use Rattle.ob_seq.specs.Inside.{whole_of, IsRoomy};
-
-    ghost view = { whole_of };
+    ghost view = { λ held. whole held.gone.items held.contents };
 
     ghost invariant = { IsRoomy };
 }
@@ -53,8 +48,7 @@ impl Whole {
     pub fn new(alloc: Global, marks: WaterMark, estimate: Estimate) -> Whole
         requires overhead { estimate.overhead ≤ greatest_overhead }
         requires unknown { estimate.unknown ≤ greatest_unknown }
-        ensures settings { result.settings ≡ record { marks = marks; estimate = estimate } }
-        ensures stands { StandsFor result [] }
+        ensures { result ≡ whole [] (nothing_unsent (record { marks = marks; estimate = estimate })) }
     {
         Whole {
             contents: Contents::new(alloc, marks, estimate),

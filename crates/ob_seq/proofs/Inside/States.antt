@@ -39,14 +39,8 @@ same_pending settings marks closed l u p w = cc
 
 -- what waits, by its parts
 abbrev pub unsent_from : Settings → Marks → Bool → List Entry → List Entry → ℕ → Unsent
-unsent_from settings marks closed line unflushed word = record {
-  settings = settings;
-  marks = marks;
-  line = line;
-  unflushed = unflushed;
-  word = word;
-  closed = closed;
-}
+unsent_from settings marks closed line unflushed word =
+    record { settings = settings; marks = marks; line = line; unflushed = unflushed; word = word; closed = closed }
 
 -- of which promise a flush asks next
 next_asked : (before rest : List PromiseState) (state : PromiseState) (old : Pending) →
@@ -216,50 +210,55 @@ module _ (gone : List Outcome) (settings : Settings) (marks : Marks) (closed : B
       let sum : counted (entry ∷ items) ≡ pending_total (whole [] old) = sym (total_of [] old ∙ both_runs (suc n) (entry ∷ items)) in
       rw less (taken_is notice outcome entry (take n items) (drop n items) word word' (rw (← sum) falls))
 
-  -- the state of the promise of an entry in line, and of one that no flush has reached
-  pub kept_state : (items : List Entry) (n place : ℕ) (entry : Entry) (word : ℕ) → place < n → place < length items →
-      entry ≡ get_or items place entry →
-      fixed_state entry ≡ state_at (whole gone (there (take n items) (drop n items) word)) (length gone + place)
-  kept_state items n place entry word before within is =
-      let line = map fixed_state (take n items) in
-      let behind = map waiting_state (drop n items) in
+  -- a state behind those of the messages that are gone
+  past_gone : (states : List PromiseState) (place : ℕ) →
+      get_or (map Settled gone ++ states) (length gone + place) Waiting ≡ get_or states place Waiting
+  past_gone states place =
       let passed : length gone + place - length gone ≡ place = omega arith in
-      let past = get_or-append_right (map Settled gone) (line ++ behind) (length gone) (length gone + place) Waiting
-      (length-map gone (λ outcome. Settled outcome)) (omega arith) in
-      let inner : place < length (take n items) = rw (length-take) (omega arith) in
-      let here = get_or-append line behind Waiting place (rw (length-map) inner) in
-      let read = get_or-map fixed_state (take n items) place entry Waiting inner in
-      sym (past ∙ rw passed (here ∙ read ∙ ap fixed_state (get_or-take n items place entry before ∙ sym is)))
+      rw passed at (get_or-append_right (map Settled gone) states (length gone) (length gone + place) Waiting
+      (length-map gone (λ outcome. Settled outcome)) (omega arith))
 
-  pub kept_waits : (items : List Entry) (n place : ℕ) (entry : Entry) (word : ℕ) → n ≤ place → place < length items →
-      entry ≡ get_or items place entry →
-      waiting_state entry ≡ state_at (whole gone (there (take n items) (drop n items) word)) (length gone + place)
-  kept_waits items n place entry word before within is =
-      let line = map fixed_state (take n items) in
-      let behind = map waiting_state (drop n items) in
-      let passed : length gone + place - length gone ≡ place = omega arith in
-      let past = get_or-append_right (map Settled gone) (line ++ behind) (length gone) (length gone + place) Waiting
-      (length-map gone (λ outcome. Settled outcome)) (omega arith) in
-      let size : length line ≡ n = rw (length-map) (length-take-le n items (omega arith)) in
-      let over = get_or-append_right line behind n place Waiting size before in
-      let inner : place - n < length (drop n items) = rw (length-drop) (omega arith) in
-      let read = get_or-map waiting_state (drop n items) (place - n) entry Waiting inner in
-      let whole_place : n + (place - n) ≡ place = omega arith in
-      let there : get_or (drop n items) (place - n) entry ≡ entry =
-      get_or-drop n items (place - n) entry ∙ rw whole_place (sym is) in
-      sym (past ∙ rw passed (over ∙ read ∙ ap waiting_state there))
+  -- the state of the promise of an entry that stands at a place among some of which so many are in line
+  module _ (items : List Entry) (n place : ℕ) (entry : Entry) (word : ℕ) (within : place < length items)
+      (is : entry ≡ get_or items place entry) where
+    abbrev state_there : PromiseState
+    state_there = state_at (whole gone (there (take n items) (drop n items) word)) (length gone + place)
 
-  pub kept_cancelled : (items : List Entry) (n place : ℕ) (entry : Entry) (word : ℕ) → place < length items →
-      entry ≡ get_or items place entry → entry.taken_back ≡ true → (late : Bool) → leb n place ≡ late →
-      Settled Cancelled ≡ state_at (whole gone (there (take n items) (drop n items) word)) (length gone + place)
-  kept_cancelled items n place entry word within is flag true late =
-      let behind : n ≤ place = grind (arith, nat_tests) in
-      let state : Settled Cancelled ≡ waiting_state entry = rw flag in
-      state ∙ kept_waits items n place entry word behind within is
-  kept_cancelled items n place entry word within is flag false late =
-      let before : place < n = grind (arith, nat_tests) in
-      let state : Settled Cancelled ≡ fixed_state entry = rw flag in
-      state ∙ kept_state items n place entry word before within is
+    abbrev in_line : List PromiseState
+    in_line = map fixed_state (take n items)
+
+    abbrev behind : List PromiseState
+    behind = map waiting_state (drop n items)
+
+    pub kept_state : place < n → fixed_state entry ≡ state_there
+    kept_state before =
+        let inner : place < length (take n items) = rw (length-take) (omega arith) in
+        let here = get_or-append in_line behind Waiting place (rw (length-map) inner) in
+        let read = get_or-map fixed_state (take n items) place entry Waiting inner in
+        sym (past_gone (in_line ++ behind) place ∙ here ∙ read
+        ∙ ap fixed_state (get_or-take n items place entry before ∙ sym is))
+
+    pub kept_waits : n ≤ place → waiting_state entry ≡ state_there
+    kept_waits before =
+        let size : length in_line ≡ n = rw (length-map) (length-take-le n items (omega arith)) in
+        let over = get_or-append_right in_line behind n place Waiting size before in
+        let inner : place - n < length (drop n items) = rw (length-drop) (omega arith) in
+        let read = get_or-map waiting_state (drop n items) (place - n) entry Waiting inner in
+        let whole_place : n + (place - n) ≡ place = omega arith in
+        let same : get_or (drop n items) (place - n) entry ≡ entry =
+        get_or-drop n items (place - n) entry ∙ rw whole_place (sym is) in
+        sym (past_gone (in_line ++ behind) place ∙ over ∙ read ∙ ap waiting_state same)
+
+    pub kept_cancelled : entry.taken_back ≡ true → (late : Bool) → leb n place ≡ late →
+        Settled Cancelled ≡ state_there
+    kept_cancelled flag true late =
+        let past : n ≤ place = grind (arith, nat_tests) in
+        let state : Settled Cancelled ≡ waiting_state entry = rw flag in
+        state ∙ kept_waits past
+    kept_cancelled flag false late =
+        let before : place < n = grind (arith, nat_tests) in
+        let state : Settled Cancelled ≡ fixed_state entry = rw flag in
+        state ∙ kept_state before
 
   -- a promise taken back that no flush has reached
   pub kept_back : (items : List Entry) (n place : ℕ) (entry back : Entry) (word : ℕ) → n ≤ place →

@@ -1,8 +1,8 @@
-ghost use Rattle.std.specs.Prelude.{◌≡◌, ◌+◌, ◌<◌, ◌≤◌, ◌++◌, length, drop, map, IsErrOf, IsOk, IfOk, vec_len, vec_capacity};
+ghost use Rattle.std.specs.Prelude.{◌≡◌, ◌+◌, ◌≤◌, ◌++◌, length, drop, map, IsOk, IfOk, vec_len, vec_capacity};
 ghost use Rattle.ob_types.specs.Limits.{inline_settlements};
 ghost use Rattle.ob_types.specs.declared.promise.Outcome.TheVariants.{Failed};
 ghost use Rattle.ob_seq.specs.Unsent.{ended, waiting_count};
-ghost use Rattle.ob_seq.specs.Steps.Step.{Makes};
+ghost use Rattle.ob_seq.specs.Steps.Step.{Makes, SparesFew};
 ghost use Rattle.ob_seq.specs.Steps.Close.{closed_pending, closing_step, failures};
 ghost use Rattle.ob_seq.specs.Steps.Held.{unflushed_id};
 
@@ -15,8 +15,7 @@ impl Whole {
     /// The step of `Buffer::close`.
     pub fn close(&mut self, cause: Cause) -> Result<Reply, Refusal>
         ensures makes { Makes self.old (closing_step cause self.old) result self.new }
-        ensures frugal { IsErrOf result Refusal.NoMemory
-            → inline_settlements < length (closing_step cause self.old).reply.settled }
+        ensures frugal { SparesFew (closing_step cause self.old) result }
     {
         if self.is_closed() {
             return Err(Refusal::Closed);

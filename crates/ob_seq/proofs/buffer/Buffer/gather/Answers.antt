@@ -1,5 +1,5 @@
 use Rattle.ob_seq.proofs.Words.{◌≡◌, ℕ, List, ap, ◌∙◌, blocks_left, first_blocks, with_bytes, Command, Pending, StandsFor}
-use Rattle.std.specs.Prelude.{Result, Ok, Err, IfOk}
+use Rattle.std.proofs.lemmas.Result.{IfOk-weaker}
 use Rattle.ob_seq.specs.Gathering.{gathered_after}
 use Rattle.ob_seq.proofs.Inside.Looked.{gathered_is}
 use Rattle.ob_seq.proofs.buffer.Buffer.gather.Goals as goal
@@ -12,16 +12,10 @@ gathered_there held now same limit most commands stands =
     ap (λ (one : Pending). first_blocks limit most (with_bytes (blocks_left one.line))) same
     ∙ gathered_is now limit most commands stands.leaves
 
--- what holds of a value holds of it if that follows
-if_ok : {A E : Type 0} {P Q : A → Type 0} (result : Result A E) → ((value : A) → P value → Q value) →
-    IfOk result P → IfOk result Q
-if_ok (Ok value) so is = so value is
-if_ok (Err error) so is = tt
-
 pub returns-clause-blocks : goal.returns-clause-blocks
 returns-clause-blocks c =
     let there = gathered_there c.self.inside.contents c.args.self.now c.self.view_is c.args.max_count c.args.max_bytes in
-    if_ok c.gather.result (λ blocks is commands stands. is ∙ there commands stands) c.gather.ensures.blocks
+    IfOk-weaker c.gather.result _ _ (λ blocks is commands stands. is ∙ there commands stands) c.gather.ensures.blocks
 
 pub returns-clause-frugal : goal.returns-clause-frugal
 returns-clause-frugal c commands stands nothing =

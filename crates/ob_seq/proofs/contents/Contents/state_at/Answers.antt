@@ -1,43 +1,51 @@
-use Rattle.ob_seq.proofs.Words.{◌≡◌, ◌<◌, ℕ, length, refl, ap, ◌∙◌, ◌+◌, leb, arith, Settings, whole, Unsent}
-use Rattle.ob_seq.proofs.Words.{Fixed, Waiting, fixed_state, waiting_state, Inside, IsSound, unsent_of, waiting_count}
+use Rattle.ob_seq.proofs.Words.{◌≡◌, ◌<◌, ◌≤◌, ℕ, List, true, length, get_or, refl, ap, ◌∙◌, ◌+◌, leb, arith, Settings, whole, Unsent}
+use Rattle.ob_seq.proofs.Words.{Fixed, Waiting, Settled, Cancelled, PromiseState, Outcome, Entry, fixed_state, waiting_state}
+use Rattle.ob_seq.proofs.Words.{Inside, IsSound, unsent_of, waiting_count}
 use Rattle.ob_seq.specs.Steps.Held.{state_at}
 use Rattle.ob_seq.proofs.Inside.Fields.{entry_count}
 use Rattle.ob_seq.proofs.Inside.States.{kept_cancelled, kept_state, kept_waits}
 use Rattle.ob_seq.proofs.contents.Contents.state_at.Goals as goal
 
--- a place at which something waits is that of an entry
-within : (held : Unsent) (inside : Inside) → unsent_of inside ≡ held → IsSound inside → (place : ℕ) →
-    place < waiting_count held → place < length inside.entries.items
-within held inside view sound place some = omega (arith, entry_count held inside view sound, inside.entries.ok)
+-- the state of the promise of the entry at a place at which something waits
+module _ (gone : List Outcome) {held : Unsent} {inside : Inside} (view : unsent_of inside ≡ held) (sound : IsSound inside)
+    {place : ℕ} {entry : Entry} (some : place < waiting_count held) (is : entry ≡ get_or inside.entries.items place entry) where
+  abbrev settings : Settings
+  settings = record { marks = inside.opened; estimate = inside.estimate }
+
+  abbrev state_there : PromiseState
+  state_there = state_at (whole gone held) (length gone + place)
+
+  seen : state_at (whole gone (unsent_of inside)) (length gone + place) ≡ state_there
+  seen = ap (λ (one : Unsent). state_at (whole gone one) (length gone + place)) view
+
+  within : place < length inside.entries.items
+  within = omega (arith, entry_count held inside view sound, inside.entries.ok)
+
+  cancelled_there : entry.taken_back ≡ true → Settled Cancelled ≡ state_there
+  cancelled_there back =
+      kept_cancelled gone settings inside.marks inside.closed inside.entries.items inside.flushed place entry
+      inside.word within is back (leb inside.flushed place) refl ∙ seen
+
+  fixed_there : place < inside.flushed → fixed_state entry ≡ state_there
+  fixed_there before =
+      kept_state gone settings inside.marks inside.closed inside.entries.items inside.flushed place entry
+      inside.word within is before ∙ seen
+
+  waits_there : inside.flushed ≤ place → waiting_state entry ≡ state_there
+  waits_there behind =
+      kept_waits gone settings inside.marks inside.closed inside.entries.items inside.flushed place entry
+      inside.word within is behind ∙ seen
 
 pub returns-then-index : goal.returns-then-index
 returns-then-index c gone =
-    let inside = c.self.inside in
-    let settings : Settings = record { marks = inside.opened; estimate = inside.estimate } in
-    let place = c.args.place in
-    kept_cancelled gone settings inside.marks inside.closed inside.entries.items inside.flushed place c.index.result.now
-    inside.word (within c.args.self.now inside c.self.view_is c.self.invariant place c.requires) c.index.ensures
-    c.if-index.true (leb inside.flushed place) refl
-    ∙ ap (λ (held : Unsent). state_at (whole gone held) (length gone + place)) c.self.view_is
+    cancelled_there gone c.self.view_is c.self.invariant c.requires c.index.ensures c.if-index.true
 
 pub returns-then-place-self : goal.returns-then-place-self
 returns-then-place-self c gone =
-    let inside = c.self.inside in
-    let settings : Settings = record { marks = inside.opened; estimate = inside.estimate } in
-    let place = c.args.place in
     let state : Fixed ≡ fixed_state c.index.result.now = rw c.if-index.false in
-    state ∙ kept_state gone settings inside.marks inside.closed inside.entries.items inside.flushed place
-    c.index.result.now inside.word c.if-place-self.true
-    (within c.args.self.now inside c.self.view_is c.self.invariant place c.requires) c.index.ensures
-    ∙ ap (λ (held : Unsent). state_at (whole gone held) (length gone + place)) c.self.view_is
+    state ∙ fixed_there gone c.self.view_is c.self.invariant c.requires c.index.ensures c.if-place-self.true
 
 pub returns-else-place-self : goal.returns-else-place-self
 returns-else-place-self c gone =
-    let inside = c.self.inside in
-    let settings : Settings = record { marks = inside.opened; estimate = inside.estimate } in
-    let place = c.args.place in
     let state : Waiting ≡ waiting_state c.index.result.now = rw c.if-index.false in
-    state ∙ kept_waits gone settings inside.marks inside.closed inside.entries.items inside.flushed place
-    c.index.result.now inside.word c.if-place-self.false
-    (within c.args.self.now inside c.self.view_is c.self.invariant place c.requires) c.index.ensures
-    ∙ ap (λ (held : Unsent). state_at (whole gone held) (length gone + place)) c.self.view_is
+    state ∙ waits_there gone c.self.view_is c.self.invariant c.requires c.index.ensures c.if-place-self.false
