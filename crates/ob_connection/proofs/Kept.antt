@@ -88,6 +88,16 @@ pub accepted : (message : Message) (now : Pending) (size : ℕ) → size ≡ cou
     (write_step_within connection_limit message now).refusal ≡ None
 accepted message now size is fits some = grind arith
 
+-- so a write is accepted that there is room for, whatever outcomes the messages had that are gone
+pub accepted_there : {inside now : Connected} → inside ≡ now → (message : Message) (size : ℕ) →
+    pending_size_of inside.unsent.settings.estimate message ≡ Ok size → accepted_writes now < most_ids →
+    has_bytes_left size (whole [] inside.unsent) ≡ true → (past : Past inside) →
+    (write_step_within connection_limit message (held past)).refusal ≡ None
+accepted_there {inside} view message size is few light past =
+    let counted = size_is inside.unsent.settings.estimate message size is in
+    let all = ids_are past ∙ ap accepted_writes view in
+    accepted message (held past) size counted.1 counted.0 (some_room size (held past) (omega (arith, all, few)) light)
+
 -- one message more waits after a write
 pub added_waiting : (old new : Unsent) (message : Message) (size : ℕ) →
     whole [] new ≡ written (whole [] old) message size → waiting_count new ≡ waiting_count old + 1

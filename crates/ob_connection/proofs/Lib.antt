@@ -7,5 +7,6 @@ pub mod Obeyed
 pub mod Offered
 pub mod Sending
 pub mod Settling
+pub mod TurnOffers
 pub mod Turns
 pub mod Words

@@ -39,48 +39,57 @@ module _ {A : Type 0} (step : Pending → Step) (tell : List PromiseState → A 
     (view : inside ≡ old) where
   -- a call is refused if the connection is closed
   pub closed : inside.unsent.closed ≡ true → Steps step old tell (Err Closed) old
-  closed is = subst (λ one. Steps step one tell (Err Closed) one) view (λ past.
-      (past, makes_refused (held past) (step (held past)) Closed (λ same. absurd (cc)) (rw is refl)))
+  closed is = subst (λ one. Steps step one tell (Err Closed) one) view (record {
+    makes = λ past.
+        (past, makes_refused (held past) (step (held past)) Closed (λ same. absurd (cc)) (rw is refl));
+    refused = refl;
+  })
 
   module _ (unclosed : inside.unsent.closed ≡ false) where
     -- or if its step is
     pub refused : (refusal : Refusal) → ¬ (refusal ≡ NoMemory) →
         ((past : Past inside) → (step (held past)).refusal ≡ Some refusal) → Steps step old tell (Err refusal) old
-    refused refusal other is = subst (λ one. Steps step one tell (Err refusal) one) view (λ past. (
-      past,
-      makes_refused (held past) (step (held past)) refusal other
-          (first_where_open (held past) (step (held past)) (Some refusal) unclosed (is past)),
-    ))
+    refused refusal other is = subst (λ one. Steps step one tell (Err refusal) one) view (record {
+      makes = λ past. (
+        past,
+        makes_refused (held past) (step (held past)) refusal other
+            (first_where_open (held past) (step (held past)) (Some refusal) unclosed (is past)),
+      );
+      refused = refl;
+    })
 
     -- it wants memory if nothing else refuses it
     pub wanting : (new : Connected) → new ≡ inside → ((past : Past inside) → (step (held past)).refusal ≡ None) →
         Steps step old tell (Err NoMemory) new
     wanting new same none =
         subst (λ one. Steps step one tell (Err NoMemory) new) view
-        (subst (λ one. Steps step inside tell (Err NoMemory) one) (sym same) (λ past.
-        (past, makes_wanting (held past) (step (held past)) unclosed (none past))))
+        (subst (λ one. Steps step inside tell (Err NoMemory) one) (sym same) (record {
+          makes = λ past. (past, makes_wanting (held past) (step (held past)) unclosed (none past));
+          refused = refl;
+        }))
 
     -- and else it takes its step
     pub taken : {new : Connected} (value : A) → ((past : Past inside) → (step (held past)).refusal ≡ None) →
         ((past : Past inside) → tell (held past).promises value ≡ (step (held past)).reply) →
         ((past : Past inside) → (after : Past new) × (held after ≡ (step (held past)).after)) →
         Steps step old tell (Ok value) new
-    taken {new} value none same after = subst (λ one. Steps step one tell (Ok value) new) view (λ past.
-        let there = after past in (
-          there.0,
-          makes_taken (held past) (step (held past)) (tell (held past).promises value) (held there.0) unclosed
-              (none past) (same past) there.1,
-        ))
+    taken {new} value none same after = subst (λ one. Steps step one tell (Ok value) new) view (record {
+      makes = λ past.
+          let there = after past in (
+            there.0,
+            makes_taken (held past) (step (held past)) (tell (held past).promises value) (held there.0) unclosed
+                (none past) (same past) there.1,
+          );
+      refused = tt;
+    })
 
     -- a step that leaves all as it is
     pub unchanged : (value : A) → ((past : Past inside) → (step (held past)).refusal ≡ None) →
         ((past : Past inside) → tell (held past).promises value ≡ (step (held past)).reply) →
         ((past : Past inside) → held past ≡ (step (held past)).after) → Steps step old tell (Ok value) old
-    unchanged value none same after = subst (λ one. Steps step one tell (Ok value) one) view (λ past. (
-      past,
-      makes_taken (held past) (step (held past)) (tell (held past).promises value) (held past) unclosed (none past)
-          (same past) (after past),
-    ))
+    unchanged value none same after =
+        subst (λ one. Steps step old tell (Ok value) one) view
+        (taken {new = inside} value none same (λ past. (past, after past)))
 
 -- a word that stays turns nothing
 pub nothing_turned : (word : ℕ) → change_between word word ≡ None

@@ -1,18 +1,16 @@
 -- Bytes that are removed in several turns are removed as by one.
 use Rattle.ob_connection.proofs.Words.{◌≡◌, ◌≤◌, ◌<◌, ℕ, zero, suc, ◌+◌, ◌-◌, Bool, true, false, List, [], ◌∷◌, ◌++◌, length, take, drop, ltb}
-use Rattle.ob_connection.proofs.Words.{refl, sym, ap, ◌∙◌, arith, length-append, nat_tests, Pending, inl, inr, ◌⊎◌, cond, Option, Some, None, if◌then◌else◌}
+use Rattle.ob_connection.proofs.Words.{refl, sym, ap, ◌∙◌, arith, nat_tests, Pending, inl, inr, ◌⊎◌, cond, Option, Some, None, if◌then◌else◌}
 use Rattle.std.specs.List.{concat}
 use Rattle.ob_connection.proofs.Words.{Becomes, Connected, Unsent, held}
-use Rattle.std.specs.Prelude.{max, min}
 use Rattle.std.proofs.Math.Seq.{drop-append-add, take-add}
-use Rattle.std.proofs.lemmas.List.{drop-append-le, drop-drop, length-drop, length-map, length-take}
+use Rattle.std.proofs.lemmas.List.{drop-append-le, drop-drop, length-drop, length-map}
 use Rattle.std.proofs.lemmas.List.Sums.{sum_by-cons}
 use Rattle.ob_types.specs.declared.message.Message.{Message}
 use Rattle.ob_types.specs.declared.message.Message.TheVariants.{Block, Region, Other}
 use Rattle.ob_types.specs.declared.promise.Outcome.TheVariants.{Success}
 use Rattle.ob_seq.specs.Entry.{PendingEntry, blocks_left}
-use Rattle.ob_seq.specs.Gathering.{first_blocks, with_bytes}
-use Rattle.ob_seq.specs.Pieces.{bytes_in, pieces_within}
+use Rattle.ob_seq.specs.Pieces.{bytes_in}
 use Rattle.ob_seq.specs.Row.{without_skipped}
 use Rattle.ob_seq.specs.Steps.Held.{first_changed, front_changed}
 use Rattle.ob_seq.specs.Steps.Remove.{front_taken}
@@ -20,16 +18,15 @@ use Rattle.ob_seq.specs.Steps.RemoveBytes.{bytes_removed, bytes_step, cut_of, fr
 use Rattle.ob_seq.specs.Unsent.{pending_entries, pending_entry}
 use Rattle.ob_seq.specs.declared.contents.cut.Cut.{Cut}
 use Rattle.ob_seq.proofs.Inside.Blocks.{few_entries, left_from_block, left_from_other}
-use Rattle.ob_seq.proofs.Inside.Gathered.{all_bytes, gathered_first, length_of_concat}
+use Rattle.ob_seq.proofs.Inside.Gathered.{length_of_concat}
 use Rattle.ob_seq.proofs.Inside.Pieces.{fitting, within_is_fitting}
 use Rattle.ob_seq.proofs.Inside.Times.{times_first}
 use Rattle.ob_connection.specs.Becoming.{cut_at, removed}
-use Rattle.ob_connection.specs.Calls.{most_pieces}
-use Rattle.ob_connection.specs.Offering.{IsLeft, offered, run_of}
+use Rattle.ob_connection.specs.Offering.{run_of}
 use Rattle.ob_connection.proofs.Kept.{some_past}
 
 -- what is held once the front is sent
-abbrev sent : Pending → Pending
+abbrev pub sent : Pending → Pending
 sent now = front_taken true Success now
 
 -- bytes that are skipped are more than none
@@ -52,7 +49,7 @@ module _ (n : ℕ) (piece : List ℕ) (pieces : List (List ℕ)) where
   cut_within few = rw (within_is_fitting n (piece ∷ pieces)) (grind (arith, nat_tests))
 
 -- a removal of nothing where nothing is left
-removed_none : (now : Pending) → blocks_left now.line ≡ [] → removed 0 now ≡ now
+pub removed_none : (now : Pending) → blocks_left now.line ≡ [] → removed 0 now ≡ now
 removed_none now none =
     ap (λ pieces. bytes_removed (whole_cut 0 pieces) now) none ∙ ap (λ cut. bytes_removed cut now) (cut_at_end 0)
 
@@ -65,7 +62,7 @@ module _ (now : Pending) (entry : PendingEntry) (entries : List PendingEntry) (i
   behind_is = ap (drop 1) is
 
   -- a removal of a whole block and more
-  removed_behind : (n : ℕ) → length bytes ≤ n → removed n now ≡ removed (n - length bytes) (sent now)
+  pub removed_behind : (n : ℕ) → length bytes ≤ n → removed n now ≡ removed (n - length bytes) (sent now)
   removed_behind n fits =
       let cut = whole_cut (n - length bytes) (blocks_left entries) in
       ap (λ pieces. bytes_removed (whole_cut n pieces) now) left_is
@@ -74,7 +71,7 @@ module _ (now : Pending) (entry : PendingEntry) (entries : List PendingEntry) (i
       ∙ ap (λ line. bytes_removed (whole_cut (n - length bytes) (blocks_left line)) (sent now)) (sym behind_is)
 
   -- a removal that ends in the front
-  removed_in : (n : ℕ) → n < length bytes → removed n now ≡ front_skipped n now
+  pub removed_in : (n : ℕ) → n < length bytes → removed n now ≡ front_skipped n now
   removed_in n few =
       ap (λ pieces. bytes_removed (whole_cut n pieces) now) left_is
       ∙ ap (λ (one : Cut). bytes_removed one now) (cut_within n bytes (blocks_left entries) few)
@@ -151,7 +148,7 @@ no_cut_left n pieces within none =
     let enough : ltb (bytes_in pieces) n ≡ false = grind (arith, nat_tests) in
     none_by (ltb (bytes_in pieces) n) (whole_cut n pieces) enough none
 
-order : (m n : ℕ) → (m ≤ n) ⊎ (n < m)
+pub order : (m n : ℕ) → (m ≤ n) ⊎ (n < m)
 order zero n = inl (omega arith)
 order (suc m) zero = inr (omega arith)
 order (suc m) (suc n) = elim (order m n) [ inl less ↦ inl (omega (arith, less)) | inr more ↦ inr (omega (arith, more)) ]
@@ -312,71 +309,6 @@ run_behind (entry ∷ entries) now is n within =
     by_message (Region units) other behind = none (λ bytes block. let both = sym other ∙ block in absurd (cc)) n within
     by_message (Other value) other behind = none (λ bytes block. let both = sym other ∙ block in absurd (cc)) n within
 
--- a removal of nothing leaves the same blocks that hold a byte: it takes the empty ones in front away
-nothing_removed : (line : List PendingEntry) (now : Pending) → now.line ≡ line →
-    with_bytes (blocks_left (removed 0 now).line) ≡ with_bytes (blocks_left line)
-nothing_removed [] now is =
-    ap (λ (one : Pending). with_bytes (blocks_left one.line)) (removed_none now (ap blocks_left is))
-    ∙ ap (λ line. with_bytes (blocks_left line)) is
-nothing_removed (entry ∷ entries) now is =
-    by_message entry.message refl (nothing_removed entries (sent now) (ap (drop 1) is))
-  where
-    none : ((bytes : List ℕ) → entry.message ≡ Block bytes → ⊥) →
-        with_bytes (blocks_left (removed 0 now).line) ≡ with_bytes (blocks_left (entry ∷ entries))
-    none other =
-        ap (λ (one : Pending). with_bytes (blocks_left one.line))
-        (removed_none now (ap blocks_left is ∙ left_from_other entry entries other))
-        ∙ ap (λ line. with_bytes (blocks_left line)) is
-
-    no_byte : (bytes : List ℕ) (blocks : List (List ℕ)) → length bytes ≤ 0 →
-        with_bytes blocks ≡ with_bytes (bytes ∷ blocks)
-    no_byte [] blocks few = refl
-    no_byte (byte ∷ bytes) blocks few = absurd (omega (arith, few))
-
-    by_message : (message : Message) → entry.message ≡ message →
-        with_bytes (blocks_left (removed 0 (sent now)).line) ≡ with_bytes (blocks_left entries) →
-        with_bytes (blocks_left (removed 0 now).line) ≡ with_bytes (blocks_left (entry ∷ entries))
-    by_message (Block bytes) block behind = elim (order (length bytes) 0) [
-      | inl fits ↦
-          let rest : 0 - length bytes ≡ 0 = omega arith in
-          ap (λ (one : Pending). with_bytes (blocks_left one.line)) (removed_behind now entry entries is block 0 fits)
-          ∙ ap (λ n. with_bytes (blocks_left (removed n (sent now)).line)) rest
-          ∙ behind
-          ∙ no_byte bytes (blocks_left entries) fits
-          ∙ ap with_bytes (sym (left_from_block entry entries block))
-      | inr few ↦
-          ap (λ (one : Pending). with_bytes (blocks_left one.line)) (removed_in now entry entries is block 0 few)
-          ∙ ap (λ line. with_bytes (blocks_left line)) is
-    ]
-    by_message (Region units) other behind = none (λ bytes block. let both = sym other ∙ block in absurd (cc))
-    by_message (Other value) other behind = none (λ bytes block. let both = sym other ∙ block in absurd (cc))
-
--- some of the blocks that hold a byte hold one
-some_bytes : (blocks : List (List ℕ)) (n : ℕ) → 0 < length (take n (with_bytes blocks)) →
-    0 < length (concat (take n (with_bytes blocks)))
-some_bytes [] n some = absurd (omega (arith, some, length-take n (with_bytes [])))
-some_bytes (block ∷ blocks) n some = by_test (ltb 0 (length block)) refl n (some_bytes blocks) some
-  where
-    by_test : (holds : Bool) → ltb 0 (length block) ≡ holds → (n : ℕ) →
-        ((n : ℕ) → 0 < length (take n (with_bytes blocks)) → 0 < length (concat (take n (with_bytes blocks)))) →
-        0 < length (take n (cond holds (block ∷ with_bytes blocks) (with_bytes blocks))) →
-        0 < length (concat (take n (cond holds (block ∷ with_bytes blocks) (with_bytes blocks))))
-    by_test true test zero rest some = absurd (omega (arith, some))
-    by_test true test (suc n) rest some =
-        let size : 0 < length block = grind (arith, nat_tests) in
-        omega (arith, size, length-append block (concat (take n (with_bytes blocks))))
-    by_test false test n rest some = rest n some
-
--- what the first turn offers is what is left before anything was taken away
-pub first_offer : (max_bytes : ℕ) (old : Connected) → 0 < length (offered most_pieces max_bytes old.unsent) →
-    IsLeft max_bytes old 0 (concat (offered most_pieces max_bytes old.unsent))
-first_offer max_bytes old some = record {
-  some = some_bytes (run_of old.unsent) _ some;
-  within = omega arith;
-  left = λ past. ap (λ blocks. concat (first_blocks most_pieces max_bytes blocks))
-      (sym (nothing_removed (held past).line (held past) refl));
-}
-
 -- a removal of no more bytes than are left is not refused
 pub not_too_many : (n : ℕ) (now : Pending) → n ≤ bytes_in (blocks_left now.line) → (bytes_step n now).refusal ≡ None
 not_too_many n now within =
@@ -386,51 +318,6 @@ not_too_many n now within =
 pub few_gone : (n : ℕ) (unsent : Unsent) → (whole_cut n (run_of unsent)).whole ≤ length unsent.line
 few_gone n unsent =
     omega (arith, few_entries n (pending_entries unsent.line), length-map unsent.line pending_entry)
-
--- bytes of an offer are the first of what is left in front
-pub offered_first : (max_count max_bytes n : ℕ) (unsent : Unsent) →
-    n ≤ length (concat (offered max_count max_bytes unsent)) →
-    (take n (concat (offered max_count max_bytes unsent)) ≡ take n (concat (run_of unsent)))
-    × (n ≤ bytes_in (run_of unsent))
-offered_first max_count max_bytes n unsent within =
-    let first = gathered_first max_count max_bytes (run_of unsent) n within in
-    (first.0, omega (arith, first.1, length_of_concat (run_of unsent)))
-
--- if nothing is offered where something may be, nothing is left
-pub offered_none : (max_count max_bytes : ℕ) (unsent : Unsent) → 0 < max_count →
-    offered max_count max_bytes unsent ≡ [] → bytes_in (run_of unsent) ≡ 0
-offered_none max_count max_bytes unsent some none =
-    let holding = with_bytes (run_of unsent) in
-    let all = all_bytes (run_of unsent) in
-    let empty = nothing_taken (min max_count (max 1 (pieces_within max_bytes holding))) holding (omega (arith, some)) none in
-    omega (arith, length_of_concat (run_of unsent), ap (λ bytes. length bytes) all, ap (λ pieces. length (concat pieces)) empty)
-  where
-    nothing_taken : (n : ℕ) (pieces : List (List ℕ)) → 0 < n → take n pieces ≡ [] → pieces ≡ []
-    nothing_taken zero pieces some none = absurd (omega (arith, some))
-    nothing_taken (suc n) [] some none = refl
-    nothing_taken (suc n) (piece ∷ pieces) some none = absurd (omega (arith, ap (λ all. length all) none))
-
--- blocks of which some hold a byte hold bytes together
-holds_bytes : (blocks : List (List ℕ)) → 0 < length (with_bytes blocks) → 0 < bytes_in blocks
-holds_bytes [] some = absurd (omega (arith, some))
-holds_bytes (block ∷ blocks) some = by_test (ltb 0 (length block)) refl (holds_bytes blocks) some
-  where
-    by_test : (holds : Bool) → ltb 0 (length block) ≡ holds →
-        (0 < length (with_bytes blocks) → 0 < bytes_in blocks) →
-        0 < length (cond holds (block ∷ with_bytes blocks) (with_bytes blocks)) → 0 < bytes_in (block ∷ blocks)
-    by_test true test rest some =
-        let size : 0 < length block = grind (arith, nat_tests) in
-        omega (arith, size, sum_by-cons (λ (one : List ℕ). length one) block blocks)
-    by_test false test rest some =
-        omega (arith, rest some, sum_by-cons (λ (one : List ℕ). length one) block blocks)
-
--- if a socket is offered anything there are bytes in front
-pub offered_some : (max_count max_bytes : ℕ) (unsent : Unsent) → 0 < length (offered max_count max_bytes unsent) →
-    0 < bytes_in (run_of unsent)
-offered_some max_count max_bytes unsent some =
-    let holding = with_bytes (run_of unsent) in
-    holds_bytes (run_of unsent)
-    (omega (arith, some, length-take (min max_count (max 1 (pieces_within max_bytes holding))) holding))
 
 -- if there are bytes in front a message stands in line
 pub some_in_line : (unsent : Unsent) → 0 < bytes_in (run_of unsent) → 0 < length unsent.line
@@ -451,7 +338,7 @@ module _ (old mid : Connected) (a : ℕ) (first : Becomes (removed a) old mid) (
         ap (λ (one : Pending). concat (blocks_left one.line)) (first past).1
         ∙ run_behind (held past).line (held past) refl a fits
 
-    within_both : (b : ℕ) → b ≤ bytes_in (run_of mid.unsent) → a + b ≤ bytes_in (run_of old.unsent)
+    pub within_both : (b : ℕ) → b ≤ bytes_in (run_of mid.unsent) → a + b ≤ bytes_in (run_of old.unsent)
     within_both b more =
         omega (
           arith,
@@ -462,21 +349,6 @@ module _ (old mid : Connected) (a : ℕ) (first : Becomes (removed a) old mid) (
           ap (λ bytes. length bytes) run_mid,
           length-drop a (concat (run_of old.unsent)),
         )
-
-    -- what is left in the middle is left from the start, so many bytes further on
-    pub left_further : (max_bytes taken : ℕ) (bytes : List ℕ) → IsLeft max_bytes mid taken bytes →
-        IsLeft max_bytes old (a + taken) bytes
-    left_further max_bytes taken bytes left =
-        let within = within_both taken left.within in record {
-          some = left.some;
-          within = within;
-          left = λ past.
-              let there = first past in
-              let turns = in_turns (held past).line (held past) refl a taken within in
-              left.left there.0
-              ∙ ap (λ (one : Pending). concat (first_blocks most_pieces max_bytes (with_bytes (blocks_left one.line))))
-              (ap (removed taken) there.1 ∙ turns.state);
-        }
 
     module _ (new : Connected) (b : ℕ) (second : Becomes (removed b) mid new) (more : b ≤ bytes_in (run_of mid.unsent))
       where

@@ -23,4 +23,4 @@ pub use Rattle.ob_connection.specs.Inside.{connected_of}
 pub use Rattle.ob_connection.specs.Limit.{connection_limit, most_ids}
 pub use Rattle.ob_connection.specs.Obeying.{Answers, Follows, Obeys, commands_with, promises_after}
 pub use Rattle.ob_connection.specs.Replies.{told_by}
-pub use Rattle.ob_connection.specs.Standing.{StandsFor, Gives}
+pub use Rattle.ob_connection.specs.Standing.{StandsFor, StandsForSome, Gives}

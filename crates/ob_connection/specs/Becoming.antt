@@ -1,5 +1,5 @@
 -- What a call does to a connection, step by step. No public clause cites this module.
-use Rattle.std.specs.Prelude.{◌≡◌, ℕ, List, length, false, Result, Ok}
+use Rattle.std.specs.Prelude.{◌≡◌, ℕ, List, length, false, Result, Ok, OnErr}
 use Rattle.ob_types.specs.declared.command.Command.{Command}
 use Rattle.ob_types.specs.declared.command.Command.TheVariants.{RemoveBytes}
 use Rattle.ob_types.specs.declared.promise.Cause.{Cause}
@@ -41,12 +41,13 @@ cut_at n now = whole_cut n (blocks_left now.line)
 abbrev pub removed : ℕ → Pending → Pending
 removed n now = bytes_removed (cut_at n now) now
 
--- and with some for those that are gone now this step was made, and the result says what it replies
-abbrev pub Steps : {A : Type 0} → (Pending → Step) → Connected → (List PromiseState → A → Reply) → Result A Refusal →
-    Connected → Type 0
-Steps step old tell result new =
-    (past : Past old) → (after : Past new)
-    × Makes (held past) (step (held past)) (told_by (tell (held past).promises) result) (held after)
+-- and with some for those that are gone now this step was made, and the result says what it replies; a refusal leaves
+-- what is gone too
+pub record Steps {A : Type 0} (step : Pending → Step) (old : Connected) (tell : List PromiseState → A → Reply)
+    (result : Result A Refusal) (new : Connected) : Type 0 where
+  pub makes : (past : Past old) → (after : Past new)
+      × Makes (held past) (step (held past)) (told_by (tell (held past).promises) result) (held after)
+  pub refused : OnErr result (new ≡ old)
 
 -- the same of the step of a command
 abbrev pub Moves : {A : Type 0} → Connected → Command → (List PromiseState → A → Reply) → Result A Refusal →

@@ -9,5 +9,5 @@ abbrev pub connected_of : Inside → Connected
 connected_of inside = record { unsent = inside.contents; gone = inside.gone }
 
 -- ids stay within 64 bits
-abbrev pub HasIds : Inside → Type 0
-HasIds inside = accepted_writes (connected_of inside) ≤ most_ids
+abbrev pub HasIds : Connected → Type 0
+HasIds connection = accepted_writes connection ≤ most_ids

@@ -45,6 +45,11 @@ abbrev pub IsFrontPromise : Connected → Option ℕ → Type 0
 IsFrontPromise connection id =
     Gives connection (λ settings commands. option_map (λ front. front.0) (front_promise_after settings commands)) id
 
+-- whatever history the connection stands for, these blocks are what is gathered after it
+abbrev pub AreGathered : Connected → ℕ → ℕ → List (List ℕ) → Type 0
+AreGathered connection max_count max_bytes blocks =
+    Gives connection (λ settings commands. gathered_after settings commands max_count max_bytes) blocks
+
 -- whatever history the connection stands for, this is the unread part of the front after it
 abbrev pub IsCurrent : Connected → Option Message → Type 0
 IsCurrent connection message = Gives connection current_after message
@@ -52,8 +57,3 @@ IsCurrent connection message = Gives connection current_after message
 -- whatever history the connection stands for, these are the unread parts of the flushed messages after it
 abbrev pub AreFlushed : Connected → List Message → Type 0
 AreFlushed connection messages = Gives connection flushed_after messages
-
--- whatever history the connection stands for, these blocks are what is gathered after it
-abbrev pub AreGathered : Connected → ℕ → ℕ → List (List ℕ) → Type 0
-AreGathered connection max_count max_bytes blocks =
-    Gives connection (λ settings commands. gathered_after settings commands max_count max_bytes) blocks

@@ -16,6 +16,10 @@ pub record StandsFor (connection : Connected) (commands : List Command) : Type 0
   pub forgotten : length past ≡ connection.gone
   pub leaves : Leaves (whole past connection.unsent) commands
 
+-- a connection stands for some history
+abbrev pub StandsForSome : Connected → Type 0
+StandsForSome connection = (commands : List Command) × StandsFor connection commands
+
 -- whatever history the connection stands for, the value is what this gives after it
 abbrev pub Gives : {A : Type 0} → Connected → (Settings → List Command → A) → A → Type 0
 Gives connection after value =

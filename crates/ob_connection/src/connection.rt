@@ -31,16 +31,14 @@ pub struct Connection {
 
 /// Each connection holds what some list of accepted commands leaves.
 impl Model for Connection {
-    ghost use Rattle.std.specs.Prelude.{List};
-    ghost use Rattle.ob_types.specs.declared.command.Command.{Command};
     ghost use Rattle.ob_connection.specs.Connected.{Connected};
-    ghost use Rattle.ob_connection.specs.Standing.{StandsFor};
+    ghost use Rattle.ob_connection.specs.Standing.{StandsForSome};
 
     ghost Value = { Connected };
 
     ghost view = { λ connection. connection.inner };
 
-    ghost invariant = { λ connection. (commands : List Command) × StandsFor connection.inner commands };
+    ghost invariant = { λ connection. StandsForSome connection.inner };
 }
 
 impl Connection {

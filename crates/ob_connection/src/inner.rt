@@ -2,7 +2,8 @@ ghost use Rattle.std.specs.Prelude.{◌≡◌, ◌≤◌};
 ghost use Rattle.ob_types.specs.Change.{change_between};
 ghost use Rattle.ob_types.specs.Limits.{greatest_overhead, greatest_unknown};
 ghost use Rattle.ob_seq.specs.Unsent.{nothing_unsent};
-ghost use Rattle.ob_connection.specs.Connected.{accepted_writes};
+ghost use Rattle.ob_connection.specs.Connected.{Connected, accepted_writes};
+ghost use Rattle.ob_connection.specs.Inside.{connected_of, HasIds};
 ghost use Rattle.ob_connection.specs.Limit.{most_ids};
 
 mod bits;
@@ -28,15 +29,11 @@ pub struct Inner {
 }
 
 impl Model for Inner {
-    ghost use Rattle.ob_connection.specs.Connected.{Connected};
-
     ghost Value = { Connected };
-
-    ghost use Rattle.ob_connection.specs.Inside.{connected_of, HasIds};
 
     ghost view = { connected_of };
 
-    ghost invariant = { HasIds };
+    ghost invariant = { λ inner. HasIds (connected_of inner) };
 }
 
 impl Inner {

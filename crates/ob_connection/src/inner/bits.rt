@@ -1,6 +1,6 @@
 //! Calls that move no message: progress, user bits and marks.
 
-ghost use Rattle.std.specs.Prelude.{◌≡◌, OnErr, IsErrOf};
+ghost use Rattle.std.specs.Prelude.{IsErrOf};
 ghost use Rattle.ob_types.specs.declared.command.Command.TheVariants.{Progress, UserBit, SetMarks};
 ghost use Rattle.ob_connection.specs.Becoming.{Moves};
 ghost use Rattle.ob_connection.specs.Replies.{bit_reply, done_reply};
@@ -12,7 +12,6 @@ impl Inner {
     /// The step of `Connection::progress`.
     pub fn progress(&mut self, n: u64) -> Result<(), Refusal>
         ensures moves { Moves self.old (Progress n) done_reply result self.new }
-        ensures refused { OnErr result (self.new ≡ self.old) }
         ensures frugal { ¬ IsErrOf result Refusal.NoMemory }
     {
         if self.contents.is_closed() {
@@ -31,7 +30,6 @@ impl Inner {
     /// The step of `Connection::user_bit`.
     pub fn user_bit(&mut self, index: u32, writable: bool) -> Result<Option<Change>, Refusal>
         ensures moves { Moves self.old (UserBit index writable) bit_reply result self.new }
-        ensures refused { OnErr result (self.new ≡ self.old) }
         ensures frugal { ¬ IsErrOf result Refusal.NoMemory }
     {
         if self.contents.is_closed() {
@@ -48,7 +46,6 @@ impl Inner {
     /// The step of `Connection::set_marks`.
     pub fn set_marks(&mut self, marks: WaterMark) -> Result<(), Refusal>
         ensures moves { Moves self.old (SetMarks marks) done_reply result self.new }
-        ensures refused { OnErr result (self.new ≡ self.old) }
         ensures frugal { ¬ IsErrOf result Refusal.NoMemory }
     {
         if self.contents.is_closed() {

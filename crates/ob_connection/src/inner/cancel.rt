@@ -1,4 +1,4 @@
-ghost use Rattle.std.specs.Prelude.{◌≡◌, OnErr, IsErrOf};
+ghost use Rattle.std.specs.Prelude.{IsErrOf};
 ghost use Rattle.ob_types.specs.declared.command.Command.TheVariants.{Cancel};
 ghost use Rattle.ob_connection.specs.Becoming.{Moves};
 ghost use Rattle.ob_connection.specs.Replies.{cancelled_reply};
@@ -10,7 +10,6 @@ impl Inner {
     /// The step of `Connection::cancel`.
     pub fn cancel(&mut self, id: u64) -> Result<bool, Refusal>
         ensures moves { Moves self.old (Cancel (record { 0 = id })) (cancelled_reply id) result self.new }
-        ensures refused { OnErr result (self.new ≡ self.old) }
         ensures frugal { ¬ IsErrOf result Refusal.NoMemory }
     {
         if self.contents.is_closed() {

@@ -1,4 +1,4 @@
-ghost use Rattle.std.specs.Prelude.{◌≡◌, OnErr, IsErrOf};
+ghost use Rattle.std.specs.Prelude.{IsErrOf};
 ghost use Rattle.ob_types.specs.declared.command.Command.TheVariants.{Flush};
 ghost use Rattle.ob_connection.specs.Becoming.{Moves};
 ghost use Rattle.ob_connection.specs.Replies.{flushed_reply};
@@ -11,7 +11,6 @@ impl Inner {
     /// The step of `Connection::flush`.
     pub fn flush(&mut self) -> Result<Flushed, Refusal>
         ensures moves { Moves self.old Flush flushed_reply result self.new }
-        ensures refused { OnErr result (self.new ≡ self.old) }
         ensures frugal { ¬ IsErrOf result Refusal.NoMemory }
     {
         if self.contents.is_closed() {

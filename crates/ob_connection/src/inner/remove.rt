@@ -1,4 +1,4 @@
-ghost use Rattle.std.specs.Prelude.{◌≡◌, OnErr, IsErrOf};
+ghost use Rattle.std.specs.Prelude.{IsErrOf};
 ghost use Rattle.ob_seq.specs.Steps.Remove.{removal_step};
 ghost use Rattle.ob_connection.specs.Becoming.{Steps};
 ghost use Rattle.ob_connection.specs.Replies.{removed_reply};
@@ -11,7 +11,6 @@ impl Inner {
     /// The step of `Connection::remove`, and with a cause as its outcome of `Connection::remove_with`.
     pub fn remove(&mut self, outcome: Outcome) -> Result<Removed, Refusal>
         ensures steps { Steps (removal_step outcome) self.old removed_reply result self.new }
-        ensures refused { OnErr result (self.new ≡ self.old) }
         ensures frugal { ¬ IsErrOf result Refusal.NoMemory }
     {
         if self.contents.is_closed() {

@@ -1,6 +1,6 @@
 //! Calls that take several messages away.
 
-ghost use Rattle.std.specs.Prelude.{◌≡◌, ◌<◌, ◌≤◌, ◌+◌, ◌-◌, length, drop, false, OnErr, OnOk, IsOk, IsErrOf};
+ghost use Rattle.std.specs.Prelude.{◌≡◌, ◌<◌, ◌≤◌, ◌+◌, ◌-◌, length, drop, false, OnOk, IsOk, IsErrOf};
 ghost use Rattle.ob_types.specs.declared.command.Command.TheVariants.{RemoveBytes, FailFlushed, Close};
 ghost use Rattle.ob_types.specs.Change.{change_between};
 ghost use Rattle.ob_types.specs.declared.promise.Outcome.{Outcome};
@@ -23,7 +23,6 @@ impl Inner {
     pub fn take_sent(&mut self, n: u64) -> Result<Taken, Refusal>
         ensures moves { Moves self.old (RemoveBytes n) taken_reply result self.new }
         ensures next { IsNext self.old Success result self.new }
-        ensures refused { OnErr result (self.new ≡ self.old) }
         ensures frugal { ¬ IsErrOf result Refusal.NoMemory }
     {
         if self.contents.is_closed() {
@@ -44,7 +43,6 @@ impl Inner {
         ensures quiet { notify ≡ false → IsQuiet result }
         ensures answers { self.old.unsent.closed ≡ false → IsOk result }
         ensures cleared { OnOk result (HasNoLine self.new) }
-        ensures refused { OnErr result (self.new ≡ self.old) }
         ensures frugal { ¬ IsErrOf result Refusal.NoMemory }
     {
         if self.contents.is_closed() {
@@ -62,7 +60,6 @@ impl Inner {
         ensures next { IsNext self.old (Failed cause) result self.new }
         ensures quiet { IsQuiet result }
         ensures answers { HasNoLine self.old → IsOk result }
-        ensures refused { OnErr result (self.new ≡ self.old) }
         ensures frugal { ¬ IsErrOf result Refusal.NoMemory }
     {
         if self.contents.is_closed() {

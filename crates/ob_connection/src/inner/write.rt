@@ -1,4 +1,3 @@
-ghost use Rattle.std.specs.Prelude.{◌≡◌, OnErr};
 ghost use Rattle.ob_types.specs.declared.command.Command.TheVariants.{Write};
 ghost use Rattle.ob_connection.specs.Becoming.{Moves};
 ghost use Rattle.ob_connection.specs.Replies.{written_reply};
@@ -15,8 +14,7 @@ impl Inner {
     // As at `Contents::add`.
     #[inline(always)]
     pub fn write(&mut self, message: Message) -> Result<Written, Refusal>
-        ensures moves { Moves self.old (Write message) written_reply result self.new }
-        ensures refused { OnErr result (self.new ≡ self.old) }
+        ensures { Moves self.old (Write message) written_reply result self.new }
     {
         if self.contents.is_closed() {
             return Err(Refusal::Closed);

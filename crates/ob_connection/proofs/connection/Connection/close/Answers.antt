@@ -1,14 +1,9 @@
 use Rattle.ob_types.specs.declared.command.Command.TheVariants.{Close}
-use Rattle.ob_connection.specs.Replies.{taken_reply}
 use Rattle.ob_connection.proofs.Obeyed.{obeys, stays}
 use Rattle.ob_connection.proofs.connection.Connection.close.Goals as goal
 
 pub invariant_of-self : goal.invariant_of-self
-invariant_of-self c =
-    stays (Close c.args.cause) taken_reply _ _ c.close.result c.close.ensures.moves c.close.ensures.refused
-    c.self.invariant
+invariant_of-self c = stays (Close c.args.cause) c.close.ensures.moves c.self.invariant
 
 pub returns-clause-obeys : goal.returns-clause-obeys
-returns-clause-obeys c =
-    rw (← c.self.view_is) (obeys (Close c.args.cause) taken_reply _ _ c.close.result c.self.invariant
-    c.close.ensures.moves c.close.ensures.refused)
+returns-clause-obeys c = rw (← c.self.view_is) (obeys (Close c.args.cause) c.close.ensures.moves c.self.invariant)

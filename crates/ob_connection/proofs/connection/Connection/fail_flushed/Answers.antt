@@ -1,14 +1,9 @@
 use Rattle.ob_types.specs.declared.command.Command.TheVariants.{FailFlushed}
-use Rattle.ob_connection.specs.Replies.{taken_reply}
 use Rattle.ob_connection.proofs.Obeyed.{obeys, stays}
 use Rattle.ob_connection.proofs.connection.Connection.fail_flushed.Goals as goal
 
 pub invariant_of-self : goal.invariant_of-self
-invariant_of-self c =
-    stays (FailFlushed c.args.cause c.args.notify) taken_reply _ _ c.fail_flushed.result c.fail_flushed.ensures.moves c.fail_flushed.ensures.refused
-    c.self.invariant
+invariant_of-self c = stays (FailFlushed c.args.cause c.args.notify) c.fail_flushed.ensures.moves c.self.invariant
 
 pub returns-clause-obeys : goal.returns-clause-obeys
-returns-clause-obeys c =
-    rw (← c.self.view_is) (obeys (FailFlushed c.args.cause c.args.notify) taken_reply _ _ c.fail_flushed.result c.self.invariant
-    c.fail_flushed.ensures.moves c.fail_flushed.ensures.refused)
+returns-clause-obeys c = rw (← c.self.view_is) (obeys (FailFlushed c.args.cause c.args.notify) c.fail_flushed.ensures.moves c.self.invariant)

@@ -1,14 +1,9 @@
 use Rattle.ob_types.specs.declared.command.Command.TheVariants.{Flush}
-use Rattle.ob_connection.specs.Replies.{flushed_reply}
 use Rattle.ob_connection.proofs.Obeyed.{obeys, stays}
 use Rattle.ob_connection.proofs.connection.Connection.flush.Goals as goal
 
 pub invariant_of-self : goal.invariant_of-self
-invariant_of-self c =
-    stays Flush flushed_reply _ _ c.flush.result c.flush.ensures.moves c.flush.ensures.refused
-    c.self.invariant
+invariant_of-self c = stays Flush c.flush.ensures.moves c.self.invariant
 
 pub returns-clause-obeys : goal.returns-clause-obeys
-returns-clause-obeys c =
-    rw (← c.self.view_is) (obeys Flush flushed_reply _ _ c.flush.result c.self.invariant
-    c.flush.ensures.moves c.flush.ensures.refused)
+returns-clause-obeys c = rw (← c.self.view_is) (obeys Flush c.flush.ensures.moves c.self.invariant)

@@ -1,5 +1,5 @@
-use Rattle.ob_connection.proofs.Words.{[], refl, sym, Connected}
-use Rattle.ob_seq.proofs.Word.Marks.{word_at_start}
+use Rattle.ob_connection.proofs.Words.{[], refl, Connected}
+use Rattle.ob_seq.proofs.Opening.{leaves_at_start}
 use Rattle.ob_seq.specs.Settings.{Settings}
 use Rattle.ob_seq.specs.Unsent.{nothing_unsent}
 use Rattle.ob_connection.specs.Standing.{StandsFor}
@@ -11,19 +11,7 @@ opened settings = record { unsent = nothing_unsent settings; gone = 0 }
 
 -- it stands for no commands
 begins : (settings : Settings) → StandsFor (opened settings) []
-begins settings = record {
-  accepted = refl;
-  past = [];
-  forgotten = refl;
-  leaves = record {
-    closed = refl;
-    marks = refl;
-    line = refl;
-    unflushed = refl;
-    promises = refl;
-    word = sym (word_at_start settings);
-  };
-}
+begins settings = record { accepted = refl; past = []; forgotten = refl; leaves = leaves_at_start settings }
 
 pub returns-clause-stands : goal.returns-clause-stands
 returns-clause-stands c = rw c.new.ensures (begins (record { marks = c.args.marks; estimate = c.args.estimate }))

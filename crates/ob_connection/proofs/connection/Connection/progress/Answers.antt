@@ -1,14 +1,9 @@
 use Rattle.ob_types.specs.declared.command.Command.TheVariants.{Progress}
-use Rattle.ob_connection.specs.Replies.{done_reply}
 use Rattle.ob_connection.proofs.Obeyed.{obeys, stays}
 use Rattle.ob_connection.proofs.connection.Connection.progress.Goals as goal
 
 pub invariant_of-self : goal.invariant_of-self
-invariant_of-self c =
-    stays (Progress c.args.n) done_reply _ _ c.progress.result c.progress.ensures.moves c.progress.ensures.refused
-    c.self.invariant
+invariant_of-self c = stays (Progress c.args.n) c.progress.ensures.moves c.self.invariant
 
 pub returns-clause-obeys : goal.returns-clause-obeys
-returns-clause-obeys c =
-    rw (← c.self.view_is) (obeys (Progress c.args.n) done_reply _ _ c.progress.result c.self.invariant
-    c.progress.ensures.moves c.progress.ensures.refused)
+returns-clause-obeys c = rw (← c.self.view_is) (obeys (Progress c.args.n) c.progress.ensures.moves c.self.invariant)

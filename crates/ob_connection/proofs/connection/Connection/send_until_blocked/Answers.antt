@@ -22,9 +22,7 @@ send_turns-requires g c =
     }
 
 pub invariant_of-self : goal.invariant_of-self
-invariant_of-self g c =
-    let result : Result Taken Refusal = Ok c.send_turns.result.taken in
-    stays (RemoveBytes c.send_turns.result.bytes) taken_reply _ _ result c.send_turns.ensures.moves tt c.self.invariant
+invariant_of-self g c = stays (RemoveBytes c.send_turns.result.bytes) c.send_turns.ensures.moves c.self.invariant
 
 pub returns-clause-sends : goal.returns-clause-sends
 returns-clause-sends g c =
@@ -37,7 +35,7 @@ returns-clause-sends g c =
           ∙ ap (λ (run : List (List ℕ)). with_more before (take bytes (concat run)))
           (run_after c.args.self.now commands stands);
       obeys = subst (λ one. Obeys one (RemoveBytes bytes) taken_reply result new) c.self.view_is
-          (obeys (RemoveBytes bytes) taken_reply _ _ result c.self.invariant c.send_turns.ensures.moves tt);
+          (obeys (RemoveBytes bytes) c.send_turns.ensures.moves c.self.invariant);
       next = subst (λ one. IsNext one Success result new) c.self.view_is c.send_turns.ensures.next;
       asks = asks_as (IsDue c.args.max_bytes c.args.self.now) (IsLeft c.args.max_bytes c.self.inside.inner)
           (λ taken offered left.

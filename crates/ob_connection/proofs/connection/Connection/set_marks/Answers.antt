@@ -1,14 +1,9 @@
 use Rattle.ob_types.specs.declared.command.Command.TheVariants.{SetMarks}
-use Rattle.ob_connection.specs.Replies.{done_reply}
 use Rattle.ob_connection.proofs.Obeyed.{obeys, stays}
 use Rattle.ob_connection.proofs.connection.Connection.set_marks.Goals as goal
 
 pub invariant_of-self : goal.invariant_of-self
-invariant_of-self c =
-    stays (SetMarks c.args.marks) done_reply _ _ c.set_marks.result c.set_marks.ensures.moves c.set_marks.ensures.refused
-    c.self.invariant
+invariant_of-self c = stays (SetMarks c.args.marks) c.set_marks.ensures.moves c.self.invariant
 
 pub returns-clause-obeys : goal.returns-clause-obeys
-returns-clause-obeys c =
-    rw (← c.self.view_is) (obeys (SetMarks c.args.marks) done_reply _ _ c.set_marks.result c.self.invariant
-    c.set_marks.ensures.moves c.set_marks.ensures.refused)
+returns-clause-obeys c = rw (← c.self.view_is) (obeys (SetMarks c.args.marks) c.set_marks.ensures.moves c.self.invariant)

@@ -1,14 +1,9 @@
 use Rattle.ob_types.specs.declared.command.Command.TheVariants.{UserBit}
-use Rattle.ob_connection.specs.Replies.{bit_reply}
 use Rattle.ob_connection.proofs.Obeyed.{obeys, stays}
 use Rattle.ob_connection.proofs.connection.Connection.user_bit.Goals as goal
 
 pub invariant_of-self : goal.invariant_of-self
-invariant_of-self c =
-    stays (UserBit c.args.index c.args.writable) bit_reply _ _ c.user_bit.result c.user_bit.ensures.moves c.user_bit.ensures.refused
-    c.self.invariant
+invariant_of-self c = stays (UserBit c.args.index c.args.writable) c.user_bit.ensures.moves c.self.invariant
 
 pub returns-clause-obeys : goal.returns-clause-obeys
-returns-clause-obeys c =
-    rw (← c.self.view_is) (obeys (UserBit c.args.index c.args.writable) bit_reply _ _ c.user_bit.result c.self.invariant
-    c.user_bit.ensures.moves c.user_bit.ensures.refused)
+returns-clause-obeys c = rw (← c.self.view_is) (obeys (UserBit c.args.index c.args.writable) c.user_bit.ensures.moves c.self.invariant)

@@ -1,14 +1,9 @@
 use Rattle.ob_types.specs.declared.command.Command.TheVariants.{Write}
-use Rattle.ob_connection.specs.Replies.{written_reply}
 use Rattle.ob_connection.proofs.Obeyed.{obeys, stays}
 use Rattle.ob_connection.proofs.connection.Connection.write.Goals as goal
 
 pub invariant_of-self : goal.invariant_of-self
-invariant_of-self c =
-    stays (Write c.args.message) written_reply _ _ c.write.result c.write.ensures.moves c.write.ensures.refused
-    c.self.invariant
+invariant_of-self c = stays (Write c.args.message) c.write.ensures c.self.invariant
 
 pub returns : goal.returns
-returns c =
-    rw (← c.self.view_is) (obeys (Write c.args.message) written_reply _ _ c.write.result c.self.invariant
-    c.write.ensures.moves c.write.ensures.refused)
+returns c = rw (← c.self.view_is) (obeys (Write c.args.message) c.write.ensures c.self.invariant)

@@ -21,9 +21,9 @@ returns-then-is_closed-clause-steps c =
 
 pub returns-then-line_count-eq0-clause-steps : goal.returns-then-line_count-eq0-clause-steps
 returns-then-line_count-eq0-clause-steps c =
+    let unclosed = sym c.is_closed.ensures ∙ c.if-is_closed.false in
     let none = length-map c.self.inside.contents.line pending_entry ∙ sym c.line_count.ensures ∙ c.if-line_count-eq0.true in
-    unchanged (removal_step c.args.outcome) removed_reply c.self.view_is
-    (sym c.is_closed.ensures ∙ c.if-is_closed.false) (record { any = false; settled = None; change = None })
+    unchanged (removal_step c.args.outcome) removed_reply c.self.view_is unclosed (record { any = false; settled = None; change = None })
     (λ past. refl) (λ past. nothing_replied c.args.outcome (held past) none)
     (λ past. nothing_removed c.args.outcome (held past) none)
 

@@ -6,7 +6,8 @@ use Rattle.ob_connection.specs.Calls.{calls_with, most_pieces}
 use Rattle.ob_connection.specs.Offering.{answer_of, IsLeft, offered, run_of}
 use Rattle.ob_connection.specs.Telling.{with_more}
 use Rattle.ob_connection.proofs.Answered.{answers_are, due_at_once, taken_by}
-use Rattle.ob_connection.proofs.Turns.{first_offer, offered_first, offered_none, offered_some, run_mid, some_in_line}
+use Rattle.ob_connection.proofs.TurnOffers.{first_offer, offered_first, offered_none, offered_some}
+use Rattle.ob_connection.proofs.Turns.{run_mid, some_in_line}
 use Rattle.ob_connection.proofs.inner.Inner.send_turn.Goals as goal
 
 -- as many bytes as the socket took

@@ -16,7 +16,8 @@ use Rattle.ob_connection.proofs.Kept.{same_change}
 use Rattle.ob_connection.proofs.Making.{taken}
 use Rattle.ob_connection.proofs.Offered.{taken_twice}
 use Rattle.ob_connection.proofs.Settling.{line_replied}
-use Rattle.ob_connection.proofs.Turns.{both_become, both_sent, both_whole, both_within, few_gone, left_further, not_too_many}
+use Rattle.ob_connection.proofs.TurnOffers.{left_further}
+use Rattle.ob_connection.proofs.Turns.{both_become, both_sent, both_whole, both_within, few_gone, not_too_many}
 use Rattle.ob_connection.proofs.inner.Inner.send_turns.Goals.{else-loop-test, then-loop-test+then-ne}
 use Rattle.ob_connection.proofs.inner.Inner.send_turns.Goals as goal
 
