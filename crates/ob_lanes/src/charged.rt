@@ -1,3 +1,7 @@
+ghost use Rattle.ob_lanes.specs.Charge.{debt_of};
+ghost use Rattle.ob_lanes.specs.Fields.{view_of, IsBetweenCalls};
+ghost use Rattle.ob_lanes.specs.RunningLane.{RunningLane};
+
 mod discharge;
 mod looks;
 
@@ -14,12 +18,7 @@ pub struct Charged {
 }
 
 impl Model for Charged {
-    ghost use Rattle.ob_lanes.specs.RunningLane.{RunningLane};
-
     ghost Value = { RunningLane };
-
-    ghost use Rattle.ob_lanes.specs.Charge.{debt_of};
-    ghost use Rattle.ob_lanes.specs.Fields.{view_of, IsBetweenCalls};
 
     ghost view = { λ lane. view_of lane.running };
 

@@ -1,3 +1,6 @@
+ghost use Rattle.ob_lanes.specs.Inside.{words_of, AreWords};
+ghost use Rattle.ob_lanes.specs.RunningLane.{WordsValue};
+
 mod end;
 mod seats;
 mod steps;
@@ -21,11 +24,7 @@ pub struct Words {
 }
 
 impl Model for Words {
-    ghost use Rattle.ob_lanes.specs.RunningLane.{WordsValue};
-
     ghost Value = { WordsValue };
-
-    ghost use Rattle.ob_lanes.specs.Inside.{words_of, AreWords};
 
     ghost view = { words_of };
 
