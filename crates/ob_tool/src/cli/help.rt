@@ -1,5 +1,28 @@
 //! What `--help` shows behind the options: the lines of a script, what is written for them, and what the numbers mean.
 
+/// What stands behind the options of a subcommand. A table of texts as long as these would cost its proof half a minute.
+#[derive(Clone, Copy)]
+pub enum Help {
+    Run,
+    Core,
+    Drive,
+    Summary,
+    Draw,
+}
+
+impl Help {
+    /// The text.
+    pub fn text(self) -> &'static str {
+        match self {
+            Help::Run => RUN,
+            Help::Core => CORE,
+            Help::Drive => DRIVE,
+            Help::Summary => SUMMARY,
+            Help::Draw => DRAW,
+        }
+    }
+}
+
 /// How a script is given, what its lines ask and what is written for them, the faults that a line may have (those of
 /// any script, and then those of this one), and what goes to which stream.
 macro_rules! help_on_scripts {
@@ -27,7 +50,7 @@ Status: 0 done, 1 the command line (help and the version too), 2 a line, 3 readi
 }
 
 /// What stands behind the options of `run`.
-pub const RUN: &str = help_on_scripts!(
+const RUN: &str = help_on_scripts!(
     "  ob_tool run --low 200 --high 400 < FILE
 
 Lines of a script:
@@ -70,7 +93,7 @@ A refused command changes nothing. The numbers R of `!R`:
 );
 
 /// What stands behind the options of `core`.
-pub const CORE: &str = help_on_scripts!(
+const CORE: &str = help_on_scripts!(
     "  ob_tool core --low 50 --high 100 < FILE
 
 Lines of a script, those of the lanes first; the lanes are numbered from 0:
@@ -102,7 +125,7 @@ The numbers F of `!F`:
 );
 
 /// What stands behind the options of `drive`.
-pub const DRIVE: &str = help_on_scripts!(
+const DRIVE: &str = help_on_scripts!(
     "  ob_tool drive < FILE
 
 It loads one buffer as a server does, to see that nothing is lost: each writer of the script gives its commands from a
@@ -150,7 +173,7 @@ Faults of a drive, told as `drive: fault N`; standard output stays empty:
 );
 
 /// What stands behind the options of `summary`.
-pub const SUMMARY: &str = "\
+const SUMMARY: &str = "\
 The trace comes on standard input, as run or core wrote it, at most 16777216 bytes:
   ob_tool summary < TRACE
 
@@ -173,7 +196,7 @@ Status: 0 done, 1 the command line (help too), 2 a line, 3 reading or writing, 4
 What each fault means, what is kept then and what to do is in docs/FAULTS.md.";
 
 /// What stands behind the options of `draw`.
-pub const DRAW: &str = "\
+const DRAW: &str = "\
 The trace comes on standard input, as run or core wrote it, at most 16777216 bytes; the marks are those of that run:
   ob_tool draw --low 200 --high 400 < TRACE > PICTURE.svg
 

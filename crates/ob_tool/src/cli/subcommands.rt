@@ -1,6 +1,6 @@
 //! The subcommands of the program and their options, as `clap` is told of them.
 
-use crate::cli::help;
+use crate::cli::help::Help;
 use clap::{Arg, ArgAction, Command, value_parser};
 use std::alloc::{AllocError, Global};
 
@@ -17,116 +17,119 @@ pub const MAX_RECORDS: u32 = 1048576;
 struct Subcommand {
     name: &'static str,
     about: &'static str,
-    help: &'static str,
-    options: &'static [NumberOption],
-    flags: &'static [Flag],
+    help: Help,
+    options: &'static [ProgramOption],
 }
 
-/// An option that is given or not.
-struct Flag {
+/// An option of a subcommand.
+struct ProgramOption {
     name: &'static str,
+    kind: OptionKind,
     help: &'static str,
 }
 
-/// An option that is given a number.
-struct NumberOption {
-    name: &'static str,
-    kind: NumberKind,
-    help: &'static str,
-}
-
-/// The numbers that an option takes.
-enum NumberKind {
+/// What an option is given.
+enum OptionKind {
     /// A mark, in bytes.
     Mark,
     /// A size, in bytes, up to 65535.
     Size,
     /// How many records, 1 to 1048576.
     Records,
+    /// Nothing.
+    Flag,
 }
 
 static SUBCOMMANDS: [Subcommand; 5] = [
     Subcommand {
         name: "run",
         about: "Reads a script from standard input, and writes one line for each of its lines to standard output",
-        help: help::RUN,
+        help: Help::Run,
         options: &[LOW, HIGH, OVERHEAD, UNKNOWN, LIMIT],
-        flags: &[],
     },
     Subcommand {
         name: "core",
         about: "Reads a script of lanes and turns from standard input, and writes one line for each to standard output",
-        help: help::CORE,
+        help: Help::Core,
         options: &[LOW, HIGH],
-        flags: &[],
     },
     Subcommand {
         name: "drive",
         about: "Reads a script of writers from standard input, runs them in threads, and counts what came of it",
-        help: help::DRIVE,
-        options: &[LOW, HIGH, OVERHEAD, UNKNOWN, LIMIT, TASK],
-        flags: &[VERBOSE],
+        help: Help::Drive,
+        options: &[LOW, HIGH, OVERHEAD, UNKNOWN, LIMIT, TASK, VERBOSE],
     },
     Subcommand {
         name: "summary",
         about: "Reads a trace of run or of core from standard input, and counts what it shows",
-        help: help::SUMMARY,
+        help: Help::Summary,
         options: &[],
-        flags: &[],
     },
     Subcommand {
         name: "draw",
         about: "Reads a trace of run or of core from standard input, and draws it as a picture, an SVG",
-        help: help::DRAW,
+        help: Help::Draw,
         options: &[LOW, HIGH],
-        flags: &[],
     },
 ];
 
-const LOW: NumberOption = NumberOption {
-    name: "low",
-    kind: NumberKind::Mark,
-    help: "Writers may go on once fewer bytes than this are pending (32768 where it is not given)",
-};
+/// An option of this name and kind, with its help.
+macro_rules! option {
+    ($name:literal, $kind:ident, $help:literal) => {
+        ProgramOption {
+            name: $name,
+            kind: OptionKind::$kind,
+            help: $help,
+        }
+    };
+}
 
-const HIGH: NumberOption = NumberOption {
-    name: "high",
-    kind: NumberKind::Mark,
-    help: "Writers should stop once more bytes than this are pending (65536 where it is not given)",
-};
+const LOW: ProgramOption = option!(
+    "low",
+    Mark,
+    "Writers may go on once fewer bytes than this are pending (32768 where it is not given)"
+);
 
-const OVERHEAD: NumberOption = NumberOption {
-    name: "overhead",
-    kind: NumberKind::Size,
-    help: "Bytes that each message counts beside its own (96 where it is not given)",
-};
+const HIGH: ProgramOption = option!(
+    "high",
+    Mark,
+    "Writers should stop once more bytes than this are pending (65536 where it is not given)"
+);
 
-const UNKNOWN: NumberOption = NumberOption {
-    name: "unknown",
-    kind: NumberKind::Size,
-    help: "Bytes that a message of unknown size counts (8 where it is not given)",
-};
+const OVERHEAD: ProgramOption = option!(
+    "overhead",
+    Size,
+    "Bytes that each message counts beside its own (96 where it is not given)"
+);
 
-const LIMIT: NumberOption = NumberOption {
-    name: "limit",
-    kind: NumberKind::Records,
-    help: "Commands that are recorded, 1 to 1048576; further ones are refused (1048576 where it is not given)",
-};
+const UNKNOWN: ProgramOption = option!(
+    "unknown",
+    Size,
+    "Bytes that a message of unknown size counts (8 where it is not given)"
+);
 
-const TASK: NumberOption = NumberOption {
-    name: "task",
-    kind: NumberKind::Size,
-    help: "Bytes that a message counts beside its own while it is handed over (32 where it is not given)",
-};
+const LIMIT: ProgramOption = option!(
+    "limit",
+    Records,
+    "Commands that are recorded, 1 to 1048576; further ones are refused (1048576 where it is not given)"
+);
 
-const VERBOSE: Flag = Flag {
-    name: "verbose",
-    help: "Tells on standard error how long it took, what was pending and how often the sink was asked",
-};
+const TASK: ProgramOption = option!(
+    "task",
+    Size,
+    "Bytes that a message counts beside its own while it is handed over (32 where it is not given)"
+);
+
+const VERBOSE: ProgramOption = option!(
+    "verbose",
+    Flag,
+    "Tells on standard error how long it took, what was pending and how often the sink was asked"
+);
 
 /// What the program takes.
 pub fn command<'a>(alloc: Global) -> Result<Command<'a>, AllocError> {
-    let subcommands = subcommands(alloc)?;
+    let mut subcommands = Vec::new(alloc);
+    push_subcommands(alloc, &mut subcommands)?;
     Command::new(alloc, "ob_tool")
         .version(VERSION)
         .about(
@@ -136,66 +139,59 @@ pub fn command<'a>(alloc: Global) -> Result<Command<'a>, AllocError> {
         .subcommands(subcommands)
 }
 
-/// The subcommands of the program.
-fn subcommands<'a>(alloc: Global) -> Result<Vec<Command<'a>>, AllocError> {
-    let mut subcommands = Vec::new(alloc);
+/// Adds the subcommands of the program.
+fn push_subcommands<'a>(
+    alloc: Global,
+    subcommands: &mut Vec<Command<'a>>,
+) -> Result<(), AllocError> {
     for one in &SUBCOMMANDS {
         subcommands.push(one.command(alloc)?)?;
     }
-    Ok(subcommands)
+    Ok(())
 }
 
 impl Subcommand {
     /// The subcommand for `clap`.
     fn command<'a>(&self, alloc: Global) -> Result<Command<'a>, AllocError> {
         let mut options = Vec::new(alloc);
+        self.push_options(alloc, &mut options)?;
+        Command::new(alloc, self.name)
+            .about(self.about)
+            .after_help(self.help.text())
+            .args(options)
+    }
+
+    /// Adds its options.
+    fn push_options<'a>(
+        &self,
+        alloc: Global,
+        options: &mut Vec<Arg<'a>>,
+    ) -> Result<(), AllocError> {
         for one in self.options {
             options.push(one.arg(alloc))?;
         }
-        for one in self.flags {
-            options.push(one.arg(alloc))?;
-        }
-        Command::new(alloc, self.name)
-            .about(self.about)
-            .after_help(self.help)
-            .args(options)
+        Ok(())
     }
 }
 
-impl Flag {
+impl ProgramOption {
     /// The option for `clap`.
     fn arg<'a>(&self, alloc: Global) -> Arg<'a> {
-        Arg::new(alloc, self.name)
-            .long(self.name)
-            .action(ArgAction::SetTrue)
-            .help(self.help)
-    }
-}
-
-impl NumberOption {
-    /// The option for `clap`.
-    fn arg<'a>(&self, alloc: Global) -> Arg<'a> {
-        let arg = Arg::new(alloc, self.name)
-            .long(self.name)
-            .value_name(self.kind.unit())
-            .action(ArgAction::Set)
-            .help(self.help);
+        let arg = Arg::new(alloc, self.name).long(self.name).help(self.help);
         match self.kind {
-            NumberKind::Mark => arg.value_parser(value_parser!(u32).range(0..=MAX_MARK)),
-            NumberKind::Size => arg.value_parser(value_parser!(u16)),
-            NumberKind::Records => arg.value_parser(value_parser!(u32).range(
+            OptionKind::Mark => {
+                given(arg, "BYTES").value_parser(value_parser!(u32).range(0..=MAX_MARK))
+            }
+            OptionKind::Size => given(arg, "BYTES").value_parser(value_parser!(u16)),
+            OptionKind::Records => given(arg, "RECORDS").value_parser(value_parser!(u32).range(
                 1..=i64::from(MAX_RECORDS),
             )),
+            OptionKind::Flag => arg.action(ArgAction::SetTrue),
         }
     }
 }
 
-impl NumberKind {
-    /// What `--help` calls these numbers.
-    fn unit(&self) -> &'static str {
-        match self {
-            NumberKind::Mark | NumberKind::Size => "BYTES",
-            NumberKind::Records => "RECORDS",
-        }
-    }
+/// An option that is given a number, which `--help` calls so.
+fn given<'a>(arg: Arg<'a>, name: &'static str) -> Arg<'a> {
+    arg.value_name(name).action(ArgAction::Set)
 }
