@@ -13,6 +13,10 @@ use Rattle.ob_tool.specs.declared.reading.fault.LineFault.TheVariants.{Misplaced
 abbrev pub is_number : List ℕ → Bool
 is_number word = not (length word == 0) && list_all is_ascii_digit word
 
+-- a number of so few digits that each has 64 bits
+abbrev pub is_short_number : List ℕ → Bool
+is_short_number word = is_number word && nat_le (length word) 19
+
 -- the numbers from 0 to this one
 abbrev pub up_to : ℕ → Range
 up_to greatest = record { least = 0; greatest = greatest }

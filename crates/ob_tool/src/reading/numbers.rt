@@ -1,6 +1,6 @@
-ghost use Rattle.std.specs.Prelude.{◌≡◌, ◌==◌, ◌<◌, ◌≤◌, [], length, count_by, slice_index, Ok, IfSome};
+ghost use Rattle.std.specs.Prelude.{◌≡◌, ◌==◌, ◌<◌, ◌≤◌, ◌&&◌, [], drop, length, count_by, slice_index, Ok, IfSome, is_some};
 ghost use Rattle.ob_tool.specs.Reading.Lines.{words_after};
-ghost use Rattle.ob_tool.specs.Reading.Numbers.{all_numbers_in, before_numbers, numbers_in, HoldsNumbers};
+ghost use Rattle.ob_tool.specs.Reading.Numbers.{all_numbers_in, before_numbers, is_short_number, numbers_in, HoldsNumbers};
 
 use crate::reading::fault::LineFault;
 use crate::reading::lines::first_word;
@@ -35,11 +35,13 @@ pub fn read_all_numbers(ranges: &[Range], after: &[u8]) -> Result<[u64; MAX_NUMB
     read_numbers(ranges, after)
 }
 
-/// The number behind a space where one is asked for, or its fault. Nothing is said of other lines.
+/// The number behind a space where one is asked for, or its fault. Where anything but one to nineteen digits is there,
+/// nothing is said.
 fn one_number(ranges: &[Range], after: &[u8]) -> Option<Result<u64, LineFault>>
     requires space { 0 < length after.now → slice_index after.now 0 ≡ 32 }
-    ensures { IfSome result (λ number. all_numbers_in ranges.now (words_after after.now)
+    ensures value { IfSome result (λ number. all_numbers_in ranges.now (words_after after.now)
         ≡ before_numbers number (Ok [])) }
+    ensures when { is_some result ≡ (length ranges.now == 1) && is_short_number (drop 1 after.now) }
 {
     if ranges.len() != 1 || after.is_empty() {
         return None;

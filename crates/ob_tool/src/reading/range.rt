@@ -1,9 +1,10 @@
-ghost use Rattle.std.specs.Prelude.{◌≡◌, ◌+◌, ◌-◌, ◌*◌, ◌<◌, ◌^◌, IsTrue, true, nat_lt, Some, None, IfSome, Ok, Err, if◌then◌else◌};
+ghost use Rattle.std.specs.Prelude.{◌≡◌, ◌+◌, ◌-◌, ◌*◌, ◌<◌, ◌^◌, IsTrue, true, nat_lt, Some, None, IfSome, is_some, Ok, Err};
+ghost use Rattle.std.specs.Prelude.{if◌then◌else◌};
 ghost use Rattle.std.specs.Option.{SomeIff};
 ghost use Rattle.std.specs.List.{list_all};
 ghost use Rattle.std.specs.Char.{is_ascii_digit};
 ghost use Rattle.std.specs.Str.Parse.{digits_value};
-ghost use Rattle.ob_tool.specs.Reading.Numbers.{holds, is_number, number_in};
+ghost use Rattle.ob_tool.specs.Reading.Numbers.{holds, is_number, is_short_number, number_in};
 ghost use Rattle.ob_tool.specs.declared.reading.fault.LineFault.TheVariants.{OutOfRange};
 
 use crate::reading::fault::LineFault;
@@ -93,9 +94,10 @@ fn has_digits_alone(word: &[u8]) -> bool
 /// The most digits of which each number has 64 bits.
 const SHORT: usize = 19;
 
-/// The number that a word of a few digits writes, by one walk over it. Nothing is said of other words.
+/// The number that a word of one to nineteen digits writes, by one walk over it. Other words have none.
 pub fn short_number(word: &[u8]) -> Option<u64>
-    ensures { IfSome result (λ number. (is_number word.now ≡ true) × (number ≡ digits_value 10 word.now)) }
+    ensures value { IfSome result (λ number. (is_number word.now ≡ true) × (number ≡ digits_value 10 word.now)) }
+    ensures when { is_some result ≡ is_short_number word.now }
 {
     if word.is_empty() || SHORT < word.len() {
         return None;

@@ -6,15 +6,15 @@ use Rattle.ob_tool.proofs.Lemmas.Reading.Lines.{words_after-space}
 use Rattle.ob_tool.proofs.Lemmas.Reading.Numbers.{all_numbers_in-one}
 use Rattle.ob_tool.proofs.reading.numbers.one_number.Goals as goal
 
-pub returns : goal.returns
-returns c =
+pub returns-clause-value : goal.returns-clause-value
+returns-clause-value c =
     let after = c.args.after.now in
     let ranges = c.args.ranges.now in
     let range = get_or ranges 0 (record { least = 0; greatest = 0 }) in
     let bytes : 0 < length after = grind (arith, c.is_empty.ensures, c.if-is_empty.false) in
     let tail : take (length after - 1) (drop 1 after) ≡ drop 1 after =
     take_all (length after - 1) (drop 1 after) (omega (arith, length-drop 1 after)) in
-    let read = rw tail at c.in_ok-number.ensures in
+    let read = rw tail at c.in_ok-number.ensures.value in
     let one : ranges ≡ range ∷ [] =
     drop-cons ranges 0 (record { least = 0; greatest = 0 }) (omega arith)
     ∙ ap (λ rest. range ∷ rest) (drop_all 1 ranges (omega arith)) in
