@@ -30,12 +30,7 @@ struct Drawing {
 impl Teller for Drawing {
     ghost Tells = { λ drawing lines told. TellsPicture drawing.marks lines told };
 
-    fn push_told(
-        &self,
-        alloc: Global,
-        lines: &[TraceLine],
-        text: &mut String,
-    ) -> Result<(), AllocError> {
+    fn add(&self, alloc: Global, lines: &[TraceLine], text: &mut String) -> Result<(), AllocError> {
         let shown = shown(alloc, lines)?;
         push_pieces(text, &make_picture(alloc, &shown, self.marks)?)
     }
@@ -53,7 +48,7 @@ pub fn draw<R: Read, W: Write>(
     writer: &mut W,
     marks: WaterMark,
 ) -> Result<(), ScriptFault>
-    ensures { TellsOfTrace (TellsPicture marks) (R.remaining reader.old) (R.remaining reader.new)
+    ensures told { TellsOfTrace (TellsPicture marks) (R.remaining reader.old) (R.remaining reader.new)
         (W.contents writer.old) (W.contents writer.new) result }
 {
     tell_of_trace(alloc, reader, writer, &Drawing { marks })

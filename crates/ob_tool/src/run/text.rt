@@ -1,4 +1,4 @@
-ghost use Rattle.std.specs.Prelude.{◌≡◌, ◌++◌, OnOk, Ok, Err, codes, string_bytes};
+ghost use Rattle.std.specs.Prelude.{◌≡◌, ◌++◌, OnOk, Ok, Err, string_bytes};
 ghost use Rattle.std.specs.Fmt.{decimal};
 ghost use Rattle.std.specs.List.{flat_map};
 ghost use Rattle.ob_tool.specs.Run.Text.{answer_text, command_text, gathered_text, length_text, levels_text};
@@ -35,32 +35,20 @@ pub fn push_refusal(text: &mut String, refusal: Refusal, look: &Look) -> Result<
 pub fn push_look(text: &mut String, look: &Look) -> Result<(), AllocError>
     ensures { OnOk result (string_bytes text.new ≡ string_bytes text.old ++ look_text look.now) }
 {
-    push_queue(text, look)?;
-    push_distances(text, look)?;
+    push_labelled(text, "size=", u64::from(look.size))?;
+    push_labelled(text, " cur=", look.current_progress)?;
+    push_labelled(text, " bu=", u64::from(look.before_unwritable))?;
+    push_labelled(text, " bw=", u64::from(look.before_writable))?;
     push_levels(text, look)?;
     text.push('\n')
 }
 
-/// Adds how many messages are flushed, and the progress of the first.
-fn push_queue(text: &mut String, look: &Look) -> Result<(), AllocError>
-    ensures { OnOk result (string_bytes text.new ≡ string_bytes text.old
-        ++ codes "size=" ++ decimal look.now.size ++ codes " cur=" ++ decimal look.now.current_progress) }
+/// Adds a number behind its label.
+fn push_labelled(text: &mut String, label: &str, number: u64) -> Result<(), AllocError>
+    ensures { OnOk result (string_bytes text.new ≡ string_bytes text.old ++ label.now ++ decimal number) }
 {
-    text.push_str("size=")?;
-    push_number(text, u64::from(look.size))?;
-    text.push_str(" cur=")?;
-    push_number(text, look.current_progress)
-}
-
-/// Adds how many bytes more stop the writers, and how many fewer let them go on.
-fn push_distances(text: &mut String, look: &Look) -> Result<(), AllocError>
-    ensures { OnOk result (string_bytes text.new ≡ string_bytes text.old
-        ++ codes " bu=" ++ decimal look.now.before_unwritable ++ codes " bw=" ++ decimal look.now.before_writable) }
-{
-    text.push_str(" bu=")?;
-    push_number(text, u64::from(look.before_unwritable))?;
-    text.push_str(" bw=")?;
-    push_number(text, u64::from(look.before_writable))
+    text.push_str(label)?;
+    push_number(text, number)
 }
 
 /// Adds the trace line of a gathering, by its blocks and the look.

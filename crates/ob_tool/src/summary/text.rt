@@ -18,6 +18,26 @@ pub fn push_summary(text: &mut String, summary: &Summary) -> Result<(), AllocErr
     push_settlements(text, summary.settled)
 }
 
+/// Adds the lines of the pending bytes and of writability.
+pub fn push_levels(text: &mut String, summary: &Summary) -> Result<(), AllocError>
+    ensures { OnOk result (string_bytes text.new ≡ string_bytes text.old ++ levels_text summary.now) }
+{
+    push_peak(text, summary.peak)?;
+    push_number_line(text, "stops", summary.stops as u64)?;
+    push_number_line(text, "goes", summary.goes as u64)?;
+    push_longest(text, summary.longest)?;
+    push_number_line(text, "pending", u64::from(summary.pending))
+}
+
+/// Adds the lines of the promises, by outcome.
+pub fn push_settlements(text: &mut String, settled: Settlements) -> Result<(), AllocError>
+    ensures { OnOk result (string_bytes text.new ≡ string_bytes text.old ++ settlements_text settled) }
+{
+    push_number_line(text, "success", settled.success)?;
+    push_number_line(text, "failed", settled.failed)?;
+    push_number_line(text, "cancelled", settled.cancelled)
+}
+
 /// Adds the lines of what was asked.
 fn push_asked(text: &mut String, summary: &Summary) -> Result<(), AllocError>
     ensures { OnOk result (string_bytes text.new ≡ string_bytes text.old ++ asked_text summary.now) }
@@ -44,31 +64,21 @@ fn push_refused(
 fn push_refusals(text: &mut String, refusals: &[(u8, usize)]) -> Result<(), AllocError>
     ensures { OnOk result (string_bytes text.new ≡ string_bytes text.old ++ flat_map refusal_text refusals.now) }
 {
-    for (number, count) in refusals {
-        push_refusal(text, *number, *count)?;
+    for refusal in refusals {
+        push_refusal(text, *refusal)?;
     }
     Ok(())
 }
 
 /// Adds how often a refusal stands there, where it does.
-fn push_refusal(text: &mut String, number: u8, count: usize) -> Result<(), AllocError>
-    ensures { OnOk result (string_bytes text.new ≡ string_bytes text.old ++ refusal_text (number, count)) }
+fn push_refusal(text: &mut String, refusal: (u8, usize)) -> Result<(), AllocError>
+    ensures { OnOk result (string_bytes text.new ≡ string_bytes text.old ++ refusal_text refusal) }
 {
+    let (number, count) = refusal;
     if count == 0 {
         return Ok(());
     }
     write!(text, " !{number}:{count}")
-}
-
-/// Adds the lines of the pending bytes and of writability.
-pub fn push_levels(text: &mut String, summary: &Summary) -> Result<(), AllocError>
-    ensures { OnOk result (string_bytes text.new ≡ string_bytes text.old ++ levels_text summary.now) }
-{
-    push_peak(text, summary.peak)?;
-    push_number_line(text, "stops", summary.stops as u64)?;
-    push_number_line(text, "goes", summary.goes as u64)?;
-    push_longest(text, summary.longest)?;
-    push_number_line(text, "pending", u64::from(summary.pending))
 }
 
 /// Adds the line of the most pending bytes.
@@ -115,13 +125,4 @@ fn first_of(top: Top) -> u64
 {
     // no stretch is longer than the lines up to its last
     (u64::from(top.place) + 2).saturating_sub(u64::from(top.value))
-}
-
-/// Adds the lines of the promises, by outcome.
-pub fn push_settlements(text: &mut String, settled: Settlements) -> Result<(), AllocError>
-    ensures { OnOk result (string_bytes text.new ≡ string_bytes text.old ++ settlements_text settled) }
-{
-    push_number_line(text, "success", settled.success)?;
-    push_number_line(text, "failed", settled.failed)?;
-    push_number_line(text, "cancelled", settled.cancelled)
 }

@@ -1,7 +1,7 @@
 ghost use Rattle.std.specs.Prelude.{◌≡◌, ◌+◌, ◌<◌, ◌≤◌, ℕ, length};
 ghost use Rattle.ob_tool.specs.Reading.Script.{greatest_script};
-ghost use Rattle.ob_tool.specs.Summary.Top.{IsTop};
 ghost use Rattle.ob_tool.specs.Summary.Lines.{total_at, unwritable_at};
+ghost use Rattle.ob_tool.specs.Summary.Top.{IsTop};
 
 use crate::traces::line::TraceLine;
 

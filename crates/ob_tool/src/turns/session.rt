@@ -106,16 +106,6 @@ impl CoreSession {
     }
 }
 
-impl Grammar for CoreSession {
-    type Line = CoreLine;
-
-    ghost grammar = { core_grammar };
-
-    fn read(line: &[u8]) -> Result<CoreLine, LineFault> {
-        read_line::<CoreWord>(line)
-    }
-}
-
 impl Interpreter for CoreSession {
     ghost texts = { λ session. core_texts session.marks };
 
@@ -138,5 +128,15 @@ impl Interpreter for CoreSession {
             Some(world) => push_end(text, world.owed()),
             None => Ok(()),
         }
+    }
+}
+
+impl Grammar for CoreSession {
+    type Line = CoreLine;
+
+    ghost grammar = { core_grammar };
+
+    fn read(line: &[u8]) -> Result<CoreLine, LineFault> {
+        read_line::<CoreWord>(line)
     }
 }
