@@ -90,22 +90,32 @@ fn a_line_of_no_trace_ends_it(rt: HostRuntime) -> Result<(), Fail> {
     Ok(())
 }
 
-/// What `run` and `core` write for the stories is a trace, of as many lines.
+/// Whether what the program wrote for a story is a trace, of as many lines.
+fn is_traced<H: Host>(rt: &H, story: &str) -> Result<(), Fail> {
+    let (_, lines) = story.split_once("\n$ ").ok_or("no command line")?;
+    let (_, lines) = lines.split_once('\n').unwrap_or((lines, ""));
+    let written = left_of(rt.alloc(), lines)?;
+    let trace = written.strip_suffix("status 0: ").ok_or("a fault")?;
+    let found = left(rt, "ob_tool summary", &mut trace.as_bytes())?;
+    let begin = format!(in rt.alloc(); "lines {}\n", trace.lines().count())?;
+    assert!(rt;
+        found.starts_with(begin.as_str()) && found.ends_with("status 0: "),
+        "{story}: {found}"
+    );
+    Ok(())
+}
+
+/// What `run` and `core` write for the stories is a trace.
 #[test]
 fn traces_of_stories_are_traces(rt: HostRuntime) -> Result<(), Fail> {
-    for stories in [RUN, FULL, CORE] {
-        for story in stories.split('#').skip(1) {
-            let (_, lines) = story.split_once("\n$ ").ok_or("no command line")?;
-            let (_, lines) = lines.split_once('\n').unwrap_or((lines, ""));
-            let written = left_of(rt.alloc(), lines)?;
-            let trace = written.strip_suffix("status 0: ").ok_or("a fault")?;
-            let found = left(&rt, "ob_tool summary", &mut trace.as_bytes())?;
-            let begin = format!(in rt.alloc(); "lines {}\n", trace.lines().count())?;
-            assert!(rt;
-                found.starts_with(begin.as_str()) && found.ends_with("status 0: "),
-                "{story}: {found}"
-            );
-        }
+    for story in RUN.split('#').skip(1) {
+        is_traced(&rt, story)?;
+    }
+    for story in FULL.split('#').skip(1) {
+        is_traced(&rt, story)?;
+    }
+    for story in CORE.split('#').skip(1) {
+        is_traced(&rt, story)?;
     }
     Ok(())
 }
