@@ -11,16 +11,16 @@ use std::alloc::Global;
 
 /// A buffer, however it is kept.
 pub trait Kept {
-    /// Gives a command. `HistoryFull` and `NoMemory` mean that it was not given.
-    fn give(&mut self, command: Command) -> Result<Result<Reply, Refusal>, Refusal>;
+    /// Gives a command. `HistoryFull` means that the buffer was not given it.
+    fn give(&mut self, command: Command) -> Result<Reply, Refusal>;
     /// The buffer, to be looked at.
     fn buffer(&self) -> &Buffer;
 }
 
 /// By `apply`, which makes the calls of the commands' names.
 impl Kept for Buffer {
-    fn give(&mut self, command: Command) -> Result<Result<Reply, Refusal>, Refusal> {
-        Ok(self.apply(command))
+    fn give(&mut self, command: Command) -> Result<Reply, Refusal> {
+        self.apply(command)
     }
 
     fn buffer(&self) -> &Buffer {
@@ -53,18 +53,26 @@ impl Options {
         };
         let mut words = Words::of(command);
         for _ in 0..MOST {
-            match words.word() {
-                "--low" => options.low = words.small()?,
-                "--high" => options.high = words.small()?,
-                "--overhead" => options.overhead = words.small()?,
-                "--unknown" => options.unknown = words.small()?,
-                "--limit" => options.limit = words.small()?,
-                "--task" => options.task = Some(words.small()?),
-                "--callers" => options.callers = words.small()?,
-                _ => {}
+            let word = words.word();
+            if word.starts_with("--") {
+                options.set(word, words.small()?);
             }
         }
         Ok(options)
+    }
+
+    /// Sets the option of a name, if it is one of these.
+    fn set(&mut self, name: &str, value: u32) {
+        match name {
+            "--low" => self.low = value,
+            "--high" => self.high = value,
+            "--overhead" => self.overhead = value,
+            "--unknown" => self.unknown = value,
+            "--limit" => self.limit = value,
+            "--task" => self.task = Some(value),
+            "--callers" => self.callers = value,
+            _ => {}
+        }
     }
 
     pub fn marks(self) -> Result<WaterMark, Refusal> {

@@ -20,21 +20,39 @@ pub fn command(
     first: u8,
 ) -> Result<Option<Command>, NoAnswer> {
     Ok(Some(match word {
-        "b" => Command::Write(block(alloc, first, words.number()?)?),
-        "r" => Command::Write(Message::Region(words.number()?)),
-        "o" => Command::Write(Message::Other(words.small()?)),
         "f" => Command::Flush,
         "rm" => Command::Remove,
-        "rc" => Command::RemoveWith(Cause(words.small()?)),
-        "rb" => Command::RemoveBytes(words.number()?),
-        "p" => Command::Progress(words.number()?),
-        "x" => Command::Cancel(PromiseId(words.small()?)),
-        "fl" => Command::FailFlushed(Cause(words.small()?), words.flag()),
-        "cl" => Command::Close(Cause(words.small()?)),
-        "u" => Command::UserBit(words.small()?, words.flag()),
-        "m" => Command::SetMarks(WaterMark::new(words.small()?, words.small()?)?),
+        "b" | "r" | "rb" | "p" => of_length(alloc, word, words.number()?, first)?,
+        "o" | "rc" | "x" | "fl" | "cl" | "u" => of_number(word, words.small()?, words.flag()),
+        "m" => Command::SetMarks(marks(words.small(), words.small())?),
         _ => return Ok(None),
     }))
+}
+
+/// A command of bytes or units.
+fn of_length(alloc: Global, word: &str, length: u64, first: u8) -> Result<Command, AllocError> {
+    Ok(match word {
+        "r" => Command::Write(Message::Region(length)),
+        "rb" => Command::RemoveBytes(length),
+        "p" => Command::Progress(length),
+        _ => Command::Write(block(alloc, first, length)?),
+    })
+}
+
+/// A command of a number of 32 bits, and of a flag behind it if it has one.
+fn of_number(word: &str, number: u32, flag: bool) -> Command {
+    match word {
+        "o" => Command::Write(Message::Other(number)),
+        "rc" => Command::RemoveWith(Cause(number)),
+        "x" => Command::Cancel(PromiseId(number)),
+        "fl" => Command::FailFlushed(Cause(number), flag),
+        "cl" => Command::Close(Cause(number)),
+        _ => Command::UserBit(number, flag),
+    }
+}
+
+fn marks(low: Result<u32, NoAnswer>, high: Result<u32, NoAnswer>) -> Result<WaterMark, NoAnswer> {
+    Ok(WaterMark::new(low?, high?)?)
 }
 
 /// A block of so many bytes, which count up from this one.

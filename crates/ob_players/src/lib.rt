@@ -7,6 +7,7 @@ pub mod commands;
 pub mod looks;
 pub mod meeting;
 pub mod run;
+pub mod sinks;
 pub mod story;
 pub mod trace;
 pub mod words;

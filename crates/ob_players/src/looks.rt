@@ -9,21 +9,35 @@ use std::alloc::AllocError;
 /// Answers a line that looks at a buffer.
 pub fn look(buffer: &Buffer, asked: &str, text: &mut String) -> Result<(), NoAnswer> {
     let mut words = Words::of(asked);
-    match words.word() {
-        "?" => push_look(text, buffer.look())?,
-        "g" => push_gathered(text, buffer, words.small()?, words.small()?)?,
-        "promise" => push_promise(text, buffer.promise(PromiseId(words.small()?)))?,
-        "current" => push_current(text, buffer.current())?,
-        "front" => push_front(text, buffer.front())?,
-        "flushed" => push_flushed(text, buffer)?,
-        "state" => push_state(text, buffer)?,
+    let told = match words.word() {
+        "?" => push_look(text, buffer.look()),
+        "current" => push_current(text, buffer.current()),
+        "front" => push_front(text, buffer.front()),
+        "flushed" => push_flushed(text, buffer),
+        "state" => push_state(text, buffer),
+        word => return look_at(buffer, word, &mut words, text),
+    };
+    Ok(told?)
+}
+
+/// Answers a line that looks at what has a number.
+fn look_at(
+    buffer: &Buffer,
+    word: &str,
+    words: &mut Words,
+    text: &mut String,
+) -> Result<(), NoAnswer> {
+    let number = words.small()?;
+    let told = match word {
+        "g" => return push_gathered(text, buffer, number, words.small()?),
+        "promise" => push_promise(text, buffer.promise(PromiseId(number))),
         "bit" => {
-            let clear = buffer.user_defined_writability(words.small()?);
-            push_either(text, clear, "clear", "set")?;
+            let clear = buffer.user_defined_writability(number);
+            push_either(text, clear, "clear", "set")
         }
         _ => return Err(NoAnswer::Unread),
-    }
-    Ok(())
+    };
+    Ok(told?)
 }
 
 fn push_gathered(

@@ -6,7 +6,7 @@ use crate::looks::look;
 use crate::story::{Begins, Player, Story};
 use crate::trace::push_answer;
 use crate::words::{NoAnswer, Words};
-use ob_seq::Buffer;
+use ob_seq::{Buffer, Look};
 use ob_types::{Answer, Command, Refusal, Reply};
 use std::alloc::Global;
 
@@ -52,26 +52,38 @@ impl<K: Kept> Single<K> {
     fn give(&mut self, command: Command, text: &mut String) -> Result<(), NoAnswer> {
         let before = self.kept.buffer().look();
         let settles = self.kept.buffer().settles(&command);
-        let answer = match self.kept.give(command) {
-            Ok(Err(Refusal::NoMemory)) | Err(Refusal::NoMemory) => return Err(NoAnswer::NoMemory),
-            Ok(answer) => answer,
-            Err(refusal) => Err(refusal),
-        };
-        if let Ok(reply) = &answer {
-            if matches!(reply.answer, Answer::Id(_)) {
-                self.next_byte = self.next_byte.wrapping_add(1);
-            }
-        }
-        let look = self.kept.buffer().look();
-        push_answer(text, &answer, look)?;
-        if settles_otherwise(&answer, settles) {
-            write!(text, ", where {settles} were to be settled")?;
-        }
-        if answer.is_err() && look != before {
-            text.push_str(", and was changed")?;
-        }
-        Ok(())
+        let answer = self.kept.give(command);
+        self.next_byte = byte_after(self.next_byte, &answer);
+        push_given(text, &answer, (before, self.kept.buffer().look()), settles)
     }
+}
+
+/// The first byte of the next block behind this answer.
+fn byte_after(byte: u8, answer: &Result<Reply, Refusal>) -> u8 {
+    match answer {
+        Ok(reply) if matches!(reply.answer, Answer::Id(_)) => byte.wrapping_add(1),
+        _ => byte,
+    }
+}
+
+/// Adds an answer by the look after it, and whether that is otherwise than the buffer had told.
+fn push_given(
+    text: &mut String,
+    answer: &Result<Reply, Refusal>,
+    (before, look): (Look, Look),
+    settles: u32,
+) -> Result<(), NoAnswer> {
+    if matches!(answer, Err(Refusal::NoMemory)) {
+        return Err(NoAnswer::NoMemory);
+    }
+    push_answer(text, answer, look)?;
+    if settles_otherwise(answer, settles) {
+        write!(text, ", where {settles} were to be settled")?;
+    }
+    if answer.is_err() && look != before {
+        text.push_str(", and was changed")?;
+    }
+    Ok(())
 }
 
 /// Whether a buffer that answered this had said to settle another number of promises. A call that a full history refused

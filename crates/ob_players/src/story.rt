@@ -96,22 +96,10 @@ impl<'a> Story<'a> {
             let told = Err(NoAnswer::NoMemory);
             return Err(self.otherwise(("", ""), String::new(alloc), told));
         };
-        for line in self.lines.lines() {
-            if line.trim().is_empty() {
-                continue;
-            }
-            let (asked, wanted) = parts(line);
-            let (times, asked) = times(asked);
-            let mut told = Ok(());
-            for _ in 0..times {
-                text.clear();
-                told = player.answer(asked, &mut text);
-            }
-            if told != Ok(()) || text.trim() != wanted {
-                return Err(self.otherwise((asked, wanted), text, told));
-            }
+        match first_otherwise(player, self.lines, &mut text) {
+            None => Ok(()),
+            Some((line, told)) => Err(self.otherwise(line, text, told)),
         }
-        Ok(())
     }
 
     fn otherwise(
@@ -128,6 +116,42 @@ impl<'a> Story<'a> {
             told,
         }
     }
+}
+
+/// What the first line asks and wants that is answered otherwise, and why it has no answer if it has none. The text is
+/// what was answered last.
+fn first_otherwise<'a, P: Player>(
+    player: &mut P,
+    lines: &'a str,
+    text: &mut String,
+) -> Option<((&'a str, &'a str), Result<(), NoAnswer>)> {
+    for line in lines.lines() {
+        if line.trim().is_empty() {
+            continue;
+        }
+        let (asked, wanted) = parts(line);
+        let (times, asked) = times(asked);
+        let told = ask(player, asked, times, text);
+        if told != Ok(()) || text.trim() != wanted {
+            return Some(((asked, wanted), told));
+        }
+    }
+    None
+}
+
+/// Asks a line so many times: what is told the last time.
+fn ask<P: Player>(
+    player: &mut P,
+    asked: &str,
+    times: u32,
+    text: &mut String,
+) -> Result<(), NoAnswer> {
+    let mut told = Ok(());
+    for _ in 0..times {
+        text.clear();
+        told = player.answer(asked, text);
+    }
+    told
 }
 
 /// What a line asks, and what has to be answered.

@@ -31,11 +31,11 @@ pub fn push_refusal(text: &mut String, refusal: Refusal) -> Result<(), NoAnswer>
 
 fn push_reply(text: &mut String, reply: &Reply, look: Look) -> Result<(), AllocError> {
     match reply.answer {
-        Answer::Id(PromiseId(id)) => write!(text, "id {id}")?,
-        Answer::Count(count) => write!(text, "n {count}")?,
-        Answer::Yes(is_so) => push_either(text, is_so, "yes", "no")?,
-        Answer::Done => text.push_str("ok")?,
-    }
+        Answer::Id(PromiseId(id)) => write!(text, "id {id}"),
+        Answer::Count(count) => write!(text, "n {count}"),
+        Answer::Yes(is_so) => push_either(text, is_so, "yes", "no"),
+        Answer::Done => text.push_str("ok"),
+    }?;
     push_levels(text, look)?;
     push_change(text, reply.change)?;
     push_settlements(text, reply.settled.as_slice())
@@ -101,11 +101,10 @@ pub fn push_glance(text: &mut String, glance: Glance) -> Result<(), AllocError> 
 
 /// Adds a look.
 pub fn push_look(text: &mut String, look: Look) -> Result<(), AllocError> {
-    write!(text, "size={} cur={}", look.size, look.current_progress)?;
     write!(
         text,
-        " bu={} bw={}",
-        look.before_unwritable, look.before_writable
+        "size={} cur={} bu={} bw={}",
+        look.size, look.current_progress, look.before_unwritable, look.before_writable
     )?;
     push_levels(text, look)
 }

@@ -42,8 +42,8 @@ impl<B: Booked> Booked for Keeping<B> {
 }
 
 impl<B: Booked> Kept for Keeping<B> {
-    fn give(&mut self, command: Command) -> Result<Result<Reply, Refusal>, Refusal> {
-        Ok(self.call(command)?.reply)
+    fn give(&mut self, command: Command) -> Result<Reply, Refusal> {
+        self.call(command)?.reply
     }
 
     fn buffer(&self) -> &Buffer {

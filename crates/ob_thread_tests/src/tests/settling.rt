@@ -37,11 +37,13 @@ pub fn at_one_desk<L: Named, R: Wait>(
 /// Flushes and removes what one write left. Each call is made again if memory was refused, since others wait for it.
 fn sends<L: Named>(desk: &mut Desk<'_, L>) {
     for _ in 0..9u32 {
-        let _ = desk.call(match desk.look().look.size {
-            0 => Command::Flush,
-            _ => Command::Remove,
+        let removes = desk.look().look.size > 0;
+        let answer = desk.call(if removes {
+            Command::Remove
+        } else {
+            Command::Flush
         });
-        if desk.look().place == 3 {
+        if removes && answer.is_ok() {
             break;
         }
     }
