@@ -1,6 +1,7 @@
 //! A caller of a shared buffer, who plays lines: in turn with others, or in a thread of its own.
 
 use crate::tests::chance::{calls_by, push_made};
+use crate::tests::host::Hosted;
 use crate::tests::settling::{at_one_desk, settles_each, waits_for_each};
 use ob_history::{Receipt, Seen};
 use ob_players::commands::wanted;
@@ -9,7 +10,7 @@ use ob_players::story::Player;
 use ob_players::trace::{push_answer, push_glance, push_look, push_refusal, push_settled};
 use ob_players::words::{NoAnswer, Words};
 use ob_seq::Look;
-use ob_shared::{Done, Named, Share, SharedBuffer};
+use ob_shared::{Done, Named, Share};
 use ob_types::{Command, PromiseId, Refusal};
 use std::sync::Wait;
 use std::sync::atomic::{AtomicU64, Ordering};
@@ -19,8 +20,7 @@ use std::time::{Clock, Duration};
 /// A caller that plays lines, and keeps all that it hands in.
 #[derive(Drop)]
 pub struct Caller<'b, L: Named, R> {
-    pub rt: &'b R,
-    pub buffer: &'b SharedBuffer<L>,
+    pub hosted: &'b Hosted<'b, L, R>,
     /// How often one of those who play has said that it comes.
     pub come: &'b AtomicU64,
     /// What it hands in, until it has dropped that.
@@ -32,19 +32,19 @@ pub type Told<L> = (Option<Done<L>>, Result<(), NoAnswer>);
 
 impl<'b, L: Named, R: AllocGlobal + Wait + Clock> Player for Caller<'b, L, R> {
     fn answer(&mut self, asked: &str, text: &mut String) -> Result<(), NoAnswer> {
-        let (rt, buffer, come) = (self.rt, self.buffer, self.come);
+        let (hosted, come) = (self.hosted, self.come);
         let mut words = Words::of(asked);
         let word = words.word();
         if matches!(word, "come" | "until" | "pause") {
-            return meets(rt, come, word, &mut words);
+            return meets(hosted.rt, come, word, &mut words);
         }
         let Some(done) = self.done.take() else {
             return Err(NoAnswer::Unread);
         };
         let (done, told) = match word {
-            "waits" | "settles" | "desk" => crosses(rt, buffer, come, done, asked, text),
-            "calls" | "sees" => plays_on(rt, buffer, done, asked, text),
-            _ => in_turn(rt, buffer, done, asked, text),
+            "waits" | "settles" | "desk" => crosses(hosted, come, done, (word, &mut words), text),
+            "calls" | "sees" => plays_on(hosted, done, asked, text),
+            _ => in_turn(hosted, done, asked, text),
         };
         self.done = done;
         told
@@ -74,86 +74,76 @@ fn meets<R: Clock>(
 /// A command, `?` for a look, `wait` and a promise, `again` for all its receipts anew, or `read` for a glance without the
 /// lock.
 fn in_turn<L: Named, R: AllocGlobal + Wait>(
-    rt: &R,
-    buffer: &SharedBuffer<L>,
+    hosted: &Hosted<L, R>,
     done: Done<L>,
     asked: &str,
     text: &mut String,
 ) -> Told<L> {
     let mut words = Words::of(asked);
     match words.word() {
-        "?" => looks(rt, buffer, done, text),
-        "wait" => waits(rt, buffer, done, words.small(), text),
-        "again" => has_again(rt, buffer, done, text),
-        "read" => reads(buffer, done, text),
-        _ => calls(
-            rt,
-            buffer,
-            done,
-            wanted(rt.alloc(), &mut Words::of(asked)),
-            text,
-        ),
+        "?" => looks(hosted, done, text),
+        "wait" => waits(hosted, done, words.small(), text),
+        "again" => has_again(hosted, done, text),
+        "read" => reads(hosted, done, text),
+        _ => {
+            let command = wanted(hosted.rt.alloc(), &mut Words::of(asked));
+            calls(hosted, done, command, text)
+        }
     }
 }
 
 /// `waits` for so many promises, one after another, which another caller `settles`; or `desk`, which sends what is
 /// written at one desk.
 fn crosses<L: Named, R: Wait>(
-    rt: &R,
-    buffer: &SharedBuffer<L>,
+    hosted: &Hosted<L, R>,
     come: &AtomicU64,
     done: Done<L>,
-    asked: &str,
+    (word, words): (&str, &mut Words),
     text: &mut String,
 ) -> Told<L> {
-    let mut words = Words::of(asked);
-    match words.word() {
-        "waits" => waits_for_each(rt, buffer, come, done, words.small(), text),
-        "settles" => settles_each(rt, buffer, come, done, words.small()),
-        _ => at_one_desk(rt, buffer, done, words.word(), text),
+    match word {
+        "waits" => waits_for_each(hosted, come, done, words.small(), text),
+        "settles" => settles_each(hosted, come, done, words.small()),
+        _ => at_one_desk(hosted, done, words.word(), text),
     }
 }
 
 /// `calls` and how many of the commands behind an `of` it makes in turn, or by chance with none; or `sees` and the total
 /// that it waits for.
 fn plays_on<L: Named, R: AllocGlobal + Wait + Clock>(
-    rt: &R,
-    buffer: &SharedBuffer<L>,
-    done: Done<L>,
+    hosted: &Hosted<L, R>,
+    mut done: Done<L>,
     asked: &str,
     text: &mut String,
 ) -> Told<L> {
-    let mut done = done;
     let mut words = Words::of(asked);
     if words.word() == "sees" {
-        let told = sees(rt, buffer, &mut done.share, words.small());
+        let told = sees(hosted, &mut done.share, words.small());
         return (Some(done), told);
     }
     let (_, commands) = asked.split_once(" of ").unwrap_or(("", ""));
-    let (done, made) = calls_by(rt, buffer, done, words.small(), commands);
+    let (done, made) = calls_by(hosted, done, words.small(), commands);
     (Some(done), push_made(text, made))
 }
 
 /// Reads each millisecond, ten thousand times, until it sees this total.
 fn sees<L: Named, R: Clock>(
-    rt: &R,
-    buffer: &SharedBuffer<L>,
+    hosted: &Hosted<L, R>,
     share: &mut Share<L>,
     total: Result<u32, NoAnswer>,
 ) -> Result<(), NoAnswer> {
     for _ in 0..10_000u32 {
-        if Ok(share.read(buffer).total) == total {
+        if Ok(share.read(hosted.buffer).total) == total {
             return Ok(());
         }
-        sleep(rt, Duration::from_millis(1));
+        sleep(hosted.rt, Duration::from_millis(1));
     }
     Err(NoAnswer::Unread)
 }
 
 /// Makes a call, and looks at what is pending then.
 fn calls<L: Named, R: Wait>(
-    rt: &R,
-    buffer: &SharedBuffer<L>,
+    hosted: &Hosted<L, R>,
     done: Done<L>,
     command: Result<Command, NoAnswer>,
     text: &mut String,
@@ -162,8 +152,8 @@ fn calls<L: Named, R: Wait>(
         Ok(command) => command,
         Err(told) => return (Some(done), Err(told)),
     };
-    let (done, answer) = buffer.call(rt, done, command);
-    let (done, seen) = seen_by(rt, buffer, done);
+    let (done, answer) = hosted.buffer.call(hosted.rt, done, command);
+    let (done, seen) = seen_by(hosted, done);
     let told = push_call(text, done.receipts.last(), answer, seen.look);
     (Some(done), told)
 }
@@ -186,20 +176,15 @@ fn push_call(
 }
 
 /// What a caller sees at a desk.
-fn seen_by<L: Named, R: Wait>(rt: &R, buffer: &SharedBuffer<L>, done: Done<L>) -> (Done<L>, Seen) {
-    let desk = buffer.desk(rt, done.share);
+fn seen_by<L: Named, R: Wait>(hosted: &Hosted<L, R>, done: Done<L>) -> (Done<L>, Seen) {
+    let desk = hosted.buffer.desk(hosted.rt, done.share);
     let seen = desk.look();
     let share = desk.leave();
     (Done { share, ..done }, seen)
 }
 
-fn looks<L: Named, R: Wait>(
-    rt: &R,
-    buffer: &SharedBuffer<L>,
-    done: Done<L>,
-    text: &mut String,
-) -> Told<L> {
-    let (done, seen) = seen_by(rt, buffer, done);
+fn looks<L: Named, R: Wait>(hosted: &Hosted<L, R>, done: Done<L>, text: &mut String) -> Told<L> {
+    let (done, seen) = seen_by(hosted, done);
     let mut done = done;
     let told = keep_seen(&mut done.seen, seen, text);
     (Some(done), told)
@@ -213,12 +198,11 @@ fn keep_seen(kept: &mut Vec<Seen>, seen: Seen, text: &mut String) -> Result<(), 
 
 /// Lets all receipts go, and has them again from a desk.
 fn has_again<L: Named, R: Wait>(
-    rt: &R,
-    buffer: &SharedBuffer<L>,
+    hosted: &Hosted<L, R>,
     done: Done<L>,
     text: &mut String,
 ) -> Told<L> {
-    let desk = buffer.desk(rt, done.share);
+    let desk = hosted.buffer.desk(hosted.rt, done.share);
     let receipts = desk.receipts_since(0);
     let share = desk.leave();
     let mut done = Done { share, ..done };
@@ -242,24 +226,24 @@ pub fn keep_again(
 }
 
 /// Reads without the lock.
-fn reads<L: Named>(buffer: &SharedBuffer<L>, done: Done<L>, text: &mut String) -> Told<L> {
+fn reads<L: Named, R>(hosted: &Hosted<L, R>, done: Done<L>, text: &mut String) -> Told<L> {
     let mut done = done;
-    let told = push_glance(text, done.share.read(buffer)).map_err(NoAnswer::from);
+    let told = push_glance(text, done.share.read(hosted.buffer)).map_err(NoAnswer::from);
     (Some(done), told)
 }
 
 fn waits<L: Named, R: Wait>(
-    rt: &R,
-    buffer: &SharedBuffer<L>,
+    hosted: &Hosted<L, R>,
     done: Done<L>,
     id: Result<u32, NoAnswer>,
     text: &mut String,
 ) -> Told<L> {
-    let id = match id {
-        Ok(id) => PromiseId(id),
-        Err(told) => return (Some(done), Err(told)),
+    let Ok(id) = id else {
+        return (Some(done), Err(NoAnswer::Unread));
     };
-    let (desk, answer) = buffer.wait_settled(rt, done.share, id);
+    let (desk, answer) = hosted
+        .buffer
+        .wait_settled(hosted.rt, done.share, PromiseId(id));
     let share = desk.leave();
     let mut done = Done { share, ..done };
     let told = keep_told(&mut done.told, answer, text);

@@ -1,9 +1,10 @@
 //! Callers that make many calls, in turn or by chance.
 
 use crate::tests::dice::Dice;
+use crate::tests::host::Hosted;
 use ob_players::commands::wanted;
 use ob_players::words::{NoAnswer, Words};
-use ob_shared::{Done, Named, SharedBuffer};
+use ob_shared::{Done, Named};
 use ob_types::Command;
 use std::alloc::Global;
 use std::sync::Wait;
@@ -11,8 +12,7 @@ use std::sync::Wait;
 /// Makes so many calls, each from a desk of its own, and stops where one is not made: how many were. They are the commands
 /// between the commas of a text in turn, or by chance if there is none.
 pub fn calls_by<L: Named, R: AllocGlobal + Wait>(
-    rt: &R,
-    buffer: &SharedBuffer<L>,
+    hosted: &Hosted<L, R>,
     done: Done<L>,
     count: Result<u32, NoAnswer>,
     commands: &str,
@@ -20,10 +20,10 @@ pub fn calls_by<L: Named, R: AllocGlobal + Wait>(
     let mut dice = Dice::new(done.share.caller());
     let mut caller = done;
     for number in 0..count.unwrap_or(0) {
-        let Ok(command) = command(rt.alloc(), &mut dice, commands, number as usize) else {
+        let Ok(command) = command(hosted.rt.alloc(), &mut dice, commands, number as usize) else {
             return (caller, number);
         };
-        let (same, answer) = buffer.call(rt, caller, command);
+        let (same, answer) = hosted.buffer.call(hosted.rt, caller, command);
         caller = same;
         if answer.is_err() {
             return (caller, number);

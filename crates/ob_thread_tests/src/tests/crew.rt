@@ -3,6 +3,7 @@
 use crate::tests::callers::Caller;
 use crate::tests::changes::{Aside, changes};
 use crate::tests::endings::{push_end, push_fault};
+use crate::tests::host::Hosted;
 use crate::tests::members::{Member, done_of, put_all, put_done, take_all, take_done};
 use ob_history::Recorded;
 use ob_players::buffers::Options;
@@ -10,7 +11,6 @@ use ob_players::story::Player;
 use ob_players::trace::{push_glance, push_look};
 use ob_players::words::{NoAnswer, Words, number_in};
 use ob_shared::{FinishFault, Named, Reader, SharedBuffer};
-use std::alloc::Global;
 use std::sync::Wait;
 use std::sync::atomic::AtomicU64;
 use std::time::Clock;
@@ -37,25 +37,20 @@ impl<'r, L: Named, R: AllocGlobal + Wait + Clock> Player for Crew<'r, L, R> {
             "finish" | "ends" => self.finish(asked, text),
             "why" => push_why(text, self.fault),
             "same" | "left" | "glances" => match &self.recorded {
-                Some(recorded) => push_end(
-                    self.rt.alloc(),
-                    self.options,
-                    recorded,
-                    &self.members,
-                    asked,
-                    text,
-                ),
+                Some(recorded) => {
+                    let asked = (self.rt.alloc(), asked);
+                    push_end(self.options, recorded, &self.members, asked, text)
+                }
                 None => Err(NoAnswer::Unread),
             },
             _ => match &self.buffer {
-                Some(buffer) => plays(
-                    self.rt,
-                    buffer,
-                    &mut self.members,
-                    &mut self.aside,
-                    asked,
-                    text,
-                ),
+                Some(buffer) => {
+                    let hosted = Hosted {
+                        rt: self.rt,
+                        buffer,
+                    };
+                    plays(&hosted, &mut self.members, &mut self.aside, asked, text)
+                }
                 None => Err(NoAnswer::Unread),
             },
         }
@@ -101,10 +96,9 @@ fn push_why(text: &mut String, fault: Option<FinishFault>) -> Result<(), NoAnswe
     }
 }
 
-/// Plays a line over a buffer that is not finished.
+/// Plays a line over a buffer that is not finished. A word that is no number names no member.
 fn plays<L: Named, R: AllocGlobal + Wait + Clock>(
-    rt: &R,
-    buffer: &SharedBuffer<L>,
+    hosted: &Hosted<L, R>,
     members: &mut Vec<Member<L>>,
     aside: &mut Aside<L>,
     asked: &str,
@@ -112,67 +106,64 @@ fn plays<L: Named, R: AllocGlobal + Wait + Clock>(
 ) -> Result<(), NoAnswer> {
     let mut words = Words::of(asked);
     let word = words.word();
+    let caller = words.small().unwrap_or(u32::MAX) as usize;
     match word {
         "made" => push_made(text, members),
-        "watch" => watch(rt.alloc(), buffer, members, words.small()? as usize),
-        "watched" | "check" => push_watched(rt, buffer, members.last_mut(), word, text),
+        "watch" => watch(hosted, members, caller),
+        "watched" | "check" => push_watched(hosted, members.last_mut(), word, text),
         "without" | "short" | "forge" | "told" | "seen" | "exchange" | "twice" => {
-            let caller = words.small()? as usize;
             let other = words.small().unwrap_or(0) as usize;
-            changes(rt.alloc(), members, aside, word, caller, other)
+            changes(hosted.rt.alloc(), members, aside, word, caller, other)
         }
-        _ => asks(rt, buffer, members, asked, text),
+        _ => asks(hosted, members, asked, text),
     }
 }
 
 /// A caller is asked for what stands behind its number.
 fn asks<L: Named, R: AllocGlobal + Wait + Clock>(
-    rt: &R,
-    buffer: &SharedBuffer<L>,
+    hosted: &Hosted<L, R>,
     members: &mut [Member<L>],
     asked: &str,
     text: &mut String,
 ) -> Result<(), NoAnswer> {
-    let (number, line) = asked.split_once(' ').ok_or(NoAnswer::Unread)?;
-    let caller = number_in(number)? as usize;
+    let (number, line) = asked.split_once(' ').unwrap_or((asked, ""));
+    let Ok(caller) = number_in(number) else {
+        return Err(NoAnswer::Unread);
+    };
     let mut player = Caller {
-        rt,
-        buffer,
+        hosted,
         come: &AtomicU64::new(0),
-        done: take_done(members, caller),
+        done: take_done(members, caller as usize),
     };
     let told = player.answer(line, text);
-    put_done(members, caller, player.done);
+    put_done(members, caller as usize, player.done);
     told
 }
 
 /// Makes a reader of a caller's share.
-fn watch<L: Named>(
-    alloc: Global,
-    buffer: &SharedBuffer<L>,
+fn watch<L: Named, R: AllocGlobal>(
+    hosted: &Hosted<L, R>,
     members: &mut Vec<Member<L>>,
     caller: usize,
 ) -> Result<(), NoAnswer> {
     let reader = match done_of(members, caller) {
-        Some(done) => done.share.reader(buffer),
+        Some(done) => done.share.reader(hosted.buffer),
         None => return Err(NoAnswer::Unread),
     };
-    let number = members.len();
-    members.push(Member::new(alloc, number, None, Some(reader)))?;
-    Ok(())
+    let member = Member::new(hosted.rt.alloc(), members.len(), None, Some(reader));
+    Ok(members.push(member)?)
 }
 
 /// What the last reader reads without the lock, or sees under the lock.
 fn push_watched<L: Named, R: Wait>(
-    rt: &R,
-    buffer: &SharedBuffer<L>,
+    hosted: &Hosted<L, R>,
     member: Option<&mut Member<L>>,
     word: &str,
     text: &mut String,
 ) -> Result<(), NoAnswer> {
     match member {
         Some(member) => match member.reader.as_mut() {
-            Some(reader) => push_read(rt, buffer, reader, word, text),
+            Some(reader) => push_read(hosted, reader, word, text),
             None => Err(NoAnswer::Unread),
         },
         None => Err(NoAnswer::Unread),
@@ -180,16 +171,15 @@ fn push_watched<L: Named, R: Wait>(
 }
 
 fn push_read<L: Named, R: Wait>(
-    rt: &R,
-    buffer: &SharedBuffer<L>,
+    hosted: &Hosted<L, R>,
     reader: &mut Reader<L>,
     word: &str,
     text: &mut String,
 ) -> Result<(), NoAnswer> {
     if word == "watched" {
-        return Ok(push_glance(text, reader.read(buffer))?);
+        return Ok(push_glance(text, reader.read(hosted.buffer))?);
     }
-    let seen = buffer.check_in(rt, reader);
+    let seen = hosted.buffer.check_in(hosted.rt, reader);
     write!(text, "place {}: ", seen.place)?;
     Ok(push_look(text, seen.look)?)
 }

@@ -3,38 +3,45 @@
 use crate::tests::members::Member;
 use ob_history::{Glance, Recorded};
 use ob_players::buffers::Options;
+use ob_players::trace::push_either;
 use ob_players::words::NoAnswer;
 use ob_shared::{FinishFault, Named};
 use ob_types::{Command, Refusal};
-use std::alloc::Global;
+use std::alloc::{AllocError, Global};
 
 /// Adds whether a buffer of one thread makes the `same` history, how many writes are `left`, or how many readers saw
 /// `glances` of it in order.
 pub fn push_end<L: Named>(
-    alloc: Global,
     options: Options,
     recorded: &Recorded,
     members: &[Member<L>],
-    word: &str,
+    asked: (Global, &str),
     text: &mut String,
 ) -> Result<(), NoAnswer> {
+    let (alloc, word) = asked;
+    if word == "left" {
+        return Ok(write!(text, "{}", recorded.buffer().writes_left())?);
+    }
     let mut alone = options.recorded(alloc)?;
     match word {
-        "same" => text.push_str(if answers_the_same(recorded, &mut alone)?
-            && alone.look() == recorded.look()
-        {
-            "yes"
-        } else {
-            "no"
-        })?,
-        "left" => write!(text, "{}", recorded.buffer().writes_left())?,
-        _ => {
-            let shown = shown_after(alloc, recorded, &mut alone)?;
-            let in_order = in_order(members, &shown);
-            write!(text, "{in_order} in order of {}", shown.len())?;
-        }
+        "same" => push_same(text, recorded, &mut alone),
+        _ => push_in_order(text, members, shown_after(alloc, recorded, &mut alone)),
     }
-    Ok(())
+}
+
+fn push_same(text: &mut String, recorded: &Recorded, alone: &mut Recorded) -> Result<(), NoAnswer> {
+    let is_same = answers_the_same(recorded, alone)? && alone.look() == recorded.look();
+    Ok(push_either(text, is_same, "yes", "no")?)
+}
+
+fn push_in_order<L: Named>(
+    text: &mut String,
+    members: &[Member<L>],
+    shown: Result<Vec<Glance>, NoAnswer>,
+) -> Result<(), NoAnswer> {
+    let shown = shown?;
+    let in_order = in_order(members, &shown);
+    Ok(write!(text, "{in_order} in order of {}", shown.len())?)
 }
 
 /// Whether a new buffer that is given the commands of the records, in their order, makes the same records.
@@ -93,14 +100,14 @@ fn stand_in_order(glances: &[Glance], shown: &[Glance]) -> bool {
 
 /// Adds why a buffer was not finished.
 pub fn push_fault(text: &mut String, fault: FinishFault) -> Result<(), NoAnswer> {
-    match fault {
-        FinishFault::SharesMissing => text.push_str("shares missing")?,
-        FinishFault::ReceiptsMissing { caller } => write!(text, "receipts of {caller} missing")?,
+    let told = match fault {
+        FinishFault::SharesMissing => text.push_str("shares missing"),
+        FinishFault::ReceiptsMissing { caller } => write!(text, "receipts of {caller} missing"),
         FinishFault::ForeignReceipt { caller, place } => write!(
             text,
             "foreign: {caller} at {place}"
-        )?,
-        FinishFault::NoMemory => return Err(NoAnswer::NoMemory),
-    }
-    Ok(())
+        ),
+        FinishFault::NoMemory => Err(AllocError),
+    };
+    Ok(told?)
 }

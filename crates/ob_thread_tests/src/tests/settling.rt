@@ -1,9 +1,10 @@
 //! Callers that settle what others wait for.
 
 use crate::tests::callers::{Told, keep_again};
+use crate::tests::host::Hosted;
 use ob_history::Booked;
 use ob_players::words::NoAnswer;
-use ob_shared::{Desk, Done, Named, SharedBuffer};
+use ob_shared::{Desk, Done, Named};
 use ob_types::{Command, Message, PromiseId};
 use std::hint::spin_loop;
 use std::sync::Wait;
@@ -12,13 +13,12 @@ use std::sync::atomic::{AtomicU64, Ordering};
 /// Flushes and removes at one desk, and then `leaves` it, or `goes-on` with a call that settles nothing, or `drops` it,
 /// and its share with it.
 pub fn at_one_desk<L: Named, R: Wait>(
-    rt: &R,
-    buffer: &SharedBuffer<L>,
+    hosted: &Hosted<L, R>,
     done: Done<L>,
     then: &str,
     text: &mut String,
 ) -> Told<L> {
-    let mut desk = buffer.desk(rt, done.share);
+    let mut desk = hosted.buffer.desk(hosted.rt, done.share);
     sends(&mut desk);
     match then {
         "drops" => return (None, Ok(())),
@@ -51,8 +51,7 @@ fn sends<L: Named>(desk: &mut Desk<'_, L>) {
 
 /// Waits for one promise after another, each of which is settled when the wait for it begins.
 pub fn waits_for_each<L: Named, R: Wait>(
-    rt: &R,
-    buffer: &SharedBuffer<L>,
+    hosted: &Hosted<L, R>,
     asked: &AtomicU64,
     done: Done<L>,
     rounds: Result<u32, NoAnswer>,
@@ -63,7 +62,7 @@ pub fn waits_for_each<L: Named, R: Wait>(
     for id in 0..rounds.unwrap_or(0) {
         until(asked, u64::from(id) * 2 + 1);
         asked.store(u64::from(id) * 2 + 2, Ordering::SeqCst);
-        let (desk, answer) = buffer.wait_settled(rt, share, PromiseId(id));
+        let (desk, answer) = hosted.buffer.wait_settled(hosted.rt, share, PromiseId(id));
         share = desk.leave();
         told = told.saturating_add(u32::from(answer.is_ok()));
     }
@@ -73,12 +72,12 @@ pub fn waits_for_each<L: Named, R: Wait>(
 
 /// Writes, flushes and removes one message after another, each removal when another begins to wait for it.
 pub fn settles_each<L: Named, R: Wait>(
-    rt: &R,
-    buffer: &SharedBuffer<L>,
+    hosted: &Hosted<L, R>,
     asked: &AtomicU64,
     done: Done<L>,
     rounds: Result<u32, NoAnswer>,
 ) -> Told<L> {
+    let Hosted { rt, buffer } = *hosted;
     let mut caller = done;
     for id in 0..rounds.unwrap_or(0) {
         let region = Command::Write(Message::Region(1));

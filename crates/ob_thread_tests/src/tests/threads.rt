@@ -2,12 +2,12 @@
 
 use crate::tests::callers::Caller;
 use crate::tests::crew::Crew;
-use crate::tests::host::Host;
+use crate::tests::host::{Host, Hosted};
 use crate::tests::members::Member;
 use ob_history::Glance;
 use ob_players::story::{Again, Story};
 use ob_players::words::NoAnswer;
-use ob_shared::{Done, Named, Reader, SharedBuffer};
+use ob_shared::{Done, Named, Reader};
 use std::process::Abort;
 use std::sync::Wait;
 use std::sync::atomic::{AtomicU64, Ordering};
@@ -48,30 +48,24 @@ pub fn in_threads<L: Named + Send + Sync, R: Host>(
     if parts.is_empty() {
         return Ok(());
     }
-    let come = AtomicU64::new(0);
     let members = std::mem::replace(&mut crew.members, Vec::new(rt.alloc()));
-    crew.members = all_play(rt, buffer, &come, members, parts)?;
+    crew.members = all_play(&Hosted { rt, buffer }, members, parts)?;
     Ok(())
 }
 
 fn all_play<L: Named + Send + Sync, R: Host>(
-    rt: &R,
-    buffer: &SharedBuffer<L>,
-    come: &AtomicU64,
+    hosted: &Hosted<L, R>,
     members: Vec<Member<L>>,
     parts: &str,
 ) -> Result<Vec<Member<L>>, NoAnswer> {
-    Ok(map_vec(
-        rt,
-        members,
-        &|member| plays(rt, buffer, come, member, parts),
-    )?)
+    let come = AtomicU64::new(0);
+    let one = |member| plays(hosted, &come, member, parts);
+    Ok(map_vec(hosted.rt, members, &one)?)
 }
 
 /// Plays the part of a caller, or reads as a reader.
 fn plays<L: Named, R: AllocGlobal + Wait + Clock + Abort>(
-    rt: &R,
-    buffer: &SharedBuffer<L>,
+    hosted: &Hosted<L, R>,
     come: &AtomicU64,
     member: Member<L>,
     parts: &str,
@@ -83,8 +77,8 @@ fn plays<L: Named, R: AllocGlobal + Wait + Clock + Abort>(
         glances,
     } = member;
     let (done, glances) = match reader {
-        Some(reader) => (done, reads(buffer, come, reader, glances)),
-        None => (played(rt, buffer, come, done, part(parts, number)), glances),
+        Some(reader) => (done, reads(hosted, come, reader, glances)),
+        None => (played(hosted, come, done, part(parts, number)), glances),
     };
     Member {
         number,
@@ -105,25 +99,19 @@ fn part(parts: &str, number: usize) -> &str {
 
 /// What a caller hands in that has played its part.
 fn played<L: Named, R: AllocGlobal + Wait + Clock + Abort>(
-    rt: &R,
-    buffer: &SharedBuffer<L>,
+    hosted: &Hosted<L, R>,
     come: &AtomicU64,
     done: Option<Done<L>>,
     part: &str,
 ) -> Option<Done<L>> {
-    let mut caller = Again(Caller {
-        rt,
-        buffer,
-        come,
-        done,
-    });
+    let mut caller = Again(Caller { hosted, come, done });
     let story = Story {
         about: "the part of a caller",
         command: "",
         lines: part,
     };
-    if let Err(otherwise) = story.play(rt.alloc(), &mut caller) {
-        panic!(rt; "{otherwise:?}");
+    if let Err(otherwise) = story.play(hosted.rt.alloc(), &mut caller) {
+        panic!(hosted.rt; "{otherwise:?}");
     }
     caller.into_inner().done
 }
@@ -132,8 +120,8 @@ fn played<L: Named, R: AllocGlobal + Wait + Clock + Abort>(
 const MOST_READS: u32 = 20_000_000;
 
 /// Reads without a pause until two callers have come: what is seen, each glance once that differs from the one before.
-fn reads<L: Named>(
-    buffer: &SharedBuffer<L>,
+fn reads<L: Named, R>(
+    hosted: &Hosted<L, R>,
     come: &AtomicU64,
     reader: Reader<L>,
     seen: Vec<Glance>,
@@ -142,7 +130,7 @@ fn reads<L: Named>(
     let mut glances = seen;
     for _ in 0..MOST_READS {
         let last = come.load(Ordering::SeqCst) >= 2;
-        let glance = reader.read(buffer);
+        let glance = reader.read(hosted.buffer);
         if glances.last() != Some(&glance) {
             let _ = glances.push(glance);
         }

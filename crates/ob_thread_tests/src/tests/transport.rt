@@ -9,6 +9,7 @@ use crate::tests::shared::opening;
 use ob_history::{As, Booked, Receipt};
 use ob_players::buffers::Options;
 use ob_players::run::Single;
+use ob_players::sinks::SinkWords;
 use ob_players::story::{Again, Otherwise, Player, Story};
 use ob_players::trace::{push_change, push_refusal, push_settled, push_settlements};
 use ob_players::words::{MOST, NoAnswer, Words};
@@ -16,7 +17,7 @@ use ob_seq::Look;
 use ob_shared::{Desk, Done, Named, Opening, Share, SharedBuffer};
 use ob_stories::{PASSES, SCARCE, SIX};
 use ob_transport::{
-    Drained, Limits, Pass, PassFault, ScriptSink, SinkFault, SinkStep, Stop, book, drain, pass,
+    Drained, Limits, Pass, PassFault, ScriptSink, SinkFault, Stop, book, drain, pass,
 };
 use ob_types::{Answer, Command, Reply};
 use std::alloc::Global;
@@ -35,60 +36,32 @@ struct Transport<B> {
     unbooked: u64,
 }
 
-/// What the command line of a story gives.
-#[derive(Drop)]
-struct Means {
-    steps: Vec<SinkStep>,
-    /// The most bytes that a call of the sink takes behind its steps.
-    after: u64,
-    max_count: u32,
-}
-
-impl Means {
-    /// Takes in what a word begins.
-    fn take(&mut self, word: &str, words: &mut Words) -> Result<(), NoAnswer> {
-        match word {
-            "take" => push_step(&mut self.steps, words.number().map(SinkStep::Take)),
-            "fail" => push_step(&mut self.steps, words.small().map(SinkStep::Fail)),
-            "then" => {
-                self.after = words.number()?;
-                Ok(())
-            }
-            "--count" => {
-                self.max_count = words.small()?;
-                Ok(())
-            }
-            _ => Ok(()),
-        }
-    }
-}
-
-fn push_step(steps: &mut Vec<SinkStep>, step: Result<SinkStep, NoAnswer>) -> Result<(), NoAnswer> {
-    Ok(steps.push(step?)?)
-}
+/// What a transport is made of, beside its buffer.
+type Given = (ScriptSink, u32, Vec<Receipt>);
 
 /// The sink of a story and how many blocks it is offered at once, both by the command line, and room for receipts, so
 /// that none is lost for want of memory.
-fn given(alloc: Global, story: Story) -> Result<(ScriptSink, u32, Vec<Receipt>), NoAnswer> {
-    let mut means = Means {
-        steps: Vec::new(alloc),
-        after: 0,
-        max_count: 16,
-    };
-    let mut words = Words::of(story.command);
-    for _ in 0..MOST {
-        means.take(words.word(), &mut words)?;
-    }
+fn given(alloc: Global, story: Story) -> Result<Given, NoAnswer> {
     let receipts = Vec::with_capacity(alloc, MOST as usize)?;
-    Ok((
-        ScriptSink::new(means.steps, means.after),
-        means.max_count,
-        receipts,
-    ))
+    let mut sink = SinkWords::new(alloc, 0);
+    let max_count = take_all(&mut sink, &mut Words::of(story.command))?;
+    Ok((sink.into_sink(), max_count, receipts))
+}
+
+/// Takes in what all words tell of a sink: how many blocks it is offered at once.
+fn take_all(sink: &mut SinkWords, words: &mut Words) -> Result<u32, NoAnswer> {
+    let mut max_count = 16;
+    for _ in 0..MOST {
+        let word = words.word();
+        if !sink.take(word, words)? && word == "--count" {
+            max_count = words.small()?;
+        }
+    }
+    Ok(max_count)
 }
 
 impl<B: Booked> Transport<B> {
-    fn new(alloc: Global, given: (ScriptSink, u32, Vec<Receipt>), booked: B) -> Transport<B> {
+    fn new(alloc: Global, given: Given, booked: B) -> Transport<B> {
         let (sink, max_count, receipts) = given;
         Transport {
             single: Single::new(alloc, Keeping { booked, receipts }),
@@ -322,7 +295,7 @@ fn lends<L: Named, R: Host>(
 fn plays_at<'s, L: Named, R: Host>(
     rt: &R,
     desk: Desk<'_, L>,
-    given: (ScriptSink, u32, Vec<Receipt>),
+    given: Given,
     story: Story<'s>,
 ) -> (Done<L>, Result<(), Otherwise<'s>>) {
     let alloc = rt.alloc();
