@@ -5,12 +5,13 @@ ghost use Rattle.ob_pool.specs.Config.{AreWithin};
 
 use ob_players::buffers::Options;
 use ob_players::commands::command;
+use ob_players::sinks::SinkWords;
 use ob_players::story::{Player, Story, parts};
 use ob_players::words::{NoAnswer, Words, number_in};
 use ob_pool::{Config, DriveFault, Gate, OpenGate, Plan, Report, TASK_OVERHEAD, drive};
 use ob_shared::FinishFault;
 use ob_stories::{DRIVES, PLANS};
-use ob_transport::{Limits, ScriptSink, Sink, SinkStep};
+use ob_transport::{Limits, ScriptSink, Sink};
 use ob_types::{Cause, Command, Refusal};
 use std::alloc::{AllocError, Global};
 use std::process::Abort;
@@ -43,9 +44,7 @@ struct Given {
     /// The most passes of the transport.
     turns: u64,
     plans: Vec<Plan>,
-    steps: Vec<SinkStep>,
-    /// The most bytes that a call of the sink takes behind its steps.
-    most: u64,
+    sink: SinkWords,
 }
 
 impl Given {
@@ -54,23 +53,14 @@ impl Given {
         let mut words = Words::of(asked);
         match words.word() {
             "" | "sink" | "why" | "fails" | "among" => Ok(()),
-            "take" => push_step(&mut self.steps, words.number().map(SinkStep::Take)),
-            "fail" => push_step(&mut self.steps, words.small().map(SinkStep::Fail)),
-            "then" => {
-                self.most = words.number()?;
-                Ok(())
-            }
             "turns" => {
                 self.turns = words.number()?;
                 Ok(())
             }
+            word if self.sink.take(word, &mut words)? => Ok(()),
             word => give(self.alloc, &mut self.plans, word, &mut words),
         }
     }
-}
-
-fn push_step(steps: &mut Vec<SinkStep>, step: Result<SinkStep, NoAnswer>) -> Result<(), NoAnswer> {
-    Ok(steps.push(step?)?)
 }
 
 /// Gives a command to a writer, or to `each` of the first so many, a block as often as the last word says.
@@ -180,8 +170,7 @@ impl Driven {
             alloc,
             turns: 16777216,
             plans: Vec::new(alloc),
-            steps: Vec::new(alloc),
-            most: u64::MAX,
+            sink: SinkWords::new(alloc, u64::MAX),
         };
         for line in story.lines.lines() {
             given.take(parts(line).0)?;
@@ -196,9 +185,8 @@ impl Driven {
 
     /// The sink of a story.
     pub fn script(&mut self) -> ScriptSink {
-        let given = &mut self.given;
-        let steps = std::mem::replace(&mut given.steps, Vec::new(given.alloc));
-        ScriptSink::new(steps, given.most)
+        let none = SinkWords::new(self.given.alloc, 0);
+        std::mem::replace(&mut self.given.sink, none).into_sink()
     }
 
     /// Drives what a story gives, with its writers behind a gate.

@@ -2,7 +2,7 @@
 
 use crate::tests::drives::drives;
 use crate::tests::gates::wait_for;
-use crate::tests::moments::{GateOf, Moment, Moments};
+use crate::tests::moments::{GateOf, GoesOn, Moment, Moments};
 use ob_players::story::Story;
 use ob_pool::Stuck;
 use std::sync::Wait;
@@ -36,7 +36,7 @@ struct GivesUp {
 }
 
 impl Moments for GivesUp {
-    fn at<R: Wait + Clock>(&self, rt: &R, moment: Moment) -> Result<(), Stuck> {
+    fn at<R: Wait + Clock>(&self, rt: &R, moment: Moment) -> GoesOn {
         match moment {
             Moment::Before(0, 0) => return wait_for(rt, &self.held, 1),
             Moment::Before(0, _) => {
@@ -60,7 +60,7 @@ impl Moments for GivesUp {
 
 impl GivesUp {
     /// Is held until the first write of writer 0, and for a while.
-    fn give_up<R: Clock>(&self, rt: &R) -> Result<(), Stuck> {
+    fn give_up<R: Clock>(&self, rt: &R) -> GoesOn {
         self.held.store(1, Ordering::SeqCst);
         wait_for(rt, &self.first, 1)?;
         for _ in 0..10u32 {
@@ -104,7 +104,7 @@ struct HoldsThree {
 }
 
 impl Moments for HoldsThree {
-    fn at<R: Wait + Clock>(&self, rt: &R, moment: Moment) -> Result<(), Stuck> {
+    fn at<R: Wait + Clock>(&self, rt: &R, moment: Moment) -> GoesOn {
         match moment {
             Moment::Before(writer, 2) if !is_of_three(writer) => wait_for(rt, &self.held, 3),
             Moment::During(writer, 2, _) if is_of_three(writer) => {

@@ -1,7 +1,7 @@
 //! Writers that are held at gates.
 
 use crate::tests::drives::drives;
-use crate::tests::moments::{GateOf, Moment, Moments};
+use crate::tests::moments::{GateOf, GoesOn, Moment, Moments};
 use ob_players::meeting;
 use ob_players::story::Story;
 use ob_pool::Stuck;
@@ -11,7 +11,7 @@ use std::test::Fail;
 use std::time::Clock;
 
 /// Waits for a number that is not less.
-pub fn wait_for<R: Clock>(rt: &R, number: &AtomicU64, least: u64) -> Result<(), Stuck> {
+pub fn wait_for<R: Clock>(rt: &R, number: &AtomicU64, least: u64) -> GoesOn {
     meeting::wait_for(rt, number, least).map_err(|_late| Stuck)
 }
 
@@ -24,7 +24,7 @@ struct Crossing {
 }
 
 impl Moments for Crossing {
-    fn at<R: Wait + Clock>(&self, rt: &R, moment: Moment) -> Result<(), Stuck> {
+    fn at<R: Wait + Clock>(&self, rt: &R, moment: Moment) -> GoesOn {
         match moment {
             Moment::Before(0, 2) => wait_for(rt, &self.answered, 1),
             Moment::During(0, 1, total) => {
@@ -73,7 +73,7 @@ struct Barrier {
 }
 
 impl Moments for Barrier {
-    fn at<R: Wait + Clock>(&self, rt: &R, moment: Moment) -> Result<(), Stuck> {
+    fn at<R: Wait + Clock>(&self, rt: &R, moment: Moment) -> GoesOn {
         match moment {
             Moment::Before(_, 1) => return wait_for(rt, &self.answered, 8),
             Moment::After(_, 0) => {
@@ -102,7 +102,7 @@ fn gate_barrier(rt: HostRuntime) -> Result<(), Fail> {
 struct Closed;
 
 impl Moments for Closed {
-    fn at<R: Wait + Clock>(&self, _rt: &R, moment: Moment) -> Result<(), Stuck> {
+    fn at<R: Wait + Clock>(&self, _rt: &R, moment: Moment) -> GoesOn {
         match moment {
             Moment::During(writer, 1, _) if writer > 0 => Err(Stuck),
             _ => Ok(()),
@@ -129,7 +129,7 @@ fn the_least_stuck_writer_is_named(rt: HostRuntime) -> Result<(), Fail> {
 struct Log(Mutex<String>);
 
 impl Moments for Log {
-    fn at<R: Wait + Clock>(&self, rt: &R, moment: Moment) -> Result<(), Stuck> {
+    fn at<R: Wait + Clock>(&self, rt: &R, moment: Moment) -> GoesOn {
         let mut log = self.0.lock(rt);
         let _ = match moment {
             Moment::Before(writer, step) => write!(log, "before {writer}.{step}, "),

@@ -4,10 +4,9 @@ ghost use Rattle.ob_transport.specs.Script.{Plays};
 
 use crate::tests::drives::Driven;
 use crate::tests::gates::wait_for;
-use crate::tests::moments::{GateOf, Moment, Moments};
+use crate::tests::moments::{GateOf, GoesOn, Moment, Moments};
 use bytes::Bytes;
 use ob_players::story::Story;
-use ob_pool::Stuck;
 use ob_transport::{ScriptSink, Sink, SinkFault};
 use std::sync::Wait;
 use std::sync::atomic::{AtomicU64, Ordering};
@@ -32,7 +31,7 @@ impl Order {
 }
 
 impl Moments for Order {
-    fn at<R: Wait + Clock>(&self, rt: &R, moment: Moment) -> Result<(), Stuck> {
+    fn at<R: Wait + Clock>(&self, rt: &R, moment: Moment) -> GoesOn {
         match moment {
             Moment::Before(0, 2) => wait_for(rt, &self.stage, 1)?,
             Moment::Before(0, 3) => wait_for(rt, &self.stage, 4)?,

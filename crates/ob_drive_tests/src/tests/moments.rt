@@ -15,10 +15,13 @@ pub enum Moment {
     After(u32, usize),
 }
 
+/// Whether a writer goes on. `Stuck` ends it, unless its command is answered by then.
+pub type GoesOn = Result<(), Stuck>;
+
 /// What is done at the moments of a drive.
 pub trait Moments {
-    /// Does what is to be done at a moment. `Stuck` ends the writer, unless its command is answered by then.
-    fn at<R: Wait + Clock>(&self, rt: &R, moment: Moment) -> Result<(), Stuck>;
+    /// Does what is to be done at a moment.
+    fn at<R: Wait + Clock>(&self, rt: &R, moment: Moment) -> GoesOn;
 }
 
 /// The gate of these moments.
@@ -26,17 +29,11 @@ pub trait Moments {
 pub struct GateOf<M>(pub M);
 
 impl<M: Moments> Gate for GateOf<M> {
-    fn before<R: Wait + Clock>(&self, rt: &R, writer: u32, step: usize) -> Result<(), Stuck> {
+    fn before<R: Wait + Clock>(&self, rt: &R, writer: u32, step: usize) -> GoesOn {
         self.0.at(rt, Moment::Before(writer, step))
     }
 
-    fn during<R: Wait + Clock>(
-        &self,
-        rt: &R,
-        writer: u32,
-        step: usize,
-        total: u64,
-    ) -> Result<(), Stuck> {
+    fn during<R: Wait + Clock>(&self, rt: &R, writer: u32, step: usize, total: u64) -> GoesOn {
         self.0.at(rt, Moment::During(writer, step, total))
     }
 
