@@ -30,7 +30,12 @@ struct Drawing {
 impl Teller for Drawing {
     ghost Tells = { λ drawing lines told. TellsPicture drawing.marks lines told };
 
-    fn add(&self, alloc: Global, lines: &[TraceLine], text: &mut String) -> Result<(), AllocError> {
+    fn push_told(
+        &self,
+        alloc: Global,
+        lines: &[TraceLine],
+        text: &mut String,
+    ) -> Result<(), AllocError> {
         let shown = shown(alloc, lines)?;
         push_pieces(text, &make_picture(alloc, &shown, self.marks)?)
     }
@@ -48,7 +53,7 @@ pub fn draw<R: Read, W: Write>(
     writer: &mut W,
     marks: WaterMark,
 ) -> Result<(), ScriptFault>
-    ensures told { TellsOfTrace (TellsPicture marks) (R.remaining reader.old) (R.remaining reader.new)
+    ensures { TellsOfTrace (TellsPicture marks) (R.remaining reader.old) (R.remaining reader.new)
         (W.contents writer.old) (W.contents writer.new) result }
 {
     tell_of_trace(alloc, reader, writer, &Drawing { marks })

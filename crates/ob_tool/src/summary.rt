@@ -23,7 +23,12 @@ struct Summarizer;
 impl Teller for Summarizer {
     ghost Tells = { λ summarizer lines told. TellsSummary lines told };
 
-    fn add(&self, alloc: Global, lines: &[TraceLine], text: &mut String) -> Result<(), AllocError> {
+    fn push_told(
+        &self,
+        alloc: Global,
+        lines: &[TraceLine],
+        text: &mut String,
+    ) -> Result<(), AllocError> {
         push_summary(text, &make_summary(alloc, lines)?)
     }
 }

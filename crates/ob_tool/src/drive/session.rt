@@ -31,16 +31,6 @@ pub struct DriveSession {
     pub turns: Option<u32>,
 }
 
-impl Grammar for DriveSession {
-    type Line = DriveLine;
-
-    ghost grammar = { drive_grammar };
-
-    fn read(line: &[u8]) -> Result<DriveLine, LineFault> {
-        read_line::<DriveWord>(line)
-    }
-}
-
 impl DriveSession {
     /// A session before its first line.
     pub fn new(alloc: Global) -> DriveSession
@@ -94,5 +84,15 @@ impl DriveSession {
             }
         }
         Ok(true)
+    }
+}
+
+impl Grammar for DriveSession {
+    type Line = DriveLine;
+
+    ghost grammar = { drive_grammar };
+
+    fn read(line: &[u8]) -> Result<DriveLine, LineFault> {
+        read_line::<DriveWord>(line)
     }
 }

@@ -108,13 +108,9 @@ fn is_traced<H: Host>(rt: &H, story: &str) -> Result<(), Fail> {
 /// What `run` and `core` write for the stories is a trace.
 #[test]
 fn traces_of_stories_are_traces(rt: HostRuntime) -> Result<(), Fail> {
-    for story in RUN.split('#').skip(1) {
-        is_traced(&rt, story)?;
-    }
-    for story in FULL.split('#').skip(1) {
-        is_traced(&rt, story)?;
-    }
-    for story in CORE.split('#').skip(1) {
+    // one text, as in `stories_hold`
+    let stories = format!(in rt.alloc(); "{RUN}{FULL}{CORE}")?;
+    for story in stories.split('#').skip(1) {
         is_traced(&rt, story)?;
     }
     Ok(())

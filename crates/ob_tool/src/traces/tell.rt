@@ -20,7 +20,12 @@ pub trait Teller {
     ghost Tells: { Self → List TraceLine → List ℕ → Type 0 };
 
     /// Adds what it tells of the lines.
-    fn add(&self, alloc: Global, lines: &[TraceLine], text: &mut String) -> Result<(), AllocError>
+    fn push_told(
+        &self,
+        alloc: Global,
+        lines: &[TraceLine],
+        text: &mut String,
+    ) -> Result<(), AllocError>
         requires few { length lines.now ≤ greatest_script }
         ensures { OnOk result ((told : List ℕ) × Tells self.now lines.now told
             × (string_bytes text.new ≡ string_bytes text.old ++ told)) };
@@ -39,7 +44,7 @@ pub fn tell_of_trace<T: Teller, R: Read, W: Write>(
     let script = read_script(alloc, reader, MAX_READS)?;
     let trace = read_trace(alloc, &script)?;
     let mut text = String::new(alloc);
-    teller.add(alloc, &trace.lines, &mut text)?;
+    teller.push_told(alloc, &trace.lines, &mut text)?;
     write_text(&text, writer)?;
     trace.ended
 }

@@ -106,6 +106,16 @@ impl CoreSession {
     }
 }
 
+impl Grammar for CoreSession {
+    type Line = CoreLine;
+
+    ghost grammar = { core_grammar };
+
+    fn read(line: &[u8]) -> Result<CoreLine, LineFault> {
+        read_line::<CoreWord>(line)
+    }
+}
+
 impl Interpreter for CoreSession {
     ghost texts = { λ session. core_texts session.marks };
 
@@ -128,15 +138,5 @@ impl Interpreter for CoreSession {
             Some(world) => push_end(text, world.owed()),
             None => Ok(()),
         }
-    }
-}
-
-impl Grammar for CoreSession {
-    type Line = CoreLine;
-
-    ghost grammar = { core_grammar };
-
-    fn read(line: &[u8]) -> Result<CoreLine, LineFault> {
-        read_line::<CoreWord>(line)
     }
 }

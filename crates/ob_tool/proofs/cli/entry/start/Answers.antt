@@ -4,12 +4,12 @@ use Rattle.ob_tool.proofs.cli.entry.start.Goals as goal
 
 pub returns-in-Err-clause-leaves : goal.returns-in-Err-clause-leaves
 returns-in-Err-clause-leaves g c = record {
-  no_memory = λ status.
-      untraced (g.R.Read.remaining c.args.reader.now) (g.W.Write.contents c.args.writer.now);
   traced = search rules;
   refused = search rules;
   unread = search rules;
   cut_short = search rules;
+  no_memory = λ status.
+      untraced (g.R.Read.remaining c.args.reader.now) (g.W.Write.contents c.args.writer.now);
   undriven = search rules;
 }
 

@@ -1,7 +1,7 @@
 use Rattle.std.proofs.Common.{refl}
 use Rattle.ob_tool.specs.Summary.Text.{summary_text}
 use Rattle.ob_tool.proofs.Lemmas.Results.{OnOk-follows}
-use Rattle.ob_tool.proofs.summary.SummarizerTeller.add.Goals as goal
+use Rattle.ob_tool.proofs.summary.SummarizerTeller.push_told.Goals as goal
 
 pub returns : goal.returns
 returns c =

@@ -5,7 +5,7 @@ use Rattle.ob_tool.specs.Draw.Picture.{picture_pieces}
 use Rattle.ob_tool.specs.Draw.Piece.{piece_text}
 use Rattle.ob_tool.specs.Traces.Line.{shows_bytes}
 use Rattle.ob_tool.proofs.Lemmas.Results.{OnOk-follows}
-use Rattle.ob_tool.proofs.draw.DrawingTeller.add.Goals as goal
+use Rattle.ob_tool.proofs.draw.DrawingTeller.push_told.Goals as goal
 
 pub make_picture-requires : goal.make_picture-requires
 make_picture-requires c =
