@@ -2,20 +2,7 @@
 //! writers of a script, and writes the report.
 #![tactic(auto)]
 
-mod cli;
-mod draw;
-mod drive;
-mod reading;
-mod run;
-mod script_fault;
-mod summary;
-#[cfg(test)]
-mod tests;
-mod traces;
-mod tracing;
-mod turns;
-
-use cli::entry::{entry, refused_words};
+use ob_cli::{entry, refused_words};
 use std::process::ExitCode;
 use std::{env, io};
 

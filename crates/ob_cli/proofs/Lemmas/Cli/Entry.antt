@@ -1,0 +1,71 @@
+-- What the program leaves where a line is faulty, and where memory runs out.
+use Rattle.std.proofs.Common.{◌≡◌, ℕ, List, Option, None, Some, Err, IfSome, append-nil, refl, sym}
+use Rattle.std.specs.Prelude.{IsErrOf}
+use Rattle.std.specs.Io.KnownBytes.{Appends}
+use Rattle.ob_cli.specs.Cli.Entry.{WritesTraceOfFirst, WritesWhole}
+use Rattle.ob_cli.specs.Outcome.{WentThrough, fault_told, status_of}
+use Rattle.ob_cli.specs.Cli.Request.{WritesRequested, requested_fault, requested_trace_of_first}
+use Rattle.ob_cli.specs.declared.reading.fault.LineFault.{LineFault}
+use Rattle.ob_cli.specs.declared.cli.request.Request.{Request}
+use Rattle.ob_cli.specs.declared.cli.request.Request.TheVariants.{Core}
+use Rattle.ob_cli.specs.declared.script_fault.ScriptFault.{ScriptFault}
+use Rattle.ob_cli.specs.declared.script_fault.ScriptFault.TheVariants.{Line, Read, TooLong, Write, NoMemory, Drive}
+
+-- the status 2 comes of a faulty line alone, up to which all is written
+cut_short_at : (request : Request) (fault : ScriptFault) (script : List ℕ) (old new : Option (List ℕ))
+    → status_of fault ≡ 2
+    → (WentThrough {T = Unit {0}} (Err fault)
+    → WritesRequested request script (fault_told {T = Unit {0}} (Err fault)) old new)
+    → (WentThrough {T = Unit {0}} (Err fault) → fault_told {T = Unit {0}} (Err fault) ≡ requested_fault request script)
+    → (told : ℕ × LineFault) × WritesWhole script (Some told) old new
+cut_short_at request (Line number fault) script old new status written told =
+    ((number, fault), (request, written tt, sym (told tt)))
+cut_short_at request Read script old new status written told = absurd cc
+cut_short_at request TooLong script old new status written told = absurd cc
+cut_short_at request Write script old new status written told = absurd cc
+cut_short_at request NoMemory script old new status written told = absurd cc
+cut_short_at request (Drive fault) script old new status written told = absurd cc
+
+-- and so where the script is known
+pub cut_short : (request : Request) (fault : ScriptFault) (read : Option (List ℕ)) (old new : Option (List ℕ))
+    → status_of fault ≡ 2
+    → (WentThrough {T = Unit {0}} (Err fault)
+    → IfSome read (λ script. WritesRequested request script (fault_told {T = Unit {0}} (Err fault)) old new))
+    → (WentThrough {T = Unit {0}} (Err fault)
+    → IfSome read (λ script. fault_told {T = Unit {0}} (Err fault) ≡ requested_fault request script))
+    → IfSome read (λ script. (told : ℕ × LineFault) × WritesWhole script (Some told) old new)
+cut_short request fault None old new status written told = tt
+cut_short request fault (Some script) old new status written told =
+    cut_short_at request fault script old new status written told
+
+-- where no script was read, nothing was written, and that is the trace of no lines
+untraced_at : (script : List ℕ) (held : Option (List ℕ)) → WritesTraceOfFirst script held held
+untraced_at script None = (Core (record { low = 0; high = 0 }), 0, tt)
+untraced_at script (Some bytes) = (Core (record { low = 0; high = 0 }), 0, sym (append-nil bytes))
+
+pub untraced : (read held : Option (List ℕ)) → IfSome read (λ script. WritesTraceOfFirst script held held)
+untraced None held = tt
+untraced (Some script) held = untraced_at script held
+
+-- the status 4 comes of want of memory alone, up to which the trace of some first lines is written
+out_of_memory_at : (request : Request) (fault : ScriptFault) (script : List ℕ) (old new : Option (List ℕ))
+    → status_of fault ≡ 4
+    → (IsErrOf {T = Unit {0}} (Err fault) NoMemory
+    → (count : ℕ) × Appends old new (requested_trace_of_first count request script))
+    → WritesTraceOfFirst script old new
+out_of_memory_at request NoMemory script old new status traced = let told = traced refl in (request, told.0, told.1)
+out_of_memory_at request (Line number fault) script old new status traced = absurd cc
+out_of_memory_at request Read script old new status traced = absurd cc
+out_of_memory_at request TooLong script old new status traced = absurd cc
+out_of_memory_at request Write script old new status traced = absurd cc
+out_of_memory_at request (Drive fault) script old new status traced = absurd cc
+
+-- and so where the script is known
+pub out_of_memory : (request : Request) (fault : ScriptFault) (read : Option (List ℕ)) (old new : Option (List ℕ))
+    → status_of fault ≡ 4
+    → (IsErrOf {T = Unit {0}} (Err fault) NoMemory
+    → IfSome read (λ script. (count : ℕ) × Appends old new (requested_trace_of_first count request script)))
+    → IfSome read (λ script. WritesTraceOfFirst script old new)
+out_of_memory request fault None old new status traced = tt
+out_of_memory request fault (Some script) old new status traced =
+    out_of_memory_at request fault script old new status traced

@@ -1,0 +1,15 @@
+use Rattle.std.proofs.Common.{◌≡◌, take}
+use Rattle.std.specs.Vec.{vec_len}
+use Rattle.ob_seq.specs.Pending.{StandsFor}
+use Rattle.ob_history.specs.Accepted.{accepted_commands}
+use Rattle.ob_cli.specs.Cli.Options.{first_history}
+use Rattle.ob_cli.specs.Drive.More.{lines_of}
+use Rattle.ob_cli.proofs.drive.more.make_lines.Given as goal
+
+abbrev pub invariant-loop-index : goal.invariant-loop-index
+invariant-loop-index l = record {
+  settings : l.buffer.settings ≡ (first_history l.fn.options).settings;
+  stands : StandsFor l.buffer (accepted_commands (take l.index l.records));
+  lines : l.lines.items ≡ lines_of (first_history l.fn.options).settings (take l.index l.records);
+  count : vec_len l.lines ≡ l.index;
+}

@@ -1,0 +1,15 @@
+use Rattle.std.proofs.Common.{take, length}
+use Rattle.ob_cli.specs.Drive.Script.{drive_grammar}
+use Rattle.ob_cli.specs.Drive.Session.{HasKept}
+use Rattle.ob_cli.specs.Reading.Cursor.{StandsAt}
+use Rattle.ob_cli.specs.Reading.Script.{script_lines}
+use Rattle.ob_cli.proofs.drive.read_lines.Given as goal
+
+abbrev pub invariant-loop-cursor : goal.invariant-loop-cursor
+invariant-loop-cursor l = record {
+  kept : HasKept l.session (take l.cursor.count (script_lines drive_grammar l.script));
+  stands : StandsAt drive_grammar l.script l.cursor.count l.cursor.rest.now;
+}
+
+abbrev pub decreases-loop-cursor : goal.decreases-loop-cursor
+decreases-loop-cursor l = length l.cursor.rest.now

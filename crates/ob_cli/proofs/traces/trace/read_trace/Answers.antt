@@ -1,0 +1,18 @@
+use Rattle.std.proofs.Common.{◌≡◌, ◌++◌, ◌∙◌, [], ◌∷◌, ap, refl, rules, sym}
+use Rattle.ob_cli.specs.Traces.Line.{trace_grammar}
+use Rattle.ob_cli.proofs.Lemmas.Reading.Cursor.{read_further}
+use Rattle.ob_cli.proofs.traces.trace.read_trace.Goals as goal
+
+pub loop-cursor-preserved : goal.loop-cursor-preserved
+loop-cursor-preserved c =
+    let inv = c.loop-cursor.invariant in
+    let line = c.in-Ok.line in
+    let further =
+    read_further trace_grammar c.args.trace.now c.loop-cursor.cursor.count c.read.new.self.count line
+    c.read.new.self.rest.now c.in-Ok.ensures.count (c.in-Ok.ensures.placed c.args.trace.now inv.stands refl) in
+    let kept : c.push.new.self.items ≡ c.loop-cursor.lines.items ++ line ∷ [] = c.in_ok-push-in-Ok.ensures.items in
+    record {
+      kept = kept ∙ ap (λ before. before ++ line ∷ []) inv.kept ∙ sym further.0;
+      few = rw kept (search rules);
+      stands = further.1;
+    }

@@ -1,0 +1,162 @@
+ghost use Rattle.std.specs.List.{All};
+ghost use Rattle.std.specs.Prelude.{◌≡◌, ◌≢◌, ◌≤◌, ℕ, codes, false, length, IfSome, IfErr, IsErrOf};
+ghost use Rattle.std.specs.IoError.{error_kind};
+ghost use Rattle.std.specs.Io.KnownBytes.{Appends, Keeps};
+ghost use Rattle.ob_history.specs.History.{most_records};
+ghost use Rattle.ob_history.specs.Legal.{IsLegal};
+ghost use Rattle.ob_cli.specs.Cli.Options.{first_history};
+ghost use Rattle.ob_cli.specs.Outcome.{WentThrough, fault_told, status_of};
+ghost use Rattle.ob_cli.specs.Cli.Request.{WritesRequested, requested_fault, requested_trace_of_first};
+ghost use Rattle.ob_cli.specs.Cli.Entry.{Leaves, status_after};
+
+use crate::cli::command_line::request_of;
+use crate::cli::fault::EntryFault;
+use crate::cli::options::Options;
+use crate::cli::request::Request;
+use crate::draw::draw;
+use crate::drive::more::{summary_of, write_more};
+use crate::drive::{Driven, drive_script};
+use crate::run::run;
+use crate::script_fault::ScriptFault;
+use crate::summary::summary;
+use crate::turns::core;
+use std::alloc::Global;
+use std::convert::AsStr;
+use std::io::{Error, ErrorKind, Read, Write};
+use std::sync::Wait;
+use std::thread::Threads;
+use std::time::Clock;
+
+/// Does all that the program does: reads its words, runs the script that the reader has, writes the trace or the
+/// report, and tells a fault on `errors`. The answer is the status with which the program ends.
+pub fn entry<H: AllocGlobal + Threads + Wait + Clock + Sync, S: AsStr, R: Read, W: Write, E: Write>(
+    rt: &H,
+    words: &[S],
+    reader: &mut R,
+    writer: &mut W,
+    errors: &mut E,
+) -> u8
+    // What is read and written goes by the status; at status 0 nothing is told on `errors` unless `--verbose` asks for it.
+    ensures leaves { Leaves result reader.old reader.new (R.remaining reader.old)
+        (W.contents writer.old) (W.contents writer.new) }
+    ensures quiet { result ≡ 0 → All (λ word. S.text word ≢ codes "--verbose") words.now
+        → Keeps (E.contents errors.old) (E.contents errors.new) }
+    ensures within { result ≤ 5 }
+{
+    match start(rt, words, reader, writer, errors) {
+        Ok(()) => 0,
+        Err(fault) => {
+            print_fault(&fault, errors);
+            fault.status()
+        }
+    }
+}
+
+/// Reads the words, and runs the script.
+fn start<H: AllocGlobal + Threads + Wait + Clock + Sync, S: AsStr, R: Read, W: Write, E: Write>(
+    rt: &H,
+    words: &[S],
+    reader: &mut R,
+    writer: &mut W,
+    errors: &mut E,
+) -> Result<(), EntryFault>
+    ensures quiet { All (λ word. S.text word ≢ codes "--verbose") words.now
+        → Keeps (E.contents errors.old) (E.contents errors.new) }
+    ensures leaves { Leaves (status_after result) reader.old reader.new (R.remaining reader.old)
+        (W.contents writer.old) (W.contents writer.new) }
+{
+    let request = match request_of(rt.alloc(), words) {
+        Ok(request) => request,
+        Err(fault) => return Err(fault),
+    };
+    match carry_out(rt, reader, writer, errors, request, is_verbose(words)) {
+        Ok(()) => Ok(()),
+        Err(fault) => Err(EntryFault::Run(fault)),
+    }
+}
+
+/// Whether one of the words asks for more than the report. `clap` has refused it for all but a drive.
+fn is_verbose<S: AsStr>(words: &[S]) -> bool
+    ensures { All (λ word. S.text word ≢ codes "--verbose") words.now → result ≡ false }
+{
+    for word in words {
+        if word.as_str() == "--verbose" {
+            return true;
+        }
+    }
+    false
+}
+
+/// Does what was asked for, at the end of the script or at its first faulty line with the trace of what was read.
+fn carry_out<H: AllocGlobal + Threads + Wait + Clock + Sync, R: Read, W: Write, E: Write>(
+    rt: &H,
+    reader: &mut R,
+    writer: &mut W,
+    errors: &mut E,
+    request: Request,
+    verbose: bool,
+) -> Result<(), ScriptFault>
+    ensures quiet { verbose ≡ false → Keeps (E.contents errors.old) (E.contents errors.new) }
+    ensures written { WentThrough result → IfSome (R.remaining reader.old) (λ script.
+        WritesRequested request script (fault_told result) (W.contents writer.old) (W.contents writer.new)) }
+    ensures fault { WentThrough result
+        → IfSome (R.remaining reader.old) (λ script. fault_told result ≡ requested_fault request script) }
+    ensures no_memory { IsErrOf result ScriptFault.NoMemory → IfSome (R.remaining reader.old) (λ script.
+        (count : ℕ) × Appends (W.contents writer.old) (W.contents writer.new)
+        (requested_trace_of_first count request script)) }
+    ensures undriven { IfErr result (λ fault. status_of fault ≡ 5
+        → Keeps (W.contents writer.old) (W.contents writer.new)) }
+{
+    match request {
+        Request::Run(options) => run(rt.alloc(), reader, writer, options),
+        Request::Core(marks) => core(rt.alloc(), reader, writer, marks),
+        Request::Drive(options) => {
+            let driven = drive_script(rt, reader, writer, &options)?;
+            if verbose {
+                tell_more(rt.alloc(), &options, &driven, errors);
+            }
+            Ok(())
+        }
+        Request::Summary => summary(rt.alloc(), reader, writer),
+        Request::Draw(marks) => draw(rt.alloc(), reader, writer, marks),
+    }
+}
+
+/// Tells what a drive shows beside its report, or why that can't be told. The report is written by then.
+fn tell_more<E: Write>(alloc: Global, options: &Options, driven: &Driven, errors: &mut E)
+    requires legal { IsLegal (first_history options.now).settings driven.now.report.recorded.records }
+    requires few { length driven.now.report.recorded.records ≤ most_records }
+{
+    let told = match summary_of(alloc, options, driven.report.recorded.records()) {
+        Ok(summary) => write_more(alloc, driven, &summary, errors),
+        Err(_) => Err(ScriptFault::NoMemory),
+    };
+    if let Err(fault) = told {
+        let _ = writeln!(errors, "--verbose: {fault}");
+    }
+}
+
+/// Tells why the words of the command line could not be had, and answers the status with which the program ends: 4 for
+/// want of memory, and else 1.
+pub fn refused_words<E: Write>(error: &Error, errors: &mut E) -> u8
+    ensures no_memory { error_kind error.now ≡ ErrorKind.OutOfMemory → result ≡ 4 }
+    ensures other { ¬ (error_kind error.now ≡ ErrorKind.OutOfMemory) → result ≡ 1 }
+{
+    if error.kind() == ErrorKind::OutOfMemory {
+        let fault = EntryFault::Run(ScriptFault::NoMemory);
+        print_fault(&fault, errors);
+        return fault.status();
+    }
+    let _ = writeln!(errors, "{error}");
+    1
+}
+
+/// Tells a fault in its text and one byte 10. Where that fails there is nobody left to tell.
+fn print_fault<E: Write>(fault: &EntryFault, errors: &mut E) {
+    let _ = match fault {
+        EntryFault::CommandLine(error) => write!(errors, "{error}"),
+        EntryFault::NoSubcommand | EntryFault::BadMarks | EntryFault::Run(_) => {
+            writeln!(errors, "{fault}")
+        }
+    };
+}

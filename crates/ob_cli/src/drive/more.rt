@@ -1,0 +1,141 @@
+//! What `--verbose` tells beside the report.
+
+ghost use Rattle.std.specs.Prelude.{◌≡◌, ◌++◌, ◌≤◌, IfOk, OnOk, length, string_bytes};
+ghost use Rattle.std.specs.Io.KnownBytes.{Appends};
+ghost use Rattle.ob_seq.specs.Pending.{Answers, Follows};
+ghost use Rattle.ob_history.specs.Legal.{IsLegal};
+ghost use Rattle.ob_history.specs.History.{most_records};
+ghost use Rattle.ob_cli.specs.Cli.Options.{first_history};
+ghost use Rattle.ob_cli.specs.Drive.More.{hint_text, lines_of, more_text, shown_with, time_text};
+ghost use Rattle.ob_cli.specs.Summary.Summarizes.{Summarizes};
+
+use crate::cli::options::Options;
+use crate::drive::Driven;
+use crate::script_fault::ScriptFault;
+use crate::summary::make::{Summary, make_summary};
+use crate::summary::text::push_levels;
+use crate::traces::line::{Settled, Told, TraceLine};
+use crate::tracing::text::push_number_line;
+use crate::tracing::write::write_text;
+use ob_history::Record;
+use ob_pool::Report;
+use ob_seq::{Buffer, Look};
+use ob_types::{Command, Refusal, Reply};
+use std::alloc::{AllocError, Global};
+use std::io::Write;
+
+/// What the records of a drive come to, as the lines of a trace.
+pub fn summary_of(
+    alloc: Global,
+    options: &Options,
+    records: &[Record],
+) -> Result<Summary, AllocError>
+    requires legal { IsLegal (first_history options.now).settings records.now }
+    requires few { length records.now ≤ most_records }
+    ensures { IfOk result (λ summary. Summarizes (lines_of (first_history options.now).settings records.now) summary) }
+{
+    let lines = make_lines(alloc, options, records)?;
+    make_summary(alloc, &lines)
+}
+
+/// Writes what a drive shows beside its report.
+pub fn write_more<W: Write>(
+    alloc: Global,
+    driven: &Driven,
+    summary: &Summary,
+    writer: &mut W,
+) -> Result<(), ScriptFault>
+    ensures { OnOk result (Appends (W.contents writer.old) (W.contents writer.new)
+        (more_text driven.now.time driven.now.offers summary.now driven.now.report)) }
+{
+    let mut text = String::new(alloc);
+    push_more(&mut text, driven, summary)?;
+    write_text(&text, writer)
+}
+
+/// The records of a history as the lines of a trace, by a buffer that is given their commands.
+fn make_lines(
+    alloc: Global,
+    options: &Options,
+    records: &[Record],
+) -> Result<Vec<TraceLine>, AllocError>
+    requires legal { IsLegal (first_history options.now).settings records.now }
+    ensures lines { IfOk result (λ lines. lines.items ≡ lines_of (first_history options.now).settings records.now) }
+    ensures few { IfOk result (λ lines. length lines.items ≡ length records.now) }
+{
+    let mut buffer = Buffer::new(alloc, options.marks, options.estimate);
+    let mut lines = Vec::with_capacity(alloc, records.len())?;
+    for index in 0..records.len() {
+        let one = &records[index];
+        let _answer = give(&mut buffer, one.command.copy()?)?;
+        lines.push(shown_with(&one.reply, buffer.look()))?;
+    }
+    Ok(lines)
+}
+
+/// Gives a buffer one command, whose answer is in the history.
+fn give(buffer: &mut Buffer, command: Command) -> Result<Result<Reply, Refusal>, AllocError>
+    ensures settings { buffer.new.settings ≡ buffer.old.settings }
+    ensures answer { IfOk result (λ answer. Answers buffer.old command answer) }
+    ensures stands { IfOk result (λ answer. Follows buffer.old command answer buffer.new) }
+{
+    match buffer.apply(command) {
+        Err(Refusal::NoMemory) => Err(AllocError),
+        answer => Ok(answer),
+    }
+}
+
+/// A record with the look behind it, as a line of a trace.
+fn shown_with(reply: &Result<Reply, Refusal>, look: Look) -> TraceLine
+    ensures { result ≡ shown_with reply.now look }
+{
+    let (told, change) = match reply {
+        Ok(reply) => (Told::Accepted, reply.change),
+        Err(refusal) => (Told::Refused(refusal.number()), None),
+    };
+    TraceLine {
+        told,
+        total: look.total,
+        is_writable: look.word == 0,
+        change,
+        settled: Settled {
+            success: 0,
+            failed: 0,
+            cancelled: 0,
+        },
+    }
+}
+
+/// Adds what a drive shows beside its report.
+fn push_more(text: &mut String, driven: &Driven, summary: &Summary) -> Result<(), AllocError>
+    ensures { OnOk result (string_bytes text.new ≡ string_bytes text.old
+        ++ more_text driven.now.time driven.now.offers summary.now driven.now.report) }
+{
+    push_time(text, driven.time)?;
+    push_number_line(text, "passes", driven.offers.passes)?;
+    push_number_line(text, "stalls", driven.offers.stalls)?;
+    push_levels(text, summary)?;
+    push_hint(text, &driven.report)
+}
+
+/// Adds the line of how long the threads were at work, in milliseconds.
+fn push_time(text: &mut String, time: Option<u64>) -> Result<(), AllocError>
+    ensures { OnOk result (string_bytes text.new ≡ string_bytes text.old ++ time_text time) }
+{
+    match time {
+        None => Ok(()),
+        Some(time) => push_number_line(text, "milliseconds", time),
+    }
+}
+
+/// Adds a hint if a promise is left and nothing was flushed.
+fn push_hint(text: &mut String, report: &Report) -> Result<(), AllocError>
+    ensures { OnOk result (string_bytes text.new ≡ string_bytes text.old ++ hint_text report.now) }
+{
+    if report.left > 0 && report.flushes == 0 {
+        return text.push_str(
+            "hint: nothing was flushed, so nothing was sent; a line `f W` has writer W flush\n",
+        );
+    }
+    Ok(())
+}

@@ -1,0 +1,18 @@
+//! What the program `ob_tool` does, as a library: it reads the words, runs the script, and writes the trace or the report.
+//! The program has `main` alone, so this can be proved, and tested, apart from it.
+#![tactic(auto)]
+
+mod cli;
+mod draw;
+mod drive;
+mod reading;
+mod run;
+mod script_fault;
+mod summary;
+mod traces;
+mod tracing;
+mod turns;
+
+pub use cli::entry::{entry, refused_words};
+pub use reading::script::read_script;
+pub use script_fault::ScriptFault;

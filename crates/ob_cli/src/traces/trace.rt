@@ -1,0 +1,61 @@
+ghost use Rattle.std.specs.Prelude.{◌≡◌, ◌≤◌, IfOk, length};
+ghost use Rattle.ob_cli.specs.Outcome.{WentThrough, fault_told};
+ghost use Rattle.ob_cli.specs.Reading.Script.{greatest_script, script_fault, script_lines};
+ghost use Rattle.ob_cli.specs.Traces.Line.{trace_grammar};
+
+use crate::reading::cursor::Cursor;
+use crate::reading::fault::LineFault;
+use crate::reading::grammar::Grammar;
+use crate::script_fault::ScriptFault;
+use crate::traces::line::TraceLine;
+use crate::traces::read::read_trace_line;
+use std::alloc::{AllocError, Global};
+
+/// What was read of a trace.
+#[derive(Drop)]
+pub struct Trace {
+    /// Its lines up to the first that is of no trace.
+    pub lines: Vec<TraceLine>,
+    /// The fault of that one, if there is one.
+    pub ended: Result<(), ScriptFault>,
+}
+
+/// The grammar of traces.
+struct OfTraces;
+
+impl Grammar for OfTraces {
+    type Line = TraceLine;
+
+    ghost grammar = { trace_grammar };
+
+    fn read(line: &[u8]) -> Result<TraceLine, LineFault> {
+        read_trace_line(line)
+    }
+}
+
+/// Reads the lines of a trace up to the first that is of none.
+pub fn read_trace(alloc: Global, trace: &[u8]) -> Result<Trace, AllocError>
+    requires small { length trace.now ≤ greatest_script }
+    ensures lines { IfOk result (λ read. read.lines.items ≡ script_lines trace_grammar trace.now) }
+    ensures few { IfOk result (λ read. length read.lines.items ≤ greatest_script) }
+    ensures through { IfOk result (λ read. WentThrough read.ended) }
+    ensures fault { IfOk result (λ read. fault_told read.ended ≡ script_fault trace_grammar trace.now) }
+{
+    let mut lines = Vec::new(alloc);
+    let mut cursor = Cursor::new(trace);
+    while !cursor.is_at_end() {
+        match cursor.read::<OfTraces>() {
+            Ok(line) => lines.push(line)?,
+            Err(fault) => {
+                return Ok(Trace {
+                    lines,
+                    ended: Err(fault),
+                });
+            }
+        }
+    }
+    Ok(Trace {
+        lines,
+        ended: Ok(()),
+    })
+}

@@ -1,0 +1,231 @@
+//! What the program tells of its command line, in place of reading a script, and the texts of faults.
+
+use crate::tests::play::{Host, left};
+use ob_core::{AskFault, WorldFault};
+use std::test::Fail;
+
+/// Gives the program words that end it before it reads, and answers its status and what it told.
+fn told<H: Host>(rt: &H, words: &str) -> Result<String, Fail> {
+    let mut unread = b"f\n".as_slice();
+    let told = left(rt, words, &mut unread)?;
+    assert_eq!(rt; unread.len(), 2, "{words}");
+    Ok(told)
+}
+
+static WHOLE: [(&str, &str); 5] = [
+    ("ob_tool run --low 5 --high 4", "status 1: bad marks\n"),
+    ("ob_tool core --low 5 --high 4", "status 1: bad marks\n"),
+    ("ob_tool drive --low 5 --high 4", "status 1: bad marks\n"),
+    ("ob_tool draw --low 5 --high 4", "status 1: bad marks\n"),
+    ("ob_tool --version", "status 1: ob_tool 0.1.0\n"),
+];
+
+#[test]
+fn tells_bad_marks_and_the_version(rt: HostRuntime) -> Result<(), Fail> {
+    for (words, text) in WHOLE {
+        assert_eq!(rt; told(&rt, words)?.as_str(), text, "{words}");
+    }
+    Ok(())
+}
+
+/// Command lines that are refused, parted by bars. The first has no word.
+static REFUSED: &str = "\
+|ob_tool|ob_tool --low 1|ob_tool walk|ob_tool run more|ob_tool run --low|ob_tool run --low ten|ob_tool run --low -1\
+|ob_tool run --low 2147483648|ob_tool run --high 2147483648|ob_tool run --overhead 65536|ob_tool run --unknown 65536\
+|ob_tool run --limit 0|ob_tool run --limit 1048577|ob_tool run --task 1|ob_tool core --limit 3|ob_tool core --task 1\
+|ob_tool core --low 2147483648|ob_tool drive --task 65536|ob_tool drive --limit 0|ob_tool summary --low 1\
+|ob_tool summary more|ob_tool run --verbose|ob_tool drive --verbose 1|ob_tool draw --limit 3|ob_tool draw --high 2147483648";
+
+/// Command lines that ask for help or the version.
+static ASKING: &str = "\
+ob_tool --help|ob_tool run --help|ob_tool drive --help|ob_tool summary --help|ob_tool help|ob_tool help core|\
+ob_tool --version";
+
+/// A refusal is told as an error. Each text ends with one byte 10.
+#[test]
+fn refuses_command_lines(rt: HostRuntime) -> Result<(), Fail> {
+    for (begin, rows) in [("status 1: error: ", REFUSED), ("status 1: ", ASKING)] {
+        for words in rows.split('|') {
+            let text = told(&rt, words)?;
+            let ends = text.ends_with("\n") && !text.ends_with("\n\n");
+            assert!(rt; text.starts_with(begin) && ends, "{words}: {text}");
+        }
+    }
+    Ok(())
+}
+
+/// All lines of a help, behind its status. Of a line with two dots only what is before them is given, and a bar parts
+/// two lines.
+static HELP_OF_RUN: &str = "\
+status 1: Reads a script from standard input, and writes one line for each of its lines to standard output
+
+Usage: ob_tool run [OPTIONS]
+
+Options:
+      --low <BYTES>       Writers may go on once fewer bytes than this are pending (32768 where it is not given)
+      --high <BYTES>      Writers should stop once more bytes than this are pending (65536 where it is not given)
+      --overhead <BYTES>  Bytes that each message counts beside its own (96 where it is not given)
+      --unknown <BYTES>   Bytes that a message of unknown size counts (8 where it is not given)
+      --limit <RECORDS>   Commands that are recorded, 1 to 1048576; further ones are refused (1048576 where it is not given)
+  -h, --help              Print help
+
+The script comes on standard input. Its lines end with the byte 10 alone, one space parts two words:
+  ob_tool run --low 200 --high 400 < FILE
+
+Lines of a script:|  b N     write a block of N bytes, at most 1048576|  r N  ..|  o N  ..|  f  ..|  rm  ..|  rc C  ..
+  rb N  ..|  p N  ..|  x ID  ..|  fl C V  ..|  cl C  ..|  u I V  ..
+  m L H   set the low mark L and the high mark H, both at most 2147483647; no bit moves before the next rise or fall
+  ?  ..
+  g C N   gather at most C blocks, 1 to 1024, of together at most N bytes, 1 to 2147483647
+Where no range stands here, the N of r, rb and p go up to 18446744073709551615, I up to 255, and all else up to
+4294967295.
+
+Each line gives one line on standard output; ANSWER t=T w=W CHANGE SETTLEMENTS for a command:
+  ANSWER  ..|               to cancel, `ok`, or `!R` where it is refused|  t=T w=W  ..|  CHANGE  ..|  SETTLEMENTS  ..
+A look gives size=S cur=P bu=X bw=Y t=T w=W: ..|the buffer unwritable, Y bytes fewer writable. A gathering gives g, ..
+
+A refused command changes nothing. The numbers R of `!R`:|  1 the message is too long  ..|  5 nothing is flushed  ..
+  8 no user bit (1 to 31)  ..|  11 as many commands as --limit says are recorded
+
+Faults of a line, told as `line N: fault F`:|  1  its first word is none of these
+  2  a word in a number's place is no number|  3  a number is out of its range|  4  too few words follow the first
+  5  too many words follow the first|  6  it has more than 200 bytes
+  7  a low mark above the high mark
+
+Faults, and help and the version where they are asked for, go to standard error.
+Status: 0 done, 1 the command line (help and the version too), 2 a line, 3 reading or writing, 4 memory
+What each fault means, what is kept then and what to do is in docs/FAULTS.md.";
+
+static HELP_OF_CORE: &str = "\
+status 1: Reads a script of lanes and turns from standard input, ..
+
+Usage: ob_tool core [OPTIONS]
+
+Options:|      --low <BYTES>   Writers may ..|      --high <BYTES>  Writers should ..|  -h, --help          Print help
+
+The script comes ..|  ob_tool core --low 50 --high 100 < FILE
+
+Lines of a script, ..|  lane R B  a lane with room R, which holds the bits of the mask B|  c L N  ..|  d L  ..
+  u L I V  ..|  w L  ..|  t L  ..|  k L  ..|I goes up to 255, and all else up to 4294967295.
+
+Each line gives one line on standard output; `lane K` for a lane, EVENT t=T w=W CHANGE for a turn:
+  EVENT  ..|           came below low; ..|           discharge; ..|  t=T w=W  ..|  CHANGE  ..|The last line is ..
+
+The numbers F of `!F`:|  1 no such lane  ..|  4 the lane owes nothing  ..
+
+Faults of a line, ..|  1  ..|  2  ..|  3  ..|  4  ..|  5  ..|  6  it has more than 200 bytes
+  7  a lane behind a turn, a turn before the first lane, ..|     another holds, ..
+
+Faults, and help ..|Status: 0 done, 1 the command line (help and the version too), ..|What each fault means, ..";
+
+static HELP_OF_DRIVE: &str = "\
+status 1: Reads a script of writers from standard input, runs them in threads, ..
+
+Usage: ob_tool drive [OPTIONS]
+
+Options:|      --low <BYTES>       ..|      --high <BYTES>      ..|      --overhead <BYTES>  ..
+      --unknown <BYTES>   ..|      --limit <RECORDS>   ..
+      --task <BYTES>      Bytes that a message counts beside its own while it is handed over (32 where it is not given)
+      --verbose           Tells on standard error how long it took, what was pending and how often the sink was asked
+  -h, --help              Print help
+
+The script comes ..|  ob_tool drive < FILE
+
+It loads one buffer as a server does, to see that nothing is lost: ..|thread of its own, ..|goes on with those that it has.
+
+Lines of a script; ..|  b W N K  writer W writes K blocks, 1 to 1024, of N bytes, at most 1048576|  r W N  ..
+  o W N  ..|  f W  ..|  x W ID  ..|  u W I V  ..|  m W L H  ..|           handed over ..
+  take N  ..|  fail C  ..|  then N  ..|  turns N  ..|The N of r ..
+
+All lines are read first. ..|  writes, flushes, cancels, bits  ..|  taken  ..|  success, failed, cancelled, left ..
+  hand  ..
+
+With --verbose standard error gets these too; ..|  milliseconds N  ..|  passes N  ..|  stalls N  ..|  peak T at line L  ..
+  stops N, goes N  ..|  unwritable N from line L  ..|  pending T  ..|and a hint if ..
+
+Faults of a drive, told as `drive: fault N`; ..|  1 there is no writer  ..|  6 as many commands as --limit says ..
+
+Faults of a line, ..|  1  ..|  2  ..|  3  ..|  4  ..|  5  ..|  6  it has more than 200 bytes
+  7  a second `then`, or a second `turns`, or a low mark above the high mark
+
+Faults, and help ..
+Status: 0 done, 1 the command line (help and the version too), 2 a line, 3 reading or writing, 4 memory, 5 the drive
+What each fault means, what is kept then and what to do is in docs/FAULTS.md.";
+
+static HELP_OF_SUMMARY: &str = "\
+status 1: Reads a trace of run or of core from standard input, and counts what it shows
+
+Usage: ob_tool summary
+
+Options:|  -h, --help  Print help
+
+The trace comes on standard input, ..|  ob_tool summary < TRACE
+
+Standard output gets these lines; ..|  lines N  ..|  accepted N  ..|  refused N !R:N ..  ..|  peak T at line L  ..
+  stops N  ..|  goes N  ..|  unwritable N from line L  ..|  pending T  ..|  success N, failed N, cancelled N
+                            promises ..|The numbers R are in the help of run and of core.
+
+A line that is of no trace is told as ..|counted and told ..
+Status: 0 done, 1 the command line (help too), 2 a line, 3 reading or writing, 4 memory|What each fault means, ..";
+
+static HELP_OF_DRAW: &str = "\
+status 1: Reads a trace of run or of core from standard input, and draws it as a picture, an SVG
+
+Usage: ob_tool draw [OPTIONS]
+
+Options:|      --low <BYTES>   Writers may ..|      --high <BYTES>  Writers should ..|  -h, --help          Print help
+
+The trace comes on standard input, ..|  ob_tool draw --low 200 --high 400 < TRACE > PICTURE.svg
+
+The picture has ..|stopped are shaded; ..|told them to go on. ..
+
+A line that is of no trace is told as ..|drawn all the same. ..
+Status: 0 done, 1 the command line (help too), 2 a line, 3 reading or writing, 4 memory|What each fault means, ..";
+
+/// Asks the program for help, and compares each line of it.
+fn tells_help<H: Host>(rt: &H, words: &str, wanted: &str) -> Result<(), Fail> {
+    let help = told(rt, words)?;
+    let mut lines = help.lines();
+    for part in wanted.split(['\n', '|']) {
+        let line = lines.next().unwrap_or("no line");
+        let holds = match part.strip_suffix("..") {
+            Some(begin) => line.starts_with(begin),
+            None => line == part,
+        };
+        assert!(rt; holds, "{words}: {part}: {line}");
+    }
+    assert_eq!(rt; lines.next(), None, "{words}");
+    Ok(())
+}
+
+#[test]
+fn tells_each_help(rt: HostRuntime) -> Result<(), Fail> {
+    tells_help(&rt, "ob_tool run --help", HELP_OF_RUN)?;
+    tells_help(&rt, "ob_tool run -h", HELP_OF_RUN)?;
+    tells_help(&rt, "ob_tool core --help", HELP_OF_CORE)?;
+    tells_help(&rt, "ob_tool drive --help", HELP_OF_DRIVE)?;
+    tells_help(&rt, "ob_tool summary --help", HELP_OF_SUMMARY)?;
+    tells_help(&rt, "ob_tool draw --help", HELP_OF_DRAW)
+}
+
+static FAULTS: &str = "\
+there is no such lane|the charge is above the room of the lane|the lane owes a charge already|\
+the lane owes nothing|the lane does not hold the bit|the lane is in the middle of no call|\
+a world has 1 to 64 lanes|the rooms of the lanes add up to more than 4294967295|\
+a bit is held twice, or bit 0 is held|out of memory|";
+
+#[test]
+fn texts_of_faults(rt: HostRuntime) -> Result<(), Fail> {
+    use AskFault::{NoRoom, NotHeld, NotInside, NotOwing, Owing, UnknownLane};
+    use WorldFault::{BadCount, BitsTwice, NoMemory, TooMuchRoom};
+
+    let mut texts = String::new(rt.alloc());
+    for fault in [UnknownLane, NoRoom, Owing, NotOwing, NotHeld, NotInside] {
+        write!(texts, "{fault}|")?;
+    }
+    for fault in [BadCount, TooMuchRoom, BitsTwice, NoMemory] {
+        write!(texts, "{fault}|")?;
+    }
+    assert_eq!(rt; texts.as_str(), FAULTS);
+    Ok(())
+}

@@ -1,6 +1,0 @@
-use Rattle.std.proofs.Common.{◌≡◌, take}
-use Rattle.ob_tool.specs.Drive.Script.{writers_in}
-use Rattle.ob_tool.proofs.drive.plans.count_writers.Given as goal
-
-abbrev pub invariant-loop-line : goal.invariant-loop-line
-invariant-loop-line l = l.count ≡ writers_in (take l.line-index l.lines)

@@ -1,7 +1,0 @@
-use Rattle.std.proofs.Common.{◌≡◌, map}
-use Rattle.std.specs.List.{range_with_len}
-use Rattle.ob_tool.specs.Drive.Script.{plan_of}
-use Rattle.ob_tool.proofs.drive.plans.make_plans.Given as goal
-
-abbrev pub invariant-loop-writer : goal.invariant-loop-writer
-invariant-loop-writer l = l.plans.items ≡ map (plan_of l.lines) (range_with_len 0 l.writer)

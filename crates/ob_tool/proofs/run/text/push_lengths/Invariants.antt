@@ -1,8 +1,0 @@
-use Rattle.std.proofs.Common.{◌≡◌, ◌++◌, take, string_bytes}
-use Rattle.std.specs.List.{flat_map}
-use Rattle.ob_tool.specs.Run.Text.{length_text}
-use Rattle.ob_tool.proofs.run.text.push_lengths.Given as goal
-
-abbrev pub invariant-loop-block : goal.invariant-loop-block
-invariant-loop-block l = string_bytes l.text ≡ string_bytes l.initial.text
-    ++ flat_map length_text (take l.block-index l.blocks)
