@@ -14,5 +14,6 @@ mod tracing;
 mod turns;
 
 pub use cli::entry::{entry, refused_words};
+pub use reading::fault::LineFault;
 pub use reading::script::read_script;
 pub use script_fault::ScriptFault;
