@@ -43,6 +43,16 @@ impl Settlements {
         }
     }
 
+    /// No settlement, with room for as many. It fails for want of memory alone, and not for up to four.
+    pub fn with_room(alloc: Global, count: u32) -> Result<Settlements, AllocError>
+        ensures none { IfOk result (λ settled. settled ≡ []) }
+        ensures succeeds { count ≤ inline_settlements → IsOk result }
+    {
+        Ok(Settlements {
+            list: SmallVec::with_capacity(alloc, count as usize)?,
+        })
+    }
+
     /// One settlement. It takes no memory.
     pub fn one(alloc: Global, id: PromiseId, outcome: Outcome) -> Settlements
         ensures { result ≡ (id, outcome) ∷ [] }

@@ -1,7 +1,7 @@
 -- Entries, as the code keeps them and as contracts see them.
 use Rattle.ob_seq.proofs.Words.{[], ◌≡◌, ℕ, ◌+◌, ◌<◌, List, ◌∷◌, length, map, take, drop, get_or, refl, sym, ap, ◌∙◌, sum_by}
 use Rattle.ob_seq.proofs.Words.{take-append-drop, sum_by-append, sum_by-cons, Entry, PendingEntry, pending_entry}
-use Rattle.ob_seq.proofs.Words.{Bool, true, false, not, ◌&&◌, none_taken_back, drop, arith, pending_entries, counted, Outcome, Unsent, whole, pending_total}
+use Rattle.ob_seq.proofs.Words.{true, false, none_taken_back, drop, arith, pending_entries, counted, Outcome, Unsent, whole, pending_total}
 use Rattle.std.proofs.lemmas.List.{get_or-map, drop_more}
 
 -- what is counted of entries as contracts see them is counted of them as the code keeps them

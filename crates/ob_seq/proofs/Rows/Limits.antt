@@ -2,7 +2,7 @@
 use Rattle.ob_seq.proofs.Words.{◌≡◌, ◌≤◌, ◌<◌, ℕ, zero, suc, Bool, true, false, List, [], ◌∷◌, ◌++◌, length, map, refl}
 use Rattle.ob_seq.proofs.Words.{ap, arith, length-append, Some, None, AllByRecursion, nat_tests, sum_by-cons}
 use Rattle.ob_seq.proofs.Words.{sum_by_push, take_while-cons, is_block, counted_bytes, Command, Write, RemoveBytes}
-use Rattle.ob_seq.proofs.Words.{Close, Estimate, Settings, is_accepted, are_accepted, first_refusal, refusal_of}
+use Rattle.ob_seq.proofs.Words.{Close, Estimate, Settings, is_accepted, are_accepted}
 use Rattle.ob_seq.proofs.Words.{block_bytes, byte_run, effect, rows_after, is_in_line, line, bytes_in, Row, new_row}
 use Rattle.ob_seq.proofs.Words.{unread_part, counted_size, total, writes_in, Outcome, Settled, closed_row, is_close}
 use Rattle.ob_seq.proofs.Words.{is_closed, promise_at}

@@ -8,6 +8,9 @@ use bytes::Bytes;
 use ob_types::{Message, Refusal};
 use std::alloc::AllocError;
 
+/// For how many blocks a list has room from its first one on.
+const FIRST_ROOM: usize = 16;
+
 impl Contents {
     /// The blocks in front that `Buffer::gather` gives. It takes memory for the list alone.
     pub fn gather(&self, max_count: u32, max_bytes: u32) -> Result<Vec<Bytes>, Refusal>
@@ -36,11 +39,16 @@ impl Contents {
     }
 }
 
-/// Adds a block that shares its memory with this one.
+/// Adds a block that shares its memory with this one. With the first comes room for some more, so that a list of usual
+/// length is not moved while it grows.
 fn push_copy(gathered: &mut Vec<Bytes>, bytes: &Bytes) -> Result<(), AllocError>
     ensures { OnOk result (gathered.new.items ≡ gathered.old.items ++ bytes.now ∷ []) }
 {
-    Ok(gathered.push(bytes.clone()?)?)
+    let copy = bytes.clone()?;
+    if gathered.is_empty() {
+        gathered.reserve(FIRST_ROOM)?;
+    }
+    Ok(gathered.push(copy)?)
 }
 
 /// Whether one more block goes along with so many others, which left this much room: the first does in any case.

@@ -93,7 +93,7 @@ impl Whole {
     }
 
     /// How many of the first so many in line were not voided.
-    fn unvoided(&self, count: usize) -> u32
+    pub(crate) fn unvoided(&self, count: usize) -> u32
         requires { count ≤ length self.now.line }
         ensures { result ≡ count_by (λ entry. not entry.voided) (take count self.now.line) }
     {

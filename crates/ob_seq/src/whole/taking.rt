@@ -26,7 +26,7 @@ impl Whole {
             ≤ inline_settlements → IsOk result }
     {
         let first = self.front_id();
-        let mut settled = self.no_settlements();
+        let mut settled = Settlements::with_room(self.contents.allocator(), self.unvoided(count))?;
         for place in 0..count {
             if !self.is_voided(place) {
                 settled.push(PromiseId((first + place) as u32), outcome)?;

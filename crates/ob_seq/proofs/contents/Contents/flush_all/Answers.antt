@@ -1,4 +1,4 @@
-use Rattle.ob_seq.proofs.Words.{◌≡◌, ◌≤◌, length, ap, ◌∙◌, arith, Settings, Unsent, take, drop, take-append-drop, take_all}
+use Rattle.ob_seq.proofs.Words.{◌≤◌, length, ap, ◌∙◌, arith, Settings, Unsent, take, drop, take-append-drop, take_all}
 use Rattle.ob_seq.proofs.Words.{drop_all, whole, next_flushed, times}
 use Rattle.ob_seq.proofs.Inside.States.{all_fixed}
 use Rattle.ob_seq.proofs.contents.Contents.flush_all.Goals as goal

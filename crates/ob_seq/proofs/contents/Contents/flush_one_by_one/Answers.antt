@@ -1,5 +1,5 @@
-use Rattle.ob_seq.proofs.Words.{◌≡◌, ℕ, ◌-◌, [], List, length, refl, sym, ap, ◌∙◌, arith, length-map, Pending, Unsent, whole}
-use Rattle.ob_seq.proofs.Words.{Entry, next_flushed, times, unreached_entry, drop, Outcome}
+use Rattle.ob_seq.proofs.Words.{◌≡◌, ℕ, ◌-◌, [], List, length, refl, ap, ◌∙◌, arith, length-map, Pending, Unsent, whole}
+use Rattle.ob_seq.proofs.Words.{Entry, next_flushed, times, unreached_entry, drop}
 use Rattle.std.proofs.lemmas.List.{nil_from_length}
 use Rattle.ob_seq.proofs.Inside.Times.{unflushed_left}
 use Rattle.ob_seq.proofs.contents.Contents.flush_one_by_one.Goals as goal

@@ -1,8 +1,14 @@
 use Rattle.ob_seq.proofs.Words.{◌≡◌, ◌<◌, [], true, false, length, get_or, refl, sym, ap, ◌∙◌, append-nil, arith, PendingEntry, Block}
-use Rattle.ob_seq.proofs.Words.{front_id}
-use Rattle.ob_seq.proofs.Inside.EntrySettlements.{entries_settle, settled_more, settled_room}
+use Rattle.ob_seq.proofs.Words.{front_id, take}
+use Rattle.ob_seq.proofs.Inside.EntrySettlements.{count_of_settlements, entries_settle, settled_more, settled_room}
 use Rattle.ob_seq.proofs.whole.Whole.settlements.Goals.{then-not-is_voided+in_ok-push, else-not-is_voided}
 use Rattle.ob_seq.proofs.whole.Whole.settlements.Goals as goal
+
+pub returns-in_err-settled-clause-frugal : goal.returns-in_err-settled-clause-frugal
+returns-in_err-settled-clause-frugal c few =
+    let count = count_of_settlements c.args.outcome (front_id c.args.self.now) (take c.args.count c.args.self.now.line) in
+    let wrong : false ≡ true = c.in_err-settled.ensures.succeeds (omega (arith, c.unvoided.ensures, count, few)) in
+    absurd (cc)
 
 none : PendingEntry
 none = record { message = Block []; size = 0; progress = 0; voided = false }
