@@ -1,13 +1,13 @@
 ghost use Rattle.std.specs.List.{concat};
-ghost use Rattle.std.specs.Prelude.{◌≡◌, ◌<◌, ◌≤◌, ◌+◌, ◌-◌, ◌^◌, drop, length, min, take, IfErr, IfOk, IsErrOf, OnErr};
-ghost use Rattle.std.specs.Prelude.{OnOk};
+ghost use Rattle.std.specs.Prelude.{◌≡◌, ◌<◌, ◌≤◌, ◌+◌, ◌-◌, ◌^◌, ◌++◌, drop, length, min, take, IfErr, IfOk, IsErrOf, OnErr};
+ghost use Rattle.std.specs.Prelude.{OnOk, vec_len};
 ghost use Rattle.ob_transport.specs.Content.{with_failure, with_more_bytes, with_more_units};
 ghost use Rattle.ob_transport.specs.Asking.{OfBytes, OfUnits};
 ghost use Rattle.ob_transport.specs.Script.{Plays, new_script, next_step, with_step_used};
 
 use crate::sink::{Sink, SinkFault};
 use bytes::Bytes;
-use std::alloc::{AllocError, Global};
+use std::alloc::AllocError;
 use std::marker::Model;
 
 /// The number of the fault that stands for want of memory.
@@ -118,24 +118,28 @@ impl ScriptSink {
         }) }
         ensures refused { OnErr result (self.new ≡ self.old) }
     {
-        let first = beginning(*self.taken.allocator(), blocks, most)?;
-        self.taken.extend_from_slice(&first)?;
-        Ok(first.len())
+        let before = self.taken.len();
+        if let Err(error) = push_beginning(&mut self.taken, blocks, most) {
+            self.taken.truncate(before);
+            return Err(error);
+        }
+        Ok(self.taken.len() - before)
     }
 }
 
-/// At most so many bytes of the beginning of blocks.
-fn beginning(alloc: Global, blocks: &[Bytes], most: u64) -> Result<Vec<u8>, AllocError>
-    ensures { IfOk result (λ bytes. bytes.items ≡ take most (concat blocks.now)) }
+/// Adds at most so many bytes of the beginning of blocks. If memory is refused, some of them may stand there.
+fn push_beginning(bytes: &mut Vec<u8>, blocks: &[Bytes], most: u64) -> Result<(), AllocError>
+    ensures added { OnOk result (bytes.new.items ≡ bytes.old.items ++ take most (concat blocks.now)) }
+    ensures before { take (vec_len bytes.old) bytes.new.items ≡ bytes.old.items }
+    ensures longer { vec_len bytes.old ≤ vec_len bytes.new }
 {
-    let mut bytes = Vec::new(alloc);
     let mut left = most;
     for block in blocks {
         let count = left.min(block.len() as u64);
         bytes.extend_from_slice(&block.as_slice()[..count as usize])?;
         left -= count;
     }
-    Ok(bytes)
+    Ok(())
 }
 
 impl Sink for ScriptSink {
