@@ -1,6 +1,6 @@
 -- One more call of a stored history.
-use Rattle.std.specs.Prelude.{ℕ, ◌-◌, ◌<◌, ◌≤◌, ◌≡◌, ◌==◌, Bool, false, [], ◌∷◌, ◌++◌, length, if◌then◌else◌, Result}
-use Rattle.std.specs.Prelude.{Ok, Err, IsErrOf, IsOk, OnErr}
+use Rattle.std.specs.Prelude.{ℕ, ◌-◌, ◌<◌, ◌≤◌, ◌≡◌, ◌==◌, Bool, true, false, [], ◌∷◌, ◌++◌, length, if◌then◌else◌, Result}
+use Rattle.std.specs.Prelude.{Ok, Err, IsErrOf, IsOk, IsOkUnless, OnErr}
 use Rattle.ob_types.specs.Limits.{inline_settlements}
 use Rattle.ob_types.specs.Write.{is_write}
 use Rattle.ob_types.specs.declared.command.Command.{Command}
@@ -54,5 +54,15 @@ pub record IsCall (old : History) (caller : ℕ) (command : Command) (result : R
   pub answer : ¬ IsErrOf result NoMemory → result ≡ call_answer old caller command
   pub after : ¬ IsErrOf result NoMemory → new ≡ history_after old caller command
   pub no_memory_last : IsErrOf result NoMemory → is_full old ≡ false
+  pub frugal : IsCovered old command → IsOk result
+  pub refused : OnErr result (new ≡ old)
+
+-- one more call of a history whose receipt nobody asks for: a full history is refused, and any other has its record unless
+-- memory is wanted, which a covered call does not; what is refused leaves the history as it was
+pub record IsRecording (old : History) (caller : ℕ) (command : Command) (result : Result (Unit {0}) Refusal) (new : History)
+    : Type 0 where
+  pub full : is_full old ≡ true → IsErrOf result HistoryFull
+  pub no_memory : is_full old ≡ false → IsOkUnless result NoMemory
+  pub after : ¬ IsErrOf result NoMemory → new ≡ history_after old caller command
   pub frugal : IsCovered old command → IsOk result
   pub refused : OnErr result (new ≡ old)

@@ -10,7 +10,7 @@ pub use Rattle.ob_seq.specs.Settles.{times_settled}
 pub use Rattle.ob_seq.specs.Writes.{writes_in}
 pub use Rattle.ob_history.specs.Accepted.{accepted_commands, is_accepted}
 pub use Rattle.ob_history.specs.Beginning.{IsBeginning}
-pub use Rattle.ob_history.specs.Call.{IsCall, history_after, next_record}
+pub use Rattle.ob_history.specs.Call.{IsCall, IsRecording, history_after, next_record}
 pub use Rattle.ob_history.specs.First.{IsFirstBreak}
 pub use Rattle.ob_history.specs.Glance.{glance_after}
 pub use Rattle.ob_history.specs.History.{History, IsBounded, IsReservation, new_history}

@@ -1,5 +1,5 @@
 ghost use Rattle.std.specs.Prelude.{◌≡◌, ℕ};
-ghost use Rattle.ob_history.specs.Call.{IsCall};
+ghost use Rattle.ob_history.specs.Call.{IsCall, IsRecording};
 ghost use Rattle.ob_history.specs.History.{History, IsReservation};
 ghost use Rattle.ob_history.specs.Legal.{IsBufferOf};
 
@@ -27,6 +27,16 @@ pub trait Booked {
         ensures is_call { IsCall (history self.old) (caller self.old) command result (history self.new) }
         ensures caller { caller self.new ≡ caller self.old };
 
+    /// Makes a call whose receipt nobody asks for, as `Recorded::record`. One that keeps receipts keeps this one without a
+    /// copy. Our own.
+    fn record(&mut self, command: Command) -> Result<(), Refusal>
+        ensures is_recording { IsRecording (history self.old) (caller self.old) command result (history self.new) }
+        ensures caller { caller self.new ≡ caller self.old }
+    {
+        self.call(command)?;
+        Ok(())
+    }
+
     /// Reserves so many calls, as `Recorded::reserve`.
     fn reserve(&mut self, count: u32) -> Result<(), Refusal>
         ensures is_reservation { IsReservation (history self.old) count result (history self.new) }
@@ -51,6 +61,10 @@ impl Booked for As {
 
     fn call(&mut self, command: Command) -> Result<Receipt, Refusal> {
         self.recorded.call(self.caller, command)
+    }
+
+    fn record(&mut self, command: Command) -> Result<(), Refusal> {
+        self.recorded.record(self.caller, command)
     }
 
     fn reserve(&mut self, count: u32) -> Result<(), Refusal> {

@@ -1,5 +1,5 @@
 -- What a step on the published word tells the seat that makes it. No public clause cites it.
-use Rattle.std.specs.Prelude.{◌≡◌, ℕ, false, [], ◌∷◌, ◌++◌}
+use Rattle.std.specs.Prelude.{◌≡◌, ℕ, [], ◌∷◌, ◌++◌}
 use Rattle.atomic_table.specs.Table.{Me}
 use Rattle.ob_seq.specs.Settings.{Settings}
 use Rattle.ob_history.specs.Beginning.{IsBeginning}

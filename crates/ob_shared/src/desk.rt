@@ -23,8 +23,8 @@ pub struct Desk<'b, L: Named> {
     shared: &'b SharedBuffer<L>,
     locked: MutexGuard<'b, Locked<L>>,
     share: Share<L>,
-    /// Whether a call at this desk settled something, so that those who wait have to look.
-    settled: bool,
+    /// How many calls at this desk settled something. If there is one, those who wait have to look.
+    settled: u32,
 }
 
 impl<'b, L: Named> Model for Desk<'b, L> {
@@ -59,7 +59,7 @@ impl<'b, L: Named> Desk<'b, L> {
             shared,
             locked: guard,
             share,
-            settled: false,
+            settled: 0,
         }
     }
 
@@ -99,7 +99,7 @@ impl<'b, L: Named> Desk<'b, L> {
         locked.is_as_opened();
         locked.meet(shared.words(), &mut share);
         drop(locked);
-        if settled {
+        if settled > 0 {
             shared.wake();
         }
         share
@@ -125,7 +125,9 @@ impl<'b, L: Named> Booked for Desk<'b, L> {
     {
         let locked = &mut *self.locked;
         let receipt = locked.call(self.shared.words(), &mut self.share, command)?;
-        self.settled |= settles(&receipt.reply);
+        if settles(&receipt.reply) {
+            self.settled = self.settled.saturating_add(1);
+        }
         Ok(receipt)
     }
 

@@ -1,14 +1,14 @@
 -- Whether a sink was asked, by how a pass ends.
-use Rattle.std.proofs.Common.{◌≡◌, ◌≢◌, ℕ, ◌-◌, Bool, true, false, List, [], ◌∷◌, refl, sym, ap, ◌∙◌, subst, cond, leb}
+use Rattle.std.proofs.Common.{◌≡◌, ℕ, ◌-◌, Bool, true, false, List, [], ◌∷◌, refl, sym, ap, subst, cond, leb}
 use Rattle.std.specs.Prelude.{Option, Some, None, Result, Ok, Err}
 use Rattle.std.specs.List.{concat}
 use Rattle.ob_types.specs.declared.command.Command.{Command}
 use Rattle.ob_types.specs.declared.command.Command.TheVariants.{Remove}
 use Rattle.ob_types.specs.declared.message.Message.{Message}
 use Rattle.ob_types.specs.declared.message.Message.TheVariants.{Block, Region, Other}
-use Rattle.ob_transport.specs.Asking.{Asked, OfBytes, OfUnits, IsAskedOnce, StandsInFront, answer_told}
+use Rattle.ob_transport.specs.Asking.{Asked, IsAskedOnce, StandsInFront, answer_told}
 use Rattle.ob_transport.specs.InFront.{current_in, gathered_in, progress_in}
-use Rattle.ob_transport.specs.Offer.{Bytes, Clearing, IsOffered, Nothing, Offer, Units, offer_at, offer_by}
+use Rattle.ob_transport.specs.Offer.{Clearing, IsOffered, Offer, Units, offer_at, offer_by}
 use Rattle.ob_transport.specs.Outcome.{Clears}
 use Rattle.ob_transport.specs.Standing.{Standing}
 use Rattle.ob_transport.specs.declared.fault.Pass.{Pass}

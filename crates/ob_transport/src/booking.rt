@@ -15,7 +15,7 @@ pub fn give<B: Booked>(booked: &mut B, command: Command) -> Result<(), PassFault
     ensures given { Given (B.caller booked.old) command (B.history booked.old) result (B.history booked.new) }
     ensures caller { B.caller booked.new ≡ B.caller booked.old }
 {
-    booked.call(command)?;
+    booked.record(command)?;
     Ok(())
 }
 

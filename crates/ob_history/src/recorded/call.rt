@@ -1,5 +1,4 @@
-ghost use Rattle.std.specs.Prelude.{◌≡◌, true, false, IsErrOf, IsOk, IsOkUnless, OnErr};
-ghost use Rattle.ob_history.specs.Call.{IsCall, IsCovered, history_after, is_full};
+ghost use Rattle.ob_history.specs.Call.{IsCall, IsRecording};
 
 use crate::answer;
 use crate::receipt::Receipt;
@@ -33,11 +32,7 @@ impl Recorded {
     ///
     /// `HistoryFull` and `NoMemory` come as in `call`, and leave all as it was.
     pub fn record(&mut self, caller: u32, command: Command) -> Result<(), Refusal>
-        ensures full { is_full self.old ≡ true → IsErrOf result Refusal.HistoryFull }
-        ensures no_memory { is_full self.old ≡ false → IsOkUnless result Refusal.NoMemory }
-        ensures after { ¬ IsErrOf result Refusal.NoMemory → self.new ≡ history_after self.old caller command }
-        ensures frugal { IsCovered self.old command → IsOk result }
-        ensures refused { OnErr result (self.new ≡ self.old) }
+        ensures { IsRecording self.old caller command result self.new }
     {
         if self.records.len() == self.limit as usize {
             return Err(Refusal::HistoryFull);

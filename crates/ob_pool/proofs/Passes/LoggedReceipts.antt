@@ -1,13 +1,14 @@
 -- One more call whose receipt is kept.
 use Rattle.std.proofs.Common.{◌≡◌, ℕ, ◌+◌, Bool, true, false, List, [], ◌∷◌, ◌++◌, map, cond, refl, sym}
 use Rattle.std.proofs.Common.{ap, ◌∙◌, subst, append_assoc, arith, length-append}
-use Rattle.std.specs.Prelude.{count_by, if◌then◌else◌, length, Ok, Err, Option, Some, None, IfSome}
+use Rattle.std.specs.Prelude.{count_by, if◌then◌else◌, length, Ok, Err, Option, Some, None, IfSome, Result}
 use Rattle.std.proofs.lemmas.List.{length_push, length-map, map-append}
 use Rattle.std.proofs.lemmas.List.Sums.{sum_by-append, sum_by-cons}
 use Rattle.ob_types.specs.declared.command.Command.{Command}
-use Rattle.ob_types.specs.declared.refusal.Refusal.TheVariants.{HistoryFull}
+use Rattle.ob_types.specs.declared.refusal.Refusal.{Refusal}
+use Rattle.ob_types.specs.declared.refusal.Refusal.TheVariants.{HistoryFull, NoMemory}
 use Rattle.ob_history.proofs.Calls.{after_with_place}
-use Rattle.ob_history.specs.Call.{call_answer, history_after, is_full, next_record, with_record}
+use Rattle.ob_history.specs.Call.{IsCall, IsRecording, call_answer, history_after, is_full, next_record, with_record}
 use Rattle.ob_history.specs.History.{History}
 use Rattle.ob_history.specs.Receipt.{receipt_of}
 use Rattle.ob_history.specs.declared.receipt.Receipt.{Receipt}
@@ -92,3 +93,27 @@ pub if_some_at : {X : Type 0} (Holds : X → Type 0) {found : Option X} {x : X} 
     Holds x
 if_some_at Holds {found = None} is holds = absurd (cc is)
 if_some_at Holds {found = Some y} {x = x} is holds = let same : y ≡ x = cc is in subst Holds same holds
+
+-- a fault that refuses a recording refuses a call
+pub refused_alike : (before : History) (caller : ℕ) (command : Command) (fault : Refusal) (after : History) →
+    IsRecording before caller command (Err fault) after → IsCall before caller command (Err fault) after
+refused_alike before caller command fault after refused = record {
+  answer = (λ other. answered (is_full before) refl (λ wanting. other (ap Err wanting)));
+  after = (λ other. refused.after (λ wanting. let same : fault ≡ NoMemory = cc in other (ap Err same)));
+  no_memory_last = (λ wanting. let same : fault ≡ NoMemory = cc in has_place (is_full before) refl same);
+  frugal = (λ covered. refused.frugal covered);
+  refused = refused.refused;
+}
+  where
+    full : is_full before ≡ true → fault ≡ HistoryFull
+    full is = let told = refused.full is in cc
+
+    answered : (at_end : Bool) → is_full before ≡ at_end → ¬ (fault ≡ NoMemory) →
+        (let answer : Result Receipt Refusal = Err fault in answer ≡ call_answer before caller command)
+    answered true is other = ap Err (full is)
+        ∙ sym (ap (λ full. if full then Err HistoryFull else Ok (receipt_of (next_record before caller command))) is)
+    answered false is other = absurd (other (let told = refused.no_memory is in cc))
+
+    has_place : (at_end : Bool) → is_full before ≡ at_end → fault ≡ NoMemory → is_full before ≡ false
+    has_place true is wanting = absurd (let told = full is in cc)
+    has_place false is wanting = is

@@ -1,6 +1,8 @@
 -- What a transport keeps of its calls. No public clause cites this module.
-use Rattle.std.specs.Prelude.{◌≡◌, ◌+◌, ◌≤◌, ℕ, Bool, List, [], ◌++◌, count_by, length, map}
+use Rattle.std.specs.Prelude.{◌≡◌, ◌+◌, ◌≤◌, ℕ, Bool, List, [], ◌∷◌, ◌++◌, Ok, count_by, length, map}
 use Rattle.ob_seq.specs.Settings.{Settings}
+use Rattle.ob_types.specs.declared.command.Command.{Command}
+use Rattle.ob_history.specs.Call.{call_answer}
 use Rattle.ob_history.specs.History.{History}
 use Rattle.ob_history.specs.Receipt.{receipt_of}
 use Rattle.ob_history.specs.declared.receipt.Receipt.{Receipt}
@@ -33,6 +35,12 @@ pub record LogValue : Type 0 where
 -- the history at the desk, with the log's own number of reserved calls
 abbrev pub logged_history : LogValue → History
 logged_history log = record log.held.history { reserved = log.reserved }
+
+-- the receipt of one more call is the answer to it, and stands behind the others
+pub record IsLogged (before : LogValue) (command : Command) (after : LogValue) : Type 0 where
+  pub receipt : Receipt
+  pub answer : call_answer (logged_history before) before.held.maker.caller command ≡ Ok receipt
+  pub last : after.receipts ≡ before.receipts ++ receipt ∷ []
 
 -- the records since the beginning are the log's own, and are those whose receipts were added since
 pub record LoggedSince (log_start : LogStart) (held : Held) (receipts : List Receipt) : Type 0 where

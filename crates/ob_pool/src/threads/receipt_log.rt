@@ -3,12 +3,12 @@
 ghost use Rattle.std.specs.Prelude.{◌≡◌, ◌≤◌, ◌↔◌, false, IfSome, IsErrOf, IsOk, IsOkUnless, OnOk, OnErr};
 ghost use Rattle.ob_seq.specs.Pending.{StandsFor};
 ghost use Rattle.ob_history.specs.Accepted.{accepted_commands};
-ghost use Rattle.ob_history.specs.Call.{IsCovered, call_answer, history_after, is_full};
+ghost use Rattle.ob_history.specs.Call.{IsCovered, IsRecording, call_answer, history_after, is_full};
 ghost use Rattle.ob_history.specs.History.{IsBounded, LacksPlaces, with_reserved};
 ghost use Rattle.ob_history.specs.Legal.{IsLegal};
 ghost use Rattle.ob_shared.specs.Opened.{IsAsOpened};
 ghost use Rattle.ob_shared.specs.Share.{share_after};
-ghost use Rattle.ob_pool.specs.Threads.ReceiptLog.{LoggedSince, logged_history};
+ghost use Rattle.ob_pool.specs.Threads.ReceiptLog.{IsLogged, LoggedSince, logged_history};
 
 use ob_history::{Booked, Receipt};
 use ob_seq::Buffer;
@@ -101,13 +101,40 @@ impl<'b, L: Named, K: Started> Booked for ReceiptLog<'b, L, K> {
 
     ghost caller = { λ log. log.held.maker.caller };
 
-    /// A full history is refused first, and then want of a place for the receipt. Where the receipt of a record can't
-    /// be copied, it is lost.
+    /// The receipt is copied. If that fails, the log has lost it.
     fn call(&mut self, command: Command) -> Result<Receipt, Refusal> {
+        match self.record(command) {
+            Ok(()) => {}
+            Err(refusal) => return Err(refusal),
+        }
+        let ReceiptLog {
+            desk: _,
+            receipts,
+            lost,
+            reserved: _,
+            started: _,
+        } = self;
+        let Some(receipt) = receipts.pop() else {
+            unreachable!()
+        };
+        match receipt.copy() {
+            Ok(copy) => receipts.push_reserved(copy),
+            Err(_) => *lost = true,
+        }
+        Ok(receipt)
+    }
+
+    /// A full history is refused first, and then want of a place for the receipt.
+    fn record(&mut self, command: Command) -> Result<(), Refusal>
+        ensures is_recording { IsRecording (logged_history self.old) self.old.held.maker.caller command result
+            (logged_history self.new) }
+        ensures caller { self.new.held.maker.caller ≡ self.old.held.maker.caller }
+        ensures logged { OnOk result (IsLogged self.old command self.new) }
+    {
         let ReceiptLog {
             desk,
             receipts,
-            lost,
+            lost: _,
             reserved,
             started: _,
         } = self;
@@ -119,11 +146,8 @@ impl<'b, L: Named, K: Started> Booked for ReceiptLog<'b, L, K> {
         }
         let receipt = desk.call(command)?;
         *reserved = reserved.saturating_sub(1);
-        match receipt.copy() {
-            Ok(copy) => receipts.push_reserved(copy),
-            Err(_) => *lost = true,
-        }
-        Ok(receipt)
+        receipts.push_reserved(receipt);
+        Ok(())
     }
 
     fn reserve(&mut self, count: u32) -> Result<(), Refusal> {

@@ -130,8 +130,8 @@ fn pass_or_fail<B: Booked, S: Sink>(
         Ok(Pass::Idle | Pass::Stalled) => Ok(AfterPass::Rest),
         Ok(Pass::Cleared | Pass::Took(_)) => Ok(AfterPass::More),
         Err(PassFault::Sink(fault)) => {
-            match booked.call(Command::FailFlushed(Cause(fault.0), true)) {
-                Ok(_) => Ok(AfterPass::More),
+            match booked.record(Command::FailFlushed(Cause(fault.0), true)) {
+                Ok(()) => Ok(AfterPass::More),
                 Err(refusal) => Err(DriveFault::Transport(PassFault::from(refusal))),
             }
         }

@@ -1,4 +1,4 @@
-use Rattle.std.proofs.Common.{◌≡◌, List, [], ◌∷◌, refl, ap}
+use Rattle.std.proofs.Common.{◌≡◌, [], ◌∷◌, refl, ap}
 use Rattle.ob_seq.specs.Word.{user_bits}
 use Rattle.ob_history.specs.declared.glance.Glance.{Glance}
 use Rattle.ob_history.specs.declared.record.Record.{Record}

@@ -1,5 +1,4 @@
 use Rattle.std.proofs.Common.{refl}
-use Rattle.ob_transport.specs.Asking.{IsAskedOnce}
 use Rattle.ob_transport.specs.Offer.{IsOffered, offer_of}
 use Rattle.ob_transport.specs.Standing.{standing}
 use Rattle.ob_transport.proofs.Asked.{clears_unasked, unasked}

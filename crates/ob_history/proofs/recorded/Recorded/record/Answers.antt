@@ -13,29 +13,14 @@ use Rattle.ob_history.specs.declared.record.Record.{Record}
 use Rattle.ob_history.proofs.recorded.Recorded.record.Goals as goal
 
 -- Named for the must-fail edits that fail here: `search` finds it unasked (CONTRIBUTING.md).
-pub returns-in_err-reserve-clause-frugal : goal.returns-in_err-reserve-clause-frugal
-returns-in_err-reserve-clause-frugal c = search rules
+pub returns-in_err-reserve : goal.returns-in_err-reserve
+returns-in_err-reserve c = search rules
 
-pub returns-in_err-reserve-clause-full : goal.returns-in_err-reserve-clause-full
-returns-in_err-reserve-clause-full c = search rules
+pub returns-in_err-asked : goal.returns-in_err-asked
+returns-in_err-asked c = search rules
 
-pub returns-in_err-asked-clause-full : goal.returns-in_err-asked-clause-full
-returns-in_err-asked-clause-full c = search rules
-
-pub returns-in_err-reply-clause-full : goal.returns-in_err-reply-clause-full
-returns-in_err-reply-clause-full c = search rules
-
-pub returns-clause-full : goal.returns-clause-full
-returns-clause-full c = search rules
-
-pub returns-in_err-reply-clause-no_memory : goal.returns-in_err-reply-clause-no_memory
-returns-in_err-reply-clause-no_memory c = search rules
-
-pub returns-in_err-reply-clause-after : goal.returns-in_err-reply-clause-after
-returns-in_err-reply-clause-after c = search rules
-
-pub returns-in_err-reply-clause-frugal : goal.returns-in_err-reply-clause-frugal
-returns-in_err-reply-clause-frugal c = search rules
+pub returns-in_err-reply : goal.returns-in_err-reply
+returns-in_err-reply c = search rules
 
 pub invariant_of-self : goal.invariant_of-self
 invariant_of-self c =
@@ -122,13 +107,19 @@ invariant_of-self-2 c =
       small_unknown = c.self.invariant.small_unknown;
     }
 
-pub returns-clause-after : goal.returns-clause-after
-returns-clause-after c wanted =
-    let inside = c.self.inside in
-    let free : is_full (history_of inside) ≡ false =
-    ne_eqb _ _ (λ same. c.if-len-self.false (c.len.ensures ∙ inside.records.ok.0 ∙ same)) in
-    same_history (settings_of inside) inside.limit (pushed c) c.saturating_sub-self-inside.ensures
-    ∙ ap (with_record (history_of inside))
-    (same_record c.args.caller (placed c) c.in_ok-asked.ensures.same (answered c))
-    ∙ sym (after_with_place (history_of inside) c.args.caller c.args.command free)
-    ∙ ap (λ history. history_after history c.args.caller c.args.command) c.self.view_is
+pub returns : goal.returns
+returns c = record {
+  full = search rules;
+  no_memory = search rules;
+  after = (λ wanted.
+      let inside = c.self.inside in
+      let free : is_full (history_of inside) ≡ false =
+      ne_eqb _ _ (λ same. c.if-len-self.false (c.len.ensures ∙ inside.records.ok.0 ∙ same)) in
+      same_history (settings_of inside) inside.limit (pushed c) c.saturating_sub-self-inside.ensures
+      ∙ ap (with_record (history_of inside))
+      (same_record c.args.caller (placed c) c.in_ok-asked.ensures.same (answered c))
+      ∙ sym (after_with_place (history_of inside) c.args.caller c.args.command free)
+      ∙ ap (λ history. history_after history c.args.caller c.args.command) c.self.view_is);
+  frugal = search rules;
+  refused = search rules;
+}

@@ -4,7 +4,6 @@ use Rattle.ob_transport.specs.Failures.{failures_in}
 use Rattle.ob_transport.specs.declared.fault.Pass.{Pass}
 use Rattle.ob_pool.proofs.Passes.Passing.{called, failing_alike, passed}
 use Rattle.ob_pool.proofs.threads.transport.pass_or_fail.Goals as goal
-use Rattle.ob_pool.proofs.threads.transport.pass_or_fail.Goals.{in-Ok, in-Err-call}
 
 pub returns-in-Ok-Idle-clause-failings : goal.returns-in-Ok-Idle-clause-failings
 returns-in-Ok-Idle-clause-failings g c =
@@ -14,10 +13,17 @@ pub returns-in-Ok-Cleared-clause-failings : goal.returns-in-Ok-Cleared-clause-fa
 returns-in-Ok-Cleared-clause-failings g c =
     let p = passed _ _ _ _ _ _ _ c.pass.ensures.by_front c.pass.ensures.accounted.failures in omega (arith, p.0, p.1)
 
-pub returns-after-call-clause-failings : goal.returns-after-call-clause-failings
-returns-after-call-clause-failings g c =
+pub returns-in-Ok-clause-failings : goal.returns-in-Ok-clause-failings
+returns-in-Ok-clause-failings g c =
     let p = passed _ _ _ _ _ _ _ c.pass.ensures.by_front c.pass.ensures.accounted.failures in
-    let once = called c.call.result _ _ _ _ c.call.ensures.is_call.after c.call.ensures.is_call.refused in
+    let once = called c.record.result _ _ _ _ c.record.ensures.is_recording.after c.record.ensures.is_recording.refused in
+    let counted = ap (λ fault. failures_in {A = Pass} (Err fault)) c.in-Err-Sink.field-0-is in
+    omega (arith, p.0, once, c.in-Err-Sink.ensures.accounted.failures, counted)
+
+pub returns-in-Err-record-clause-failings : goal.returns-in-Err-record-clause-failings
+returns-in-Err-record-clause-failings g c =
+    let p = passed _ _ _ _ _ _ _ c.pass.ensures.by_front c.pass.ensures.accounted.failures in
+    let once = called c.record.result _ _ _ _ c.record.ensures.is_recording.after c.record.ensures.is_recording.refused in
     let counted = ap (λ fault. failures_in {A = Pass} (Err fault)) c.in-Err-Sink.field-0-is in
     omega (arith, p.0, once, c.in-Err-Sink.ensures.accounted.failures, counted)
 
@@ -32,12 +38,10 @@ returns-in-Ok-Idle-clause-alike g c = c.pass.ensures.accounted.alike (λ taken i
 pub returns-in-Ok-Cleared-clause-alike : goal.returns-in-Ok-Cleared-clause-alike
 returns-in-Ok-Cleared-clause-alike g c = c.pass.ensures.accounted.alike (λ taken is. absurd (cc is))
 
-pub returns-after-call-clause-alike : goal.returns-after-call-clause-alike
-returns-after-call-clause-alike g c = elim c.match-call.branch [
-  | in-Ok w ↦ rw w.result-is (failing_alike (g.B.Booked.history c.args.booked.now) (g.B.Booked.history c.pass.new.booked)
-      (g.B.Booked.history c.call.new.self) (g.S.Sink.content c.args.sink.now) (g.S.Sink.content c.pass.new.sink)
-      (g.B.Booked.caller c.pass.new.booked) (record { 0 = c.in-Err-Sink.fault.0 }) true
-      (c.in-Err-Sink.ensures.accounted.alike (λ taken is. absurd (cc (is, c.in-Err-Sink.field-0-is))))
-      (c.call.ensures.is_call.after (λ wanting. absurd (cc (wanting, w.in-Ok.is)))))
-  | in-Err-call w ↦ rw w.result-is tt
-]
+pub returns-in-Ok-clause-alike : goal.returns-in-Ok-clause-alike
+returns-in-Ok-clause-alike g c =
+    failing_alike (g.B.Booked.history c.args.booked.now) (g.B.Booked.history c.pass.new.booked)
+    (g.B.Booked.history c.record.new.self) (g.S.Sink.content c.args.sink.now) (g.S.Sink.content c.pass.new.sink)
+    (g.B.Booked.caller c.pass.new.booked) (record { 0 = c.in-Err-Sink.fault.0 }) true
+    (c.in-Err-Sink.ensures.accounted.alike (λ taken is. absurd (cc (is, c.in-Err-Sink.field-0-is))))
+    (c.record.ensures.is_recording.after (λ wanting. absurd (cc (wanting, c.in-Ok.is))))

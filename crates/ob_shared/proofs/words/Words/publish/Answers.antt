@@ -3,7 +3,6 @@ use Rattle.ob_seq.specs.Settings.{Settings}
 use Rattle.ob_history.specs.Beginning.{IsBeginning}
 use Rattle.ob_history.specs.Glance.{glance_after}
 use Rattle.ob_history.specs.Legal.{IsLegal}
-use Rattle.ob_history.specs.declared.glance.Glance.{Glance}
 use Rattle.ob_history.specs.declared.record.Record.{Record}
 use Rattle.ob_shared.specs.Ruled.{publishing}
 use Rattle.ob_shared.specs.Sight.{packed_glance}

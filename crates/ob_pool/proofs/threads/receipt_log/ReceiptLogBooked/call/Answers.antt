@@ -1,47 +1,56 @@
-use Rattle.std.proofs.Common.{◌+◌, ◌≤◌, ◌++◌, [], ◌∷◌, sym, ap, ap₂, ◌∙◌, subst, arith, rules}
-use Rattle.std.specs.Prelude.{vec_capacity, vec_len}
-use Rattle.ob_history.specs.Call.{next_record}
-use Rattle.ob_shared.specs.Maker.{Maker}
-use Rattle.ob_pool.specs.Threads.ReceiptLog.{LoggedSince}
-use Rattle.ob_pool.proofs.Passes.LoggedReceipts.{logged_more, receipt_given}
+use Rattle.std.proofs.Common.{◌++◌, [], ◌∷◌, refl, sym, ap, ◌∙◌, subst, arith}
+use Rattle.std.specs.Prelude.{Ok}
+use Rattle.std.proofs.lemmas.List.{same_from_push}
+use Rattle.ob_history.specs.Call.{IsCall}
+use Rattle.ob_pool.specs.Threads.ReceiptLog.{LogValue, LoggedSince, logged_history}
+use Rattle.ob_pool.proofs.Passes.LoggedReceipts.{refused_alike}
 use Rattle.ob_pool.proofs.threads.receipt_log.ReceiptLogBooked.call.Goals as goal
-use Rattle.ob_pool.proofs.threads.receipt_log.ReceiptLogBooked.call.Goals.{in-Ok, in-Err}
+use Rattle.ob_pool.proofs.threads.receipt_log.ReceiptLogBooked.call.Goals.{in-Ok-copy, in-Err-copy}
 
-pub invariant_of-self-2 : goal.invariant_of-self-2
-invariant_of-self-2 g c =
-    let old = c.self.inside in
-    let one = next_record old.desk.history old.desk.maker.caller c.args.command in
+pub invariant_of-self : goal.invariant_of-self
+invariant_of-self g c =
     let kept = c.self.invariant in
-    let made = receipt_given old.desk.history old.desk.maker.caller c.args.command c.in_ok-receipt.receipt
-    (c.in_ok-receipt.ensures.is_call.answer (λ wanting. absurd (cc wanting))) in
-    let after = c.in_ok-receipt.ensures.is_call.after (λ wanting. absurd (cc wanting)) ∙ made.1 in
-    let left = ap (λ history. history.reserved) after in
-    let records = ap (λ history. history.records) after in
-    let places : vec_len c.reserve.new.self + 1 ≤ vec_capacity c.reserve.new.self = search rules in
     elim c.match-copy.branch [
-      | in-Ok w ↦ rw (w.self-inside-is) (
-        omega (arith, kept.0, left, c.saturating_sub.ensures),
+      | in-Ok-copy w ↦ rw (w.self-inside-is) (
+        kept.0,
         omega (
           arith,
           kept.1,
-          places,
-          c.reserve.ensures.len,
-          c.reserve.ensures.capacity,
-          c.saturating_sub.ensures,
+          c.in-Some.ensures.len,
+          c.in-Some.ensures.capacity,
           w.push_reserved.ensures.len,
           w.push_reserved.ensures.capacity,
         ),
         (λ found.
-            let copied = w.in-Ok.ensures.same ∙ made.0 in
-            let pushed = w.push_reserved.ensures.items
-            ∙ ap₂ (λ all one. all ++ one ∷ []) c.reserve.ensures.items copied in
-            subst (LoggedSince g.K.Started.start c.call.new.self) (sym pushed)
-            (logged_more g.K.Started.start old.desk c.call.new.self old.receipts.items one (kept.2 found) records
-            (ap (λ (maker : Maker). maker.made) c.in_ok-receipt.ensures.made))),
+            let items = w.push_reserved.ensures.items ∙ ap (λ one. c.pop.new.self.items ++ one ∷ []) w.in-Ok-copy.ensures.same
+            ∙ sym c.in-Some.ensures.items in
+            subst (LoggedSince g.K.Started.start c.self.inside.desk) (sym items) (kept.2 found)),
       )
-      | in-Err w ↦ rw (w.self-inside-is) (
-        omega (arith, kept.0, left, c.saturating_sub.ensures),
-        omega (arith, kept.1, places, c.reserve.ensures.len, c.reserve.ensures.capacity, c.saturating_sub.ensures),
+      | in-Err-copy w ↦ rw (w.self-inside-is) (
+        kept.0,
+        omega (arith, kept.1, c.in-Some.ensures.len, c.in-Some.ensures.capacity),
         (λ found. absurd (cc found)),
       )
     ]
+
+pub returns-in-Err-clause-is_call : goal.returns-in-Err-clause-is_call
+returns-in-Err-clause-is_call g c = refused_alike _ _ _ _ _ c.in-Err.ensures.is_recording
+
+pub returns-clause-is_call : goal.returns-clause-is_call
+returns-clause-is_call g c =
+    let old = c.args.self.now in
+    let given = c.record.ensures in
+    let logged = c.in-Ok.ensures.logged in
+    let receipts = ap (λ (log : LogValue). log.receipts) c.self.view_is in
+    let same = (same_from_push _ _ _ _ (sym c.in-Some.ensures.items ∙ receipts ∙ logged.last)).1 in
+    let whole : IsCall (logged_history old) old.held.maker.caller c.args.command (Ok c.in-Some.receipt)
+    (logged_history c.record.new.self) = record {
+      answer = (λ other. ap Ok same ∙ sym logged.answer);
+      after = (λ other. c.in-Ok.ensures.is_recording.after (λ wanting. absurd (cc wanting)));
+      no_memory_last = (λ wanting. absurd (cc wanting));
+      frugal = (λ covered. refl);
+      refused = tt;
+    } in
+    let left = subst (λ (log : LogValue). IsCall (logged_history old) old.held.maker.caller c.args.command
+    (Ok c.in-Some.receipt) (logged_history log)) (sym c.self.view_is) whole in
+    elim c.match-copy.branch [ in-Ok-copy w ↦ rw w.self-inside-is left | in-Err-copy w ↦ rw w.self-inside-is left ]
