@@ -1,6 +1,7 @@
 //! Stories of `ob_stories`, and some that the program alone can play: each is a script with its trace, or with a fault.
 
 use crate::tests::play::{Host, leaves};
+use crate::tests::summaries::is_traced;
 use ob_stories::{CORE, DRIVES, FULL, RUN};
 use std::alloc::{AllocError, Global};
 use std::test::Fail;
@@ -83,7 +84,7 @@ fn script_of(alloc: Global, lines: &str) -> Result<String, AllocError> {
 }
 
 /// What is left of a story. A report has several lines, parted by commas, and a fault is the last answer.
-pub fn left_of(alloc: Global, lines: &str) -> Result<String, AllocError> {
+fn left_of(alloc: Global, lines: &str) -> Result<String, AllocError> {
     let mut left = String::new(alloc);
     let mut status = 0;
     for line in lines.lines().filter(|line| !line.starts_with(':')) {
@@ -102,7 +103,8 @@ pub fn left_of(alloc: Global, lines: &str) -> Result<String, AllocError> {
     Ok(left)
 }
 
-/// Runs the program on a story, whose last line may lack the byte that ends it, and compares all that it leaves.
+/// Runs the program on a story, whose last line may lack the byte that ends it, and compares all that it leaves. What
+/// `run` and `core` write without a fault is a trace.
 fn holds<H: Host>(rt: &H, story: &str) -> Result<(), Fail> {
     let (_, story) = story.split_once("\n$ ").ok_or("no command line")?;
     let (command, lines) = story.split_once('\n').unwrap_or((story, ""));
@@ -110,7 +112,11 @@ fn holds<H: Host>(rt: &H, story: &str) -> Result<(), Fail> {
     let script = script_of(rt.alloc(), lines)?;
     let left = left_of(rt.alloc(), lines)?;
     leaves(rt, &words, &script, &left)?;
-    leaves(rt, &words, script.trim_end(), &left)
+    leaves(rt, &words, script.trim_end(), &left)?;
+    match left.strip_suffix("status 0: ") {
+        Some(trace) if !command.starts_with("drive") => is_traced(rt, trace),
+        _ => Ok(()),
+    }
 }
 
 #[test]

@@ -1,8 +1,6 @@
 //! Summaries of traces, worked by hand, and lines that are of no trace.
 
 use crate::tests::play::{Host, leaves, left};
-use crate::tests::stories::left_of;
-use ob_stories::{CORE, FULL, RUN};
 use std::test::Fail;
 
 /// Traces with their summaries, the numbers of each in the order of its lines.
@@ -91,27 +89,12 @@ fn a_line_of_no_trace_ends_it(rt: HostRuntime) -> Result<(), Fail> {
 }
 
 /// Whether what the program wrote for a story is a trace, of as many lines.
-fn is_traced<H: Host>(rt: &H, story: &str) -> Result<(), Fail> {
-    let (_, lines) = story.split_once("\n$ ").ok_or("no command line")?;
-    let (_, lines) = lines.split_once('\n').unwrap_or((lines, ""));
-    let written = left_of(rt.alloc(), lines)?;
-    let trace = written.strip_suffix("status 0: ").ok_or("a fault")?;
+pub fn is_traced<H: Host>(rt: &H, trace: &str) -> Result<(), Fail> {
     let found = left(rt, "ob_tool summary", &mut trace.as_bytes())?;
     let begin = format!(in rt.alloc(); "lines {}\n", trace.lines().count())?;
     assert!(rt;
         found.starts_with(begin.as_str()) && found.ends_with("status 0: "),
-        "{story}: {found}"
+        "{trace}: {found}"
     );
-    Ok(())
-}
-
-/// What `run` and `core` write for the stories is a trace.
-#[test]
-fn traces_of_stories_are_traces(rt: HostRuntime) -> Result<(), Fail> {
-    // one text, as in `stories_hold`
-    let stories = format!(in rt.alloc(); "{RUN}{FULL}{CORE}")?;
-    for story in stories.split('#').skip(1) {
-        is_traced(&rt, story)?;
-    }
     Ok(())
 }

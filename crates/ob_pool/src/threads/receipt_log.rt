@@ -107,19 +107,12 @@ impl<'b, L: Named, K: Started> Booked for ReceiptLog<'b, L, K> {
             Ok(()) => {}
             Err(refusal) => return Err(refusal),
         }
-        let ReceiptLog {
-            desk: _,
-            receipts,
-            lost,
-            reserved: _,
-            started: _,
-        } = self;
-        let Some(receipt) = receipts.pop() else {
+        let Some(receipt) = self.receipts.pop() else {
             unreachable!()
         };
         match receipt.copy() {
-            Ok(copy) => receipts.push_reserved(copy),
-            Err(_) => *lost = true,
+            Ok(copy) => self.receipts.push_reserved(copy),
+            Err(_) => self.lost = true,
         }
         Ok(receipt)
     }
@@ -151,16 +144,9 @@ impl<'b, L: Named, K: Started> Booked for ReceiptLog<'b, L, K> {
     }
 
     fn reserve(&mut self, count: u32) -> Result<(), Refusal> {
-        let ReceiptLog {
-            desk,
-            receipts,
-            lost: _,
-            reserved,
-            started: _,
-        } = self;
-        desk.reserve(count)?;
-        receipts.reserve(count as usize)?;
-        *reserved = (*reserved).max(count);
+        self.desk.reserve(count)?;
+        self.receipts.reserve(count as usize)?;
+        self.reserved = self.reserved.max(count);
         Ok(())
     }
 

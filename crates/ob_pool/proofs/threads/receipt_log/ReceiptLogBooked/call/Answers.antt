@@ -9,29 +9,21 @@ use Rattle.ob_pool.proofs.threads.receipt_log.ReceiptLogBooked.call.Goals.{in-Ok
 
 pub invariant_of-self : goal.invariant_of-self
 invariant_of-self g c =
-    let kept = c.self.invariant in
-    elim c.match-copy.branch [
-      | in-Ok-copy w ↦ rw (w.self-inside-is) (
-        kept.0,
-        omega (
-          arith,
-          kept.1,
-          c.in-Some.ensures.len,
-          c.in-Some.ensures.capacity,
-          w.push_reserved.ensures.len,
-          w.push_reserved.ensures.capacity,
-        ),
-        (λ found.
-            let items = w.push_reserved.ensures.items ∙ ap (λ one. c.pop.new.self.items ++ one ∷ []) w.in-Ok-copy.ensures.same
-            ∙ sym c.in-Some.ensures.items in
-            subst (LoggedSince g.K.Started.start c.self.inside.desk) (sym items) (kept.2 found)),
-      )
-      | in-Err-copy w ↦ rw (w.self-inside-is) (
-        kept.0,
-        omega (arith, kept.1, c.in-Some.ensures.len, c.in-Some.ensures.capacity),
-        (λ found. absurd (cc found)),
-      )
-    ]
+    let kept = c.self.invariant in (
+      kept.0,
+      omega (
+        arith,
+        kept.1,
+        c.in-Some.ensures.len,
+        c.in-Some.ensures.capacity,
+        c.push_reserved.ensures.len,
+        c.push_reserved.ensures.capacity,
+      ),
+      (λ found.
+          let items = c.push_reserved.ensures.items
+          ∙ ap (λ one. c.pop.new.self.items ++ one ∷ []) c.in-Ok-copy.ensures.same ∙ sym c.in-Some.ensures.items in
+          subst (LoggedSince g.K.Started.start c.self.inside.desk) (sym items) (kept.2 found)),
+    )
 
 pub returns-in-Err-clause-is_call : goal.returns-in-Err-clause-is_call
 returns-in-Err-clause-is_call g c = refused_alike _ _ _ _ _ c.in-Err.ensures.is_recording
@@ -53,4 +45,4 @@ returns-clause-is_call g c =
     } in
     let left = subst (λ (log : LogValue). IsCall (logged_history old) old.held.maker.caller c.args.command
     (Ok c.in-Some.receipt) (logged_history log)) (sym c.self.view_is) whole in
-    elim c.match-copy.branch [ in-Ok-copy w ↦ rw w.self-inside-is left | in-Err-copy w ↦ rw w.self-inside-is left ]
+    elim c.match-copy.branch [ in-Ok-copy w ↦ rw w.self-is left | in-Err-copy w ↦ rw w.self-is left ]
