@@ -13,7 +13,4 @@ mod traces;
 mod tracing;
 mod turns;
 
-pub use cli::entry::{entry, refused_words};
-pub use reading::fault::LineFault;
-pub use reading::script::read_script;
-pub use script_fault::ScriptFault;
+pub use cli::entry::entry;

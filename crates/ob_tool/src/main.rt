@@ -2,9 +2,13 @@
 //! writers of a script, and writes the report.
 #![tactic(auto)]
 
-use ob_cli::{entry, refused_words};
+ghost use Rattle.std.specs.Prelude.{◌≡◌};
+ghost use Rattle.std.specs.IoError.{error_kind};
+
+use ob_cli::entry;
+use std::env;
+use std::io::{self, Error, ErrorKind, Write};
 use std::process::ExitCode;
-use std::{env, io};
 
 fn main(rt: HostRuntime) -> ExitCode {
     let status = match words(&rt) {
@@ -23,4 +27,18 @@ fn main(rt: HostRuntime) -> ExitCode {
 /// The words of the command line. It fails for want of memory, or if one of them is not UTF-8.
 fn words(rt: &HostRuntime) -> io::Result<Vec<String>> {
     Ok(env::args(rt)?.collect(rt.alloc())?)
+}
+
+/// Tells why the words could not be had, and answers the status with which the program ends: 4 for want of memory, and
+/// else 1. Where that cannot be told there is nobody left to tell.
+fn refused_words<E: Write>(error: &Error, errors: &mut E) -> u8
+    ensures no_memory { error_kind error.now ≡ ErrorKind.OutOfMemory → result ≡ 4 }
+    ensures other { ¬ (error_kind error.now ≡ ErrorKind.OutOfMemory) → result ≡ 1 }
+{
+    if error.kind() == ErrorKind::OutOfMemory {
+        let _ = writeln!(errors, "no memory");
+        return 4;
+    }
+    let _ = writeln!(errors, "{error}");
+    1
 }

@@ -1,6 +1,5 @@
 ghost use Rattle.std.specs.List.{All};
 ghost use Rattle.std.specs.Prelude.{◌≡◌, ◌≢◌, ◌≤◌, ℕ, codes, false, length, IfSome, IfErr, IsErrOf};
-ghost use Rattle.std.specs.IoError.{error_kind};
 ghost use Rattle.std.specs.Io.KnownBytes.{Appends, Keeps};
 ghost use Rattle.ob_history.specs.History.{most_records};
 ghost use Rattle.ob_history.specs.Legal.{IsLegal};
@@ -22,7 +21,7 @@ use crate::summary::summary;
 use crate::turns::core;
 use std::alloc::Global;
 use std::convert::AsStr;
-use std::io::{Error, ErrorKind, Read, Write};
+use std::io::{Read, Write};
 use std::sync::Wait;
 use std::thread::Threads;
 use std::time::Clock;
@@ -134,21 +133,6 @@ fn tell_more<E: Write>(alloc: Global, options: &Options, driven: &Driven, errors
     if let Err(fault) = told {
         let _ = writeln!(errors, "--verbose: {fault}");
     }
-}
-
-/// Tells why the words of the command line could not be had, and answers the status with which the program ends: 4 for
-/// want of memory, and else 1.
-pub fn refused_words<E: Write>(error: &Error, errors: &mut E) -> u8
-    ensures no_memory { error_kind error.now ≡ ErrorKind.OutOfMemory → result ≡ 4 }
-    ensures other { ¬ (error_kind error.now ≡ ErrorKind.OutOfMemory) → result ≡ 1 }
-{
-    if error.kind() == ErrorKind::OutOfMemory {
-        let fault = EntryFault::Run(ScriptFault::NoMemory);
-        print_fault(&fault, errors);
-        return fault.status();
-    }
-    let _ = writeln!(errors, "{error}");
-    1
 }
 
 /// Tells a fault in its text and one byte 10. Where that fails there is nobody left to tell.

@@ -1,13 +1,15 @@
-//! A reader or a writer that passes on one byte a call, and fails once.
+//! A reader or a writer that passes on one byte a call, and fails.
 
 use std::io::{self, Error, ErrorKind, Read, Write};
 
-/// A reader or a writer in front of another, of which one call fails.
+/// A reader or a writer in front of another, of which some calls fail.
 #[derive(Drop)]
 pub struct Failing<T> {
     pub inner: T,
-    /// How many calls come before the one that fails.
+    /// How many calls come before the first that fails.
     pub calls: u32,
+    /// How many calls fail, one after the other.
+    pub failures: u32,
     pub failure: ErrorKind,
 }
 
@@ -17,14 +19,17 @@ impl<T> Failing<T> {
         Failing {
             inner,
             calls,
+            failures: 1,
             failure: ErrorKind::BrokenPipe,
         }
     }
 
     fn call(&mut self) -> io::Result<()> {
-        let fails = self.calls == 0;
-        self.calls = self.calls.wrapping_sub(1);
-        if fails {
+        if self.calls > 0 {
+            self.calls -= 1;
+            Ok(())
+        } else if self.failures > 0 {
+            self.failures -= 1;
             Err(Error::from(self.failure))
         } else {
             Ok(())

@@ -2,7 +2,7 @@
 
 use crate::tests::doubles::Failing;
 use crate::tests::play::{Host, ended, leaves};
-use ob_cli::{ScriptFault, entry, read_script};
+use ob_cli::entry;
 use std::io::ErrorKind;
 use std::test::Fail;
 
@@ -79,21 +79,22 @@ fn counts_the_bytes_of_a_script(rt: HostRuntime) -> Result<(), Fail> {
     Ok(())
 }
 
-/// A script is read in at most so many reads: 33 for its bytes and one for its end. A read that is interrupted counts,
-/// and is tried again.
+/// A read that is interrupted is tried again.
 #[test]
-fn counts_the_reads_of_a_script(rt: HostRuntime) {
-    for (interrupted, reads, wanted) in [
-        (MANY, 33, Err(ScriptFault::Read)),
-        (MANY, 34, Ok(33)),
-        (7, 34, Err(ScriptFault::Read)),
-        (7, 35, Ok(33)),
-    ] {
-        let mut reader = Failing::new(SCRIPT.as_bytes(), interrupted);
+fn reads_again_what_was_interrupted(rt: HostRuntime) -> Result<(), Fail> {
+    for interrupted in [1, MANY] {
+        let mut reader = Failing::new(SCRIPT.as_bytes(), 7);
+        reader.failures = interrupted;
         reader.failure = ErrorKind::Interrupted;
-        let found = read_script(rt.alloc(), &mut reader, reads).map(|script| script.len());
-        assert_eq!(rt; found, wanted, "{interrupted}, {reads}");
+        let mut written = Vec::new(rt.alloc());
+        let found = ended(&rt, &WORDS, &mut reader, &mut written)?;
+        assert_eq!(rt;
+            (found.as_str(), written.as_slice()),
+            ("status 0: ", TRACE.as_bytes()),
+            "{interrupted}"
+        );
     }
+    Ok(())
 }
 
 /// With ample memory the whole trace is written. If an allocation fails, as `rt try --test --fail-alloc` has it,
