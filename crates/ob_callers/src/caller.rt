@@ -1,4 +1,4 @@
-//! The callers that the README, `docs/calls.md` and `docs/PROVED.md` show.
+//! Callers of a buffer: those that the README and the pages show, and those that `docs/PROVED.md` names.
 
 ghost use Rattle.std.specs.Prelude.{◌≡◌, ◌↔◌, List, IsTrue};
 ghost use Rattle.ob_types.specs.declared.command.Command.{Command};

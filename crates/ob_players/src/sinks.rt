@@ -35,6 +35,7 @@ impl SinkWords {
         Ok(true)
     }
 
+    /// The sink that takes these steps, and after them what was told last.
     pub fn into_sink(self) -> ScriptSink {
         ScriptSink::new(self.steps, self.after)
     }
