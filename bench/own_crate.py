@@ -16,7 +16,12 @@ TOP = pathlib.Path(__file__).resolve().parent.parent
 def lay_out(folder, source, crates, uses, handles=TOP / "HANDLES"):
     """Makes a repository of these crates and one more, of the same name as its folder, and returns the crate's folder."""
     for crate in crates:
-        shutil.copytree(TOP / "crates" / crate, folder / "crates" / crate, ignore=shutil.ignore_patterns("out"))
+        own = folder / "crates" / crate
+        shutil.copytree(TOP / "crates" / crate, own, ignore=shutil.ignore_patterns("out"))
+        # what `rt` finds built and unchanged it does not prove once more
+        built = TOP / "crates" / crate / "out" / "rlib"
+        if (built / "stamp").exists():
+            shutil.copytree(built, own / "out" / "rlib")
     lines = (TOP / "crates.txt").read_text(encoding="utf-8").splitlines()
     kept = [line for line in lines if re.split("[ :]", line)[0] in crates]
     (folder / "crates.txt").write_text("\n".join([*kept, f"{source.name}: {uses}", ""]), encoding="utf-8")
