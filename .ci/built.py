@@ -1,11 +1,12 @@
 #!/usr/bin/env python3
 """Tells `rt` which libraries `rt ci` has built in crates/, so that `rt lib` and `rt run` need not prove them once more.
 
-    .ci/built.py
+    .ci/built.py > MARKS
 
 A library that `rt ci` builds holds what others cite, and is not marked as built, since it fits those alone that were
-built with it. Here all were. A mark is the sum of a library's sources, so one that has changed since is built anew. With
-a kit that marks otherwise nothing is spared, and nothing is lost.
+built with it. While the gate runs all were; whoever builds one anew finds that those above it no longer fit, so the gate
+removes the marks at its end, whose paths are printed here. With a kit that marks otherwise nothing is spared, and nothing
+is lost.
 """
 
 import pathlib
@@ -24,6 +25,7 @@ def main():
     for crate in rtlib.crates_below(str(TOP)):
         built = pathlib.Path(crate.folder) / "out" / "rlib"
         if (built / f"{crate.name}.rlib" / "format").exists() and not (built / "stamp").exists():
+            print(built / "stamp", flush=True)
             (built / "stamp").write_text(crate.stamp(), encoding="utf-8")
 
 
