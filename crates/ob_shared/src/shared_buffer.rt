@@ -19,7 +19,11 @@ use crate::share::Share;
 use crate::words::Words;
 use ob_history::{Booked, Receipt, Seen, a_history_settles_each_promise_once};
 use ob_types::{Command, PromiseId, Refusal};
-use std::sync::{Condvar, Mutex, Wait};
+use std::sync::{Condvar, Mutex, MutexGuard, Wait};
+use std::thread::yield_now;
+
+/// How often a thread that finds the lock taken lets others run and tries again, before it sleeps until it is woken.
+const TRIES: u32 = 100;
 
 /// A buffer with its whole history under a lock. Callers give it commands from a desk, each with its share. The word and
 /// the total after the last record are published beside the lock, for whoever reads them without it.
@@ -59,7 +63,18 @@ impl<L: Named> SharedBuffer<L> {
         ensures part { IsBeginning share.sight.seen result.history.records }
         ensures opened { IsAsOpened L.opened result.history }
     {
-        Desk::new(self, self.locked.lock(rt), share)
+        Desk::new(self, self.lock(rt), share)
+    }
+
+    /// The lock. Most calls are over before a thread that went to sleep would be woken, so it is tried for a while first.
+    fn lock<R: Wait>(&self, rt: &R) -> MutexGuard<'_, Locked<L>> {
+        for _ in 0..TRIES {
+            if let Some(guard) = self.locked.try_lock() {
+                return guard;
+            }
+            yield_now();
+        }
+        self.locked.lock(rt)
     }
 
     /// Makes one call from a desk of its own, and keeps its receipt behind the caller's others. It waits while another
@@ -136,7 +151,7 @@ impl<L: Named> SharedBuffer<L> {
         ensures settled { ¬ IsUnknown result.0.history.records id → ¬ IsUnsettled result.0.history.records id }
         ensures frugal { IsToldFreely result.0.history.records id → ¬ IsErrOf result.1 Refusal.NoMemory }
     {
-        let mut locked = self.locked.lock(rt);
+        let mut locked = self.lock(rt);
         for _ in rt.forever() {
             match locked.told(id) {
                 Some(answer) => return (Desk::new(self, locked, share), answer),
@@ -152,7 +167,7 @@ impl<L: Named> SharedBuffer<L> {
     pub fn check_in<R: Wait>(&self, rt: &R, reader: &mut Reader<L>) -> Seen
         ensures { IsCheckIn L.opened.settings reader.old result reader.new }
     {
-        self.locked.lock(rt).check_in(&self.words, reader)
+        self.lock(rt).check_in(&self.words, reader)
     }
 
     /// Ends the buffer, where each caller has handed in, and gives the whole history. Its records are a legal history,
