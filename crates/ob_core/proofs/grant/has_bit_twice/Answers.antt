@@ -1,4 +1,4 @@
-use Rattle.std.proofs.Common.{sym, ◌∙◌}
+use Rattle.std.proofs.Common.{sym, ◌∙◌, rules}
 use Rattle.ob_core.proofs.Masks.{masks_more, masks_shared}
 use Rattle.ob_core.proofs.grant.has_bit_twice.Goals as goal
 
@@ -11,3 +11,6 @@ pub returns-then-taken-start-ne0 : goal.returns-then-taken-start-ne0
 returns-then-taken-start-ne0 c =
     sym (masks_shared c.loop-start.taken c.args.starts.now c.loop-start.start-index
     (record { room = 0; bits = 0 }) c.loop-start-test.true c.if-taken-start-ne0.true) ∙ c.loop-start.invariant
+
+pub loop-start-init : goal.loop-start-init
+loop-start-init c = search rules

@@ -1,4 +1,4 @@
-use Rattle.std.proofs.Common.{sym, arith}
+use Rattle.std.proofs.Common.{sym, arith, rules}
 use Rattle.std.proofs.lemmas.Option.{slice_get_within}
 use Rattle.ob_core.specs.Inside.{core_of}
 use Rattle.ob_core.proofs.SoundLemmas.{IsSound-turn_step, IsSound-turn_nothing, FitsTotal-turn}
@@ -40,3 +40,15 @@ invariant_of-self-2 c =
     let is_step = sym c.in-Some-step.ensures in
     let sound = IsSound-turn_step core c.args.turn c.in-Some.lane c.in-Some-step.step has is_step c.self.invariant in
     rw (c.lane_after.ensures, c.word_after-self-inside.ensures, c.total_after-self-inside.ensures) sound
+
+pub returns-in_default-clause-change : goal.returns-in_default-clause-change
+returns-in_default-clause-change c = search rules
+
+pub returns-in-Some-refusal-clause-change : goal.returns-in-Some-refusal-clause-change
+returns-in-Some-refusal-clause-change c = search rules
+
+pub returns-in_default-step-clause-change : goal.returns-in_default-step-clause-change
+returns-in_default-step-clause-change c = search rules
+
+pub returns-clause-change : goal.returns-clause-change
+returns-clause-change c = search rules

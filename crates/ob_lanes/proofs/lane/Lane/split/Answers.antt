@@ -1,4 +1,4 @@
-use Rattle.std.proofs.Common.{◌≡◌, ◌≤◌, bit_or, None, sym, ap, ◌∙◌, arith}
+use Rattle.std.proofs.Common.{◌≡◌, ◌≤◌, bit_or, None, sym, ap, ◌∙◌, arith, rules}
 use Rattle.ob_lanes.specs.Split.{split_fault}
 use Rattle.ob_lanes.proofs.Halves.{split_told, not_refused, held_unless_refused}
 use Rattle.ob_lanes.proofs.lane.Lane.split.Goals as goal
@@ -40,3 +40,9 @@ returns-clause-parts c =
     let among : bit_or mine.held c.args.bits ≡ mine.held = rw held c.if-self-bits.false in
     split_told c.args.room c.args.bits c.args.self.lane mine _ _ (ap (λ v. v.lane) c.self.view_is) enough among
     (ap (λ m. m.0.lane) seats.kept) (ap (λ m. m.0.lane) seats.given)
+
+pub returns-then-room-self-clause-refused : goal.returns-then-room-self-clause-refused
+returns-then-room-self-clause-refused c = search rules
+
+pub returns-then-room-self-clause-split : goal.returns-then-room-self-clause-split
+returns-then-room-self-clause-split c = search rules

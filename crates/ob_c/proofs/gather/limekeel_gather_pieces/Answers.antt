@@ -1,0 +1,5 @@
+use Rattle.std.proofs.Common.{rules}
+use Rattle.ob_c.proofs.gather.limekeel_gather_pieces.Goals as goal
+
+pub returns-clause-gathers : goal.returns-clause-gathers
+returns-clause-gathers c = search rules

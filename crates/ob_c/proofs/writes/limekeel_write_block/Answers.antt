@@ -1,0 +1,8 @@
+use Rattle.std.proofs.Common.{rules}
+use Rattle.ob_c.proofs.writes.limekeel_write_block.Goals as goal
+
+pub returns-clause-block : goal.returns-clause-block
+returns-clause-block c = search rules
+
+pub returns-clause-writes : goal.returns-clause-writes
+returns-clause-writes c = search rules

@@ -1,0 +1,5 @@
+use Rattle.std.proofs.Common.{rules}
+use Rattle.ob_c.proofs.writes.limekeel_write_region.Goals as goal
+
+pub returns : goal.returns
+returns c = search rules

@@ -1,0 +1,5 @@
+use Rattle.std.proofs.Common.{rules}
+use Rattle.ob_lanes.proofs.charged.Charged.word.Goals as goal
+
+pub returns : goal.returns
+returns c = search rules
