@@ -56,8 +56,8 @@ impl<L: Named> SharedBuffer<L> {
     }
 
     /// A desk for the caller of a share, whose history begins with all that the share has seen. It waits while another
-    /// caller has one, and takes no memory. The lock is never poisoned, and no desk is refused; that it is given in any
-    /// order, or ever, is not promised.
+    /// caller has one: it lets other threads run and tries again, a hundred times, and then sleeps. It takes no memory.
+    /// The lock is never poisoned, and no desk is refused; that it is given in any order, or ever, is not promised.
     pub fn desk<R: Wait>(&self, rt: &R, share: Share<L>) -> Desk<'_, L>
         ensures maker { result.maker ≡ share.maker }
         ensures part { IsBeginning share.sight.seen result.history.records }
@@ -66,7 +66,7 @@ impl<L: Named> SharedBuffer<L> {
         Desk::new(self, self.lock(rt), share)
     }
 
-    /// The lock. Most calls are over before a thread that went to sleep would be woken, so it is tried for a while first.
+    /// The lock. It is tried for a while first: most calls are over before a thread that went to sleep would be woken.
     fn lock<R: Wait>(&self, rt: &R) -> MutexGuard<'_, Locked<L>> {
         for _ in 0..TRIES {
             if let Some(guard) = self.locked.try_lock() {

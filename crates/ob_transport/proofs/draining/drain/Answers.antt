@@ -47,3 +47,9 @@ loop-turn-preserved g c =
       alike_both kept.2 (c.in_ok-pass.ensures.accounted.alike (booked_with c.in_ok-pass.field-0)),
       omega (arith, c.in_ok-pass.ensures.accounted.failures, kept.3),
     )
+
+pub loop-turn-init : goal.loop-turn-init
+loop-turn-init g c = search rules
+
+pub returns-clause-passes : goal.returns-clause-passes
+returns-clause-passes g c = search rules

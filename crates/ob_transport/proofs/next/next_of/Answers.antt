@@ -1,4 +1,4 @@
-use Rattle.std.proofs.Common.{sym, ap, ◌∙◌}
+use Rattle.std.proofs.Common.{sym, ap, ◌∙◌, rules}
 use Rattle.std.specs.Prelude.{Some}
 use Rattle.std.proofs.lemmas.Result.{err_from_is_err_and}
 use Rattle.ob_types.specs.declared.message.Message.{Message}
@@ -21,3 +21,6 @@ returns-in_err-blocks-in-Some-Block-clause-no_memory c =
     (sym (c.in-Some-Block.ensures commands stands)
     ∙ ap (λ (message : Message). Some message) c.in-Some-Block.field-0-is)
     (λ none. absurd (let no = c.in_err-blocks-in-Some-Block.ensures.frugal commands stands none in cc)))
+
+pub returns-else-rest-eq0-clause-offer : goal.returns-else-rest-eq0-clause-offer
+returns-else-rest-eq0-clause-offer c = search rules

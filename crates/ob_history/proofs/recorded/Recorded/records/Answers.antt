@@ -1,4 +1,4 @@
-use Rattle.std.proofs.Common.{subst}
+use Rattle.std.proofs.Common.{subst, rules}
 use Rattle.ob_history.specs.History.{History}
 use Rattle.ob_history.specs.Legal.{IsLegal}
 use Rattle.ob_history.proofs.recorded.Recorded.records.Goals as goal
@@ -6,3 +6,6 @@ use Rattle.ob_history.proofs.recorded.Recorded.records.Goals as goal
 pub returns-clause-legal : goal.returns-clause-legal
 returns-clause-legal c =
     subst (λ (history : History). IsLegal history.settings history.records) c.self.view_is c.self.invariant.legal
+
+pub returns-clause-value : goal.returns-clause-value
+returns-clause-value c = search rules

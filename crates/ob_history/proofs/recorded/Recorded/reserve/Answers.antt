@@ -1,4 +1,4 @@
-use Rattle.std.proofs.Common.{arith}
+use Rattle.std.proofs.Common.{arith, rules}
 use Rattle.ob_history.proofs.Rooms.{IsSound-kept_in, IsSound-more_room}
 use Rattle.ob_history.proofs.recorded.Recorded.reserve.Goals as goal
 
@@ -15,3 +15,6 @@ invariant_of-self-2 c =
     (omega (arith, room.len, most, c.if-count-self.false, c.len.ensures, c.self.invariant.places))
     (omega (arith, room.len, room.capacity, c.in_ok-reserve.ensures.ok, most, c.self.invariant.memory))
     c.self.invariant
+
+pub returns-then-count-self : goal.returns-then-count-self
+returns-then-count-self c = search rules

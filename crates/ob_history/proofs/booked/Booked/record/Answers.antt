@@ -1,0 +1,5 @@
+use Rattle.std.proofs.Common.{rules}
+use Rattle.ob_history.proofs.booked.Booked.record.Goals as goal
+
+pub returns-clause-is_recording : goal.returns-clause-is_recording
+returns-clause-is_recording g c = search rules

@@ -1,0 +1,5 @@
+use Rattle.std.proofs.Common.{rules}
+use Rattle.ob_transport.proofs.script.ScriptSink.new.Goals as goal
+
+pub returns : goal.returns
+returns c = search rules

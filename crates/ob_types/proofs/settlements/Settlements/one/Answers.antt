@@ -1,0 +1,5 @@
+use Rattle.std.proofs.Common.{rules}
+use Rattle.ob_types.proofs.settlements.Settlements.one.Goals as goal
+
+pub returns : goal.returns
+returns c = search rules
