@@ -58,7 +58,10 @@ fn plays<L: Named + Send + Sync>(
     requires { IsNameOf opening L.opened L.name L.parts }
 {
     let mut crew = Again(crew::<L, _>(rt, options, opening)?);
-    plays_all(rt, &mut crew, scene)
+    let played = plays_all(rt, &mut crew, scene);
+    // one call, where the end of the scope is followed field by field
+    drop(crew);
+    played
 }
 
 /// Plays what is asked in turn, then all parts in threads of their own, and then what is asked in turn again.
