@@ -1,6 +1,7 @@
 use Rattle.std.proofs.Common.{rules}
 use Rattle.ob_c.proofs.writes.limekeel_write_block.Goals as goal
 
+-- Named for the must-fail edits that fail here: `search` finds it unasked (CONTRIBUTING.md).
 pub returns-clause-block : goal.returns-clause-block
 returns-clause-block c = search rules
 

@@ -12,5 +12,6 @@ returns-then-taken-start-ne0 c =
     sym (masks_shared c.loop-start.taken c.args.starts.now c.loop-start.start-index
     (record { room = 0; bits = 0 }) c.loop-start-test.true c.if-taken-start-ne0.true) ∙ c.loop-start.invariant
 
+-- Named for the must-fail edits that fail here: `search` finds it unasked (CONTRIBUTING.md).
 pub loop-start-init : goal.loop-start-init
 loop-start-init c = search rules

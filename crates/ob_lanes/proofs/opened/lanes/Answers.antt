@@ -1,6 +1,7 @@
 use Rattle.std.proofs.Common.{rules}
 use Rattle.ob_lanes.proofs.opened.lanes.Goals as goal
 
+-- Named for the must-fail edits that fail here: `search` finds it unasked (CONTRIBUTING.md).
 pub of_words-requires : goal.of_words-requires
 of_words-requires c = search rules
 

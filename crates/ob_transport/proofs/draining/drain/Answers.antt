@@ -48,6 +48,7 @@ loop-turn-preserved g c =
       omega (arith, c.in_ok-pass.ensures.accounted.failures, kept.3),
     )
 
+-- Named for the must-fail edits that fail here: `search` finds it unasked (CONTRIBUTING.md).
 pub loop-turn-init : goal.loop-turn-init
 loop-turn-init g c = search rules
 

@@ -22,5 +22,6 @@ returns-in_err-blocks-in-Some-Block-clause-no_memory c =
     ∙ ap (λ (message : Message). Some message) c.in-Some-Block.field-0-is)
     (λ none. absurd (let no = c.in_err-blocks-in-Some-Block.ensures.frugal commands stands none in cc)))
 
+-- Named for the must-fail edits that fail here: `search` finds it unasked (CONTRIBUTING.md).
 pub returns-else-rest-eq0-clause-offer : goal.returns-else-rest-eq0-clause-offer
 returns-else-rest-eq0-clause-offer c = search rules

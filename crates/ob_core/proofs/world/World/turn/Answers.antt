@@ -41,6 +41,7 @@ invariant_of-self-2 c =
     let sound = IsSound-turn_step core c.args.turn c.in-Some.lane c.in-Some-step.step has is_step c.self.invariant in
     rw (c.lane_after.ensures, c.word_after-self-inside.ensures, c.total_after-self-inside.ensures) sound
 
+-- Named for the must-fail edits that fail here: `search` finds it unasked (CONTRIBUTING.md).
 pub returns-in_default-clause-change : goal.returns-in_default-clause-change
 returns-in_default-clause-change c = search rules
 

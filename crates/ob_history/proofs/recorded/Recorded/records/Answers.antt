@@ -7,5 +7,6 @@ pub returns-clause-legal : goal.returns-clause-legal
 returns-clause-legal c =
     subst (λ (history : History). IsLegal history.settings history.records) c.self.view_is c.self.invariant.legal
 
+-- Named for the must-fail edits that fail here: `search` finds it unasked (CONTRIBUTING.md).
 pub returns-clause-value : goal.returns-clause-value
 returns-clause-value c = search rules

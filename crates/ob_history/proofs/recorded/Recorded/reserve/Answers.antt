@@ -16,5 +16,6 @@ invariant_of-self-2 c =
     (omega (arith, room.len, room.capacity, c.in_ok-reserve.ensures.ok, most, c.self.invariant.memory))
     c.self.invariant
 
+-- Named for the must-fail edits that fail here: `search` finds it unasked (CONTRIBUTING.md).
 pub returns-then-count-self : goal.returns-then-count-self
 returns-then-count-self c = search rules

@@ -1,6 +1,7 @@
 use Rattle.std.proofs.Common.{rules}
 use Rattle.ob_lanes.proofs.lane.Lane.bit.Goals as goal
 
+-- Named for the must-fail edits that fail here: `search` finds it unasked (CONTRIBUTING.md).
 pub clear_bit-found-requires : goal.clear_bit-found-requires
 clear_bit-found-requires c = search rules
 

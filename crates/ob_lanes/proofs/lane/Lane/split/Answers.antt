@@ -41,6 +41,7 @@ returns-clause-parts c =
     split_told c.args.room c.args.bits c.args.self.lane mine _ _ (ap (λ v. v.lane) c.self.view_is) enough among
     (ap (λ m. m.0.lane) seats.kept) (ap (λ m. m.0.lane) seats.given)
 
+-- Named for the must-fail edits that fail here: `search` finds it unasked (CONTRIBUTING.md).
 pub returns-then-room-self-clause-refused : goal.returns-then-room-self-clause-refused
 returns-then-room-self-clause-refused c = search rules
 
