@@ -93,17 +93,17 @@ pub fn drive_script<H: AllocGlobal + Threads + Wait + Clock + Sync, R: Read, W: 
         → Keeps (W.contents writer.old) (W.contents writer.new)) }
 {
     let script = read_script(rt.alloc(), reader, MAX_READS)?;
-    let session = read_lines(rt.alloc(), &script)?;
+    let session = read_lines(rt.alloc(), script)?;
     let driven = drive_session(rt, session, options)?;
     write_report(rt.alloc(), &driven.report, writer)?;
     Ok(driven)
 }
 
 /// Reads the lines of a drive script up to the first faulty one.
-pub fn read_lines(alloc: Global, script: &[u8]) -> Result<DriveSession, ScriptFault>
-    requires small { length script.now ≤ greatest_script }
-    ensures kept { IfOk result (λ session. HasKept session (script_lines drive_grammar script.now)) }
-    ensures ends { ReadingEnds drive_grammar script.now result }
+pub fn read_lines(alloc: Global, script: Vec<u8>) -> Result<DriveSession, ScriptFault>
+    requires small { length script.items ≤ greatest_script }
+    ensures kept { IfOk result (λ session. HasKept session (script_lines drive_grammar script.items)) }
+    ensures ends { ReadingEnds drive_grammar script.items result }
 {
     let mut session = DriveSession::new(alloc);
     let mut cursor = Cursor::new(script);

@@ -4,6 +4,11 @@ use Rattle.ob_cli.specs.Reading.Grammar.{Grammar}
 use Rattle.ob_cli.specs.Reading.Script.{before_fault, first_fault, readings_behind, script_fault, script_lines}
 use Rattle.ob_cli.specs.declared.reading.fault.LineFault.{LineFault}
 
+-- what is left of a script, and how many lines were read
+pub record Cursor : Type 0 where
+  pub rest : List ℕ
+  pub count : ℕ
+
 -- so many first lines of a script are carried out, and these bytes are left: the further lines and the fault are those
 -- of what is left
 pub record StandsAt {L : Type 0} (grammar : Grammar L) (script : List ℕ) (count : ℕ) (rest : List ℕ) : Type 0 where

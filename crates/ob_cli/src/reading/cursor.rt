@@ -1,5 +1,5 @@
 ghost use Rattle.std.specs.Prelude.{◌≡◌, ◌+◌, ◌<◌, ◌≤◌, ◌==◌, List, ℕ, Some, true, false};
-ghost use Rattle.std.specs.Prelude.{IfErr, IfOk, length, take};
+ghost use Rattle.std.specs.Prelude.{IfErr, IfOk, drop, length, take};
 ghost use Rattle.ob_cli.specs.Reading.Cursor.{EndsAt, IsFollowed, StandsAt};
 ghost use Rattle.ob_cli.specs.Reading.Script.{greatest_script, script_lines};
 ghost use Rattle.ob_cli.specs.declared.reading.fault.LineFault.{LineFault};
@@ -10,59 +10,82 @@ use crate::reading::fault::LineFault;
 use crate::reading::grammar::Grammar;
 use crate::reading::lines::first_line;
 use crate::script_fault::ScriptFault;
+use std::marker::Model;
 
-/// Reads the lines of a script one after the other, and counts them.
+/// How many bytes are read at least before their memory is given back.
+const PIECE: usize = 65536;
+
+/// Reads the lines of a script one after the other, and counts them. When most of the script was read, the memory of that
+/// is given back. Contracts see what is left of the script, and the count.
 #[derive(Drop)]
-pub struct Cursor<'a> {
-    /// What follows the lines that were read.
-    pub rest: &'a [u8],
+pub struct Cursor {
+    /// What is left of the script, behind bytes that were read.
+    script: Vec<u8>,
+    /// How many bytes of it were read.
+    read: usize,
+    /// How many are to be read before their memory is given back.
+    enough: usize,
     /// How many lines were read.
-    pub count: u32,
-    ghost few: { count + length rest.now ≤ greatest_script },
+    count: u32,
 }
 
-impl<'a> Cursor<'a> {
+impl Model for Cursor {
+    ghost use Rattle.std.specs.Prelude.{◌+◌, ◌≤◌, drop, length};
+    ghost use Rattle.ob_cli.specs.Reading.Cursor.{Cursor};
+    ghost use Rattle.ob_cli.specs.Reading.Script.{greatest_script};
+
+    ghost Value = { Cursor };
+
+    ghost view = { λ cursor. record { rest = drop cursor.read cursor.script.items; count = cursor.count } };
+
+    ghost invariant = { λ cursor. (cursor.read ≤ length cursor.script.items)
+        × (cursor.count + length (drop cursor.read cursor.script.items) ≤ greatest_script) };
+}
+
+impl Cursor {
     /// In front of the first line.
-    pub fn new(script: &'a [u8]) -> Cursor<'a>
-        requires small { length script.now ≤ greatest_script }
-        ensures rest { result.rest.now ≡ script.now }
-        ensures count { result.count ≡ 0 }
+    pub fn new(script: Vec<u8>) -> Cursor
+        requires small { length script.items ≤ greatest_script }
+        ensures { result ≡ record { rest = script.items; count = 0 } }
     {
+        let enough = enough_of(script.len());
         Cursor {
-            rest: script,
+            script,
+            read: 0,
+            enough,
             count: 0,
         }
     }
 
     /// Whether there is no further line.
     pub fn is_at_end(&self) -> bool
-        ensures { result ≡ (length self.now.rest.now == 0) }
+        ensures { result ≡ (length self.now.rest == 0) }
     {
-        self.rest.is_empty()
+        self.read == self.script.len()
     }
 
     /// Reads the next line: what it asks by itself, or its fault with its number.
     pub fn read<G: Grammar>(&mut self) -> Result<G::Line, ScriptFault>
-        requires more { 0 < length self.old.rest.now }
+        requires more { 0 < length self.old.rest }
         ensures count { self.new.count ≡ self.old.count + 1 }
-        ensures fewer { length self.new.rest.now < length self.old.rest.now }
+        ensures fewer { length self.new.rest < length self.old.rest }
         ensures faulty { IfErr result (λ told. (script : List ℕ)
-            → StandsAt G.grammar script self.old.count self.old.rest.now → (fault : LineFault)
+            → StandsAt G.grammar script self.old.count self.old.rest → (fault : LineFault)
             × (told ≡ Line (self.old.count + 1) fault)
             × EndsAt G.grammar script self.old.count (Some (self.old.count + 1, fault))) }
         ensures misplaced { IfOk result (λ line. (script : List ℕ)
-            → StandsAt G.grammar script self.old.count self.old.rest.now
+            → StandsAt G.grammar script self.old.count self.old.rest
             → G.grammar.is_misplaced (take self.old.count (script_lines G.grammar script)) line ≡ true
             → EndsAt G.grammar script self.old.count (Some (self.old.count + 1, Misplaced))) }
         ensures placed { IfOk result (λ line. (script : List ℕ)
-            → StandsAt G.grammar script self.old.count self.old.rest.now
+            → StandsAt G.grammar script self.old.count self.old.rest
             → G.grammar.is_misplaced (take self.old.count (script_lines G.grammar script)) line ≡ false
-            → IsFollowed G.grammar script self.old.count line self.new.rest.now) }
+            → IsFollowed G.grammar script self.old.count line self.new.rest) }
     {
-        let (line, others) = first_line(self.rest);
-        self.rest = others;
-        self.count += 1;
-        match G::read(line) {
+        let (line, bytes) = first_line(self.rest());
+        let read = G::read(line);
+        self.pass(bytes);
+        match read {
             Ok(line) => Ok(line),
             Err(fault) => Err(self.fault(fault)),
         }
@@ -77,4 +100,43 @@ impl<'a> Cursor<'a> {
             fault,
         }
     }
+
+    /// What is left of the script.
+    #[inline(always)]
+    fn rest(&self) -> &[u8]
+        ensures { result.now ≡ self.now.rest }
+    {
+        &self.script[self.read..]
+    }
+
+    /// Passes a line of so many bytes.
+    #[inline(always)]
+    fn pass(&mut self, bytes: usize)
+        requires some { 0 < bytes }
+        requires within { bytes ≤ length self.old.rest }
+        ensures { self.new ≡ record { rest = drop bytes self.old.rest; count = self.old.count + 1 } }
+    {
+        self.read += bytes;
+        self.count += 1;
+        if self.read >= self.enough {
+            self.give_back();
+        }
+    }
+
+    /// Gives back the memory of what was read. If the allocator refuses a new place for the rest, all stays as it is.
+    fn give_back(&mut self)
+        ensures { self.new ≡ self.old }
+    {
+        self.enough = usize::MAX;
+        if let Ok(rest) = self.script.split_off(self.read) {
+            self.enough = enough_of(rest.len());
+            self.script = rest;
+            self.read = 0;
+        }
+    }
+}
+
+/// How many bytes of so many are to be read before their memory is given back: seven eighths, and a piece at least.
+fn enough_of(bytes: usize) -> usize {
+    PIECE.max(bytes - bytes / 8)
 }

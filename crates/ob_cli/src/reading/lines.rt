@@ -1,19 +1,20 @@
-ghost use Rattle.std.specs.Prelude.{◌≡◌, ◌<◌, ◌≤◌, ◌∷◌, length, slice_index};
+ghost use Rattle.std.specs.Prelude.{◌≡◌, ◌<◌, ◌≤◌, ◌∷◌, drop, length, slice_index};
 ghost use Rattle.std.specs.Prelude.{◌==◌};
 ghost use Rattle.std.specs.List.{position, position_or_len};
 ghost use Rattle.ob_cli.specs.Reading.Lines.{lines_of, words_of, words_after};
 
-/// The first line of a script that is not empty, and what follows the byte 10 that ends it.
-pub fn first_line(script: &[u8]) -> (&[u8], &[u8])
+/// The first line of a script that is not empty, and how many bytes it takes with the byte 10 that ends it.
+pub fn first_line(script: &[u8]) -> (&[u8], usize)
     requires { 0 < length script.now }
-    ensures lines { lines_of script.now ≡ result.0.now ∷ lines_of result.1.now }
-    ensures fewer { length result.1.now < length script.now }
+    ensures lines { lines_of script.now ≡ result.0.now ∷ lines_of (drop result.1 script.now) }
+    ensures some { 0 < result.1 }
+    ensures within { result.1 ≤ length script.now }
 {
     let end = index_or_len(script, b'\n');
     if end == script.len() {
-        return (script, &[]);
+        return (script, end);
     }
-    (&script[..end], &script[end + 1..])
+    (&script[..end], end + 1)
 }
 
 /// The first word of a piece of a line, and what follows the word, from the space on.

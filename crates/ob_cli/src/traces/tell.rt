@@ -42,7 +42,7 @@ pub fn tell_of_trace<T: Teller, R: Read, W: Write>(
         (W.contents writer.old) (W.contents writer.new) result }
 {
     let script = read_script(alloc, reader, MAX_READS)?;
-    let trace = read_trace(alloc, &script)?;
+    let trace = read_trace(alloc, script)?;
     let mut text = String::new(alloc);
     teller.push_told(alloc, &trace.lines, &mut text)?;
     write_text(&text, writer)?;

@@ -34,12 +34,12 @@ impl Grammar for OfTraces {
 }
 
 /// Reads the lines of a trace up to the first that is of none.
-pub fn read_trace(alloc: Global, trace: &[u8]) -> Result<Trace, AllocError>
-    requires small { length trace.now ≤ greatest_script }
-    ensures lines { IfOk result (λ read. read.lines.items ≡ script_lines trace_grammar trace.now) }
+pub fn read_trace(alloc: Global, trace: Vec<u8>) -> Result<Trace, AllocError>
+    requires small { length trace.items ≤ greatest_script }
+    ensures lines { IfOk result (λ read. read.lines.items ≡ script_lines trace_grammar trace.items) }
     ensures few { IfOk result (λ read. length read.lines.items ≤ greatest_script) }
     ensures through { IfOk result (λ read. WentThrough read.ended) }
-    ensures fault { IfOk result (λ read. fault_told read.ended ≡ script_fault trace_grammar trace.now) }
+    ensures fault { IfOk result (λ read. fault_told read.ended ≡ script_fault trace_grammar trace.items) }
 {
     let mut lines = Vec::new(alloc);
     let mut cursor = Cursor::new(trace);

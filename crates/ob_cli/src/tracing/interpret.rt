@@ -26,19 +26,19 @@ pub fn interpret<I: Interpreter, R: Read, W: Write>(
         (R.remaining reader.old) (R.remaining reader.new) (W.contents writer.old) (W.contents writer.new) result }
 {
     let script = read_script(alloc, reader, MAX_READS)?;
-    write_trace(alloc, &script, writer, interpreter)
+    write_trace(alloc, script, writer, interpreter)
 }
 
 /// Has the lines of a script carried out, and writes the trace.
 fn write_trace<I: Interpreter, W: Write>(
     alloc: Global,
-    script: &[u8],
+    script: Vec<u8>,
     writer: &mut W,
     interpreter: I,
 ) -> Result<(), ScriptFault>
-    requires small { length script.now ≤ greatest_script }
+    requires small { length script.items ≤ greatest_script }
     requires fresh { I.HasDone interpreter [] }
-    ensures { Ends (record { grammar = I.grammar; texts = I.texts interpreter }) script.now
+    ensures { Ends (record { grammar = I.grammar; texts = I.texts interpreter }) script.items
         (Appends (W.contents writer.old) (W.contents writer.new)) result }
 {
     let mut interpreter = interpreter;

@@ -21,14 +21,14 @@ const PIECE: usize = 65536;
 pub fn trace_script<I: Interpreter, W: io::Write>(
     alloc: Global,
     interpreter: &mut I,
-    script: &[u8],
+    script: Vec<u8>,
     waiting: &mut Vec<u8>,
     writer: &mut W,
 ) -> Result<(), ScriptFault>
-    requires small { length script.now ≤ greatest_script }
+    requires small { length script.items ≤ greatest_script }
     requires fresh { I.HasDone interpreter.old [] }
     requires empty { waiting.old.items ≡ [] }
-    ensures { Ends (record { grammar = I.grammar; texts = I.texts interpreter.old }) script.now
+    ensures { Ends (record { grammar = I.grammar; texts = I.texts interpreter.old }) script.items
         (HasTraced (W.contents writer.old) (W.contents writer.new) waiting.new.items) result }
 {
     trace_lines(alloc, interpreter, script, waiting, writer)?;
@@ -42,21 +42,21 @@ pub fn trace_script<I: Interpreter, W: io::Write>(
 pub fn trace_lines<I: Interpreter, W: io::Write>(
     alloc: Global,
     interpreter: &mut I,
-    script: &[u8],
+    script: Vec<u8>,
     waiting: &mut Vec<u8>,
     writer: &mut W,
 ) -> Result<(), ScriptFault>
-    requires small { length script.now ≤ greatest_script }
+    requires small { length script.items ≤ greatest_script }
     requires fresh { I.HasDone interpreter.old [] }
     requires empty { waiting.old.items ≡ [] }
-    ensures lines { LinesEnd (record { grammar = I.grammar; texts = I.texts interpreter.old }) script.now
+    ensures lines { LinesEnd (record { grammar = I.grammar; texts = I.texts interpreter.old }) script.items
         (HasTraced (W.contents writer.old) (W.contents writer.new) waiting.new.items) result }
-    ensures done { OnOk result (I.HasDone interpreter.new (script_lines I.grammar script.now)) }
+    ensures done { OnOk result (I.HasDone interpreter.new (script_lines I.grammar script.items)) }
     ensures texts { OnOk result (I.texts interpreter.new ≡ I.texts interpreter.old) }
 {
     let mut cursor = Cursor::new(script);
     let mut text = String::new(alloc);
-    while !cursor.is_at_end() {
+    'lines: while !cursor.is_at_end() {
         let line = cursor.read::<I>()?;
         if !trace_line(alloc, interpreter, line, &mut text, waiting)? {
             return Err(cursor.fault(LineFault::Misplaced));

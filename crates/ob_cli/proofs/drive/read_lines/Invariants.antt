@@ -7,9 +7,9 @@ use Rattle.ob_cli.proofs.drive.read_lines.Given as goal
 
 abbrev pub invariant-loop-cursor : goal.invariant-loop-cursor
 invariant-loop-cursor l = record {
-  kept : HasKept l.session (take l.cursor.count (script_lines drive_grammar l.script));
-  stands : StandsAt drive_grammar l.script l.cursor.count l.cursor.rest.now;
+  kept : HasKept l.session (take l.cursor.count (script_lines drive_grammar l.fn.script.items));
+  stands : StandsAt drive_grammar l.fn.script.items l.cursor.count l.cursor.rest;
 }
 
 abbrev pub decreases-loop-cursor : goal.decreases-loop-cursor
-decreases-loop-cursor l = length l.cursor.rest.now
+decreases-loop-cursor l = length l.cursor.rest

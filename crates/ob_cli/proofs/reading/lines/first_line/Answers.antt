@@ -1,4 +1,4 @@
-use Rattle.std.proofs.Common.{◌≡◌, ◌+◌, ◌-◌, [], take, drop, length, length-drop, arith}
+use Rattle.std.proofs.Common.{◌≡◌, ◌+◌, [], take, drop, length, arith}
 use Rattle.std.proofs.lemmas.List.{take_all, drop_all}
 use Rattle.ob_cli.proofs.Lemmas.Reading.Lines.{lines_of-first}
 use Rattle.ob_cli.proofs.reading.lines.first_line.Goals as goal
@@ -9,14 +9,9 @@ returns-then-end-script-clause-lines c =
     let first = rw (← c.index_or_len-end.ensures.place, c.if-end-script.true) at (lines_of-first script c.requires) in
     let line : take (length script) script ≡ script = take_all (length script) script (omega arith) in
     let rest : drop (length script + 1) script ≡ [] = drop_all (length script + 1) script (omega arith) in
-    rw (line, rest) at first
+    let none : drop (length script) script ≡ [] = drop_all (length script) script (omega arith) in
+    rw (c.if-end-script.true, none) (rw (line, rest) at first)
 
 pub returns-clause-lines : goal.returns-clause-lines
 returns-clause-lines c =
-    let script = c.args.script.now in
-    let first = rw (← c.index_or_len-end.ensures.place) at (lines_of-first script c.requires) in
-    let rest = drop (c.index_or_len-end.result + 1) script in
-    let whole : take (length script - (c.index_or_len-end.result + 1)) rest ≡ rest =
-    take_all (length script - (c.index_or_len-end.result + 1)) rest
-    (omega (arith, length-drop (c.index_or_len-end.result + 1) script)) in
-    rw whole first
+    rw (← c.index_or_len-end.ensures.place) at (lines_of-first c.args.script.now c.requires)

@@ -8,8 +8,8 @@ loop-cursor-preserved c =
     let inv = c.loop-cursor.invariant in
     let line = c.in-Ok.line in
     let further =
-    read_further trace_grammar c.args.trace.now c.loop-cursor.cursor.count c.read.new.self.count line
-    c.read.new.self.rest.now c.in-Ok.ensures.count (c.in-Ok.ensures.placed c.args.trace.now inv.stands refl) in
+    read_further trace_grammar c.args.trace.items c.loop-cursor.cursor.count c.read.new.self.count line
+    c.read.new.self.rest c.in-Ok.ensures.count (c.in-Ok.ensures.placed c.args.trace.items inv.stands refl) in
     let kept : c.push.new.self.items ≡ c.loop-cursor.lines.items ++ line ∷ [] = c.in_ok-push-in-Ok.ensures.items in
     record {
       kept = kept ∙ ap (λ before. before ++ line ∷ []) inv.kept ∙ sym further.0;

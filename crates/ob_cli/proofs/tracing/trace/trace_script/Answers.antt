@@ -9,7 +9,7 @@ use Rattle.ob_cli.proofs.tracing.trace.trace_script.Goals as goal
 pub returns-in-Err : goal.returns-in-Err
 returns-in-Err g c =
     let language : Language _ = record { grammar = g.I.Grammar.grammar; texts = g.I.Interpreter.texts c.args.interpreter.now } in
-    let script = c.args.script.now in
+    let script = c.args.script.items in
     let count = length (script_lines language.grammar script) in
     let start = g.W.Write.contents c.args.writer.now in
     let held = g.W.Write.contents c.trace_lines.new.writer in
@@ -23,7 +23,7 @@ returns-in-Err g c =
 pub returns-in-Ok : goal.returns-in-Ok
 returns-in-Ok g c =
     let language : Language _ = record { grammar = g.I.Grammar.grammar; texts = g.I.Interpreter.texts c.args.interpreter.now } in
-    let script = c.args.script.now in
+    let script = c.args.script.items in
     let start = g.W.Write.contents c.args.writer.now in
     let held = g.W.Write.contents c.trace_lines.new.writer in
     let waits = c.trace_lines.new.waiting.items in
