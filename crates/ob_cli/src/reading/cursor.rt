@@ -82,10 +82,11 @@ impl Cursor {
             → G.grammar.is_misplaced (take self.old.count (script_lines G.grammar script)) line ≡ false
             → IsFollowed G.grammar script self.old.count line self.new.rest) }
     {
-        let (line, bytes) = first_line(self.rest());
-        let read = G::read(line);
-        self.pass(bytes);
-        match read {
+        self.give_back();
+        let (line, bytes) = first_line(behind(&self.script, self.read));
+        self.read += bytes;
+        self.count += 1;
+        match G::read(line) {
             Ok(line) => Ok(line),
             Err(fault) => Err(self.fault(fault)),
         }
@@ -101,30 +102,18 @@ impl Cursor {
         }
     }
 
-    /// What is left of the script.
+    /// Gives back the memory of what was read, if that is enough.
     #[inline(always)]
-    fn rest(&self) -> &[u8]
-        ensures { result.now ≡ self.now.rest }
+    fn give_back(&mut self)
+        ensures { self.new ≡ self.old }
     {
-        &self.script[self.read..]
-    }
-
-    /// Passes a line of so many bytes.
-    #[inline(always)]
-    fn pass(&mut self, bytes: usize)
-        requires some { 0 < bytes }
-        requires within { bytes ≤ length self.old.rest }
-        ensures { self.new ≡ record { rest = drop bytes self.old.rest; count = self.old.count + 1 } }
-    {
-        self.read += bytes;
-        self.count += 1;
         if self.read >= self.enough {
-            self.give_back();
+            self.move_rest();
         }
     }
 
-    /// Gives back the memory of what was read. If the allocator refuses a new place for the rest, all stays as it is.
-    fn give_back(&mut self)
+    /// Moves what is left to memory of its own. If the allocator refuses that, all stays as it is.
+    fn move_rest(&mut self)
         ensures { self.new ≡ self.old }
     {
         self.enough = usize::MAX;
@@ -134,6 +123,14 @@ impl Cursor {
             self.read = 0;
         }
     }
+}
+
+/// What stands behind so many bytes.
+fn behind(script: &[u8], read: usize) -> &[u8]
+    requires { read ≤ length script.now }
+    ensures { result.now ≡ drop read script.now }
+{
+    &script[read..]
 }
 
 /// How many bytes of so many are to be read before their memory is given back: seven eighths, and a piece at least.
