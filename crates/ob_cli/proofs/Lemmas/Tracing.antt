@@ -1,3 +1,4 @@
 -- Traces.
+pub mod Decimal
 pub mod Hex
 pub mod Trace

@@ -112,16 +112,16 @@ impl Cursor {
         }
     }
 
-    /// Moves what is left to memory of its own. If the allocator refuses that, all stays as it is.
+    /// Moves what is left to the front, and gives back the memory behind it.
     fn move_rest(&mut self)
         ensures { self.new ≡ self.old }
     {
-        self.enough = usize::MAX;
-        if let Ok(rest) = self.script.split_off(self.read) {
-            self.enough = enough_of(rest.len());
-            self.script = rest;
-            self.read = 0;
-        }
+        let left = self.script.len() - self.read;
+        self.script.copy_within(self.read.., 0);
+        self.script.truncate(left);
+        self.script.shrink_to_fit();
+        self.read = 0;
+        self.enough = enough_of(left);
     }
 }
 

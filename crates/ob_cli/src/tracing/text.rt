@@ -1,6 +1,6 @@
-ghost use Rattle.std.specs.Prelude.{◌≡◌, ◌<◌, ◌/◌, ◌%◌, ◌++◌, [], ◌∷◌, false, OnOk, string_bytes};
+ghost use Rattle.std.specs.Prelude.{◌≡◌, ◌+◌, ◌<◌, ◌/◌, ◌%◌, ◌++◌, [], ◌∷◌, false, OnOk, string_bytes};
 ghost use Rattle.std.specs.Fmt.{decimal, digit_glyph};
-ghost use Rattle.ob_cli.specs.Tracing.Text.{change_text, eight_hex, number_line, word_text, words_text};
+ghost use Rattle.ob_cli.specs.Tracing.Text.{change_text, eight_hex, number_line, two_digits, word_text, words_text};
 
 use ob_types::Change;
 use std::alloc::AllocError;
@@ -33,7 +33,69 @@ fn push_word(text: &mut String, word: u32) -> Result<(), AllocError>
 pub fn push_number(text: &mut String, number: u64) -> Result<(), AllocError>
     ensures { OnOk result (string_bytes text.new ≡ string_bytes text.old ++ decimal number) }
 {
+    // nearly every number of a trace: `itoa` writes digits by pairs, which are then copied in larger pieces, and a
+    // processor waits for that
+    if number < 1_000_000 {
+        return push_up_to_six(text, number as u32);
+    }
     text.push_str(itoa::Buffer::new().format(number))
+}
+
+/// Adds a number of at most six digits.
+#[inline(always)]
+fn push_up_to_six(text: &mut String, number: u32) -> Result<(), AllocError>
+    requires { number < 1000000 }
+    ensures { OnOk result (string_bytes text.new ≡ string_bytes text.old ++ decimal number) }
+{
+    if number < 10_000 {
+        return push_up_to_four(text, number);
+    }
+    push_up_to_four(text, number / 100)?;
+    push_two(text, number % 100)
+}
+
+/// Adds a number of at most four digits.
+#[inline(always)]
+fn push_up_to_four(text: &mut String, number: u32) -> Result<(), AllocError>
+    requires { number < 10000 }
+    ensures { OnOk result (string_bytes text.new ≡ string_bytes text.old ++ decimal number) }
+{
+    if number < 100 {
+        return push_up_to_two(text, number);
+    }
+    push_up_to_two(text, number / 100)?;
+    push_two(text, number % 100)
+}
+
+/// Adds a number of at most two digits.
+#[inline(always)]
+fn push_up_to_two(text: &mut String, number: u32) -> Result<(), AllocError>
+    requires { number < 100 }
+    ensures { OnOk result (string_bytes text.new ≡ string_bytes text.old ++ decimal number) }
+{
+    if number < 10 {
+        return push_digit(text, number);
+    }
+    push_two(text, number)
+}
+
+/// Adds a number in two digits.
+#[inline(always)]
+fn push_two(text: &mut String, number: u32) -> Result<(), AllocError>
+    requires { number < 100 }
+    ensures { OnOk result (string_bytes text.new ≡ string_bytes text.old ++ two_digits number) }
+{
+    push_digit(text, number / 10)?;
+    push_digit(text, number % 10)
+}
+
+/// Adds a decimal digit.
+#[inline(always)]
+fn push_digit(text: &mut String, digit: u32) -> Result<(), AllocError>
+    requires { digit < 10 }
+    ensures { OnOk result (string_bytes text.new ≡ string_bytes text.old ++ (48 + digit) ∷ []) }
+{
+    text.push(char::from(b'0' + digit as u8))
 }
 
 /// Adds a line of a report: a word, a space, and a number.
