@@ -4,4 +4,3 @@
 pub mod caller;
 pub mod first;
 pub mod in_flight;
-pub mod shared;

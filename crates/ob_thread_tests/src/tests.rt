@@ -7,6 +7,7 @@ mod endings;
 mod host;
 mod keeping;
 mod members;
+mod serving;
 mod settling;
 mod shared;
 mod threads;

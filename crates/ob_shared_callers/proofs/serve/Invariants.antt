@@ -1,4 +1,4 @@
-use Rattle.ob_callers.proofs.shared.serve.Given as goal
+use Rattle.ob_shared_callers.proofs.serve.Given as goal
 
 -- the opening that was just made
 abbrev pub ghosts-run-L-Named : goal.ghosts-run-L-Named

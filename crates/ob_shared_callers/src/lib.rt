@@ -1,4 +1,5 @@
 //! Four writers and a transport over one shared buffer, each in a thread of its own, as `docs/calls.md` shows them.
+#![tactic(auto)]
 
 ghost use Rattle.ob_shared.specs.Opened.{IsNameOf};
 
@@ -7,7 +8,7 @@ use ob_history::{Booked, Recorded};
 use ob_shared::{Done, Named, Opening, Share, SharedBuffer};
 use ob_transport::{Limits, PassFault, Sink, SinkFault, drain};
 use ob_types::{Answer, Cause, Command, Estimate, Message, PromiseId, Refusal, WaterMark};
-use std::alloc::Global;
+use std::alloc::{AllocError, Global};
 use std::marker::Brand;
 use std::sync::Wait;
 use std::thread::{Threads, join, map_vec, sleep};
@@ -30,10 +31,11 @@ pub fn serve<R: Threads + Wait + Clock + Sync, S: Sink + Send>(
         unknown: 8,
     };
     let opening = Opening::new(alloc, marks, estimate, 1000, WRITERS + 1)?;
-    // the name of this one buffer, which its shares carry: what it stands for is said in `proofs/shared/serve`
+    // the name of this one buffer, which its shares carry: what it stands for is said in `proofs/serve`
     run::<Brand, _, _>(rt, alloc, opening, sink)
 }
 
+/// Runs the callers of the buffer that is opened.
 fn run<L: Named + Send + Sync, R: Threads + Wait + Clock + Sync, S: Sink + Send>(
     rt: &R,
     alloc: Global,
@@ -42,28 +44,55 @@ fn run<L: Named + Send + Sync, R: Threads + Wait + Clock + Sync, S: Sink + Send>
 ) -> Result<Recorded, Refusal>
     requires { IsNameOf opening L.opened L.name L.parts }
 {
-    let (buffer, mut shares) = opening.begin::<L>()?;
-    let Some(last) = shares.pop() else {
-        return Err(Refusal::NoMemory);
-    };
-    let shared = &buffer;
+    let (buffer, shares) = opening.begin::<L>()?;
+    let dones = in_threads(rt, alloc, &buffer, shares, sink)?;
+    match buffer.finish(dones) {
+        Ok(finished) => Ok(finished.recorded),
+        Err(unfinished) => {
+            drop(unfinished);
+            Err(Refusal::NoMemory)
+        }
+    }
+}
+
+/// Runs the transport and the writers, each in a thread of its own, and gives what all of them hand in.
+fn in_threads<L: Named + Send + Sync, R: Threads + Wait + Clock + Sync, S: Sink + Send>(
+    rt: &R,
+    alloc: Global,
+    buffer: &SharedBuffer<L>,
+    shares: Vec<Share<L>>,
+    sink: &mut S,
+) -> Result<Vec<Done<L>>, AllocError> {
+    let mut shares = shares;
+    let last = shares.pop().ok_or(AllocError)?;
     // if no second thread can be had, the first of the two runs last, so no writer waits for the transport
     let ((transport, is_sent), writers) = join(
         rt,
-        move || send(rt, alloc, shared, last, sink),
-        move || map_vec(rt, shares, &|share| write(rt, alloc, shared, share)),
+        move || send(rt, alloc, buffer, last, sink),
+        move || map_vec(rt, shares, &|share| write(rt, alloc, buffer, share)),
     );
-    let mut dones = writers?;
+    let Ok(mut dones) = told(rt, buffer, writers, is_sent) else {
+        drop(transport);
+        return Err(AllocError);
+    };
+    dones.push(transport)?;
+    Ok(dones)
+}
+
+/// If all is sent, the last of the writers waits until its first write is.
+fn told<L: Named, R: Wait>(
+    rt: &R,
+    buffer: &SharedBuffer<L>,
+    writers: Result<Vec<Done<L>>, AllocError>,
+    is_sent: bool,
+) -> Result<Vec<Done<L>>, AllocError> {
+    let mut writers = writers?;
     if is_sent {
-        if let Some(writer) = dones.pop() {
-            dones.push(is_told(rt, &buffer, writer))?;
+        if let Some(writer) = writers.pop() {
+            writers.push(is_told(rt, buffer, writer))?;
         }
     }
-    dones.push(transport)?;
-    match buffer.finish(dones) {
-        Ok(finished) => Ok(finished.recorded),
-        Err(_unfinished) => Err(Refusal::NoMemory),
-    }
+    Ok(writers)
 }
 
 /// A writer writes its messages, and flushes.
