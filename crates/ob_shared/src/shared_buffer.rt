@@ -20,10 +20,17 @@ use crate::words::Words;
 use ob_history::{Booked, Receipt, Seen, a_history_settles_each_promise_once};
 use ob_types::{Command, PromiseId, Refusal};
 use std::sync::{Condvar, Mutex, MutexGuard, Wait};
-use std::thread::yield_now;
+use std::thread::{Parker, yield_now};
+use std::time::Duration;
 
-/// How often a thread that finds the lock taken lets others run and tries again, before it sleeps until it is woken.
-const TRIES: u32 = 100;
+/// How often a thread that finds the lock taken lets others run and tries again, before it naps.
+const YIELDS: u32 = 10;
+
+/// How often it naps and tries again, before it sleeps until it is woken.
+const NAPS: u32 = 100;
+
+/// How many microseconds a nap takes.
+const NAP: u64 = 50;
 
 /// A buffer with its whole history under a lock. Callers give it commands from a desk, each with its share. The word and
 /// the total after the last record are published beside the lock, for whoever reads them without it.
@@ -56,8 +63,8 @@ impl<L: Named> SharedBuffer<L> {
     }
 
     /// A desk for the caller of a share, whose history begins with all that the share has seen. It waits while another
-    /// caller has one: it lets other threads run and tries again, a hundred times, and then sleeps. It takes no memory.
-    /// The lock is never poisoned, and no desk is refused; that it is given in any order, or ever, is not promised.
+    /// caller has one: it lets other threads run and tries again, ten times; then it naps for 50 microseconds between
+    /// tries, a hundred times; and then it sleeps until it is woken. It takes no memory. The lock is never poisoned, and no desk is refused; that it is given in any order, or ever, is not promised.
     pub fn desk<R: Wait>(&self, rt: &R, share: Share<L>) -> Desk<'_, L>
         ensures maker { result.maker ≡ share.maker }
         ensures part { IsBeginning share.sight.seen result.history.records }
@@ -66,13 +73,21 @@ impl<L: Named> SharedBuffer<L> {
         Desk::new(self, self.lock(rt), share)
     }
 
-    /// The lock. It is tried for a while first: most calls are over before a thread that went to sleep would be woken.
+    /// The lock. Who finds it taken lets others run, and then naps: whoever has it goes on meanwhile, and wakes nobody. A
+    /// thread that sleeps on the lock itself is handed it in the end, and until that thread is awake nobody has it.
     fn lock<R: Wait>(&self, rt: &R) -> MutexGuard<'_, Locked<L>> {
-        for _ in 0..TRIES {
+        for _ in 0..YIELDS {
             if let Some(guard) = self.locked.try_lock() {
                 return guard;
             }
             yield_now();
+        }
+        let unshared = Parker::new();
+        for _ in 0..NAPS {
+            if let Some(guard) = self.locked.try_lock() {
+                return guard;
+            }
+            unshared.park_timeout(rt, Duration::from_micros(NAP));
         }
         self.locked.lock(rt)
     }
