@@ -64,7 +64,8 @@ impl<L: Named> SharedBuffer<L> {
 
     /// A desk for the caller of a share, whose history begins with all that the share has seen. It waits while another
     /// caller has one: it lets other threads run and tries again, ten times; then it naps for 50 microseconds between
-    /// tries, a hundred times; and then it sleeps until it is woken. It takes no memory. The lock is never poisoned, and no desk is refused; that it is given in any order, or ever, is not promised.
+    /// tries, a hundred times; and then it sleeps until it is woken. It takes no memory. The lock is never poisoned, and
+    /// no desk is refused; that it is given in any order, or ever, is not promised.
     pub fn desk<R: Wait>(&self, rt: &R, share: Share<L>) -> Desk<'_, L>
         ensures maker { result.maker ≡ share.maker }
         ensures part { IsBeginning share.sight.seen result.history.records }
