@@ -33,20 +33,12 @@ fn push_word(text: &mut String, word: u32) -> Result<(), AllocError>
 pub fn push_number(text: &mut String, number: u64) -> Result<(), AllocError>
     ensures { OnOk result (string_bytes text.new ≡ string_bytes text.old ++ decimal number) }
 {
-    // nearly every number of a trace: `itoa` writes digits by pairs, which are then copied in larger pieces, and a
+    // few numbers of a trace are longer: `itoa` writes digits by pairs, which are then copied in larger pieces, and a
     // processor waits for that
-    if number < 1_000_000 {
-        return push_up_to_six(text, number as u32);
+    if number >= 1_000_000 {
+        return text.push_str(itoa::Buffer::new().format(number));
     }
-    text.push_str(itoa::Buffer::new().format(number))
-}
-
-/// Adds a number of at most six digits.
-#[inline(always)]
-fn push_up_to_six(text: &mut String, number: u32) -> Result<(), AllocError>
-    requires { number < 1000000 }
-    ensures { OnOk result (string_bytes text.new ≡ string_bytes text.old ++ decimal number) }
-{
+    let number = number as u32;
     if number < 10_000 {
         return push_up_to_four(text, number);
     }
