@@ -83,12 +83,13 @@ impl<L: Named> SharedBuffer<L> {
             }
             yield_now();
         }
-        let unshared = Parker::new();
+        // nobody else has this one, so nothing but time ends a nap
+        let parker = Parker::new();
         for _ in 0..NAPS {
             if let Some(guard) = self.locked.try_lock() {
                 return guard;
             }
-            unshared.park_timeout(rt, Duration::from_micros(NAP));
+            parker.park_timeout(rt, Duration::from_micros(NAP));
         }
         self.locked.lock(rt)
     }
