@@ -33,8 +33,7 @@ fn push_word(text: &mut String, word: u32) -> Result<(), AllocError>
 pub fn push_number(text: &mut String, number: u64) -> Result<(), AllocError>
     ensures { OnOk result (string_bytes text.new ≡ string_bytes text.old ++ decimal number) }
 {
-    // few numbers of a trace are longer: `itoa` writes digits by pairs, which are then copied in larger pieces, and a
-    // processor waits for that
+    // few numbers of a trace are longer, and digit by digit was measured to be quicker than through the buffer of `itoa`
     if number >= 1_000_000 {
         return text.push_str(itoa::Buffer::new().format(number));
     }
