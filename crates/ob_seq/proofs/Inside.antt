@@ -9,6 +9,7 @@ pub mod Gathered
 pub mod Held
 pub mod Looked
 pub mod Rooms
+pub mod Runs
 pub mod States
 pub mod Pieces
 pub mod Sending

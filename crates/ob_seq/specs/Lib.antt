@@ -15,6 +15,7 @@ pub mod Mark
 pub mod MarksInForce
 pub mod Moment
 pub mod Order
+pub mod Outcomes
 pub mod Pending
 pub mod Pieces
 pub mod Room

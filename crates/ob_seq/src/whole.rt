@@ -19,9 +19,9 @@ mod taking;
 pub(crate) mod write;
 
 use crate::contents::Contents;
+use crate::outcomes::Outcomes;
 use ob_types::{
-    Answer, Change, Command, Estimate, Outcome, PromiseState, Refusal, Reply, Settlements,
-    WaterMark,
+    Answer, Change, Command, Estimate, PromiseState, Refusal, Reply, Settlements, WaterMark,
 };
 use std::alloc::Global;
 use std::marker::Model;
@@ -32,13 +32,13 @@ use std::marker::Model;
 pub struct Whole {
     contents: Contents,
     /// The outcomes of the messages that are gone, oldest first. A write takes the room for its own.
-    gone: Vec<Outcome>,
+    gone: Outcomes,
 }
 
 impl Model for Whole {
     ghost Value = { Pending };
 
-    ghost view = { λ held. whole held.gone.items held.contents };
+    ghost view = { λ held. whole held.gone.list held.contents };
 
     ghost invariant = { IsRoomy };
 }
@@ -52,7 +52,7 @@ impl Whole {
     {
         Whole {
             contents: Contents::new(alloc, marks, estimate),
-            gone: Vec::new(alloc),
+            gone: Outcomes::new(alloc),
         }
     }
 
@@ -144,7 +144,7 @@ impl Whole {
     {
         let gone = self.gone.len();
         if id < gone {
-            return PromiseState::Settled(self.gone[id]);
+            return PromiseState::Settled(self.gone.at(id));
         }
         self.contents.state_at(id - gone)
     }

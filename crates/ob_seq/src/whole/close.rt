@@ -1,5 +1,5 @@
-ghost use Rattle.std.specs.Prelude.{◌≡◌, ◌+◌, ◌≤◌, ◌++◌, length, drop, map, IsOk, IfOk, vec_len, vec_capacity};
-ghost use Rattle.ob_types.specs.Limits.{inline_settlements};
+ghost use Rattle.std.specs.Prelude.{◌≡◌, ◌+◌, ◌≤◌, ◌++◌, length, drop, map, IsOk, IfOk};
+ghost use Rattle.ob_types.specs.Limits.{inline_settlements, most_writes};
 ghost use Rattle.ob_types.specs.declared.promise.Outcome.TheVariants.{Failed};
 ghost use Rattle.ob_seq.specs.Unsent.{ended, waiting_count};
 ghost use Rattle.ob_seq.specs.Steps.Step.{Makes, SparesFew};
@@ -7,6 +7,7 @@ ghost use Rattle.ob_seq.specs.Steps.Close.{closed_pending, closing_step, failure
 ghost use Rattle.ob_seq.specs.Steps.Held.{unflushed_id};
 
 use crate::contents::Contents;
+use crate::outcomes::Outcomes;
 use crate::whole::Whole;
 use ob_types::{Answer, Cause, Outcome, PromiseId, Refusal, Reply, Settlements};
 use std::alloc::AllocError;
@@ -57,15 +58,15 @@ impl Whole {
 }
 
 /// Adds the outcomes of entries that no flush has reached when a close fails them, for which there is room.
-fn push_ended(gone: &mut Vec<Outcome>, contents: &Contents, cause: Cause)
+fn push_ended(gone: &mut Outcomes, contents: &Contents, cause: Cause)
     requires unreached { length contents.now.line ≡ 0 }
-    requires room { vec_len gone.old + waiting_count contents.now ≤ vec_capacity gone.old }
-    ensures items { gone.new.items ≡ gone.old.items ++ map (ended (Failed cause)) contents.now.unflushed }
-    ensures len { vec_len gone.new ≡ vec_len gone.old + waiting_count contents.now }
-    ensures capacity { vec_capacity gone.new ≡ vec_capacity gone.old }
+    requires few { length gone.old.list + waiting_count contents.now ≤ most_writes }
+    requires room { waiting_count contents.now ≤ gone.old.room }
+    ensures list { gone.new.list ≡ gone.old.list ++ map (ended (Failed cause)) contents.now.unflushed }
+    ensures room { gone.old.room ≤ gone.new.room + waiting_count contents.now }
 {
     for place in 0..contents.count() {
-        gone.push_reserved(if contents.is_taken_back(place) {
+        gone.push(if contents.is_taken_back(place) {
             Outcome::Cancelled
         } else {
             Outcome::Failed(cause)

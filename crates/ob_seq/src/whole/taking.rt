@@ -64,7 +64,7 @@ impl Whole {
         let id = self.front_id();
         let settled = self.contents.take_front(notice);
         self.gone
-            .push_reserved(if settled { outcome } else { Outcome::Cancelled });
+            .push(if settled { outcome } else { Outcome::Cancelled });
         settled.then_some(PromiseId(id as u32))
     }
 }

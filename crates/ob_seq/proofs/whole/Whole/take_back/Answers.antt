@@ -14,22 +14,22 @@ behind gone unsent held id view waits =
 pub overflow_sub-id : goal.overflow_sub-id
 overflow_sub-id c =
     let inside = c.self.inside in
-    let late = behind inside.gone.items inside.contents c.args.self.now c.args.id c.self.view_is c.requires.waits in
-    omega (arith, c.len.ensures, inside.gone.ok)
+    let late = behind inside.gone.list inside.contents c.args.self.now c.args.id c.self.view_is c.requires.waits in
+    omega (arith, c.len.ensures)
 
 pub take_back-requires-clause-behind : goal.take_back-requires-clause-behind
 take_back-requires-clause-behind c =
     let inside = c.self.inside in
-    let late = behind inside.gone.items inside.contents c.args.self.now c.args.id c.self.view_is c.requires.waits in
-    omega (arith, c.len.ensures, inside.gone.ok)
+    let late = behind inside.gone.list inside.contents c.args.self.now c.args.id c.self.view_is c.requires.waits in
+    omega (arith, c.len.ensures)
 
 pub take_back-requires-clause-some : goal.take_back-requires-clause-some
 take_back-requires-clause-some c =
     let inside = c.self.inside in
-    let late = behind inside.gone.items inside.contents c.args.self.now c.args.id c.self.view_is c.requires.waits in
-    let all = promises_there inside.gone.items inside.contents in
+    let late = behind inside.gone.list inside.contents c.args.self.now c.args.id c.self.view_is c.requires.waits in
+    let all = promises_there inside.gone.list inside.contents in
     let count = ap (λ (held : Pending). length held.promises) c.self.view_is in
-    omega (arith, c.len.ensures, inside.gone.ok, c.requires.some)
+    omega (arith, c.len.ensures, c.requires.some)
 
 pub invariant_of-self : goal.invariant_of-self
 invariant_of-self c =
@@ -43,9 +43,9 @@ invariant_of-self c =
 pub returns : goal.returns
 returns c =
     let inside = c.self.inside in
-    let late = behind inside.gone.items inside.contents c.args.self.now c.args.id c.self.view_is c.requires.waits in
-    let place : length inside.gone.items + (c.args.id - c.len.result) ≡ c.args.id =
-    omega (arith, c.len.ensures, inside.gone.ok) in
-    c.take_back.ensures inside.gone.items
-    ∙ ap (λ id. promise_set id (Settled Cancelled) (whole inside.gone.items inside.contents)) place
+    let late = behind inside.gone.list inside.contents c.args.self.now c.args.id c.self.view_is c.requires.waits in
+    let place : length inside.gone.list + (c.args.id - c.len.result) ≡ c.args.id =
+    omega (arith, c.len.ensures) in
+    c.take_back.ensures inside.gone.list
+    ∙ ap (λ id. promise_set id (Settled Cancelled) (whole inside.gone.list inside.contents)) place
     ∙ ap (promise_set c.args.id (Settled Cancelled)) c.self.view_is

@@ -5,5 +5,5 @@ use Rattle.ob_seq.proofs.whole.Whole.unflushed_waiting.Goals as goal
 pub returns : goal.returns
 returns c =
     c.waiting_count.ensures
-    ∙ ap (count_by is_waiting) (sym (fresh_states c.self.inside.gone.items c.self.inside.contents))
+    ∙ ap (count_by is_waiting) (sym (fresh_states c.self.inside.gone.list c.self.inside.contents))
     ∙ ap (λ (held : Pending). count_by is_waiting (drop (unflushed_id held) held.promises)) c.self.view_is

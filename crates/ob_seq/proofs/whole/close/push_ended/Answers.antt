@@ -30,14 +30,13 @@ loop-place-preserved c =
     let within : place < length held.unflushed =
     omega (arith, c.loop-place-test.true, c.count-place-end.ensures, c.requires.unreached) in
     let flag = c.is_taken_back.ensures ∙ back held.line held.unflushed place c.requires.unreached within in
-    let one : c.if-is_taken_back.push_reserved ≡ ended (Failed c.args.cause) (get_or held.unflushed place none) =
+    let one : c.if-is_taken_back.push ≡ ended (Failed c.args.cause) (get_or held.unflushed place none) =
     elim c.if-is_taken_back.branch [
-      | goal.then-is_taken_back w ↦ w.push_reserved-is ∙ rw (sym flag ∙ w.if-is_taken_back.true) refl
-      | goal.else-is_taken_back w ↦ w.push_reserved-is ∙ rw (sym flag ∙ w.if-is_taken_back.false) refl
+      | goal.then-is_taken_back w ↦ w.push-is ∙ rw (sym flag ∙ w.if-is_taken_back.true) refl
+      | goal.else-is_taken_back w ↦ w.push-is ∙ rw (sym flag ∙ w.if-is_taken_back.false) refl
     ] in
-    let pushed = c.push_reserved.ensures in record {
-      items = more c.args.cause c.args.gone.now.items c.push_reserved.new.self.items held.unflushed place _ within one
-          (pushed.items ∙ ap (λ all. all ++ c.if-is_taken_back.push_reserved ∷ []) c.loop-place.invariant.items);
-      len = omega (arith, pushed.len, c.loop-place.invariant.len);
-      capacity = pushed.capacity ∙ c.loop-place.invariant.capacity;
+    let pushed = c.push.ensures in record {
+      list = more c.args.cause c.args.gone.now.list c.push.new.self.list held.unflushed place _ within one
+          (pushed.list ∙ ap (λ all. all ++ c.if-is_taken_back.push ∷ []) c.loop-place.invariant.list);
+      room = omega (arith, pushed.room, c.loop-place.invariant.room);
     }
