@@ -94,7 +94,7 @@ impl Buffer {
 
     /// Takes a promise back (Netty's `Future.cancel`), and answers whether that came in time: a promise that a
     /// flush has fixed, or that is settled, stays as it is. The pending bytes stay too: they fall at the flush. It
-    /// takes the same few steps whatever is pending, and no memory.
+    /// takes the same few steps whatever is pending, at most 20 more where the message is gone, and no memory.
     ///
     /// `Closed` comes where the buffer is closed, and then `UnknownPromise` where no write was accepted under the id.
     pub fn cancel(&mut self, id: PromiseId) -> Result<Reply, Refusal>

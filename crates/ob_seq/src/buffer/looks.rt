@@ -10,7 +10,7 @@ use ob_types::{Command, Message, PromiseId, PromiseState};
 
 impl Buffer {
     /// What has become of a promise, or nothing where no write was accepted under the id. It takes the same few
-    /// steps whatever is pending, and no memory.
+    /// steps whatever is pending, at most 20 more where the message is gone, and no memory.
     pub fn promise(&self, id: PromiseId) -> Option<PromiseState>
         ensures { Tells self.now id result }
     {

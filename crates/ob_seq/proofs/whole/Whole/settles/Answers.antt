@@ -1,3 +1,4 @@
+use Rattle.std.proofs.Common.{rules}
 use Rattle.ob_seq.proofs.Words.{step_of, length, sym, ◌∙◌, arith, take_all, Failed, failing_step, front_id}
 use Rattle.ob_seq.proofs.Inside.EntrySettlements.{count_of_settlements}
 use Rattle.ob_seq.proofs.Simulating.Simulation.{settled_nothing, settled_where_open}
@@ -29,3 +30,7 @@ returns-in-FailFlushed c =
     let count = count_of_settlements (Failed cause) (front_id now) now.line in
     rw (c.in-FailFlushed.is, c.unvoided.ensures, c.line_count.ensures.count, all, ← count)
     (settled_where_open now (failing_step cause c.in-FailFlushed.field-1 now) unclosed)
+
+-- Named for the must-fail edits that fail here: `search` finds it unasked (CONTRIBUTING.md).
+pub returns-in-Remove : goal.returns-in-Remove
+returns-in-Remove c = search rules
