@@ -1,6 +1,6 @@
 //! The answer of a buffer, and what is done with it.
 
-ghost use Rattle.std.specs.Prelude.{◌≡◌, ◌≤◌, ◌↔◌, List, length, IsOk, IsTrue, IfOk, OnErr};
+ghost use Rattle.std.specs.Prelude.{◌≡◌, ◌≤◌, ◌↔◌, List, length, IsErrOf, IsOk, IsTrue, IfOk, OnErr};
 ghost use Rattle.ob_seq.specs.Pending.{Accepts, Answers, Follows};
 ghost use Rattle.ob_seq.specs.Settles.{settled_by};
 ghost use Rattle.ob_types.specs.Limits.{inline_settlements};
@@ -24,6 +24,13 @@ pub fn give(buffer: &mut Buffer, command: Command) -> Result<Result<Reply, Refus
         Err(Refusal::NoMemory) => Err(AllocError),
         answer => Ok(answer),
     }
+}
+
+/// Whether an answer is want of memory.
+pub fn wants_memory(answer: &Result<Reply, Refusal>) -> bool
+    ensures { IsTrue result ↔ IsErrOf answer.now Refusal.NoMemory }
+{
+    matches!(answer, Err(Refusal::NoMemory))
 }
 
 /// The same answer. It fails for want of memory alone, and not where at most four promises are settled.

@@ -39,8 +39,12 @@ impl Recorded {
         }
         self.records.reserve(1)?;
         let asked = command.copy()?;
-        let reply = answer::give(&mut self.buffer, command)?;
         let place = self.records.len() as u32;
+        // the answer goes into the record as it comes: through another result it would be moved once more
+        let reply = self.buffer.apply(command);
+        if answer::wants_memory(&reply) {
+            return Err(Refusal::NoMemory);
+        }
         self.records.push_reserved(Record {
             place,
             caller,

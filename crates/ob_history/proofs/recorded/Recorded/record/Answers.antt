@@ -1,4 +1,8 @@
-use Rattle.std.proofs.Common.{◌≡◌, false, [], ◌∷◌, ◌++◌, length, sym, ap, ◌∙◌, subst, arith, rules}
+use Rattle.std.specs.Prelude.{Result, Ok, Err, OnErr, IsErrOf}
+use Rattle.ob_types.specs.declared.refusal.Refusal.{Refusal}
+use Rattle.ob_types.specs.declared.refusal.Refusal.TheVariants.{NoMemory}
+use Rattle.ob_types.specs.declared.reply.Reply.{Reply}
+use Rattle.std.proofs.Common.{◌≡◌, true, false, [], ◌∷◌, ◌++◌, length, sym, ap, ◌∙◌, subst, arith, rules}
 use Rattle.std.proofs.lemmas.Bool.{ne_eqb}
 use Rattle.ob_seq.specs.Answer.{answer_to, commands_after, commands_with}
 use Rattle.ob_seq.specs.Pending.{StandsFor}
@@ -19,9 +23,6 @@ returns-in_err-reserve c = search rules
 pub returns-in_err-asked : goal.returns-in_err-asked
 returns-in_err-asked c = search rules
 
-pub returns-in_err-reply : goal.returns-in_err-reply
-returns-in_err-reply c = search rules
-
 pub invariant_of-self : goal.invariant_of-self
 invariant_of-self c =
     let room = c.reserve.ensures in
@@ -32,10 +33,16 @@ invariant_of-self-in_err-asked c =
     let room = c.reserve.ensures in
     IsSound-more_room c.self.inside _ room.items room.len room.capacity c.self.invariant
 
-pub invariant_of-self-in_err-reply : goal.invariant_of-self-in_err-reply
-invariant_of-self-in_err-reply c =
+-- what is refused leaves the buffer as it was
+kept : (result : Result Reply Refusal) {same : Type 0} → OnErr result same → IsErrOf result NoMemory → same
+kept (Ok reply) refused wanted = absurd (cc)
+kept (Err refusal) refused wanted = refused
+
+pub invariant_of-self-then-wants_memory : goal.invariant_of-self-then-wants_memory
+invariant_of-self-then-wants_memory c =
     let room = c.reserve.ensures in
-    rw c.in_err-reply.ensures.err
+    let wanted = c.wants_memory.ensures.0 c.if-wants_memory.true in
+    rw (kept c.apply-reply.result c.apply-reply.ensures.obeys.refused wanted)
     (IsSound-more_room c.self.inside c.reserve.new.self room.items room.len room.capacity c.self.invariant)
 
 -- the record that is pushed
@@ -44,7 +51,7 @@ asked_for c = record {
   place = c.len-place.result;
   caller = c.args.caller;
   command = c.in_ok-asked.asked;
-  reply = c.in_ok-reply.reply;
+  reply = c.apply-reply.result;
 }
 
 -- stands behind the others
@@ -56,12 +63,16 @@ pushed c =
 placed : (c : goal.After-self-1) → c.len-place.result ≡ length c.self.inside.records.items
 placed c = c.len-place.ensures ∙ c.reserve.ensures.len ∙ c.self.inside.records.ok.0
 
+-- which is no want of memory
+told : (c : goal.After-self-1) → ¬ IsErrOf c.apply-reply.result NoMemory
+told c wanted = absurd (let both : false ≡ true = sym c.if-wants_memory.false ∙ c.wants_memory.ensures.1 wanted in cc)
+
 -- and has the answer to its command
-answered : (c : goal.After-self-1) → c.in_ok-reply.reply
+answered : (c : goal.After-self-1) → c.apply-reply.result
     ≡ answer_to (settings_of c.self.inside) (accepted_commands c.self.inside.records.items) c.args.command
 answered c =
     let before = accepted_commands c.self.inside.records.items in
-    c.in_ok-reply.ensures.answer before c.self.invariant.stands
+    c.apply-reply.ensures.obeys.answer (told c) before c.self.invariant.stands
     ∙ ap (λ opened. answer_to opened before c.args.command) c.self.invariant.settings
 
 pub invariant_of-self-2 : goal.invariant_of-self-2
@@ -72,15 +83,15 @@ invariant_of-self-2 c =
     let before = accepted_commands earlier in
     let asked = c.args.command in
     let same = c.in_ok-asked.ensures.same in
-    let done = c.in_ok-reply.ensures in
+    let done = c.apply-reply.ensures.obeys in
     let stands = c.self.invariant.stands in
     let one = asked_for c in
     let room = c.reserve.ensures in
     let reply : one.reply ≡ answer_to settings before one.command =
     answered c ∙ ap (answer_to settings before) (sym same) in
     let legal = legal_with_next settings earlier one c.self.invariant.legal (placed c) reply in
-    let accepted : commands_with before asked c.in_ok-reply.reply ≡ accepted_commands c.push_reserved.new.self.items =
-    ap (commands_with before asked) (done.answer before stands)
+    let accepted : commands_with before asked c.apply-reply.result ≡ accepted_commands c.push_reserved.new.self.items =
+    ap (commands_with before asked) (done.answer (told c) before stands)
     ∙ ap (λ opened. commands_after opened before asked) c.self.invariant.settings
     ∙ ap (commands_after settings before) (sym same)
     ∙ sym (accepted_with_next settings earlier one reply)
@@ -89,7 +100,7 @@ invariant_of-self-2 c =
     let behind = c.push_reserved.ensures in
     record {
       legal = subst (IsLegal settings) (sym (pushed c)) legal;
-      stands = subst (StandsFor c.give.new.buffer) accepted (done.stands before stands);
+      stands = subst (StandsFor c.apply-reply.new.self) accepted (done.stands before stands);
       settings = done.settings ∙ c.self.invariant.settings;
       places = omega (arith, behind.len, room.len, left, c.if-len-self.false, c.len.ensures, c.self.invariant.places);
       memory = omega (
