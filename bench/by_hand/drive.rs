@@ -12,13 +12,14 @@ use std::sync::{Mutex, MutexGuard};
 use std::thread;
 use std::time::Duration;
 
+// what a line may ask for: a block of so many bytes, so many of them, by this writer
 const LONGEST_BLOCK: u64 = 1048576;
 const MOST_COPIES: u64 = 1024;
 const LAST_WRITER: u64 = 63;
+
+// passes of the transport: the most that a line may ask for, and the most if none does
 const MOST_TURNS: u64 = 16777216;
 const MOST_PASSES: u64 = 1000000;
-const BLOCKS: usize = 16;
-const BYTES: u64 = 65536;
 
 // the numbers under which the program tells the faults of a drive
 const BAD_COUNT: u32 = 1;
@@ -252,6 +253,10 @@ fn transport(shared: &Shared, caller: u32, turns: u64, sink: &mut Sink) -> Resul
     }
     Ok(receipts)
 }
+
+// what one pass offers to the sink at most
+const BLOCKS: usize = 16;
+const BYTES: u64 = 65536;
 
 /// Asks the sink once for what stands in front, and books what it took.
 fn pass(recorded: &mut Recorded, caller: u32, sink: &mut Sink, receipts: &mut Vec<Record>) -> Result<Pass, PassFault> {
