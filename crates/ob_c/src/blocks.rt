@@ -3,7 +3,7 @@
 ghost use Rattle.ob_c.specs.Blocks.{IsLetGo, IsMadeOf};
 
 use crate::block::Block;
-use crate::status::{ALREADY_OPEN, DONE, NO_MEMORY, NOT_OPEN};
+use crate::numbers::{ALREADY_OPEN, DONE, NO_MEMORY, NOT_OPEN};
 use bytes::Bytes;
 use std::alloc::Global;
 

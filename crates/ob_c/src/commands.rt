@@ -9,8 +9,8 @@ ghost use Rattle.ob_c.specs.Opening.{SetsMarks};
 ghost use Rattle.ob_c.specs.Replies.{flushed_in_c, cancelled_in_c, changed_in_c};
 
 use crate::handle::Handle;
+use crate::numbers::status_of;
 use crate::replies::{Cancelled, Changed, Flushed};
-use crate::status::status_of;
 use ob_types::WaterMark;
 use std::alloc::Global;
 

@@ -6,8 +6,8 @@ ghost use Rattle.std.specs.Prelude.{◌≡◌, ◌≤◌, length, map, take, dro
 ghost use Rattle.ob_c.specs.Gathering.{AreLaid, Gathers, front_number, gathered_as, piece_length};
 
 use crate::handle::Handle;
+use crate::numbers::{DONE, NOT_OPEN};
 use crate::pieces::Piece;
-use crate::status::{DONE, NOT_OPEN};
 use ob_connection::Connection;
 use ob_types::Message;
 use std::alloc::Global;

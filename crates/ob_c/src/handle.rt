@@ -9,7 +9,7 @@ ghost use Rattle.ob_connection.specs.contracts.connection.Connection.{the_row as
 ghost use Rattle.ob_connection.specs.Connected.{Connected};
 
 use crate::loose::Loose;
-use crate::status::accepted;
+use crate::numbers::accepted;
 use ob_connection::Connection;
 use ob_types::Refusal;
 use std::alloc::Global;

@@ -4,14 +4,14 @@
 mod block;
 mod blocks;
 mod commands;
-mod ends;
 mod gather;
 mod handle;
 mod looks;
 mod loose;
+mod numbers;
+mod opening;
 mod pieces;
 mod removals;
 mod replies;
-mod status;
 mod views;
 mod writes;

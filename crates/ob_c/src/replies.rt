@@ -5,7 +5,7 @@ ghost use Rattle.ob_c.specs.Replies.{written_in_c, flushed_in_c, removed_in_c, t
 ghost use Rattle.ob_c.specs.Replies.{removed_with};
 ghost use Rattle.ob_c.specs.Numbers.{change_number};
 
-use crate::status::{DONE, cause_number, change_number, outcome_number};
+use crate::numbers::{DONE, cause_number, change_number, outcome_number};
 use ob_types::Change;
 
 /// What a write tells.

@@ -4,7 +4,7 @@ ghost use Rattle.std.specs.Option.{option_copied};
 ghost use Rattle.std.specs.Prelude.{◌≡◌, option_map, Some, None};
 ghost use Rattle.ob_c.specs.Looks.{look_in_c, truth_in_c, promise_in_c, front_in_c, current_in_c};
 
-use crate::status::{DONE, NOT_OPEN, cause_number, outcome_number};
+use crate::numbers::{DONE, NOT_OPEN, cause_number, outcome_number};
 use ob_connection::Status;
 use ob_types::Message;
 

@@ -10,8 +10,8 @@ ghost use Rattle.ob_c.specs.Replies.{written_in_c};
 
 use crate::block::Block;
 use crate::handle::Handle;
+use crate::numbers::{NO_BLOCK, NOT_OPEN};
 use crate::replies::Written;
-use crate::status::{NO_BLOCK, NOT_OPEN};
 use bytes::Bytes;
 use ob_connection::Connection;
 use ob_types::{Message, Refusal};

@@ -1,5 +1,5 @@
 mod drives;
-mod early;
 mod gates;
 mod held_sink;
 mod moments;
+mod stuck_writers;

@@ -1,8 +1,8 @@
 //! Running lanes, over one word with marks of 50 and 100.
 
 mod bits;
-mod carrying;
-mod crossing;
+mod carrying_sight;
+mod crossing_threads;
 mod meeting;
 mod splitting;
 

@@ -1,8 +1,8 @@
-mod callers;
-mod connection;
 mod failing_sink;
 mod history;
+mod in_flight;
 mod limits;
 mod schedules;
 mod seq;
+mod slow_peer;
 mod types;

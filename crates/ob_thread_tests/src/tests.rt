@@ -5,7 +5,7 @@ mod crew;
 mod dice;
 mod endings;
 mod host;
-mod keeping;
+mod keeping_buffers;
 mod members;
 mod serving;
 mod settling;

@@ -237,7 +237,7 @@ fn push_report(text: &mut String, report: &Report) -> Result<(), AllocError> {
     write!(text, "hand {total} {word:08x}")
 }
 
-/// Adds how many callers made the first so many records.
+/// Adds to the answer of a drive how many callers made the first so many records.
 fn push_callers(text: &mut String, report: &Report, count: usize) -> Result<(), NoAnswer> {
     let mut callers = 0u64;
     for one in report.recorded.records().iter().take(count) {

@@ -4,7 +4,7 @@ ghost use Rattle.ob_transport.specs.MayOffer.{MayOffer};
 ghost use Rattle.ob_shared.specs.Opened.{IsNameOf};
 
 use crate::tests::host::Host;
-use crate::tests::keeping::{Keeping, Scarce};
+use crate::tests::keeping_buffers::{Keeping, Scarce};
 use crate::tests::shared::opening;
 use ob_history::{As, Booked, Receipt};
 use ob_players::buffers::Options;
@@ -350,8 +350,8 @@ fn unbooked_bytes_are_booked_later(rt: HostRuntime) -> Result<(), Fail> {
     Ok(())
 }
 
-/// Regions and others, whose receipts are copied without memory: each growth may be refused in turn, and the buffer can
-/// be ended with the receipts of all calls.
+/// Passes over regions and others, whose receipts are copied without memory: each growth may be refused in turn, and the
+/// buffer can be ended with the receipts of all calls.
 #[test]
 fn a_refused_growth_changes_no_answer(rt: HostRuntime) -> Result<(), Fail> {
     let text = PASSES

@@ -1,4 +1,4 @@
-//! The callers, over a connection whose socket is slow.
+//! The caller of a buffer whose peer is slow.
 
 use crate::tests::limits::cycles;
 use bytes::Bytes;

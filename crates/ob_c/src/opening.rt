@@ -1,4 +1,4 @@
-//! The beginning and the end of a connection.
+//! The opening of a connection, and its end: the handle that is freed.
 
 ghost use Rattle.std.specs.Prelude.{◌≡◌, ◌≤◌, IfOk, OnErr, []};
 ghost use Rattle.ob_types.specs.Limits.{greatest_overhead, greatest_unknown};
@@ -7,7 +7,7 @@ ghost use Rattle.ob_c.specs.Blocks.{IsLetGo};
 ghost use Rattle.ob_c.specs.Opening.{Opens, settings_of};
 
 use crate::handle::Handle;
-use crate::status::{ALREADY_OPEN, BAD_ESTIMATE, DONE, NO_MEMORY, NOT_OPEN};
+use crate::numbers::{ALREADY_OPEN, BAD_ESTIMATE, DONE, NO_MEMORY, NOT_OPEN};
 use ob_connection::Connection;
 use ob_types::{Estimate, WaterMark};
 use std::alloc::Global;

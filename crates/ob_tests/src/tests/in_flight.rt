@@ -1,4 +1,4 @@
-//! The two connections that `docs/calls.md` shows.
+//! Bytes in flight of two connections, as `docs/calls.md` shows them.
 
 use ob_callers::in_flight::two_connections;
 use std::test::Fail;
