@@ -20,8 +20,20 @@ use Rattle.ob_history.proofs.Own.{HoldsIts, all_are_held}
 use Rattle.ob_history.proofs.Told.{none_found}
 use Rattle.ob_shared.specs.Handed.{Handed, LacksShare, made_by}
 use Rattle.ob_shared.specs.Finished.{HandsInAll, StandsIn, first_short, is_short}
-use Rattle.ob_shared.specs.Foreign.{IsFirstForeign, IsForeign}
+use Rattle.ob_shared.specs.Foreign.{BreaksAt, IsFirstForeign, IsForeign}
 use Rattle.ob_shared.proofs.HandedIn.{each_handed_in_once}
+
+-- a list breaks a property at the place that the item names with which it first does
+pub breaks_at : {A : Type 0} (property : List A → Type 0) (place_of : A → ℕ) (items : List A) (index : ℕ) (item : A) →
+    IsFirstBreak property items index → item ≡ get_or items index item →
+    BreaksAt property place_of items (place_of item)
+breaks_at property place_of items index item first is = record {
+  index = index;
+  item = item;
+  first = first;
+  found = slice_get_read items (length items) index item refl first.within is;
+  named = refl;
+}
 
 module _ (settings : Settings) (records : List Record) where
   -- a beginning of a caller's own receipts is its own
