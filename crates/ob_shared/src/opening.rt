@@ -78,7 +78,9 @@ impl Opening {
         ensures callers { IfOk result (λ opening. opening.callers ≡ callers) }
         ensures no_memory { IsOkUnless result Refusal.NoMemory }
     {
-        let nothing = Recorded::new(alloc, marks, estimate, limit).glance();
+        let recorded = Recorded::new(alloc, marks, estimate, limit);
+        let nothing = recorded.glance();
+        drop(recorded);
         let mut words = [0; WORDS];
         words[PUBLISHED] = pack(nothing.word, nothing.total);
         let (table, seat) = Table::of_words(alloc, &words, &(marks, estimate))?;
