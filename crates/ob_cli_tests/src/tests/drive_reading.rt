@@ -19,25 +19,24 @@ fn reads_each_line(rt: HostRuntime) -> Result<(), Fail> {
     leaves(&rt, "ob_tool drive", SCRIPT, REPORT)
 }
 
-/// Four bytes, flushed, and what the report says of them: they are sent, or stay with a sink that takes nothing.
+/// Four bytes, flushed, and the report: they are sent, or stay with a sink that takes nothing.
 static SENT: [(&str, &str); 2] = [
     (
         "b 0 4 1\nf 0\n",
-        "taken 4\nsuccess 1\nfailed 0\ncancelled 0\nleft 0\n",
+        "writes 1\nflushes 1\ncancels 0\nbits 0\nrefused 0\ntaken 4\nsuccess 1\nfailed 0\ncancelled 0\nleft 0\n\
+        hand 0 00000000\nstatus 0: ",
     ),
     (
         "b 0 4 1\nf 0\nthen 0\n",
-        "taken 0\nsuccess 0\nfailed 0\ncancelled 0\nleft 1\n",
+        "writes 1\nflushes 1\ncancels 0\nbits 0\nrefused 0\ntaken 0\nsuccess 0\nfailed 0\ncancelled 0\nleft 1\n\
+        hand 0 00000000\nstatus 0: ",
     ),
 ];
 
 #[test]
 fn reads_what_the_sink_takes(rt: HostRuntime) -> Result<(), Fail> {
-    for (script, sent) in SENT {
-        let report = format!(in rt.alloc();
-            "writes 1\nflushes 1\ncancels 0\nbits 0\nrefused 0\n{sent}hand 0 00000000\nstatus 0: "
-        )?;
-        leaves(&rt, "ob_tool drive", script, &report)?;
+    for &(script, report) in &SENT {
+        leaves(&rt, "ob_tool drive", script, report)?;
     }
     Ok(())
 }

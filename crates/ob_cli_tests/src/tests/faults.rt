@@ -1,7 +1,7 @@
 //! A reader and a writer that fail, a script that is too long, and want of memory.
 
 use crate::tests::doubles::Failing;
-use crate::tests::play::{Host, ended, leaves};
+use crate::tests::play::{Host, ended, leaves_of};
 use ob_cli::entry;
 use std::io::ErrorKind;
 use std::test::Fail;
@@ -18,27 +18,39 @@ n 1 t=100 w=00000001 0:f7\nn 1 t=0 w=00000001 1:f7\n!4 t=0 w=00000001\n";
 /// More calls than any of these runs makes.
 const MANY: u32 = 1000;
 
-/// Runs the program while one byte comes or goes a call, and the one behind so many reads or writes fails.
-fn breaks<H: Host>(rt: &H, reads: u32, writes: u32, end: &str, written: &str) -> Result<(), Fail> {
-    let mut reader = Failing::new(SCRIPT.as_bytes(), reads);
+/// Runs the program while one byte comes or goes a call, and the one behind so many writes fails.
+fn breaks<H: Host>(
+    rt: &H,
+    reader: Failing<&[u8]>,
+    writes: u32,
+    end: &str,
+    written: &str,
+) -> Result<(), Fail> {
+    let (reads, failures) = (reader.calls, reader.failures);
+    let mut reader = reader;
     let mut writer = Failing::new(Vec::new(rt.alloc()), writes);
     let found = ended(rt, &WORDS, &mut reader, &mut writer)?;
     assert_eq!(rt;
         (found.as_str(), writer.inner.as_slice()),
         (end, written.as_bytes()),
-        "{reads} reads, {writes} writes"
+        "{reads} reads, {failures} failures, {writes} writes"
     );
     Ok(())
+}
+
+/// The script, whose pipe is broken for the call behind so many.
+fn script(calls: u32) -> Failing<&'static [u8]> {
+    Failing::new(SCRIPT.as_bytes(), calls)
 }
 
 /// The 33 bytes of the script come one a call, and then its end: each of these 34 calls may fail.
 #[test]
 fn tells_each_failed_read(rt: HostRuntime) -> Result<(), Fail> {
     for calls in 0..34 {
-        breaks(&rt, calls, MANY, "status 3: read fault\n", "")?;
+        breaks(&rt, script(calls), MANY, "status 3: read fault\n", "")?;
     }
     for calls in 34..38 {
-        breaks(&rt, calls, MANY, "status 0: ", TRACE)?;
+        breaks(&rt, script(calls), MANY, "status 0: ", TRACE)?;
     }
     Ok(())
 }
@@ -49,10 +61,10 @@ fn tells_each_failed_write(rt: HostRuntime) -> Result<(), Fail> {
     let all = TRACE.len() as u32 + 1;
     for calls in 0..all {
         let written = TRACE.get(..calls as usize).unwrap_or(TRACE);
-        breaks(&rt, MANY, calls, "status 3: write fault\n", written)?;
+        breaks(&rt, script(MANY), calls, "status 3: write fault\n", written)?;
     }
     for calls in all..all + 3 {
-        breaks(&rt, MANY, calls, "status 0: ", TRACE)?;
+        breaks(&rt, script(MANY), calls, "status 0: ", TRACE)?;
     }
     Ok(())
 }
@@ -69,30 +81,22 @@ fn keeps_the_status_when_errors_fail(rt: HostRuntime) {
 /// A script of 16777216 bytes is read, and its one line is too long; with one byte more the script is.
 #[test]
 fn counts_the_bytes_of_a_script(rt: HostRuntime) -> Result<(), Fail> {
-    for (len, end) in [
-        (16777216, "status 2: line 1: fault 6\n"),
-        (16777217, "status 3: script too long\n"),
-    ] {
-        let script = "f".repeat(rt.alloc(), len)?;
-        leaves(&rt, "ob_tool run", &script, end)?;
-    }
-    Ok(())
+    let most = "f".repeat(rt.alloc(), 16777216);
+    leaves_of(&rt, "ob_tool run", most, "status 2: line 1: fault 6\n")?;
+    let more = "f".repeat(rt.alloc(), 16777217);
+    leaves_of(&rt, "ob_tool run", more, "status 3: script too long\n")
 }
 
 /// A read that is interrupted is tried again.
 #[test]
 fn reads_again_what_was_interrupted(rt: HostRuntime) -> Result<(), Fail> {
-    for interrupted in [1, MANY] {
-        let mut reader = Failing::new(SCRIPT.as_bytes(), 7);
-        reader.failures = interrupted;
-        reader.failure = ErrorKind::Interrupted;
-        let mut written = Vec::new(rt.alloc());
-        let found = ended(&rt, &WORDS, &mut reader, &mut written)?;
-        assert_eq!(rt;
-            (found.as_str(), written.as_slice()),
-            ("status 0: ", TRACE.as_bytes()),
-            "{interrupted}"
-        );
+    for failures in [1, MANY] {
+        let reader = Failing {
+            failures,
+            failure: ErrorKind::Interrupted,
+            ..script(7)
+        };
+        breaks(&rt, reader, MANY, "status 0: ", TRACE)?;
     }
     Ok(())
 }
@@ -109,18 +113,22 @@ fn writes_whole_lines_when_memory_runs_out(rt: HostRuntime) {
         return;
     };
     let status = entry(&rt, &WORDS, &mut SCRIPT.as_bytes(), &mut written, &mut told);
-    let whole = written.is_empty() || written.ends_with(b"\n");
+    assert_eq!(rt;
+        (is_whole(status, &written), told.as_slice()),
+        (true, told_with(status))
+    );
+}
+
+/// Whether a run of this status wrote the whole trace, or whole lines of it if it had no memory.
+fn is_whole(status: u8, written: &[u8]) -> bool {
     let trace = TRACE.as_bytes();
-    if status == 0 {
-        assert_eq!(rt; (written.as_slice(), told.len()), (trace, 0));
-    } else {
-        assert_eq!(rt;
-            (
-                status,
-                told.as_slice(),
-                whole && trace.starts_with(written.as_slice())
-            ),
-            (4, b"no memory\n".as_slice(), true)
-        );
+    match status {
+        0 => written == trace,
+        4 => (written.is_empty() || written.ends_with(b"\n")) && trace.starts_with(written),
+        _ => false,
     }
+}
+
+fn told_with(status: u8) -> &'static [u8] {
+    if status == 0 { b"" } else { b"no memory\n" }
 }

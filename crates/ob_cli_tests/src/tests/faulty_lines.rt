@@ -1,6 +1,7 @@
 //! Faulty lines of each kind of script, and how long a line and how many lanes may be.
 
-use crate::tests::play::{Host, leaves};
+use crate::tests::play::{Host, leaves_of};
+use std::alloc::{AllocError, Global};
 use std::test::Fail;
 
 /// Runs the program on a script around each faulty line, and compares all that it leaves. A row is the number of a
@@ -9,12 +10,25 @@ use std::test::Fail;
 /// is left.
 fn tells<H: Host>(rt: &H, words: &str, script: &str, left: &str, rows: &str) -> Result<(), Fail> {
     for row in rows.lines() {
-        let (fault, lines) = row.split_once('|').ok_or("no bar")?;
+        let (fault, lines) = row.split_once('|').unwrap_or((row, ""));
         let left = left.replace(rt.alloc(), '@', fault)?;
-        for line in lines.split('|') {
-            let script = script.replace(rt.alloc(), '@', line)?;
-            leaves(rt, words, &script, &left)?;
-        }
+        let told = tells_each(rt, words, script, &left, lines);
+        drop(left);
+        told?;
+    }
+    Ok(())
+}
+
+/// Runs the program on a script around each line, and compares all that it leaves.
+fn tells_each<H: Host>(
+    rt: &H,
+    words: &str,
+    script: &str,
+    left: &str,
+    lines: &str,
+) -> Result<(), Fail> {
+    for line in lines.split('|') {
+        leaves_of(rt, words, script.replace(rt.alloc(), '@', line), left)?;
     }
     Ok(())
 }
@@ -74,26 +88,43 @@ fn faulty_lines_of_drive(rt: HostRuntime) -> Result<(), Fail> {
 }
 
 /// 200 bytes of a line are few enough, and 201 are too many whatever the line is.
+static WIDTHS: [(usize, &str); 2] = [
+    (198, "id 0 t=97 w=00000000\nstatus 0: "),
+    (199, "status 2: line 1: fault 6\n"),
+];
+
 #[test]
 fn counts_the_bytes_of_a_line(rt: HostRuntime) -> Result<(), Fail> {
-    for (zeros, left) in [
-        (198, "id 0 t=97 w=00000000\nstatus 0: "),
-        (199, "status 2: line 1: fault 6\n"),
-    ] {
-        let script = format!(in rt.alloc(); "b {:0>1$}\n", 1, zeros)?;
-        leaves(&rt, "ob_tool run", &script, left)?;
+    for &(width, left) in &WIDTHS {
+        leaves_of(&rt, "ob_tool run", padded(rt.alloc(), width), left)?;
     }
     Ok(())
+}
+
+/// A line that writes one byte, behind so many bytes of its number.
+fn padded(alloc: Global, width: usize) -> Result<String, AllocError> {
+    format!(in alloc; "b {:0>1$}\n", 1, width)
 }
 
 /// 64 lanes are few enough, and one more is misplaced.
 #[test]
 fn counts_the_lanes_of_a_script(rt: HostRuntime) -> Result<(), Fail> {
-    let script = "lane 1 0\n".repeat(rt.alloc(), 65)?;
-    let mut left = String::new(rt.alloc());
+    let left = left_of_lanes(rt.alloc())?;
+    let told = leaves_of(
+        &rt,
+        "ob_tool core",
+        "lane 1 0\n".repeat(rt.alloc(), 65),
+        &left,
+    );
+    drop(left);
+    told
+}
+
+fn left_of_lanes(alloc: Global) -> Result<String, AllocError> {
+    let mut left = String::new(alloc);
     for number in 0..64u32 {
         writeln!(left, "lane {number}")?;
     }
     left.push_str("status 2: line 65: fault 7\n")?;
-    leaves(&rt, "ob_tool core", &script, &left)
+    Ok(left)
 }

@@ -1,6 +1,7 @@
 //! Pictures of traces, worked by hand.
 
-use crate::tests::play::leaves;
+use crate::tests::play::{Host, leaves_of};
+use std::alloc::AllocError;
 use std::test::Fail;
 
 /// A trace of four lines, whose lines are 188 pixels wide; 496 bytes stand at 283.3 pixels above the axis.
@@ -29,22 +30,36 @@ static PICTURE: &str = "\
 </svg>
 ";
 
-/// A last line that is of no trace, and lines that show no bytes, change no picture.
+/// Draws a trace, and compares the picture and the end.
+fn is_drawn<H: Host>(
+    rt: &H,
+    trace: Result<String, AllocError>,
+    end: Result<String, AllocError>,
+) -> Result<(), Fail> {
+    let end = end?;
+    let told = leaves_of(rt, "ob_tool draw --low 200 --high 400", trace, &end);
+    drop(end);
+    told
+}
+
+/// What stands before and behind the trace, and the end: a last line that is of no trace, and lines that show no bytes,
+/// change no picture.
+static AROUND: [(&str, &str, &str); 3] = [
+    ("", "", "status 0: "),
+    ("lane 0\n", "end quiet owed=0\n", "status 0: "),
+    (
+        "",
+        "b 304\nlane 1\n",
+        "status 2: line 5: fault 8, a line of no trace\n",
+    ),
+];
+
 #[test]
 fn pictures_hold(rt: HostRuntime) -> Result<(), Fail> {
-    let words = "ob_tool draw --low 200 --high 400";
-    let bare = format!(in rt.alloc(); "lane 0\n{TRACE}end quiet owed=0\n")?;
-    let cut = format!(in rt.alloc(); "{TRACE}b 304\nlane 1\n")?;
-    for (trace, end) in [
-        (TRACE, "status 0: "),
-        (bare.as_str(), "status 0: "),
-        (
-            cut.as_str(),
-            "status 2: line 5: fault 8, a line of no trace\n",
-        ),
-    ] {
-        let wanted = format!(in rt.alloc(); "{PICTURE}{end}")?;
-        leaves(&rt, words, trace, &wanted)?;
+    let alloc = rt.alloc();
+    for &(before, behind, end) in &AROUND {
+        let trace = format!(in alloc; "{before}{TRACE}{behind}");
+        is_drawn(&rt, trace, format!(in alloc; "{PICTURE}{end}"))?;
     }
     Ok(())
 }

@@ -1,6 +1,7 @@
 //! Runs the program, and compares all that it leaves.
 
 use ob_cli::entry;
+use std::alloc::AllocError;
 use std::io::{Read, Write};
 use std::process::Abort;
 use std::sync::Wait;
@@ -23,15 +24,25 @@ pub fn ended<H: Host, R: Read, W: Write>(
     let mut told: Vec<u8> = Vec::new(rt.alloc());
     let status = entry(rt, words, reader, writer, &mut told);
     let told = String::from_utf8(told)?;
-    Ok(format!(in rt.alloc(); "status {status}: {told}")?)
+    let ended = format!(in rt.alloc(); "status {status}: {told}");
+    drop(told);
+    Ok(ended?)
 }
 
 /// Runs the program on a script, and answers what it wrote, and behind that its status and what it told.
 pub fn left<H: Host>(rt: &H, words: &str, script: &mut &[u8]) -> Result<String, Fail> {
     let words: Vec<&str> = words.split_whitespace().collect(rt.alloc())?;
     let mut written: Vec<u8> = Vec::new(rt.alloc());
-    let ended = ended(rt, &words, script, &mut written)?;
-    let mut left = String::from_utf8(written)?;
+    let ended = ended(rt, &words, script, &mut written);
+    drop(words);
+    joined(written, ended)
+}
+
+/// What the program wrote, and behind that how it ended.
+fn joined(written: Vec<u8>, ended: Result<String, Fail>) -> Result<String, Fail> {
+    let ended = ended?;
+    let left = String::from_utf8(written);
+    let mut left = left?;
     left.push_str(&ended)?;
     Ok(left)
 }
@@ -46,4 +57,17 @@ pub fn leaves<H: Host>(rt: &H, words: &str, script: &str, wanted: &str) -> Resul
         "{words}: {script:.200}"
     );
     Ok(())
+}
+
+/// The same of a script that was made for it.
+pub fn leaves_of<H: Host>(
+    rt: &H,
+    words: &str,
+    script: Result<String, AllocError>,
+    wanted: &str,
+) -> Result<(), Fail> {
+    let script = script?;
+    let told = leaves(rt, words, &script, wanted);
+    drop(script);
+    told
 }

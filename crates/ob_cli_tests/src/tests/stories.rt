@@ -76,7 +76,10 @@ fn push_line(text: &mut String, line: &str) -> Result<(), AllocError> {
 /// What the lines of a story ask. A line behind a colon is asked of the libraries alone.
 fn script_of(alloc: Global, lines: &str) -> Result<String, AllocError> {
     let mut script = String::new(alloc);
-    for line in lines.lines().filter(|line| !line.starts_with(':')) {
+    for line in lines.lines() {
+        if line.starts_with(':') {
+            continue;
+        }
         let (asked, _) = line.split_once('/').unwrap_or((line, ""));
         push_line(&mut script, asked)?;
     }
@@ -87,7 +90,10 @@ fn script_of(alloc: Global, lines: &str) -> Result<String, AllocError> {
 fn left_of(alloc: Global, lines: &str) -> Result<String, AllocError> {
     let mut left = String::new(alloc);
     let mut status = 0;
-    for line in lines.lines().filter(|line| !line.starts_with(':')) {
+    for line in lines.lines() {
+        if line.starts_with(':') {
+            continue;
+        }
         let (_, answer) = line.split_once('/').unwrap_or((line, ""));
         if let Some((place, _)) = answer.split_once(": fault ") {
             status = if place == " drive" { 5 } else { 2 };

@@ -1,6 +1,6 @@
 //! What `drive --verbose` tells beside its report, where threads leave nothing open but the time.
 
-use crate::tests::play::{Host, ended};
+use crate::tests::play::{Host, left};
 use std::test::Fail;
 
 /// Drives of one writer, and what is told behind the line of the time: messages that no line flushes; marks that a line
@@ -26,23 +26,27 @@ static DRIVES: [(&str, &str, &str); 4] = [
     ("ob_tool drive", "b 0 1 3\n", ""),
 ];
 
-/// What a drive tells, without the line of its time and without its status.
-fn told<H: Host>(rt: &H, words: &str, script: &str) -> Result<String, Fail> {
-    let words: Vec<&str> = words.split_whitespace().collect(rt.alloc())?;
-    let mut written: Vec<u8> = Vec::new(rt.alloc());
-    let told = ended(rt, &words, &mut script.as_bytes(), &mut written)?;
-    let text = told.strip_prefix("status 0: ").unwrap_or("another status");
-    let behind = match text.split_once('\n') {
+/// What a drive tells behind the line of its time.
+fn behind_time(left: &str) -> &str {
+    let (_, told) = left
+        .split_once("status 0: ")
+        .unwrap_or(("", "another status"));
+    match told.split_once('\n') {
         Some((time, behind)) if time.starts_with("milliseconds ") => behind,
-        _ => text,
-    };
-    Ok(behind.to_string(rt.alloc())?)
+        _ => told,
+    }
+}
+
+fn tells<H: Host>(rt: &H, words: &str, script: &str, wanted: &str) -> Result<(), Fail> {
+    let left = left(rt, words, &mut script.as_bytes())?;
+    assert_eq!(rt; behind_time(&left), wanted, "{words}");
+    Ok(())
 }
 
 #[test]
 fn a_drive_tells_more_if_it_is_asked(rt: HostRuntime) -> Result<(), Fail> {
-    for (words, script, wanted) in DRIVES {
-        assert_eq!(rt; told(&rt, words, script)?.as_str(), wanted, "{words}");
+    for &(words, script, wanted) in &DRIVES {
+        tells(&rt, words, script, wanted)?;
     }
     Ok(())
 }
