@@ -1,6 +1,8 @@
+mod connection;
 mod failing_sink;
 mod history;
 mod in_flight;
+mod lanes;
 mod limits;
 mod schedules;
 mod seq;

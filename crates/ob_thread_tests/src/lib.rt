@@ -1,4 +1,4 @@
-//! The tests of `ob_shared`, and of the transport over it: callers in threads of their own.
+//! The tests of `ob_shared`, of the transport over it, and of `ob_pool`: callers and writers in threads of their own.
 #![tactic(auto)]
 
 #[cfg(test)]

@@ -5,7 +5,7 @@ use ob_players::buffers::Options;
 use ob_players::commands::block;
 use ob_players::words::NoAnswer;
 use ob_transport::{Limits, Pass, PassFault, ScriptSink, SinkFault, SinkStep, pass};
-use ob_types::Command;
+use ob_types::{Command, Refusal};
 use std::alloc::{AllocError, Global};
 use std::test::Fail;
 
@@ -31,21 +31,30 @@ fn a_sink_fails_at_each_of_its_calls(rt: HostRuntime) -> Result<(), Fail> {
 /// Makes a pass for each call and one more, and answers how many took two blocks, how many told the failure and changed
 /// nothing, and whether the sink then has all bytes in order.
 fn sends(alloc: Global, failing: u64) -> Result<(u64, u64, bool), NoAnswer> {
+    let steps = steps(alloc, failing)?;
     let mut booked = flushed(alloc)?;
-    let mut sink = ScriptSink::new(steps(alloc, failing)?, u64::MAX);
+    let mut sink = ScriptSink::new(steps, u64::MAX);
+    let (took, failed) = passes(&mut booked, &mut sink, failing);
+    let is_in_order = counts_up(sink.taken());
+    drop((booked, sink));
+    Ok((took, failed, is_in_order))
+}
+
+fn passes(booked: &mut As, sink: &mut ScriptSink, failing: u64) -> (u64, u64) {
     let (mut took, mut failed) = (0u64, 0u64);
     for turn in 0..CALLS + 1 {
         let before = (booked.recorded.look(), sink.taken().len());
-        match pass(&mut booked, &mut sink, LIMITS) {
+        let passed = pass(booked, sink, LIMITS);
+        let is_same = (booked.recorded.look(), sink.taken().len()) == before;
+        match passed {
             Ok(Pass::Took(20)) if turn != failing => took = took.saturating_add(1),
-            Err(PassFault::Sink(SinkFault(9)))
-                if (booked.recorded.look(), sink.taken().len()) == before && turn == failing => {
+            Err(PassFault::Sink(SinkFault(9))) if is_same && turn == failing => {
                 failed = failed.saturating_add(1);
             }
             _ => {}
         }
     }
-    Ok((took, failed, counts_up(sink.taken())))
+    (took, failed)
 }
 
 /// Twenty blocks of 10 bytes, which count up from one to the next, are flushed.
@@ -55,11 +64,26 @@ fn flushed(alloc: Global) -> Result<As, NoAnswer> {
         recorded,
         caller: 0,
     };
-    for number in 0..20u8 {
-        booked.call(Command::Write(block(alloc, number.wrapping_mul(10), 10)?))?;
+    match writes(alloc, &mut booked) {
+        Ok(()) => Ok(booked),
+        Err(told) => {
+            drop(booked);
+            Err(told)
+        }
     }
-    booked.call(Command::Flush)?;
-    Ok(booked)
+}
+
+fn writes(alloc: Global, booked: &mut As) -> Result<(), NoAnswer> {
+    for number in 0..20u8 {
+        let block = block(alloc, number.wrapping_mul(10), 10)?;
+        calls(booked, Command::Write(block))?;
+    }
+    Ok(calls(booked, Command::Flush)?)
+}
+
+fn calls(booked: &mut As, command: Command) -> Result<(), Refusal> {
+    drop(booked.call(command)?);
+    Ok(())
 }
 
 /// A sink that takes all it is offered in so many calls, and then fails once.

@@ -6,9 +6,10 @@ use ob_players::commands::wanted;
 use ob_players::story::{Begins, Player, Story, play_each};
 use ob_players::trace::{push_answer, push_either, push_look, push_refusal, push_settled};
 use ob_players::words::{NoAnswer, Words, number_in};
+use ob_seq::{Buffer, Look};
 use ob_stories::HISTORY;
-use ob_types::{Command, PromiseId};
-use std::alloc::Global;
+use ob_types::{Command, PromiseId, Refusal};
+use std::alloc::{AllocError, Global};
 use std::test::Fail;
 
 /// A recorded buffer, and what its calls answered.
@@ -41,43 +42,39 @@ impl Player for History {
     fn answer(&mut self, asked: &str, text: &mut String) -> Result<(), NoAnswer> {
         let mut words = Words::of(asked);
         let word = words.word();
+        if let Ok(caller) = number_in(word) {
+            return self.call(caller, &mut words, text);
+        }
         match word {
             "reserve" => self.reserve(words.small()?, text),
             "?" => self.see(text),
-            "settles" | "settled" | "settling" | "callers" => self.tell(word, &mut words, text),
-            "check" | "seen" => {
-                let is_of = self.is_of(word, words.word())?;
-                Ok(push_either(text, is_of, "yes", "no")?)
-            }
-            "own" | "told" | "looks" => push_first(text, self.first_foreign(word, words)?),
-            _ => self.call(number_in(word)?, &mut words, text),
+            "check" | "seen" => push_is_of(text, self.is_of(word, words.word())),
+            "own" | "told" | "looks" => push_first(text, self.first_foreign(word, words)),
+            _ => self.tell(word, &mut words, text),
         }
     }
 }
 
-fn push_first(text: &mut String, index: Option<usize>) -> Result<(), NoAnswer> {
-    match index {
-        None => text.push_str("none")?,
-        Some(index) => write!(text, "{index}")?,
-    }
-    Ok(())
+fn push_is_of(text: &mut String, is_of: Result<bool, NoAnswer>) -> Result<(), NoAnswer> {
+    Ok(push_either(text, is_of?, "yes", "no")?)
+}
+
+fn push_first(text: &mut String, index: Result<Option<usize>, NoAnswer>) -> Result<(), NoAnswer> {
+    Ok(match index? {
+        None => text.push_str("none"),
+        Some(index) => write!(text, "{index}"),
+    }?)
 }
 
 impl History {
     /// Makes a call, tells what it answered, and keeps its receipt.
     fn call(&mut self, caller: u32, words: &mut Words, text: &mut String) -> Result<(), NoAnswer> {
-        let command = wanted(self.alloc, words)?;
         // a call that was made is not asked again for want of a place for its receipt
         self.receipts.reserve(1)?;
+        let command = wanted(self.alloc, words)?;
         self.kept.caller = caller;
-        match self.kept.call(command) {
-            Ok(receipt) => {
-                write!(text, "place {}: ", receipt.place)?;
-                push_answer(text, &receipt.reply, self.kept.buffer().look())?;
-                Ok(self.receipts.push(receipt)?)
-            }
-            Err(refusal) => push_refusal(text, refusal),
-        }
+        let answer = self.kept.call(command);
+        keep(&mut self.receipts, answer, self.kept.buffer().look(), text)
     }
 
     fn reserve(&mut self, count: u32, text: &mut String) -> Result<(), NoAnswer> {
@@ -98,23 +95,12 @@ impl History {
     /// Tells of settlements and of callers.
     fn tell(&self, word: &str, words: &mut Words, text: &mut String) -> Result<(), NoAnswer> {
         match word {
-            "settles" => {
-                let command = wanted(self.alloc, words)?;
-                write!(text, "{}", self.kept.buffer().settles(&command))?;
-            }
-            "settled" => {
-                for receipt in &self.receipts {
-                    push_settled(text, receipt)?;
-                }
-            }
-            "settling" => return self.settling(PromiseId(words.small()?), text),
-            _ => {
-                for one in self.kept.recorded.records() {
-                    write!(text, " {}", one.caller)?;
-                }
-            }
+            "settles" => push_settles(text, self.kept.buffer(), wanted(self.alloc, words)?),
+            "settled" => push_all_settled(text, &self.receipts),
+            "settling" => self.settling(PromiseId(words.small()?), text),
+            "callers" => push_callers(text, &self.kept.recorded),
+            _ => Err(NoAnswer::Unread),
         }
-        Ok(())
     }
 
     /// Tells which record settles a promise, whose receipt has to be of the history.
@@ -177,7 +163,7 @@ impl History {
         let mut receipt = receipt.copy()?;
         receipt.place = place.unwrap_or(receipt.place);
         if call.ends_with('f') {
-            receipt.command = Command::Flush;
+            drop(std::mem::replace(&mut receipt.command, Command::Flush));
         }
         Ok(receipt)
     }
@@ -192,6 +178,48 @@ impl History {
     }
 }
 
+/// Keeps a receipt, and adds what the call answered.
+fn keep(
+    kept: &mut Vec<Receipt>,
+    answer: Result<Receipt, Refusal>,
+    look: Look,
+    text: &mut String,
+) -> Result<(), NoAnswer> {
+    match answer {
+        Ok(receipt) => {
+            let told = push_receipt(text, &receipt, look);
+            kept.push(receipt)?;
+            Ok(told?)
+        }
+        Err(refusal) => push_refusal(text, refusal),
+    }
+}
+
+fn push_receipt(text: &mut String, receipt: &Receipt, look: Look) -> Result<(), AllocError> {
+    write!(text, "place {}: ", receipt.place)?;
+    push_answer(text, &receipt.reply, look)
+}
+
+fn push_settles(text: &mut String, buffer: &Buffer, command: Command) -> Result<(), NoAnswer> {
+    let settles = buffer.settles(&command);
+    drop(command);
+    Ok(write!(text, "{settles}")?)
+}
+
+fn push_all_settled(text: &mut String, receipts: &[Receipt]) -> Result<(), NoAnswer> {
+    for receipt in receipts {
+        push_settled(text, receipt)?;
+    }
+    Ok(())
+}
+
+fn push_callers(text: &mut String, recorded: &Recorded) -> Result<(), NoAnswer> {
+    for one in recorded.records() {
+        write!(text, " {}", one.caller)?;
+    }
+    Ok(())
+}
+
 /// A word without the place that it names, and that place.
 fn at_place(word: &str) -> Result<(&str, Option<u32>), NoAnswer> {
     match word.split_once('@') {
@@ -202,7 +230,9 @@ fn at_place(word: &str) -> Result<(&str, Option<u32>), NoAnswer> {
 
 /// Whether a receipt is of the history. It is dropped here, so that the prover follows that drop in one function.
 fn is_kept(recorded: &Recorded, receipt: Receipt) -> bool {
-    recorded.check(&receipt)
+    let is_kept = recorded.check(&receipt);
+    drop(receipt);
+    is_kept
 }
 
 #[test]

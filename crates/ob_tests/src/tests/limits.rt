@@ -15,14 +15,18 @@ struct Many(Single<Buffer>);
 impl Player for Many {
     fn answer(&mut self, asked: &str, text: &mut String) -> Result<(), NoAnswer> {
         let mut words = Words::of(asked);
-        let buffer = &mut self.0.kept;
         match words.word() {
-            "regions" => Ok(write!(text, "{} in turn", regions(buffer, words.small()?)?)?),
-            "cycles" => Ok(write!(text, "{} in turn", cycles(buffer, words.small()?)?)?),
-            "fail" => fail_all(buffer, Cause(words.small()?), text),
+            "regions" => push_in_turn(text, regions(&mut self.0.kept, words.small()?)),
+            "cycles" => push_in_turn(text, cycles(&mut self.0.kept, words.small()?)),
+            "fail" => fail_all(&mut self.0.kept, Cause(words.small()?), text),
             _ => self.0.answer(asked, text),
         }
     }
+}
+
+fn push_in_turn(text: &mut String, count: Result<u32, Refusal>) -> Result<(), NoAnswer> {
+    let count = count?;
+    Ok(write!(text, "{count} in turn")?)
 }
 
 /// Writes so many empty regions to a new buffer: how many answered the promises from the first on.
@@ -57,21 +61,32 @@ fn cycle(buffer: &mut Buffer) -> Result<(Answer, Answer, Answer), Refusal> {
 /// Fails all that is flushed, with notice, and tells the settlements in short.
 fn fail_all(buffer: &mut Buffer, cause: Cause, text: &mut String) -> Result<(), NoAnswer> {
     let reply = buffer.fail_flushed(cause, true)?;
-    let settled = reply.settled.as_slice();
-    let in_turn = settled
-        .iter()
-        .zip(0u32..)
-        .take_while(|(settled, id)| **settled == (PromiseId(*id), Outcome::Failed(cause)))
-        .count();
-    if let Answer::Count(count) = reply.answer {
+    let (in_turn, all) = (
+        failed_in_turn(reply.settled.as_slice(), cause),
+        reply.settled.as_slice().len(),
+    );
+    let answer = reply.answer;
+    drop(reply);
+    if let Answer::Count(count) = answer {
         write!(
             text,
-            "n {count}, {in_turn} of {} in turn as f{}",
-            settled.len(),
+            "n {count}, {in_turn} of {all} in turn as f{}",
             cause.0
         )?;
     }
     Ok(())
+}
+
+/// How many settlements from the first on tell the promises in their order, each as failed.
+fn failed_in_turn(settled: &[(PromiseId, Outcome)], cause: Cause) -> u32 {
+    let mut in_turn = 0u32;
+    for one in settled {
+        if *one != (PromiseId(in_turn), Outcome::Failed(cause)) {
+            break;
+        }
+        in_turn = in_turn.saturating_add(1);
+    }
+    in_turn
 }
 
 impl Begins for Many {

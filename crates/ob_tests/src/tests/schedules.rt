@@ -39,7 +39,8 @@ impl Player for Schedule {
             "" => self.end(&world, text),
             _ => self.turn(&mut world, word, &mut words, text),
         };
-        self.world = Some(world);
+        // one call, where an assignment follows the fields of what it drops
+        drop(self.world.replace(world));
         told
     }
 }
@@ -85,9 +86,13 @@ impl Schedule {
         let rest = if world.quiet() { "quiet" } else { "busy" };
         write!(text, "end {rest} owed={}", world.owed())?;
         let mut again = self::world(self.alloc, self.marks, &self.lanes)?;
-        let events = play(self.alloc, &mut again, &self.turns)?;
-        let words = (world.total(), world.word());
-        if events != self.events || (again.total(), again.word()) != words {
+        let events = play(self.alloc, &mut again, &self.turns);
+        let words = (again.total(), again.word());
+        drop(again);
+        let events = events?;
+        let is_same = events == self.events && words == (world.total(), world.word());
+        drop(events);
+        if !is_same {
             text.push_str(", but not where it is played at once")?;
         }
         Ok(())

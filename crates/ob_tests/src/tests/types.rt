@@ -1,7 +1,9 @@
 //! The words of a buffer: texts of refusals, copies of commands, and marks.
 
 use ob_players::commands::block;
+use ob_players::words::NoAnswer;
 use ob_types::{Cause, Command, PromiseId, Refusal, WaterMark};
+use std::alloc::{AllocError, Global};
 use std::test::Fail;
 
 /// The texts of the refusals by their numbers.
@@ -20,34 +22,37 @@ static REFUSALS: &str = "\
 12 out of memory
 ";
 
+static ALL_REFUSALS: [Refusal; 12] = [
+    Refusal::Oversize,
+    Refusal::BadMarks,
+    Refusal::TooMuch,
+    Refusal::Closed,
+    Refusal::NothingFlushed,
+    Refusal::TooFar,
+    Refusal::TooManyBytes,
+    Refusal::BadIndex,
+    Refusal::FlushedLeft,
+    Refusal::UnknownPromise,
+    Refusal::HistoryFull,
+    Refusal::NoMemory,
+];
+
 #[test]
 fn refusals_tell_what_was_wrong(rt: HostRuntime) -> Result<(), Fail> {
     let mut told = String::new(rt.alloc());
-    for refusal in [
-        Refusal::Oversize,
-        Refusal::BadMarks,
-        Refusal::TooMuch,
-        Refusal::Closed,
-        Refusal::NothingFlushed,
-        Refusal::TooFar,
-        Refusal::TooManyBytes,
-        Refusal::BadIndex,
-        Refusal::FlushedLeft,
-        Refusal::UnknownPromise,
-        Refusal::HistoryFull,
-        Refusal::NoMemory,
-    ] {
+    for refusal in &ALL_REFUSALS {
         writeln!(told, "{} {refusal}", refusal.number())?;
     }
     assert_eq!(rt; told.as_str(), REFUSALS);
     Ok(())
 }
 
-/// The eleven commands: the copy of a block wants memory, and has it here.
-#[test]
-fn each_command_is_copied(rt: HostRuntime) -> Result<(), Fail> {
-    let commands = [
-        Command::Write(block(rt.alloc(), 0, 4)?),
+/// The eleven commands.
+fn commands(alloc: Global) -> Result<[Command; 11], NoAnswer> {
+    let marks = WaterMark::new(5, 7)?;
+    let block = block(alloc, 0, 4)?;
+    Ok([
+        Command::Write(block),
         Command::Flush,
         Command::Remove,
         Command::RemoveWith(Cause(3)),
@@ -57,21 +62,36 @@ fn each_command_is_copied(rt: HostRuntime) -> Result<(), Fail> {
         Command::FailFlushed(Cause(3), true),
         Command::Close(Cause(4)),
         Command::UserBit(31, false),
-        Command::SetMarks(WaterMark::new(5, 7)?),
-    ];
-    for command in &commands {
-        assert!(rt; command.copy()? == *command, "{command:?}");
+        Command::SetMarks(marks),
+    ])
+}
+
+fn is_copied(command: &Command) -> Result<bool, AllocError> {
+    let copy = command.copy()?;
+    let is_same = copy == *command;
+    drop(copy);
+    Ok(is_same)
+}
+
+/// The copy of a block wants memory, and has it here.
+#[test]
+fn each_command_is_copied(rt: HostRuntime) -> Result<(), Fail> {
+    for command in &commands(rt.alloc())? {
+        assert!(rt; is_copied(command)?, "{command:?}");
     }
     Ok(())
 }
 
+/// Marks, and what the low one is if they are made.
+static MARKS: [(u32, u32, Result<u32, Refusal>); 3] = [
+    (7, 7, Ok(7)),
+    (8, 7, Err(Refusal::BadMarks)),
+    (0, 2147483648, Err(Refusal::BadMarks)),
+];
+
 #[test]
 fn marks_may_be_equal(rt: HostRuntime) {
-    for (low, high, made) in [
-        (7, 7, Ok(7)),
-        (8, 7, Err(Refusal::BadMarks)),
-        (0, 2147483648, Err(Refusal::BadMarks)),
-    ] {
+    for &(low, high, made) in &MARKS {
         let marks = WaterMark::new(low, high);
         assert_eq!(rt; marks.map(|marks| marks.low()), made, "{low}, {high}");
     }

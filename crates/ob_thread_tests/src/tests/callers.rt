@@ -1,6 +1,6 @@
 //! A caller of a shared buffer, who plays lines: in turn with others, or in a thread of its own.
 
-use crate::tests::chance::{calls_by, push_made};
+use crate::tests::chance::calls_by;
 use crate::tests::host::Hosted;
 use crate::tests::settling::{at_one_desk, settles_each, waits_for_each};
 use ob_history::{Receipt, Seen};
@@ -10,8 +10,9 @@ use ob_players::story::Player;
 use ob_players::trace::{push_answer, push_glance, push_look, push_refusal, push_settled};
 use ob_players::words::{NoAnswer, Words};
 use ob_seq::Look;
-use ob_shared::{Done, Named, Share};
+use ob_shared::{Done, Named};
 use ob_types::{Command, PromiseId, Refusal};
+use std::alloc::AllocError;
 use std::sync::Wait;
 use std::sync::atomic::{AtomicU64, Ordering};
 use std::thread::sleep;
@@ -38,15 +39,19 @@ impl<'b, L: Named, R: AllocGlobal + Wait + Clock> Player for Caller<'b, L, R> {
         if matches!(word, "come" | "until" | "pause") {
             return meets(hosted.rt, come, word, &mut words);
         }
+        if word == "sees" {
+            return sees(hosted, self.done.as_mut(), words.small());
+        }
         let Some(done) = self.done.take() else {
             return Err(NoAnswer::Unread);
         };
         let (done, told) = match word {
             "waits" | "settles" | "desk" => crosses(hosted, come, done, (word, &mut words), text),
-            "calls" | "sees" => plays_on(hosted, done, asked, text),
+            "calls" => calls_by(hosted, done, asked, text),
             _ => in_turn(hosted, done, asked, text),
         };
-        self.done = done;
+        // one call, where an assignment follows the fields of what it drops
+        drop(std::mem::replace(&mut self.done, done));
         told
     }
 }
@@ -108,32 +113,17 @@ fn crosses<L: Named, R: Wait>(
     }
 }
 
-/// `calls` and how many of the commands behind an `of` it makes in turn, or by chance with none; or `sees` and the total
-/// that it waits for.
-fn plays_on<L: Named, R: AllocGlobal + Wait + Clock>(
-    hosted: &Hosted<L, R>,
-    mut done: Done<L>,
-    asked: &str,
-    text: &mut String,
-) -> Told<L> {
-    let mut words = Words::of(asked);
-    if words.word() == "sees" {
-        let told = sees(hosted, &mut done.share, words.small());
-        return (Some(done), told);
-    }
-    let (_, commands) = asked.split_once(" of ").unwrap_or(("", ""));
-    let (done, made) = calls_by(hosted, done, words.small(), commands);
-    (Some(done), push_made(text, made))
-}
-
-/// Reads each millisecond, ten thousand times, until it sees this total.
+/// Reads each millisecond, ten thousand times, until it sees this total, without the lock.
 fn sees<L: Named, R: Clock>(
     hosted: &Hosted<L, R>,
-    share: &mut Share<L>,
+    done: Option<&mut Done<L>>,
     total: Result<u32, NoAnswer>,
 ) -> Result<(), NoAnswer> {
+    let Some(done) = done else {
+        return Err(NoAnswer::Unread);
+    };
     for _ in 0..10_000u32 {
-        if Ok(share.read(hosted.buffer).total) == total {
+        if Ok(done.share.read(hosted.buffer).total) == total {
             return Ok(());
         }
         sleep(hosted.rt, Duration::from_millis(1));
@@ -192,8 +182,13 @@ fn looks<L: Named, R: Wait>(hosted: &Hosted<L, R>, done: Done<L>, text: &mut Str
 
 fn keep_seen(kept: &mut Vec<Seen>, seen: Seen, text: &mut String) -> Result<(), NoAnswer> {
     kept.push(seen)?;
+    Ok(push_seen(text, seen)?)
+}
+
+/// Adds a look and its place.
+pub fn push_seen(text: &mut String, seen: Seen) -> Result<(), AllocError> {
     write!(text, "place {}: ", seen.place)?;
-    Ok(push_look(text, seen.look)?)
+    push_look(text, seen.look)
 }
 
 /// Lets all receipts go, and has them again from a desk.

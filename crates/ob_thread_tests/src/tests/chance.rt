@@ -1,5 +1,6 @@
 //! Callers that make many calls, in turn or by chance.
 
+use crate::tests::callers::Told;
 use crate::tests::dice::Dice;
 use crate::tests::host::Hosted;
 use ob_players::commands::wanted;
@@ -9,27 +10,39 @@ use ob_types::Command;
 use std::alloc::Global;
 use std::sync::Wait;
 
-/// Makes so many calls, each from a desk of its own, and stops where one is not made: how many were. They are the commands
-/// between the commas of a text in turn, or by chance if there is none.
+/// Makes so many calls, each from a desk of its own, stops where one is not made, and adds how many were. They are the
+/// commands between the commas behind an `of` in turn, or by chance if there is none.
 pub fn calls_by<L: Named, R: AllocGlobal + Wait>(
     hosted: &Hosted<L, R>,
     done: Done<L>,
-    count: Result<u32, NoAnswer>,
-    commands: &str,
-) -> (Done<L>, u32) {
+    asked: &str,
+    text: &mut String,
+) -> Told<L> {
+    let (count, commands) = calls_of(asked);
     let mut dice = Dice::new(done.share.caller());
     let mut caller = done;
-    for number in 0..count.unwrap_or(0) {
+    let mut made = 0u32;
+    for number in 0..count {
         let Ok(command) = command(hosted.rt.alloc(), &mut dice, commands, number as usize) else {
-            return (caller, number);
+            break;
         };
         let (same, answer) = hosted.buffer.call(hosted.rt, caller, command);
         caller = same;
         if answer.is_err() {
-            return (caller, number);
+            break;
         }
+        made = made.saturating_add(1);
     }
-    (caller, count.unwrap_or(0))
+    let told = write!(text, "{made} calls").map_err(NoAnswer::from);
+    (Some(caller), told)
+}
+
+/// How many calls a line asks for, and of which commands.
+fn calls_of(asked: &str) -> (u32, &str) {
+    let (count, commands) = asked.split_once(" of ").unwrap_or((asked, ""));
+    let mut words = Words::of(count);
+    let _calls = words.word();
+    (words.small().unwrap_or(0), commands)
 }
 
 /// The command of a call by its number.
@@ -45,9 +58,4 @@ fn command(
     let count = commands.split(',').count().max(1);
     let text = commands.split(',').nth(number % count).unwrap_or("");
     wanted(alloc, &mut Words::of(text))
-}
-
-/// Adds how many calls were made.
-pub fn push_made(text: &mut String, made: u32) -> Result<(), NoAnswer> {
-    Ok(write!(text, "{made} calls")?)
 }

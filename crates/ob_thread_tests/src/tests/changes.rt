@@ -1,6 +1,6 @@
 //! What callers lay aside, exchange or falsify of what they hand in.
 
-use crate::tests::members::{Member, done_of, put_done, take_done};
+use crate::tests::members::{Member, done_of};
 use ob_history::{Receipt, Seen};
 use ob_players::words::NoAnswer;
 use ob_shared::{Done, Named};
@@ -22,26 +22,35 @@ pub fn changes<L: Named>(
     members: &mut [Member<L>],
     aside: &mut Aside<L>,
     word: &str,
-    caller: usize,
-    other: usize,
+    (caller, other): (usize, usize),
 ) -> Result<(), NoAnswer> {
     match word {
-        "without" => {
-            let done = take_done(members, caller);
-            put_done(members, caller, aside.done.take());
-            aside.done = done;
-            Ok(())
-        }
+        "without" => without(members, &mut aside.done, caller),
         "exchange" => {
             let given = put_receipts(members, caller, Vec::new(alloc));
             let taken = put_receipts(members, other, given);
-            let _ = put_receipts(members, caller, taken);
+            drop(put_receipts(members, caller, taken));
             Ok(())
         }
         _ => match done_of(members, caller) {
             Some(done) => changes_one(done, &mut aside.receipt, &mut aside.command, word, other),
             None => Err(NoAnswer::Unread),
         },
+    }
+}
+
+/// Exchanges what a caller hands in for what is aside.
+fn without<L: Named>(
+    members: &mut [Member<L>],
+    aside: &mut Option<Done<L>>,
+    caller: usize,
+) -> Result<(), NoAnswer> {
+    match members.get_mut(caller) {
+        Some(member) => {
+            std::mem::swap(&mut member.done, aside);
+            Ok(())
+        }
+        None => Err(NoAnswer::Unread),
     }
 }
 
@@ -78,7 +87,7 @@ fn changes_one<L: Named>(
 fn short(receipts: &mut Vec<Receipt>, aside: &mut Option<Receipt>) -> Result<(), NoAnswer> {
     match aside.take() {
         Some(receipt) => receipts.push(receipt)?,
-        None => *aside = receipts.pop(),
+        None => drop(std::mem::replace(aside, receipts.pop())),
     }
     Ok(())
 }
@@ -86,10 +95,11 @@ fn short(receipts: &mut Vec<Receipt>, aside: &mut Option<Receipt>) -> Result<(),
 /// Puts the first receipt in the place of the last one too, or puts that one back.
 fn twice(receipts: &mut Vec<Receipt>, aside: &mut Option<Receipt>) -> Result<(), NoAnswer> {
     match aside.take() {
-        Some(last) => {
-            let _ = put_last(receipts, last);
+        Some(last) => drop(put_last(receipts, last)),
+        None => {
+            let first = copy_of(receipts.first())?;
+            drop(std::mem::replace(aside, put_last(receipts, first)));
         }
-        None => *aside = put_last(receipts, copy_of(receipts.first())?),
     }
     Ok(())
 }

@@ -1,6 +1,6 @@
 //! The callers of a shared buffer, who play lines in turn.
 
-use crate::tests::callers::Caller;
+use crate::tests::callers::{Caller, push_seen};
 use crate::tests::changes::{Aside, changes};
 use crate::tests::endings::{push_end, push_fault};
 use crate::tests::host::Hosted;
@@ -32,52 +32,65 @@ pub struct Crew<'r, L: Named, R> {
 
 impl<'r, L: Named, R: AllocGlobal + Wait + Clock> Player for Crew<'r, L, R> {
     fn answer(&mut self, asked: &str, text: &mut String) -> Result<(), NoAnswer> {
-        let mut words = Words::of(asked);
-        match words.word() {
+        match asked {
             "finish" | "ends" => self.finish(asked, text),
             "why" => push_why(text, self.fault),
-            "same" | "left" | "glances" => match &self.recorded {
-                Some(recorded) => {
-                    let asked = (self.rt.alloc(), asked);
-                    push_end(self.options, recorded, &self.members, asked, text)
-                }
-                None => Err(NoAnswer::Unread),
-            },
-            _ => match &self.buffer {
-                Some(buffer) => {
-                    let hosted = Hosted {
-                        rt: self.rt,
-                        buffer,
-                    };
-                    plays(&hosted, &mut self.members, &mut self.aside, asked, text)
-                }
-                None => Err(NoAnswer::Unread),
-            },
+            _ => self.tell(asked, text),
         }
     }
 }
 
-impl<'r, L: Named, R: AllocGlobal> Crew<'r, L, R> {
+impl<'r, L: Named, R: AllocGlobal + Wait + Clock> Crew<'r, L, R> {
+    /// Plays a line over the buffer, or over its history when it is finished.
+    fn tell(&mut self, asked: &str, text: &mut String) -> Result<(), NoAnswer> {
+        match (&self.buffer, &self.recorded) {
+            (Some(buffer), _) => {
+                let rt = self.rt;
+                plays(
+                    &Hosted { rt, buffer },
+                    &mut self.members,
+                    &mut self.aside,
+                    asked,
+                    text,
+                )
+            }
+            (None, Some(recorded)) => {
+                let asked = (self.rt.alloc(), asked);
+                push_end(self.options, recorded, &self.members, asked, text)
+            }
+            (None, None) => Err(NoAnswer::Unread),
+        }
+    }
+
     /// Hands in what all callers have, and has it back on a fault. What is pending then is told too, unless it `ends`.
     fn finish(&mut self, word: &str, text: &mut String) -> Result<(), NoAnswer> {
         let dones = take_all(self.rt.alloc(), &mut self.members)?;
         let Some(buffer) = self.buffer.take() else {
+            drop(dones);
             return Err(NoAnswer::Unread);
         };
         match buffer.finish(dones) {
-            Ok(finished) => {
-                let told = push_finished(text, &finished.recorded, word);
-                self.recorded = Some(finished.recorded);
-                told
-            }
+            Ok(finished) => keep_finished(&mut self.recorded, finished.recorded, word, text),
             Err(unfinished) => {
-                self.buffer = Some(unfinished.buffer);
+                drop(self.buffer.replace(unfinished.buffer));
                 put_all(&mut self.members, unfinished.dones);
                 self.fault = Some(unfinished.fault);
                 push_fault(text, unfinished.fault)
             }
         }
     }
+}
+
+/// Keeps a history, and adds how many records it has.
+fn keep_finished(
+    kept: &mut Option<Recorded>,
+    recorded: Recorded,
+    word: &str,
+    text: &mut String,
+) -> Result<(), NoAnswer> {
+    let told = push_finished(text, &recorded, word);
+    drop(kept.replace(recorded));
+    told
 }
 
 fn push_finished(text: &mut String, recorded: &Recorded, word: &str) -> Result<(), NoAnswer> {
@@ -96,7 +109,7 @@ fn push_why(text: &mut String, fault: Option<FinishFault>) -> Result<(), NoAnswe
     }
 }
 
-/// Plays a line over a buffer that is not finished. A word that is no number names no member.
+/// Plays a line over a buffer that is not finished. A line that begins with a number is one of that caller.
 fn plays<L: Named, R: AllocGlobal + Wait + Clock>(
     hosted: &Hosted<L, R>,
     members: &mut Vec<Member<L>>,
@@ -104,39 +117,42 @@ fn plays<L: Named, R: AllocGlobal + Wait + Clock>(
     asked: &str,
     text: &mut String,
 ) -> Result<(), NoAnswer> {
-    let mut words = Words::of(asked);
-    let word = words.word();
-    let caller = words.small().unwrap_or(u32::MAX) as usize;
+    let (word, rest) = asked.split_once(' ').unwrap_or((asked, ""));
+    if let Ok(caller) = number_in(word) {
+        return asks(hosted, members, caller as usize, rest, text);
+    }
+    let two = two_members(rest);
     match word {
         "made" => push_made(text, members),
-        "watch" => watch(hosted, members, caller),
+        "watch" => watch(hosted, members, two.0),
         "watched" | "check" => push_watched(hosted, members.last_mut(), word, text),
-        "without" | "short" | "forge" | "told" | "seen" | "exchange" | "twice" => {
-            let other = words.small().unwrap_or(0) as usize;
-            changes(hosted.rt.alloc(), members, aside, word, caller, other)
-        }
-        _ => asks(hosted, members, asked, text),
+        _ => changes(hosted.rt.alloc(), members, aside, word, two),
     }
+}
+
+/// The numbers of two members. A word that is no number names none, and where there is no second word, it is the first
+/// member.
+fn two_members(line: &str) -> (usize, usize) {
+    let mut words = Words::of(line);
+    let one = words.small().unwrap_or(u32::MAX) as usize;
+    (one, words.small().unwrap_or(0) as usize)
 }
 
 /// A caller is asked for what stands behind its number.
 fn asks<L: Named, R: AllocGlobal + Wait + Clock>(
     hosted: &Hosted<L, R>,
     members: &mut [Member<L>],
-    asked: &str,
+    caller: usize,
+    line: &str,
     text: &mut String,
 ) -> Result<(), NoAnswer> {
-    let (number, line) = asked.split_once(' ').unwrap_or((asked, ""));
-    let Ok(caller) = number_in(number) else {
-        return Err(NoAnswer::Unread);
-    };
     let mut player = Caller {
         hosted,
         come: &AtomicU64::new(0),
-        done: take_done(members, caller as usize),
+        done: take_done(members, caller),
     };
     let told = player.answer(line, text);
-    put_done(members, caller as usize, player.done);
+    put_done(members, caller, player.done);
     told
 }
 
@@ -176,12 +192,12 @@ fn push_read<L: Named, R: Wait>(
     word: &str,
     text: &mut String,
 ) -> Result<(), NoAnswer> {
-    if word == "watched" {
-        return Ok(push_glance(text, reader.read(hosted.buffer))?);
-    }
-    let seen = hosted.buffer.check_in(hosted.rt, reader);
-    write!(text, "place {}: ", seen.place)?;
-    Ok(push_look(text, seen.look)?)
+    let told = if word == "watched" {
+        push_glance(text, reader.read(hosted.buffer))
+    } else {
+        push_seen(text, hosted.buffer.check_in(hosted.rt, reader))
+    };
+    Ok(told?)
 }
 
 /// Adds how many records each caller made.

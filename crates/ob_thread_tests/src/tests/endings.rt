@@ -15,23 +15,22 @@ pub fn push_end<L: Named>(
     options: Options,
     recorded: &Recorded,
     members: &[Member<L>],
-    asked: (Global, &str),
+    (alloc, word): (Global, &str),
     text: &mut String,
 ) -> Result<(), NoAnswer> {
-    let (alloc, word) = asked;
-    if word == "left" {
-        return Ok(write!(text, "{}", recorded.buffer().writes_left())?);
-    }
-    let mut alone = options.recorded(alloc)?;
     match word {
-        "same" => push_same(text, recorded, &mut alone),
-        _ => push_in_order(text, members, shown_after(alloc, recorded, &mut alone)),
+        "left" => Ok(write!(text, "{}", recorded.buffer().writes_left())?),
+        "same" => push_same(text, is_same(recorded, options.recorded(alloc)?)),
+        _ => push_in_order(
+            text,
+            members,
+            shown_after(alloc, recorded, options.recorded(alloc)?),
+        ),
     }
 }
 
-fn push_same(text: &mut String, recorded: &Recorded, alone: &mut Recorded) -> Result<(), NoAnswer> {
-    let is_same = answers_the_same(recorded, alone)? && alone.look() == recorded.look();
-    Ok(push_either(text, is_same, "yes", "no")?)
+fn push_same(text: &mut String, is_same: Result<bool, Refusal>) -> Result<(), NoAnswer> {
+    Ok(push_either(text, is_same?, "yes", "no")?)
 }
 
 fn push_in_order<L: Named>(
@@ -40,8 +39,18 @@ fn push_in_order<L: Named>(
     shown: Result<Vec<Glance>, NoAnswer>,
 ) -> Result<(), NoAnswer> {
     let shown = shown?;
-    let in_order = in_order(members, &shown);
-    Ok(write!(text, "{in_order} in order of {}", shown.len())?)
+    let (in_order, count) = (in_order(members, &shown), shown.len());
+    drop(shown);
+    Ok(write!(text, "{in_order} in order of {count}")?)
+}
+
+/// Whether a new buffer that is given the commands of the records, in their order, makes the same history.
+fn is_same(recorded: &Recorded, alone: Recorded) -> Result<bool, Refusal> {
+    let mut alone = alone;
+    let is_same = answers_the_same(recorded, &mut alone);
+    let looks_the_same = alone.look() == recorded.look();
+    drop(alone);
+    Ok(is_same? && looks_the_same)
 }
 
 /// Whether a new buffer that is given the commands of the records, in their order, makes the same records.
@@ -62,22 +71,41 @@ fn is_made(
     command: &Command,
 ) -> Result<bool, Refusal> {
     let receipt = alone.call(caller, command.copy()?)?;
-    Ok(recorded.check(&receipt))
+    let is_made = recorded.check(&receipt);
+    drop(receipt);
+    Ok(is_made)
 }
 
 /// The glance of a new buffer, and that after each record, by that buffer, which is given the same commands.
 fn shown_after(
     alloc: Global,
     recorded: &Recorded,
-    alone: &mut Recorded,
+    alone: Recorded,
 ) -> Result<Vec<Glance>, NoAnswer> {
+    let mut alone = alone;
     let mut shown = Vec::new(alloc);
+    let told = show_each(recorded, &mut alone, &mut shown);
+    drop(alone);
+    match told {
+        Ok(()) => Ok(shown),
+        Err(told) => {
+            drop(shown);
+            Err(told)
+        }
+    }
+}
+
+fn show_each(
+    recorded: &Recorded,
+    alone: &mut Recorded,
+    shown: &mut Vec<Glance>,
+) -> Result<(), NoAnswer> {
     shown.push(alone.glance())?;
     for kept in recorded.records() {
         let _ = is_made(recorded, alone, kept.caller, &kept.command)?;
         shown.push(alone.glance())?;
     }
-    Ok(shown)
+    Ok(())
 }
 
 /// How many members saw glances that stand among those that were shown, one behind another.
@@ -92,10 +120,13 @@ fn in_order<L: Named>(members: &[Member<L>], shown: &[Glance]) -> u32 {
 }
 
 fn stand_in_order(glances: &[Glance], shown: &[Glance]) -> bool {
-    let mut rest = shown.iter();
-    glances
-        .iter()
-        .all(|glance| rest.any(|other| other == glance))
+    let mut found = 0usize;
+    for other in shown {
+        if glances.get(found) == Some(other) {
+            found = found.saturating_add(1);
+        }
+    }
+    found == glances.len()
 }
 
 /// Adds why a buffer was not finished.

@@ -66,8 +66,9 @@ pub fn take_done<L: Named>(members: &mut [Member<L>], caller: usize) -> Option<D
 
 /// Gives a caller what it hands in.
 pub fn put_done<L: Named>(members: &mut [Member<L>], caller: usize, done: Option<Done<L>>) {
-    if let Some(member) = members.get_mut(caller) {
-        member.done = done;
+    match members.get_mut(caller) {
+        Some(member) => drop(std::mem::replace(&mut member.done, done)),
+        None => drop(done),
     }
 }
 

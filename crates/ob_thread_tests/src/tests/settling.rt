@@ -4,7 +4,7 @@ use crate::tests::callers::{Told, keep_again};
 use crate::tests::host::Hosted;
 use ob_history::Booked;
 use ob_players::words::NoAnswer;
-use ob_shared::{Desk, Done, Named};
+use ob_shared::{Desk, Done, Named, Share};
 use ob_types::{Command, Message, PromiseId};
 use std::hint::spin_loop;
 use std::sync::Wait;
@@ -20,12 +20,12 @@ pub fn at_one_desk<L: Named, R: Wait>(
 ) -> Told<L> {
     let mut desk = hosted.buffer.desk(hosted.rt, done.share);
     sends(&mut desk);
-    match then {
-        "drops" => return (None, Ok(())),
-        "goes-on" => {
-            let _ = desk.call(Command::Flush);
-        }
-        _ => {}
+    if then == "drops" {
+        drop((desk, done.receipts, done.told, done.seen));
+        return (None, Ok(()));
+    }
+    if then == "goes-on" {
+        let _ = is_made(&mut desk, Command::Flush);
     }
     let receipts = desk.receipts_since(0);
     let share = desk.leave();
@@ -37,16 +37,20 @@ pub fn at_one_desk<L: Named, R: Wait>(
 /// Flushes and removes what one write left. Each call is made again if memory was refused, since others wait for it.
 fn sends<L: Named>(desk: &mut Desk<'_, L>) {
     for _ in 0..9u32 {
-        let removes = desk.look().look.size > 0;
-        let answer = desk.call(if removes {
-            Command::Remove
-        } else {
-            Command::Flush
-        });
-        if removes && answer.is_ok() {
+        if desk.look().look.size == 0 {
+            let _ = is_made(desk, Command::Flush);
+        } else if is_made(desk, Command::Remove) {
             break;
         }
     }
+}
+
+/// Makes a call at a desk: whether it was made. Its receipt is had again later.
+fn is_made<L: Named>(desk: &mut Desk<'_, L>, command: Command) -> bool {
+    let answer = desk.call(command);
+    let is_made = answer.is_ok();
+    drop(answer);
+    is_made
 }
 
 /// Waits for one promise after another, each of which is settled when the wait for it begins.
@@ -62,12 +66,24 @@ pub fn waits_for_each<L: Named, R: Wait>(
     for id in 0..rounds.unwrap_or(0) {
         until(asked, u64::from(id) * 2 + 1);
         asked.store(u64::from(id) * 2 + 2, Ordering::SeqCst);
-        let (desk, answer) = hosted.buffer.wait_settled(hosted.rt, share, PromiseId(id));
-        share = desk.leave();
-        told = told.saturating_add(u32::from(answer.is_ok()));
+        let (same, is_told) = is_told(hosted, share, PromiseId(id));
+        share = same;
+        told = told.saturating_add(u32::from(is_told));
     }
     let told = write!(text, "{told} told").map_err(NoAnswer::from);
     (Some(Done { share, ..done }), told)
+}
+
+/// Waits for a promise: whether its settlement is told.
+fn is_told<L: Named, R: Wait>(
+    hosted: &Hosted<L, R>,
+    share: Share<L>,
+    id: PromiseId,
+) -> (Share<L>, bool) {
+    let (desk, answer) = hosted.buffer.wait_settled(hosted.rt, share, id);
+    let is_told = answer.is_ok();
+    drop(answer);
+    (desk.leave(), is_told)
 }
 
 /// Writes, flushes and removes one message after another, each removal when another begins to wait for it.

@@ -1,6 +1,6 @@
 //! What want of memory leaves, and what giving up tells.
 
-use super::{four_bytes, open};
+use super::{flushed, four_bytes, open};
 use ob_connection::Taken;
 use ob_types::{Cause, Refusal};
 use std::test::Fail;
@@ -21,15 +21,16 @@ fn a_refused_write_changes_nothing_and_all_is_given_up(rt: HostRuntime) -> Resul
     let told = |all: Taken| (all.ids(), all.count, all.change);
     assert_eq!(rt;
         (
-            connection.flush().map(|flushed| flushed.count),
+            connection.flush(),
             connection.give_up(Cause(7)).map(told),
             connection.give_up(Cause(7)).map(told),
         ),
         (
-            Ok(accepted),
+            flushed(accepted),
             Ok((0..accepted, accepted, None)),
             Err(Refusal::Closed),
         )
     );
+    drop(connection);
     Ok(())
 }

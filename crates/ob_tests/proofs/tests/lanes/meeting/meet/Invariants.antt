@@ -1,5 +1,5 @@
 use Rattle.std.proofs.Common.{◌≡◌}
-use Rattle.ob_lane_tests.proofs.tests.meeting.meet.Given as goal
+use Rattle.ob_tests.proofs.tests.lanes.meeting.meet.Given as goal
 
 abbrev pub invariant-asks : goal.invariant-asks
 invariant-asks g l = l.charged.words ≡ l.words

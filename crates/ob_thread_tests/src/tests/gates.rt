@@ -157,7 +157,7 @@ static ALONE: [(&str, &str); 2] = [
 
 #[test]
 fn a_gate_is_asked_at_each_step(rt: HostRuntime) -> Result<(), Fail> {
-    for (story, wanted) in ALONE {
+    for &(story, wanted) in &ALONE {
         let gate = GateOf(Log(Mutex::new(String::new(rt.alloc()))));
         drives(&rt, &gate, Story::of(story))?;
         let log = gate.0.0.into_inner();

@@ -77,9 +77,9 @@ fn give(
         (number, number.saturating_add(1), word)
     };
     widen(alloc, plans, to as usize)?;
-    let command = command(alloc, word, words, 0)?.ok_or(NoAnswer::Unread)?;
+    let command = command(alloc, word, words, 0)?;
     let count = if word == "b" { words.small() } else { Ok(1) };
-    push_to_each(plans, (from, to), &command, count)
+    push_to_each(plans, (from, to), command, count)
 }
 
 /// Makes plans until there are so many.
@@ -96,20 +96,26 @@ fn widen(alloc: Global, plans: &mut Vec<Plan>, count: usize) -> Result<(), NoAns
 fn push_to_each(
     plans: &mut [Plan],
     (from, to): (u32, u32),
+    command: Option<Command>,
+    count: Result<u32, NoAnswer>,
+) -> Result<(), NoAnswer> {
+    let command = command.ok_or(NoAnswer::Unread)?;
+    let mut told = Ok(());
+    for writer in from..to {
+        if let Some(plan) = plans.get_mut(writer as usize) {
+            told = told.and(push_times(&mut plan.commands, &command, count));
+        }
+    }
+    drop(command);
+    told
+}
+
+fn push_times(
+    commands: &mut Vec<Command>,
     command: &Command,
     count: Result<u32, NoAnswer>,
 ) -> Result<(), NoAnswer> {
-    let count = count?;
-    for writer in from..to {
-        if let Some(plan) = plans.get_mut(writer as usize) {
-            push_times(&mut plan.commands, command, count)?;
-        }
-    }
-    Ok(())
-}
-
-fn push_times(commands: &mut Vec<Command>, command: &Command, count: u32) -> Result<(), NoAnswer> {
-    for _ in 0..count {
+    for _ in 0..count? {
         commands.push(command.copy()?)?;
     }
     Ok(())
@@ -198,7 +204,17 @@ impl Driven {
     ) -> Result<(), NoAnswer> {
         let config = config(self.options, self.given.turns)?;
         let plans = std::mem::replace(&mut self.given.plans, Vec::new(rt.alloc()));
-        self.end = Some(drive(rt, rt.alloc(), gate, plans, sink, config));
+        drop(
+            self.end
+                .replace(drive(rt, rt.alloc(), gate, plans, sink, config)),
+        );
+        Ok(())
+    }
+
+    /// Plays a story of what was driven, if it was.
+    pub fn plays(&mut self, driven: Result<(), NoAnswer>, story: Story) -> Result<(), Fail> {
+        driven?;
+        story.play(self.given.alloc, self)?;
         Ok(())
     }
 }
@@ -211,10 +227,12 @@ pub fn drives<R: Abort + AllocGlobal + Threads + Wait + Clock + Sync, G: Gate + 
 ) -> Result<(), Fail> {
     let mut driven = Driven::of(rt.alloc(), story)?;
     let mut sink = driven.script();
-    driven.run(rt, gate, &mut sink)?;
+    let told = driven.run(rt, gate, &mut sink);
     driven.sink = (sink.taken().len(), sink.failures());
-    story.play(rt.alloc(), &mut driven)?;
-    Ok(())
+    drop(sink);
+    let told = driven.plays(told, story);
+    drop(driven);
+    told
 }
 
 /// Adds the numbers of a report.

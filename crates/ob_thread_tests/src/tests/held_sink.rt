@@ -11,7 +11,7 @@ use ob_transport::{ScriptSink, Sink, SinkFault};
 use std::sync::Wait;
 use std::sync::atomic::{AtomicU64, Ordering};
 use std::test::Fail;
-use std::thread::sleep;
+use std::thread::{Threads, sleep};
 use std::time::{Clock, Duration};
 
 /// How far writers and the sink have come, from 1 on: the first call of the sink has begun, meanwhile writer 0 has
@@ -103,20 +103,31 @@ take 0
 / writes 3, flushes 2, cancels 0, bits 0, refused 0, taken 3, success 3, failed 0, cancelled 0, left 0, hand 0 00000000
 ";
 
-#[test]
-fn writers_meet_the_sink(rt: HostRuntime) -> Result<(), Fail> {
-    let gate = GateOf(Order::default());
-    let story = Story::of(MET);
+fn meets<R: AllocGlobal + Threads + Wait + Clock + Sync>(
+    rt: &R,
+    gate: &GateOf<Order>,
+    story: Story,
+) -> Result<(), Fail> {
     let mut driven = Driven::of(rt.alloc(), story)?;
     let mut sink = Held {
-        rt: &rt,
+        rt,
         order: &gate.0,
         calls: 0,
         script: driven.script(),
     };
-    driven.run(&rt, &gate, &mut sink)?;
-    story.play(rt.alloc(), &mut driven)?;
+    let told = driven.run(rt, gate, &mut sink);
+    drop(sink);
+    let told = driven.plays(told, story);
+    drop(driven);
+    told
+}
+
+#[test]
+fn writers_meet_the_sink(rt: HostRuntime) -> Result<(), Fail> {
+    let gate = GateOf(Order::default());
+    meets(&rt, &gate, Story::of(MET))?;
     // the charge of writer 0 stands as long as its call waits for the desk
-    assert_eq!(rt; gate.0.total.load(Ordering::SeqCst), 66);
+    let total = gate.0.total.load(Ordering::SeqCst);
+    assert_eq!(rt; total, 66);
     Ok(())
 }

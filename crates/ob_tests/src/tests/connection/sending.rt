@@ -1,9 +1,9 @@
 //! What a slow and a broken socket leave, what a full ring gives back, and what a refused write leaves.
 
-use super::{four_bytes, open, sent};
+use super::{four_bytes, open, sent, written};
 use bytes::Bytes;
 use ob_connection::{Connection, Ending, SendFault, SentTurns, Socket, SocketFault, Taken};
-use ob_types::{Change, Message, Refusal};
+use ob_types::{Change, Message, Outcome, Refusal};
 use std::alloc::Global;
 use std::io::IoSlice;
 use std::test::Fail;
@@ -62,11 +62,21 @@ impl Slow {
 /// A connection with this many flushed messages of four bytes.
 fn flushed(alloc: Global, count: u32) -> Result<Connection, Refusal> {
     let mut connection = open(alloc)?;
+    match fill(&mut connection, count) {
+        Ok(()) => Ok(connection),
+        Err(refusal) => {
+            drop(connection);
+            Err(refusal)
+        }
+    }
+}
+
+fn fill(connection: &mut Connection, count: u32) -> Result<(), Refusal> {
     for _ in 0..count {
         let _written = connection.write(four_bytes())?;
     }
     let _flushed = connection.flush()?;
-    Ok(connection)
+    Ok(())
 }
 
 /// What a sending in turns tells: its bytes, the messages that are gone, and its ending.
@@ -76,42 +86,44 @@ fn told(turns: SentTurns) -> (u64, Result<Taken, Refusal>, Ending) {
 
 #[test]
 fn a_slow_socket_takes_all_in_turns(rt: HostRuntime) -> Result<(), Fail> {
-    let alloc = rt.alloc();
-    let mut connection = flushed(alloc, 3)?;
-    let mut socket = Slow::new(alloc, false);
-    let once = connection.send_once(&mut socket, 8, 100)?;
-    let blocked = connection.send_until_blocked(&mut socket, 8, 100)?;
+    let mut connection = flushed(rt.alloc(), 3)?;
+    let mut socket = Slow::new(rt.alloc(), false);
+    let once = connection.send_once(&mut socket, 8, 100);
+    let blocked = connection.send_until_blocked(&mut socket, 8, 100).map(told);
     socket.room = 100;
-    let used_up = connection.send_until_blocked(&mut socket, 1, 100)?;
-    let drained = connection.send_until_blocked(&mut socket, 8, 100)?;
+    let used_up = connection.send_until_blocked(&mut socket, 1, 100).map(told);
+    let drained = connection.send_until_blocked(&mut socket, 8, 100).map(told);
     let last = Taken {
+        count: 1,
         change: Some(Change::Writable),
-        ..sent(2, 3)?
+        from: 2,
+        to: 3,
+        outcome: Outcome::Success,
     };
     assert_eq!(rt;
         (
-            (once.bytes, Ok(once.taken), once.more),
-            told(blocked),
-            told(used_up),
-            told(drained),
+            once.map(|once| (once.bytes, Ok(once.taken), once.more)),
+            blocked,
+            used_up,
+            drained,
             socket.log.as_slice(),
         ),
         (
-            (3, sent(0, 0), true),
-            (2, sent(0, 1), Ending::Blocked),
-            (3, sent(1, 2), Ending::TurnsUsed),
-            (4, Ok(last), Ending::Drained),
+            Ok((3, sent(0, 0), true)),
+            Ok((2, sent(0, 1), Ending::Blocked)),
+            Ok((3, sent(1, 2), Ending::TurnsUsed)),
+            Ok((4, Ok(last), Ending::Drained)),
             b"fourfourfour".as_slice(),
         )
     );
+    drop((connection, socket));
     Ok(())
 }
 
 #[test]
 fn a_socket_that_breaks_in_the_middle_loses_nothing(rt: HostRuntime) -> Result<(), Fail> {
-    let alloc = rt.alloc();
-    let mut connection = flushed(alloc, 2)?;
-    let mut socket = Slow::new(alloc, true);
+    let mut connection = flushed(rt.alloc(), 2)?;
+    let mut socket = Slow::new(rt.alloc(), true);
     assert_eq!(rt;
         (
             connection.send_until_blocked(&mut socket, 8, 100).map(told),
@@ -126,6 +138,7 @@ fn a_socket_that_breaks_in_the_middle_loses_nothing(rt: HostRuntime) -> Result<(
             1,
         )
     );
+    drop((connection, socket));
     Ok(())
 }
 
@@ -135,41 +148,52 @@ fn what_is_no_block_is_left_in_front(rt: HostRuntime) -> Result<(), Fail> {
     let mut socket = Slow::new(rt.alloc(), false);
     assert_eq!(rt;
         (
-            connection
-                .write(Message::Block(Bytes::new()))
-                .map(|written| written.id),
-            connection
-                .write(Message::Region(7))
-                .map(|written| written.id),
-            connection.flush().map(|flushed| flushed.count),
+            connection.write(Message::Block(Bytes::new())),
+            connection.write(Message::Region(7)),
+            connection.flush(),
             connection.send_until_blocked(&mut socket, 8, 100).map(told),
             connection.front(),
         ),
         (
-            Ok(0),
-            Ok(1),
-            Ok(2),
+            written(0, None),
+            written(1, None),
+            super::flushed(2),
             Ok((0, sent(0, 1), Ending::OtherInFront)),
             Some(1),
         )
     );
+    drop((connection, socket));
     Ok(())
 }
 
 #[test]
 fn a_ring_that_gave_memory_back_answers_as_before(rt: HostRuntime) -> Result<(), Fail> {
     let mut connection = flushed(rt.alloc(), 100)?;
-    let gone = |taken: Taken| taken.to;
+    let last = Taken {
+        count: 3,
+        change: Some(Change::Writable),
+        from: 98,
+        to: 101,
+        outcome: Outcome::Success,
+    };
     assert_eq!(rt;
         (
-            connection.take_sent(4 * 97 + 1).map(gone),
-            connection.write(four_bytes()).map(|written| written.id),
-            connection.flush().map(|flushed| flushed.count),
-            connection.take_sent(3).map(gone),
-            connection.take_sent(12).map(gone),
+            connection.take_sent(4 * 97 + 1),
+            connection.write(four_bytes()),
+            connection.flush(),
+            connection.take_sent(3),
+            connection.take_sent(12),
             connection.look().total,
         ),
-        (Ok(97), Ok(100), Ok(1), Ok(98), Ok(101), 0)
+        (
+            sent(0, 97),
+            written(100, None),
+            super::flushed(1),
+            sent(97, 98),
+            Ok(last),
+            0,
+        )
     );
+    drop(connection);
     Ok(())
 }

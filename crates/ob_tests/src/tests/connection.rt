@@ -108,6 +108,7 @@ fn a_cancelled_message_leaves_with_the_one_before(rt: HostRuntime) -> Result<(),
         (connection.front(), connection.remove(), connection.remove()),
         (Some(2), Ok(last), Ok(none))
     );
+    drop(connection);
     Ok(())
 }
 
@@ -149,5 +150,6 @@ fn a_close_tells_which_messages_it_failed(rt: HostRuntime) -> Result<(), Fail> {
         ),
         (Some(Status::SettledBefore), 0, true)
     );
+    drop(connection);
     Ok(())
 }

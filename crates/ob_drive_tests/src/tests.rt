@@ -1,5 +1,0 @@
-mod drives;
-mod gates;
-mod held_sink;
-mod moments;
-mod stuck_writers;
