@@ -12,6 +12,7 @@ ghost use Rattle.ob_pool.specs.Planning.PlansFault.{plans_fault};
 ghost use Rattle.ob_pool.specs.Report.TellsOf.{TellsOf, TellsOfSink};
 ghost use Rattle.ob_pool.specs.declared.fault.DriveFault.TheVariants.{Refused};
 
+use crate::both::both;
 use crate::config::Config;
 use crate::fault::DriveFault;
 use crate::gate::Gate;
@@ -109,10 +110,12 @@ fn drive_open<
 {
     let writers = checked.plans.len() as u32;
     let (estimate, task, room) = (checked.estimate, checked.task, checked.room);
-    let (shared, jobs, share) = open::<L>(alloc, checked, opening)?;
+    let opened = open::<L>(alloc, checked, opening)?;
     let Ok((words, lane)) = lanes(alloc, config.marks, room, 0) else {
+        drop(opened);
         return Err(DriveFault::NoMemory);
     };
+    let (shared, jobs, share) = opened;
     let context = Context {
         alloc,
         shared,
@@ -123,5 +126,12 @@ fn drive_open<
         ended: AtomicBool::new(false),
     };
     let ((lane, dones), transported) = run(rt, gate, &context, lane, jobs, share, sink, config);
-    into_report(context, lane, dones?, transported?)
+    match both(dones, transported) {
+        Ok((dones, done)) => into_report(context, lane, dones, done),
+        Err(fault) => {
+            drop(context);
+            drop(lane);
+            Err(fault)
+        }
+    }
 }

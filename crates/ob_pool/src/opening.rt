@@ -34,8 +34,14 @@ pub fn open<L: Named>(
     let Some(share) = shares.pop() else {
         unreachable!()
     };
-    let jobs = jobs_of(alloc, checked, shares)?;
-    Ok((shared, jobs, share))
+    match jobs_of(alloc, checked, shares) {
+        Ok(jobs) => Ok((shared, jobs, share)),
+        Err(fault) => {
+            drop(shared);
+            drop(share);
+            Err(fault)
+        }
+    }
 }
 
 /// Each plan with a share, and the room that it needs.

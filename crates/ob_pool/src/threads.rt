@@ -63,6 +63,8 @@ pub fn run<
     { writers_side(rt, gate, context, start.take()) };
     let mut transport = || transport_side(rt, config, &mut side, sink);
     let (transported, ended) = join_mut(rt, &mut transport, &mut writers);
+    drop(writers);
+    drop(side);
     (ended, transported)
 }
 

@@ -35,11 +35,18 @@ pub fn into_report<L: Named>(
         writers,
         ..
     } = context;
-    let recorded = finished(shared, dones, done)?;
-    let Ok(hand) = lane.finish(words) else {
-        unreachable!()
+    let recorded = match finished(shared, dones, done) {
+        Ok(recorded) => recorded,
+        Err(fault) => {
+            drop(words);
+            drop(lane);
+            return Err(fault);
+        }
     };
-    Ok(report_of(recorded, writers, hand))
+    match lane.finish(words) {
+        Ok(hand) => Ok(report_of(recorded, writers, hand)),
+        Err(_) => unreachable!(),
+    }
 }
 
 /// The history of a shared buffer at its end, with what its writers and its transport hand in.
@@ -55,11 +62,18 @@ fn finished<L: Named>(
     ensures saw { IfOk result (λ recorded.
         All (λ one. IsBeginning one.sight.seen recorded.records) (dones.items ++ done ∷ [])) }
 {
-    if dones.push(done).is_err() {
+    if dones.reserve(1).is_err() {
+        drop(shared);
+        drop(done);
         return Err(DriveFault::NoMemory);
     }
+    dones.push_reserved(done);
     match shared.finish(dones) {
         Ok(end) => Ok(end.recorded),
-        Err(unfinished) => Err(DriveFault::Finish(unfinished.fault)),
+        Err(unfinished) => {
+            let fault = unfinished.fault;
+            drop(unfinished);
+            Err(DriveFault::Finish(fault))
+        }
     }
 }

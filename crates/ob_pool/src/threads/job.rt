@@ -59,16 +59,20 @@ impl<L: Named> Job<L> {
         } = self;
         let mut receipts = Vec::new(context.alloc);
         if receipts.reserve(plan.commands.len()).is_err() {
+            drop(share);
+            drop(plan);
             return (lane, Err(DriveFault::NoMemory));
         }
         let writer = share.caller();
         let mut lane = lane;
         let mut share = share;
-        let mut step = 0;
         'steps: for command in plan.commands {
             // what a writer of a server would ask first; a plan is carried out whatever it is
             let _glance = share.read(&context.shared);
+            let step = receipts.len();
             if gate.before(rt, writer, step).is_err() {
+                drop(share);
+                drop(command);
                 return (lane, Err(DriveFault::Stuck { writer }));
             }
             let kept = &mut receipts;
@@ -79,7 +83,6 @@ impl<L: Named> Job<L> {
                 Err(fault) => return (lane, Err(fault)),
             }
             gate.after(rt, writer, step);
-            step += 1;
         }
         let done = Done {
             share,
@@ -118,13 +121,18 @@ fn one_step<L: Named, R: Wait + Clock, G: Gate>(
     }
     let writer = share.caller();
     let charge = charge_for(context.estimate, context.task, &command) as u32;
-    let Ok((mut charged, _change)) = lane.charge(rt, &context.words, charge) else {
-        unreachable!()
+    let mut charged = match lane.charge(rt, &context.words, charge) {
+        Ok((charged, _change)) => charged,
+        Err(_) => unreachable!(),
     };
     let total = charged.total(&context.words);
     let end = match gate.during(rt, writer, step, total) {
         Ok(()) => one_call(rt, context, share, command, receipts),
-        Err(Stuck) => Err(DriveFault::Stuck { writer }),
+        Err(Stuck) => {
+            drop(share);
+            drop(command);
+            Err(DriveFault::Stuck { writer })
+        }
     };
     let (lane, _change) = charged.discharge(rt, &context.words);
     (lane, end)
@@ -154,7 +162,13 @@ fn one_call<L: Named, R: Wait>(
             receipts.push_reserved(receipt);
             Ok(share)
         }
-        Err(Refusal::NoMemory) => Err(DriveFault::NoMemory),
-        Err(refusal) => Err(DriveFault::Refused { writer, refusal }),
+        Err(Refusal::NoMemory) => {
+            drop(share);
+            Err(DriveFault::NoMemory)
+        }
+        Err(refusal) => {
+            drop(share);
+            Err(DriveFault::Refused { writer, refusal })
+        }
     }
 }

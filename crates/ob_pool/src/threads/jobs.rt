@@ -5,6 +5,7 @@ ghost use Rattle.std.specs.Thread.{IsSync};
 ghost use Rattle.ob_pool.specs.DriveFault.{ComesOfWork};
 ghost use Rattle.ob_pool.specs.Threads.Job.{AreDone, JobsHaveEnded, MayBegin, room_for};
 
+use crate::both::both;
 use crate::fault::DriveFault;
 use crate::gate::Gate;
 use crate::threads::context::Context;
@@ -42,10 +43,10 @@ pub fn run_all<L: Named + Send + Sync, R: Threads + Wait + Clock + Sync, G: Gate
     };
     // A room is a word of 32 bits.
     let _most = lane.room();
-    let Ok((lane, other)) = lane.split(&context.words, room_for(&others), 0) else {
-        unreachable!()
-    };
-    both_halves(rt, gate, context, lane, jobs, other, others)
+    match lane.split(&context.words, room_for(&others), 0) {
+        Ok((lane, other)) => both_halves(rt, gate, context, lane, jobs, other, others),
+        Err(_) => unreachable!(),
+    }
 }
 
 /// Lets two lists of writers work at the same time.
@@ -93,11 +94,12 @@ fn both_handed<L: Named>(
     ensures fault { (writers : ℕ) → IfErr dones (ComesOfWork writers) → IfErr more (ComesOfWork writers)
         → IfErr result (ComesOfWork writers) }
 {
-    let mut dones = dones?;
-    let mut more = more?;
-    match dones.append(&mut more) {
-        Ok(()) => Ok(dones),
-        Err(_) => Err(DriveFault::NoMemory),
+    match both(dones, more) {
+        Ok((mut dones, mut more)) => match dones.append(&mut more) {
+            Ok(()) => Ok(dones),
+            Err(_) => Err(DriveFault::NoMemory),
+        },
+        Err(fault) => Err(fault),
     }
 }
 
@@ -114,6 +116,7 @@ fn one_alone<L: Named, R: Wait + Clock, G: Gate>(
 {
     let mut dones = Vec::new(context.alloc);
     if dones.reserve(1).is_err() {
+        drop(job);
         return (lane, Err(DriveFault::NoMemory));
     }
     let (lane, end) = job.run(rt, gate, context, lane);

@@ -132,6 +132,7 @@ impl<'b, L: Named, K: Started> Booked for ReceiptLog<'b, L, K> {
             started: _,
         } = self;
         if receipts.reserve(1).is_err() {
+            drop(command);
             // A full history is refused first. How many records it has is told with the buffer.
             let _ = desk.buffer();
             desk.reserve(1)?;

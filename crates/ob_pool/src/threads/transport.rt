@@ -11,6 +11,7 @@ ghost use Rattle.ob_pool.specs.DriveFault.{ComesOfWork};
 ghost use Rattle.ob_pool.specs.Threads.ReceiptLog.{HasTransported, failings_in};
 ghost use Rattle.ob_pool.specs.Threads.Sending.{HasTakenOf};
 
+use crate::both::both;
 use crate::config::Config;
 use crate::fault::DriveFault;
 use crate::threads::receipt_log::{ReceiptLog, Started};
@@ -60,9 +61,17 @@ pub fn transport<L: Named, S: Sink, R: Wait + Clock>(
         let last = ended.load(Ordering::SeqCst);
         let desk = shared.desk(rt, share);
         let (same, kept, end) = one_pass::<L, Brand, S>(desk, receipts, sink, config.limits);
-        let next = end?;
         share = same;
-        receipts = kept.ok_or(DriveFault::NoMemory)?;
+        let next = match both(end, kept.ok_or(DriveFault::NoMemory)) {
+            Ok((next, kept)) => {
+                receipts = kept;
+                next
+            }
+            Err(fault) => {
+                drop(share);
+                return Err(fault);
+            }
+        };
         if next == AfterPass::Rest {
             if last {
                 break;

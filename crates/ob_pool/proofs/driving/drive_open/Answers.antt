@@ -1,5 +1,6 @@
 use Rattle.std.proofs.Common.{◌≡◌, ℕ, ◌+◌, ◌++◌, [], ◌∷◌, length, sym, ap, ◌∙◌, subst, arith, rules}
 use Rattle.std.specs.List.{All}
+use Rattle.std.specs.Prelude.{IfErr}
 use Rattle.std.proofs.lemmas.List.Elements.{All-contains, Contains-push}
 use Rattle.std.proofs.lemmas.Result.{IfErr-weaker, IfOk-at_ok, IfOk-weaker}
 use Rattle.ob_types.specs.WaterMark.{Marks}
@@ -32,22 +33,22 @@ use Rattle.ob_pool.proofs.driving.drive_open.Goals as goal
 
 -- what the transport hands in
 transported : (g : _) (c : goal.After-into_report g) →
-    HasTransported g.L.Named.opened.settings c.in_ok-shared.share.maker (g.S.Sink.content c.args.sink.now) (g.S.Sink.content c.run-lane.new.sink)
-    c.in_ok-transported.field-0
+    HasTransported g.L.Named.opened.settings c.in_ok-opened.opened.2.maker (g.S.Sink.content c.args.sink.now) (g.S.Sink.content c.run-lane.new.sink)
+    c.in-Ok-both.done
 transported g c =
-    IfOk-at_ok (HasTransported g.L.Named.opened.settings c.in_ok-shared.share.maker (g.S.Sink.content c.args.sink.now)
-    (g.S.Sink.content c.run-lane.new.sink)) c.in_ok-transported.was c.run-lane.ensures.transported
+    IfOk-at_ok (HasTransported g.L.Named.opened.settings c.in_ok-opened.opened.2.maker (g.S.Sink.content c.args.sink.now)
+    (g.S.Sink.content c.run-lane.new.sink)) c.in-Ok-both.ensures.second c.run-lane.ensures.transported
 
 -- all have handed in what they were asked
 have_ended : (g : _) (c : goal.After-into_report g) (report : Report) →
-    HaveHandedIn report.recorded.records (c.in_ok-dones.field-0.items ++ c.in_ok-transported.field-0 ∷ []) →
-    HaveEnded report.recorded.records c.in_ok-dones.field-0.items c.in_ok-transported.field-0 c.args.checked.plans
+    HaveHandedIn report.recorded.records (c.in-Ok-both.dones.items ++ c.in-Ok-both.done ∷ []) →
+    HaveEnded report.recorded.records c.in-Ok-both.dones.items c.in-Ok-both.done c.args.checked.plans
 have_ended g c report handed =
-    let share = ap (λ (its : ShareValue). its.maker) c.in_ok-shared.ensures.share in
+    let share = ap (λ (its : ShareValue). its.maker) c.in_ok-opened.ensures.share in
     let done = transported g c in
     record {
-      same = IfOk-at_ok (λ dones. AreDone c.in_ok-shared.jobs.items dones.items) c.in_ok-dones.was
-          c.run-lane.ensures.jobs.done ∙ c.in_ok-shared.ensures.asked;
+      same = IfOk-at_ok (λ dones. AreDone c.in_ok-opened.opened.1.items dones.items) c.in-Ok-both.ensures.first
+          c.run-lane.ensures.jobs.done ∙ c.in_ok-opened.ensures.asked;
       handed = handed;
       last = done.caller ∙ ap (λ (maker : Maker). maker.caller) share;
       made = omega (arith, done.made, ap (λ (maker : Maker). maker.made) share);
@@ -59,24 +60,28 @@ run-lane-requires-clause-ready g c = λ κs lives.
     record {
       words = search rules;
       roomy = search rules;
-      numbered = subst (λ writers. All (IsNumbered writers) c.in_ok-shared.jobs.items) (sym count)
-          (all_numbered c.in_ok-shared.jobs.items c.args.checked.plans c.in_ok-shared.ensures.asked);
+      numbered = subst (λ writers. All (IsNumbered writers) c.in_ok-opened.opened.1.items) (sym count)
+          (all_numbered c.in_ok-opened.opened.1.items c.args.checked.plans c.in_ok-opened.ensures.asked);
       room = search rules;
       whole = search rules;
     }
 
-pub returns-in_err-transported-clause-planned : goal.returns-in_err-transported-clause-planned
-returns-in_err-transported-clause-planned g c =
-    IfErr-weaker c.from_residual-in_err-transported.result (ComesOfWork 0) (ComesOfWork (length c.args.checked.plans))
-    (comes_of_more (length c.args.checked.plans)) (search rules)
+pub returns-in-Err-clause-planned : goal.returns-in-Err-clause-planned
+returns-in-Err-clause-planned g c =
+    let writers = length c.args.checked.plans in
+    let count : c.len-writers.result ≡ writers = search rules in
+    let ended = c.run-lane.result in
+    c.in-Err.ensures.fault writers
+    (subst (λ writers. IfErr ended.0.1 (ComesOfWork writers)) count c.run-lane.ensures.jobs.fault)
+    (IfErr-weaker ended.1 (ComesOfWork 0) (ComesOfWork writers) (comes_of_more writers) c.run-lane.ensures.transport)
 
-pub returns-clause-planned : goal.returns-clause-planned
-returns-clause-planned g c =
+pub returns-in-Ok-both-clause-planned : goal.returns-in-Ok-both-clause-planned
+returns-in-Ok-both-clause-planned g c =
     IfErr-weaker c.into_report.result (ComesOfWork 0) (ComesOfWork (length c.args.checked.plans))
     (comes_of_more (length c.args.checked.plans)) c.into_report.ensures.fault
 
-pub returns-clause-report : goal.returns-clause-report
-returns-clause-report g c =
+pub returns-in-Ok-both-clause-report : goal.returns-in-Ok-both-clause-report
+returns-in-Ok-both-clause-report g c =
     let opened = c.requires.name.opened in
     let count : c.len-writers.result ≡ length c.args.checked.plans = search rules in
     IfOk-weaker c.into_report.result _ _ (λ report ended. record {
@@ -90,11 +95,11 @@ returns-clause-report g c =
           (ap (λ (grant : Grant). grant.marks) c.in-Ok.ensures.words) ended.rest;
     }) c.into_report.ensures.ended
 
-pub returns-clause-sink : goal.returns-clause-sink
-returns-clause-sink g c =
+pub returns-in-Ok-both-clause-sink : goal.returns-in-Ok-both-clause-sink
+returns-in-Ok-both-clause-sink g c =
     let settings = g.L.Named.opened.settings in
-    let done = c.in_ok-transported.field-0 in
-    let all = c.in_ok-dones.field-0.items ++ done ∷ [] in
+    let done = c.in-Ok-both.done in
+    let all = c.in-Ok-both.dones.items ++ done ∷ [] in
     let before = g.S.Sink.content c.args.sink.now in
     let after = g.S.Sink.content c.run-lane.new.sink in
     let planned = steps_are_planned c.args.checked.estimate c.args.checked.task c.args.checked.plans
@@ -104,7 +109,7 @@ returns-clause-sink g c =
     IfOk-weaker c.into_report.result _ _ (λ report ended.
     let records = report.recorded.records in
     let ends = have_ended g c report ended.handed in
-    let here = Contains-push c.in_ok-dones.field-0.items done in
+    let here = Contains-push c.in-Ok-both.dones.items done in
     let seen = All-contains (λ (one : Handed). IsBeginning one.sight.seen records) all done ended.handed.saw here in
     let own = All-contains (HandsInAll records) all done ended.handed.own here in
     let legal = subst (λ (its : Settings). IsLegal its records) ended.opened.settings ended.opened.legal in

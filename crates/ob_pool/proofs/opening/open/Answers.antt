@@ -20,7 +20,7 @@ jobs_of-requires-clause-shares g c =
     (last_share (length c.args.checked.plans) c.args.opening.callers c.in-Ok.shares.items c.pop.new.self.items
     c.in-Some.share c.in-Ok.ensures.shares c.requires.callers c.in-Some.ensures.items).0
 
-pub returns-clause-share : goal.returns-clause-share
-returns-clause-share g c =
+pub returns-in-Ok-jobs_of-clause-share : goal.returns-in-Ok-jobs_of-clause-share
+returns-in-Ok-jobs_of-clause-share g c =
     (last_share (length c.args.checked.plans) c.args.opening.callers c.in-Ok.shares.items c.pop.new.self.items
     c.in-Some.share c.in-Ok.ensures.shares c.requires.callers c.in-Some.ensures.items).1

@@ -11,9 +11,9 @@ returns-clause-ended g c = record {
       subst (λ (history : History). HaveHandedIn history.records (c.args.dones.items ++ c.args.done ∷ []))
       (sym c.report_of.ensures.recorded)
       (record {
-        own = c.in_ok-recorded.ensures.own;
-        counted = c.in_ok-recorded.ensures.counted;
-        saw = c.in_ok-recorded.ensures.saw;
+        own = c.in-Ok.ensures.own;
+        counted = c.in-Ok.ensures.counted;
+        saw = c.in-Ok.ensures.saw;
       });
   counts = c.report_of.ensures.counted;
   rest = record { total = search rules; clear = search rules; mark = search rules };

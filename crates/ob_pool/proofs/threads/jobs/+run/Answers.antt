@@ -19,7 +19,7 @@ run_all-room_for-requires g t c =
 pub run_all-unreachable-requires : goal.run_all-unreachable-requires
 run_all-unreachable-requires g t c =
     let parts = rooms_of_parts _ _ _ _ c.in-Ok.ensures.items c.in-Ok.ensures.tail in
-    absurd (cc (c.in_default-split.ensures.split (splits c.args.lane.lane c.room_for.result
+    absurd (cc (c.in-Err.ensures.split (splits c.args.lane.lane c.room_for.result
     (omega (arith, parts, ap room_for c.deref.ensures.value, c.room_for.ensures, c.requires.room)))))
 
 pub run_all-both_halves-requires-clause-ready : goal.run_all-both_halves-requires-clause-ready

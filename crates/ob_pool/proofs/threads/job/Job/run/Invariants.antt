@@ -12,5 +12,4 @@ invariant-steps g l = record {
   made : l.share.maker.made ≡ l.fn.self.maker.made + vec_len l.receipts;
   commands : commands_in l.receipts.items ++ l.command-iterator.rest.items ≡ l.fn.self.plan;
   places : vec_len l.receipts + length l.command-iterator.rest.items ≤ vec_capacity l.receipts;
-  step : l.step ≡ vec_len l.receipts;
 }
