@@ -1,5 +1,5 @@
 -- What two lists of writers do is what their list does.
-use Rattle.std.proofs.Common.{◌≡◌, ℕ, ◌+◌, ◌≤◌, false, List, ◌++◌, map, take, drop, refl, sym, ap, ◌∙◌, ap₂}
+use Rattle.std.proofs.Common.{◌≡◌, ℕ, ◌+◌, ◌/◌, ◌<◌, ◌≤◌, false, List, ◌++◌, map, take, drop, refl, sym, ap, ◌∙◌, ap₂}
 use Rattle.std.proofs.Common.{subst, arith}
 use Rattle.std.specs.Prelude.{nat_lt, IfOk, IsOkAnd, None, Result, Ok, Err}
 use Rattle.std.proofs.lemmas.Bool.Decides.{nat_tests}
@@ -57,3 +57,20 @@ parts_alike Holds at jobs first second front back all = (
   subst (All Holds) (sym front) (All-take Holds at jobs all),
   subst (All Holds) (sym back) (All-drop Holds at jobs all),
 )
+
+-- half a count is within it
+pub half_within : (count all : ℕ) → count ≡ all → count / 2 ≤ all
+half_within count all same = omega arith
+
+-- of a list of two or more, the front half has some
+pub front_some : (count again all front : ℕ) → 2 ≤ count → count ≡ all → again ≡ all → front ≡ again / 2 → 0 < front
+front_some count again all front many is same half = omega arith
+
+-- and the rest has some too
+pub back_some : (count again all rest : ℕ) → 2 ≤ count → count ≡ all → again ≡ all → rest + again / 2 ≡ all → 0 < rest
+back_some count again all rest many is same half = omega arith
+
+-- the rooms of two lanes that were one are within what that was within
+pub rooms_within : (first second room most same : ℕ) → first + second ≡ room → room ≤ most → same ≡ most →
+    first + second ≤ same
+rooms_within first second room most same rooms within is = omega arith

@@ -1,6 +1,6 @@
 //! All writers, in threads of their own.
 
-ghost use Rattle.std.specs.Prelude.{◌≡◌, ◌+◌, ◌<◌, ◌≤◌, ◌^◌, ◌++◌, [], ◌∷◌, ℕ, IfErr, IfOk, IsOkAnd, vec_len};
+ghost use Rattle.std.specs.Prelude.{◌≡◌, ◌+◌, ◌<◌, ◌≤◌, ◌^◌, ◌++◌, ℕ, IfErr, IfOk, IsOkAnd, vec_len};
 ghost use Rattle.std.specs.Thread.{IsSync};
 ghost use Rattle.ob_pool.specs.DriveFault.{ComesOfWork};
 ghost use Rattle.ob_pool.specs.Threads.Job.{AreDone, JobsHaveEnded, MayBegin, room_for};
@@ -33,10 +33,7 @@ pub fn run_all<L: Named + Send + Sync, R: Threads + Wait + Clock + Sync, G: Gate
     ensures { JobsHaveEnded context.now.writers jobs.items lane result.0 result.1 }
 {
     if jobs.len() < 2 {
-        let Some(job) = jobs.pop() else {
-            return (lane, Ok(Vec::new(context.alloc)));
-        };
-        return one_alone(job, rt, gate, context, lane);
+        return one_alone(jobs, rt, gate, context, lane);
     }
     let Ok(others) = jobs.split_off(jobs.len() / 2) else {
         return (lane, Err(DriveFault::NoMemory));
@@ -103,17 +100,23 @@ fn both_handed<L: Named>(
     }
 }
 
-/// Lets one writer work.
+/// Lets one writer work, if there is one.
 fn one_alone<L: Named, R: Wait + Clock, G: Gate>(
-    job: Job<L>,
+    mut jobs: Vec<Job<L>>,
     rt: &R,
     gate: &G,
     context: &Context<L>,
     lane: Lane,
 ) -> JobsEnd<L>
-    requires { MayBegin context.now.words context.now.estimate context.now.task context.now.writers lane (job ∷ []) }
-    ensures { JobsHaveEnded context.now.writers (job ∷ []) lane result.0 result.1 }
+    requires few { vec_len jobs < 2 }
+    requires ready { MayBegin context.now.words context.now.estimate context.now.task context.now.writers lane jobs.items }
+    ensures { JobsHaveEnded context.now.writers jobs.items lane result.0 result.1 }
 {
+    let last = jobs.pop();
+    drop(jobs);
+    let Some(job) = last else {
+        return (lane, Ok(Vec::new(context.alloc)));
+    };
     let mut dones = Vec::new(context.alloc);
     if dones.reserve(1).is_err() {
         drop(job);

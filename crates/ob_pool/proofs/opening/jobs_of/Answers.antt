@@ -1,7 +1,8 @@
 use Rattle.std.proofs.Common.{◌≡◌, ◌∷◌, drop, length, take, ap, ◌∙◌, arith, rules}
-use Rattle.std.specs.Prelude.{slice_index_or, vec_len}
+use Rattle.std.specs.Prelude.{slice_index_or, vec_capacity, vec_len}
 use Rattle.ob_shared.specs.Share.{ShareValue}
 use Rattle.ob_pool.proofs.Jobs.Shares.{asked_more, next_share, roomy_more, rooms_more}
+use Rattle.ob_pool.proofs.Jobs.Steps.{place_next}
 use Rattle.ob_pool.proofs.Plans.Rooms.{next_room}
 use Rattle.ob_pool.proofs.opening.jobs_of.Goals as goal
 
@@ -26,3 +27,10 @@ loop-plan-preserved g c =
       room = rooms_more checked.estimate checked.task _ _ _ _ rest _ kept.room begin its pushed;
       places = omega (arith, kept.places, count, ap length begin, c.push_reserved.ensures.capacity);
     }
+
+pub push_reserved-requires : goal.push_reserved-requires
+push_reserved-requires g c =
+    let rest = c.next.new.self.rest.items in
+    let begin : c.loop-plan.plan-iterator.rest.items ≡ c.in-Some.plan ∷ rest = search rules in
+    place_next (vec_len c.loop-plan.jobs) (vec_capacity c.loop-plan.jobs) c.in-Some.plan
+    c.loop-plan.plan-iterator.rest.items rest c.loop-plan.invariant.places begin

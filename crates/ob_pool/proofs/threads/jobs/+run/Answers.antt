@@ -1,12 +1,16 @@
-use Rattle.std.proofs.Common.{ap, arith, rules}
+use Rattle.std.proofs.Common.{◌/◌, ap, arith, rules}
+use Rattle.std.specs.Prelude.{vec_len}
 use Rattle.std.proofs.lemmas.Result.{IfOk-weaker}
+use Rattle.ob_lanes.specs.RunningLane.{WordsValue}
 use Rattle.ob_pool.specs.Threads.Job.{IsNumbered, IsRoomy, room_for}
-use Rattle.ob_pool.proofs.Jobs.Halves.{both_handed_done, parts_alike, parts_done, rooms_of_parts, splits}
+use Rattle.ob_pool.proofs.Jobs.Halves.{back_some, both_handed_done, front_some, half_within, parts_alike, parts_done}
+use Rattle.ob_pool.proofs.Jobs.Halves.{rooms_of_parts, rooms_within, splits}
 use Rattle.ob_pool.proofs.threads.jobs.+run.Goals as goal
 
 pub run_all-room_for-requires : goal.run_all-room_for-requires
 run_all-room_for-requires g t c =
-    let parts = rooms_of_parts _ _ _ _ c.in-Ok.ensures.items c.in-Ok.ensures.tail in
+    let parts = rooms_of_parts (c.len-2.result / 2) c.args.jobs.items c.split_off.new.self.items c.in-Ok.others.items
+    c.in-Ok.ensures.items c.in-Ok.ensures.tail in
     omega (
       arith,
       parts,
@@ -18,18 +22,24 @@ run_all-room_for-requires g t c =
 
 pub run_all-unreachable-requires : goal.run_all-unreachable-requires
 run_all-unreachable-requires g t c =
-    let parts = rooms_of_parts _ _ _ _ c.in-Ok.ensures.items c.in-Ok.ensures.tail in
+    let parts = rooms_of_parts (c.len-2.result / 2) c.args.jobs.items c.split_off.new.self.items c.in-Ok.others.items
+    c.in-Ok.ensures.items c.in-Ok.ensures.tail in
     absurd (cc (c.in-Err.ensures.split (splits c.args.lane.lane c.room_for.result
     (omega (arith, parts, ap room_for c.deref.ensures.value, c.room_for.ensures, c.requires.room)))))
 
 pub run_all-both_halves-requires-clause-ready : goal.run_all-both_halves-requires-clause-ready
 run_all-both_halves-requires-clause-ready g t c = λ κs lives.
-    let parts = rooms_of_parts _ _ _ _ c.in-Ok.ensures.items c.in-Ok.ensures.tail in
+    let parts = rooms_of_parts (c.len-2.result / 2) c.args.jobs.items c.split_off.new.self.items c.in-Ok.others.items
+    c.in-Ok.ensures.items c.in-Ok.ensures.tail in
     let shares = c.in-Ok-split.ensures.parts in
     record {
       words = search rules;
-      roomy = (parts_alike (IsRoomy c.args.context.now.estimate c.args.context.now.task) _ _ _ _ c.in-Ok.ensures.items c.in-Ok.ensures.tail c.requires.roomy).0;
-      numbered = (parts_alike (IsNumbered c.args.context.now.writers) _ _ _ _ c.in-Ok.ensures.items c.in-Ok.ensures.tail c.requires.numbered).0;
+      roomy = (parts_alike (IsRoomy c.args.context.now.estimate c.args.context.now.task)
+          (c.len-2.result / 2) c.args.jobs.items c.split_off.new.self.items c.in-Ok.others.items
+          c.in-Ok.ensures.items c.in-Ok.ensures.tail c.requires.roomy).0;
+      numbered = (parts_alike (IsNumbered c.args.context.now.writers)
+          (c.len-2.result / 2) c.args.jobs.items c.split_off.new.self.items c.in-Ok.others.items
+          c.in-Ok.ensures.items c.in-Ok.ensures.tail c.requires.numbered).0;
       room = omega (
         arith,
         parts,
@@ -43,20 +53,29 @@ run_all-both_halves-requires-clause-ready g t c = λ κs lives.
     }
 
 pub run_all-both_halves-requires-clause-other_ready : goal.run_all-both_halves-requires-clause-other_ready
-run_all-both_halves-requires-clause-other_ready g t c = λ κs lives. record {
-  words = search rules;
-  roomy = (parts_alike (IsRoomy c.args.context.now.estimate c.args.context.now.task) _ _ _ _ c.in-Ok.ensures.items c.in-Ok.ensures.tail c.requires.roomy).1;
-  numbered = (parts_alike (IsNumbered c.args.context.now.writers) _ _ _ _ c.in-Ok.ensures.items c.in-Ok.ensures.tail c.requires.numbered).1;
-  room = search rules;
-  whole = search rules;
-}
+run_all-both_halves-requires-clause-other_ready g t c = λ κs lives.
+    let half = c.len-2.result / 2 in
+    let jobs = c.args.jobs.items in
+    let front = c.split_off.new.self.items in
+    let back = c.in-Ok.others.items in
+    let items = c.in-Ok.ensures.items in
+    let tail = c.in-Ok.ensures.tail in
+    let writers = c.args.context.now.writers in
+    record {
+      words = search rules;
+      roomy = (parts_alike (IsRoomy c.args.context.now.estimate c.args.context.now.task) half jobs front back items tail c.requires.roomy).1;
+      numbered = (parts_alike (IsNumbered writers) half jobs front back items tail c.requires.numbered).1;
+      room = search rules;
+      whole = search rules;
+    }
 
 pub run_all-returns : goal.run_all-returns
 run_all-returns g t c = record {
   lane_back = search rules;
   done =
       IfOk-weaker c.both_halves.result.1 _ _
-      (λ dones done. parts_done _ _ _ _ _ c.in-Ok.ensures.items c.in-Ok.ensures.tail done) c.both_halves.ensures.done;
+      (λ dones done. parts_done (c.len-2.result / 2) c.args.jobs.items c.split_off.new.self.items c.in-Ok.others.items dones.items
+      c.in-Ok.ensures.items c.in-Ok.ensures.tail done) c.both_halves.ensures.done;
   fault = search rules;
 }
 
@@ -70,3 +89,23 @@ both_halves-returns-clause-done g t c =
 pub both_halves-returns-clause-fault : goal.both_halves-returns-clause-fault
 both_halves-returns-clause-fault g t c =
     c.both_handed.ensures.fault c.args.context.now.writers c.join-lane.ensures.first.fault c.join-lane.ensures.second.fault
+
+-- written out, since `search` takes seconds over each
+pub run_all-split_off-requires : goal.run_all-split_off-requires
+run_all-split_off-requires g t c = half_within c.len-2.result (vec_len c.args.jobs) c.len-2.ensures
+
+pub run_all-both_halves-requires-clause-some : goal.run_all-both_halves-requires-clause-some
+run_all-both_halves-requires-clause-some g t c = λ κs lives.
+    front_some c.len.result c.len-2.result (vec_len c.args.jobs) (vec_len c.split_off.new.self) c.if-len-lt2.false
+    c.len.ensures c.len-2.ensures c.in-Ok.ensures.len
+
+pub run_all-both_halves-requires-clause-some_other : goal.run_all-both_halves-requires-clause-some_other
+run_all-both_halves-requires-clause-some_other g t c = λ κs lives.
+    back_some c.len.result c.len-2.result (vec_len c.args.jobs) (vec_len c.in-Ok.others) c.if-len-lt2.false
+    c.len.ensures c.len-2.ensures c.in-Ok.ensures.tail_len
+
+pub run_all-both_halves-requires-clause-whole : goal.run_all-both_halves-requires-clause-whole
+run_all-both_halves-requires-clause-whole g t c = λ κs lives.
+    rooms_within c.in-Ok-split.lane.lane.room c.in-Ok-split.other.lane.room c.args.lane.lane.room
+    c.args.lane.words.grant.room c.in-Ok-split.lane.words.grant.room c.in-Ok-split.ensures.parts.rooms c.requires.whole
+    (ap (λ (words : WordsValue). words.grant.room) c.in-Ok-split.ensures.words.0)

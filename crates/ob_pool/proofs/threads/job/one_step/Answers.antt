@@ -1,0 +1,13 @@
+use Rattle.ob_pool.proofs.threads.job.one_step.Goals as goal
+
+pub one_call-requires-clause-numbered : goal.one_call-requires-clause-numbered
+one_call-requires-clause-numbered g c = c.requires.numbered
+
+pub one_call-requires-clause-place : goal.one_call-requires-clause-place
+one_call-requires-clause-place g c = c.requires.place
+
+pub one_call-end-requires-clause-numbered : goal.one_call-end-requires-clause-numbered
+one_call-end-requires-clause-numbered g c = c.requires.numbered
+
+pub one_call-end-requires-clause-place : goal.one_call-end-requires-clause-place
+one_call-end-requires-clause-place g c = c.requires.place
