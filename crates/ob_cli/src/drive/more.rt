@@ -1,8 +1,11 @@
 //! What `--verbose` tells beside the report.
 
-ghost use Rattle.std.specs.Prelude.{◌≡◌, ◌++◌, ◌≤◌, IfOk, OnOk, length, string_bytes};
+ghost use Rattle.std.specs.Prelude.{◌≡◌, ◌+◌, ◌++◌, ◌≤◌, [], ◌∷◌, List, IfOk, OnOk, length, string_bytes};
 ghost use Rattle.std.specs.Io.KnownBytes.{Appends};
-ghost use Rattle.ob_seq.specs.Pending.{Answers, Follows};
+ghost use Rattle.ob_types.specs.declared.command.Command.{Command};
+ghost use Rattle.ob_seq.specs.Answer.{commands_after};
+ghost use Rattle.ob_seq.specs.Looks.{look_after};
+ghost use Rattle.ob_seq.specs.Pending.{StandsFor};
 ghost use Rattle.ob_history.specs.Legal.{IsLegal};
 ghost use Rattle.ob_history.specs.History.{most_records};
 ghost use Rattle.ob_cli.specs.Cli.Options.{first_history};
@@ -63,25 +66,41 @@ fn make_lines(
     ensures lines { IfOk result (λ lines. lines.items ≡ lines_of (first_history options.now).settings records.now) }
     ensures few { IfOk result (λ lines. length lines.items ≡ length records.now) }
 {
-    let mut buffer = Buffer::new(alloc, options.marks, options.estimate);
     let mut lines = Vec::with_capacity(alloc, records.len())?;
+    let mut buffer = Buffer::new(alloc, options.marks, options.estimate);
     for index in 0..records.len() {
-        let one = &records[index];
-        let _answer = give(&mut buffer, one.command.copy()?)?;
-        lines.push(shown_with(&one.reply, buffer.look()))?;
+        push_line(&mut lines, &mut buffer, &records[index])?;
     }
     Ok(lines)
 }
 
-/// Gives a buffer one command, whose answer is in the history.
-fn give(buffer: &mut Buffer, command: Command) -> Result<Result<Reply, Refusal>, AllocError>
+/// Adds the line of a record, by a buffer that is given its command.
+fn push_line(
+    lines: &mut Vec<TraceLine>,
+    buffer: &mut Buffer,
+    one: &Record,
+) -> Result<(), AllocError>
     ensures settings { buffer.new.settings ≡ buffer.old.settings }
-    ensures answer { IfOk result (λ answer. Answers buffer.old command answer) }
-    ensures stands { IfOk result (λ answer. Follows buffer.old command answer buffer.new) }
+    ensures stands { OnOk result ((commands : List Command) → StandsFor buffer.old commands
+        → StandsFor buffer.new (commands_after buffer.old.settings commands one.now.command)) }
+    ensures line { OnOk result ((commands : List Command) → StandsFor buffer.new commands
+        → lines.new.items ≡ lines.old.items
+        ++ shown_with one.now.reply (look_after buffer.new.settings commands) ∷ []) }
+    ensures count { OnOk result (length lines.new.items ≡ length lines.old.items + 1) }
+{
+    give(buffer, one.command.copy()?)?;
+    Ok(lines.push(shown_with(&one.reply, buffer.look()))?)
+}
+
+/// Gives a buffer one command, whose answer is in the history.
+fn give(buffer: &mut Buffer, command: Command) -> Result<(), AllocError>
+    ensures settings { buffer.new.settings ≡ buffer.old.settings }
+    ensures stands { OnOk result ((commands : List Command) → StandsFor buffer.old commands
+        → StandsFor buffer.new (commands_after buffer.old.settings commands command)) }
 {
     match buffer.apply(command) {
         Err(Refusal::NoMemory) => Err(AllocError),
-        answer => Ok(answer),
+        _ => Ok(()),
     }
 }
 

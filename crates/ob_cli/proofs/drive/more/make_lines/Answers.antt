@@ -1,11 +1,12 @@
 use Rattle.std.proofs.Common.{◌∙◌, ◌+◌, ◌<◌, ◌++◌, ◌∷◌, [], List, ap, length, subst, sym, take, add-one}
-use Rattle.ob_seq.specs.Answer.{commands_after, commands_with}
+use Rattle.std.proofs.lemmas.List.{take_all}
+use Rattle.ob_seq.specs.Answer.{commands_after}
 use Rattle.ob_seq.specs.Looks.{look_after}
 use Rattle.ob_seq.specs.Pending.{StandsFor}
 use Rattle.ob_history.specs.Accepted.{accepted_commands}
 use Rattle.ob_history.proofs.Histories.{accepted_with_next, found_at}
 use Rattle.ob_cli.specs.Cli.Options.{first_history}
-use Rattle.ob_cli.specs.Drive.More.{lines_of, shown_with}
+use Rattle.ob_cli.specs.Drive.More.{line_behind, lines_of, shown_with}
 use Rattle.ob_cli.specs.declared.traces.line.TraceLine.{TraceLine}
 use Rattle.ob_cli.proofs.Lemmas.Drive.More.{lines_of-one_more}
 use Rattle.ob_cli.proofs.drive.more.make_lines.Goals as goal
@@ -20,26 +21,27 @@ loop-index-preserved c =
     let within : index < length records = c.loop-index-test.true in
     let found = found_at records index kept within c.index-records-index.is in
     let legal = c.requires.legal index kept found.0 in
-    let same = c.in_ok-copy.ensures.same in
     let inv = c.loop-index.invariant in
+    let line = c.in_ok-push_line.ensures in
     let next = ap (λ count. take count records) (add-one index) ∙ found.1 in
-    let kept_settings = c.in_ok-_answer.ensures.settings ∙ inv.settings in
-    let stands = subst (StandsFor c.give.new.buffer)
-    (ap (commands_with (accepted_commands earlier) c.in_ok-copy.field-0)
-    (c.in_ok-_answer.ensures.answer (accepted_commands earlier) inv.stands)
-    ∙ ap (λ other. commands_after other (accepted_commands earlier) c.in_ok-copy.field-0) inv.settings
-    ∙ ap (commands_after settings (accepted_commands earlier)) same
+    let kept_settings = line.settings ∙ inv.settings in
+    let stands = subst (StandsFor c.push_line.new.buffer)
+    (ap (λ other. commands_after other (accepted_commands earlier) kept.command) inv.settings
     ∙ sym (accepted_with_next settings earlier kept legal.reply))
-    (c.in_ok-_answer.ensures.stands (accepted_commands earlier) inv.stands) in
-    let look = c.look.ensures (accepted_commands (earlier ++ kept ∷ [])) stands
-    ∙ ap (λ other. look_after other (accepted_commands (earlier ++ kept ∷ []))) kept_settings in
+    (line.stands (accepted_commands earlier) inv.stands) in
     record {
       settings = kept_settings;
-      stands = subst (λ all. StandsFor c.give.new.buffer (accepted_commands all)) (sym next) stands;
-      lines = c.in_ok-push.ensures.items
-          ∙ ap (λ (lines : List TraceLine). lines ++ c.shown_with.result ∷ []) inv.lines
-          ∙ ap (λ line. lines_of settings earlier ++ line ∷ [])
-          (c.shown_with.ensures ∙ ap (shown_with kept.reply) look)
+      stands = subst (λ all. StandsFor c.push_line.new.buffer (accepted_commands all)) (sym next) stands;
+      lines = line.line (accepted_commands (earlier ++ kept ∷ [])) stands
+          ∙ ap (λ other. c.loop-index.lines.items
+          ++ shown_with kept.reply (look_after other (accepted_commands (earlier ++ kept ∷ []))) ∷ []) kept_settings
+          ∙ ap (λ (lines : List TraceLine). lines ++ line_behind settings (earlier ++ kept ∷ []) kept ∷ []) inv.lines
           ∙ sym (ap (lines_of settings) next ∙ lines_of-one_more settings earlier kept);
-      count = c.in_ok-push.ensures.len ∙ ap (λ n. n + 1) inv.count;
+      count = line.count ∙ ap (λ n. n + 1) inv.count;
     }
+
+pub returns-clause-lines : goal.returns-clause-lines
+returns-clause-lines c =
+    c.loop-index.invariant.lines
+    ∙ ap (lines_of (first_history c.args.options.now).settings)
+    (take_all c.loop-index.index c.args.records.now c.loop-index-test.false)

@@ -1,5 +1,4 @@
-use Rattle.std.proofs.Common.{◌≡◌, take}
-use Rattle.std.specs.Vec.{vec_len}
+use Rattle.std.proofs.Common.{◌≡◌, length, take}
 use Rattle.ob_seq.specs.Pending.{StandsFor}
 use Rattle.ob_history.specs.Accepted.{accepted_commands}
 use Rattle.ob_cli.specs.Cli.Options.{first_history}
@@ -11,5 +10,5 @@ invariant-loop-index l = record {
   settings : l.buffer.settings ≡ (first_history l.fn.options).settings;
   stands : StandsFor l.buffer (accepted_commands (take l.index l.records));
   lines : l.lines.items ≡ lines_of (first_history l.fn.options).settings (take l.index l.records);
-  count : vec_len l.lines ≡ l.index;
+  count : length l.lines.items ≡ l.index;
 }
