@@ -1,10 +1,11 @@
 ghost use Rattle.std.specs.Prelude.{◌≡◌, ◌+◌, ◌<◌, ◌≤◌, ◌∷◌, length, slice_index, option_map, IfSome, Some, None};
+ghost use Rattle.std.specs.Prelude.{if◌then◌else◌};
 ghost use Rattle.std.specs.List.{list_all};
 ghost use Rattle.ob_cli.specs.Reading.Lines.{words_after, words_of};
 ghost use Rattle.ob_cli.specs.Reading.Script.{greatest_script};
 ghost use Rattle.ob_cli.specs.Traces.Words.{behind_label, behind_lengths, is_hex, is_writable_by};
-ghost use Rattle.ob_cli.specs.Traces.Line.{bare, behind_change, change_in, is_bare_line, levels_shown, line_shown, outcome_of, settled_in};
-ghost use Rattle.ob_cli.specs.Traces.Line.{told_by, told_by_word, trace_reading};
+ghost use Rattle.ob_cli.specs.Traces.Line.{bare, behind_change, behind_look, change_in, is_bare_line, levels_shown, line_shown, outcome_of, settled_in};
+ghost use Rattle.ob_cli.specs.Traces.Line.{is_cancelled, is_failed, is_success, told_by, told_by_word, trace_reading};
 
 use crate::reading::fault::LineFault;
 use crate::reading::lines::{first_word, index_or_len};
@@ -81,11 +82,32 @@ fn told_by_words<'a>(first: &[u8], after: &'a [u8]) -> Option<(Told, &'a [u8])>
         return Some((Told::Refused(number as u8), after));
     }
     if labelled(b"size=", ANY_64, first).is_some() {
-        let rest = skip(b"cur=", after)?;
-        let rest = skip(b"bu=", rest)?;
-        return Some((Told::Look, skip(b"bw=", rest)?));
+        return Some((Told::Look, skip_look(after)?));
     }
-    match FirstOfTrace::named(first)? {
+    told_by_word(FirstOfTrace::named(first)?, after)
+}
+
+/// What follows the numbers of a look.
+fn skip_look<'a>(after: &'a [u8]) -> Option<&'a [u8]>
+    requires space { 0 < length after.now → slice_index after.now 0 ≡ 32 }
+    ensures words { option_map (λ rest. words_after rest.now) result ≡ behind_look (words_after after.now) }
+    ensures space { IfSome result (λ rest. 0 < length rest.now → slice_index rest.now 0 ≡ 32) }
+    ensures small { IfSome result (λ rest. length rest.now ≤ length after.now) }
+{
+    let rest = skip(b"cur=", after)?;
+    let rest = skip(b"bu=", rest)?;
+    skip(b"bw=", rest)
+}
+
+/// What a line tells of that begins with this word, and what follows the words that tell it.
+fn told_by_word<'a>(first: FirstOfTrace, after: &'a [u8]) -> Option<(Told, &'a [u8])>
+    requires space { 0 < length after.now → slice_index after.now 0 ≡ 32 }
+    ensures told { option_map (λ told. (told.0, words_after told.1.now)) result
+        ≡ told_by_word (Some first) (words_after after.now) }
+    ensures space { IfSome result (λ told. 0 < length told.1.now → slice_index told.1.now 0 ≡ 32) }
+    ensures small { IfSome result (λ told. length told.1.now ≤ length after.now) }
+{
+    match first {
         FirstOfTrace::Id | FirstOfTrace::Count => Some((Told::Accepted, skip(b"", after)?)),
         FirstOfTrace::Gathered => Some((Told::Look, skip_lengths(after))),
         FirstOfTrace::Yes
@@ -197,14 +219,30 @@ fn settled(after: &[u8]) -> Option<Settled>
     };
     let mut rest = after;
     while let Some((word, others)) = next_word(rest) {
-        match outcome(word)? {
-            Outcome::Success => settled.success += 1,
-            Outcome::Failed(_) => settled.failed += 1,
-            Outcome::Cancelled => settled.cancelled += 1,
-        }
+        settled = with_one(settled, outcome(word)?);
         rest = others;
     }
     Some(settled)
+}
+
+/// These and one promise more, which is settled so.
+fn with_one(settled: Settled, outcome: Outcome) -> Settled
+    requires success { settled.success < 4294967295 }
+    requires failed { settled.failed < 4294967295 }
+    requires cancelled { settled.cancelled < 4294967295 }
+    ensures success { result.success ≡ settled.success + (if is_success (Some outcome) then 1 else 0) }
+    ensures failed { result.failed ≡ settled.failed + (if is_failed (Some outcome) then 1 else 0) }
+    ensures cancelled { result.cancelled ≡ settled.cancelled + (if is_cancelled (Some outcome) then 1 else 0) }
+    ensures one { result.success + result.failed + result.cancelled
+        ≡ settled.success + settled.failed + settled.cancelled + 1 }
+{
+    let mut settled = settled;
+    match outcome {
+        Outcome::Success => settled.success += 1,
+        Outcome::Failed(_) => settled.failed += 1,
+        Outcome::Cancelled => settled.cancelled += 1,
+    }
+    settled
 }
 
 /// The outcome that a word settles a promise with: the promise's number, `:` and the outcome.

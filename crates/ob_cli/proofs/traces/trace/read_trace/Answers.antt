@@ -1,6 +1,6 @@
 use Rattle.std.proofs.Common.{◌≡◌, ◌++◌, ◌∙◌, [], ◌∷◌, ap, refl, rules, sym}
 use Rattle.ob_cli.specs.Traces.Line.{trace_grammar}
-use Rattle.ob_cli.proofs.Lemmas.Reading.Cursor.{read_further}
+use Rattle.ob_cli.proofs.Lemmas.Reading.Cursor.{ends_at_nil, read_further}
 use Rattle.ob_cli.proofs.traces.trace.read_trace.Goals as goal
 
 pub loop-cursor-preserved : goal.loop-cursor-preserved
@@ -16,3 +16,18 @@ loop-cursor-preserved c =
       few = rw kept (search rules);
       stands = further.1;
     }
+
+pub returns-clause-lines : goal.returns-clause-lines
+returns-clause-lines c =
+    let inv = c.loop-cursor.invariant in
+    let ends =
+    ends_at_nil trace_grammar c.args.trace.items c.loop-cursor.cursor.count c.loop-cursor.cursor.rest inv.stands
+    (sym c.is_at_end.ensures ∙ c.loop-cursor-test.false) in
+    inv.kept ∙ ends.0
+
+pub returns-clause-fault : goal.returns-clause-fault
+returns-clause-fault c =
+    let ends =
+    ends_at_nil trace_grammar c.args.trace.items c.loop-cursor.cursor.count c.loop-cursor.cursor.rest
+    c.loop-cursor.invariant.stands (sym c.is_at_end.ensures ∙ c.loop-cursor-test.false) in
+    sym ends.1
