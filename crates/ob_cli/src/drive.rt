@@ -95,8 +95,14 @@ pub fn drive_script<H: AllocGlobal + Threads + Wait + Clock + Sync, R: Read, W: 
     let script = read_script(rt.alloc(), reader, MAX_READS)?;
     let session = read_lines(rt.alloc(), script)?;
     let driven = drive_session(rt, session, options)?;
-    write_report(rt.alloc(), &driven.report, writer)?;
-    Ok(driven)
+    match write_report(rt.alloc(), &driven.report, writer) {
+        Ok(()) => Ok(driven),
+        Err(fault) => {
+            // by one call, since the end of the scope is followed field by field
+            drop(driven);
+            Err(fault)
+        }
+    }
 }
 
 /// Reads the lines of a drive script up to the first faulty one.

@@ -1,4 +1,5 @@
 -- Drive scripts.
+pub mod Ending
 pub mod More
 mod Rows
 pub mod Script

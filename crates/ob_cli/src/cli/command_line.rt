@@ -1,5 +1,4 @@
-ghost use Rattle.std.specs.Prelude.{◌≡◌, ◌⊎◌, ◌<◌, ◌≤◌, ◌↔◌, None, IfSome, IsOk, IfOk, IfErr};
-ghost use Rattle.ob_types.specs.Limits.{greatest_mark};
+ghost use Rattle.std.specs.Prelude.{◌≡◌, ◌⊎◌, ◌<◌, ◌≤◌, None, IfSome, IfOk, IfErr};
 ghost use Rattle.ob_history.specs.History.{most_records, new_history};
 ghost use Rattle.ob_cli.specs.Cli.Options.{first_history};
 ghost use Rattle.ob_cli.specs.Cli.Entry.{exit_status_of};
@@ -9,7 +8,7 @@ use crate::cli::options::Options;
 use crate::cli::request::Request;
 use crate::cli::subcommands::{MAX_RECORDS, command};
 use clap::ArgMatches;
-use ob_types::{Estimate, WaterMark};
+use ob_types::{Estimate, Refusal, WaterMark};
 use std::alloc::Global;
 use std::convert::AsStr;
 
@@ -43,34 +42,36 @@ pub fn request_of<'a, S: AsStr>(alloc: Global, words: &'a [S]) -> Result<Request
 fn request(matches: &ArgMatches<'_>) -> Result<Request, EntryFault>
     ensures err { IfErr result (λ fault. exit_status_of fault ≡ 1) }
 {
-    match matches.subcommand() {
-        Some((name, given)) => request_of_subcommand(name, given),
-        None => Err(EntryFault::NoSubcommand),
+    let Some((name, given)) = matches.subcommand() else {
+        return Err(EntryFault::NoSubcommand);
+    };
+    match request_of_subcommand(name, given) {
+        Ok(Some(request)) => Ok(request),
+        // `clap` lets no other name through, but none of its clauses says so.
+        Ok(None) => Err(EntryFault::NoSubcommand),
+        Err(_) => Err(EntryFault::BadMarks),
     }
 }
 
-/// What the options of this subcommand ask for.
-fn request_of_subcommand(name: &str, given: &ArgMatches<'_>) -> Result<Request, EntryFault>
-    ensures err { IfErr result (λ fault. exit_status_of fault ≡ 1) }
-{
+/// What the options of this subcommand ask for, or nothing where no subcommand has the name. It is refused where the
+/// low mark is above the high one.
+fn request_of_subcommand(name: &str, given: &ArgMatches<'_>) -> Result<Option<Request>, Refusal> {
     match name {
-        "run" => Ok(Request::Run(options_of(given, TASK)?)),
-        "core" => Ok(Request::Core(given_marks(given)?)),
+        "run" => Ok(Some(Request::Run(options_of(given, TASK)?))),
+        "core" => Ok(Some(Request::Core(given_marks(given)?))),
         "drive" => {
             let task = given.get_one("task").unwrap_or(TASK);
-            Ok(Request::Drive(options_of(given, task)?))
+            Ok(Some(Request::Drive(options_of(given, task)?)))
         }
-        "summary" => Ok(Request::Summary),
-        "draw" => Ok(Request::Draw(given_marks(given)?)),
-        // `clap` lets no other name through, but none of its clauses says so.
-        _ => Err(EntryFault::NoSubcommand),
+        "summary" => Ok(Some(Request::Summary)),
+        "draw" => Ok(Some(Request::Draw(given_marks(given)?))),
+        _ => Ok(None),
     }
 }
 
 /// The options that were given to `run` or to `drive`, with what a hand-off adds.
-fn options_of(given: &ArgMatches<'_>, task: u16) -> Result<Options, EntryFault>
-    ensures err { IfErr result (λ fault. exit_status_of fault ≡ 1) }
-    ensures task { IfOk result (λ options. options.task ≡ task) }
+fn options_of(given: &ArgMatches<'_>, task: u16) -> Result<Options, Refusal>
+    ensures { IfOk result (λ options. options.task ≡ task) }
 {
     let marks = given_marks(given)?;
     Ok(options(
@@ -83,10 +84,8 @@ fn options_of(given: &ArgMatches<'_>, task: u16) -> Result<Options, EntryFault>
 }
 
 /// The marks that were given.
-fn given_marks(given: &ArgMatches<'_>) -> Result<WaterMark, EntryFault>
-    ensures err { IfErr result (λ fault. exit_status_of fault ≡ 1) }
-{
-    marks(
+fn given_marks(given: &ArgMatches<'_>) -> Result<WaterMark, Refusal> {
+    WaterMark::new(
         given.get_one("low").unwrap_or(LOW),
         given.get_one("high").unwrap_or(HIGH),
     )
@@ -122,17 +121,5 @@ fn options(marks: WaterMark, overhead: u16, unknown: u16, limit: u32, task: u16)
         estimate,
         limit,
         task: u32::from(task),
-    }
-}
-
-/// The marks of these numbers, in bytes.
-fn marks(low: u32, high: u32) -> Result<WaterMark, EntryFault>
-    ensures ok { IfOk result (λ marks. marks ≡ record { low = low; high = high }) }
-    ensures err { IfErr result (λ fault. exit_status_of fault ≡ 1) }
-    ensures accepted { IsOk result ↔ (low ≤ high × high ≤ greatest_mark) }
-{
-    match WaterMark::new(low, high) {
-        Ok(marks) => Ok(marks),
-        Err(_) => Err(EntryFault::BadMarks),
     }
 }

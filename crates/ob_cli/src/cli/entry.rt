@@ -1,9 +1,13 @@
 ghost use Rattle.std.specs.List.{All};
-ghost use Rattle.std.specs.Prelude.{◌≡◌, ◌≢◌, ◌≤◌, ℕ, codes, false, length, IfSome, IfErr, IsErrOf};
+ghost use Rattle.std.specs.Prelude.{◌≡◌, ◌≢◌, ◌≤◌, ℕ, codes, false, length, IfSome, IfErr, IsErrOf, OnOk};
 ghost use Rattle.std.specs.Io.KnownBytes.{Appends, Keeps};
 ghost use Rattle.ob_history.specs.History.{most_records};
 ghost use Rattle.ob_history.specs.Legal.{IsLegal};
 ghost use Rattle.ob_cli.specs.Cli.Options.{first_history};
+ghost use Rattle.ob_cli.specs.Drive.Report.{WritesReport};
+ghost use Rattle.ob_cli.specs.Drive.Script.{drive_grammar, plans_of};
+ghost use Rattle.ob_cli.specs.Reading.Script.{script_lines};
+ghost use Rattle.ob_cli.specs.Tracing.Interprets.{GoesThrough};
 ghost use Rattle.ob_cli.specs.Outcome.{WentThrough, fault_told, status_of};
 ghost use Rattle.ob_cli.specs.Cli.Request.{WritesRequested, requested_fault, requested_trace_of_first};
 ghost use Rattle.ob_cli.specs.Cli.Entry.{Leaves, status_after};
@@ -109,16 +113,36 @@ fn carry_out<H: AllocGlobal + Threads + Wait + Clock + Sync, R: Read, W: Write, 
     match request {
         Request::Run(options) => run(rt.alloc(), reader, writer, options),
         Request::Core(marks) => core(rt.alloc(), reader, writer, marks),
-        Request::Drive(options) => {
-            let driven = drive_script(rt, reader, writer, &options)?;
-            if verbose {
-                tell_more(rt.alloc(), &options, &driven, errors);
-            }
-            Ok(())
-        }
+        Request::Drive(options) => drive(rt, reader, writer, errors, &options, verbose),
         Request::Summary => summary(rt.alloc(), reader, writer),
         Request::Draw(marks) => draw(rt.alloc(), reader, writer, marks),
     }
+}
+
+/// Does a drive, and tells what it shows beside its report if that is asked for.
+fn drive<H: AllocGlobal + Threads + Wait + Clock + Sync, R: Read, W: Write, E: Write>(
+    rt: &H,
+    reader: &mut R,
+    writer: &mut W,
+    errors: &mut E,
+    options: &Options,
+    verbose: bool,
+) -> Result<(), ScriptFault>
+    ensures quiet { verbose ≡ false → Keeps (E.contents errors.old) (E.contents errors.new) }
+    ensures report { OnOk result (IfSome (R.remaining reader.old) (λ script.
+        WritesReport options.now (plans_of (script_lines drive_grammar script))
+        (W.contents writer.old) (W.contents writer.new))) }
+    ensures through { GoesThrough drive_grammar (R.remaining reader.old) (R.remaining reader.new) result }
+    ensures unwritten { IfErr result (λ fault. fault ≢ ScriptFault.Write
+        → Keeps (W.contents writer.old) (W.contents writer.new)) }
+{
+    let driven = drive_script(rt, reader, writer, options)?;
+    if verbose {
+        tell_more(rt.alloc(), options, &driven, errors);
+    }
+    // by one call, since the end of the scope is followed field by field
+    drop(driven);
+    Ok(())
 }
 
 /// Tells what a drive shows beside its report, or why that can't be told. The report is written by then.

@@ -1,6 +1,7 @@
 //! The subcommands of the program and their options, as `clap` is told of them.
 
 use crate::cli::help::Help;
+use clap::builder::ValueParser;
 use clap::{Arg, ArgAction, Command, value_parser};
 use std::alloc::{AllocError, Global};
 
@@ -178,20 +179,27 @@ impl ProgramOption {
     /// The option for `clap`.
     fn arg<'a>(&self, alloc: Global) -> Arg<'a> {
         let arg = Arg::new(alloc, self.name).long(self.name).help(self.help);
-        match self.kind {
-            OptionKind::Mark => {
-                given(arg, "BYTES").value_parser(value_parser!(u32).range(0..=MAX_MARK))
-            }
-            OptionKind::Size => given(arg, "BYTES").value_parser(value_parser!(u16)),
-            OptionKind::Records => given(arg, "RECORDS").value_parser(value_parser!(u32).range(
-                1..=i64::from(MAX_RECORDS),
-            )),
-            OptionKind::Flag => arg.action(ArgAction::SetTrue),
+        match self.kind.value() {
+            Some((name, parser)) => arg
+                .value_name(name)
+                .value_parser(parser)
+                .action(ArgAction::Set),
+            None => arg.action(ArgAction::SetTrue),
         }
     }
 }
 
-/// An option that is given a number, which `--help` calls so.
-fn given<'a>(arg: Arg<'a>, name: &'static str) -> Arg<'a> {
-    arg.value_name(name).action(ArgAction::Set)
+impl OptionKind {
+    /// How `--help` calls the number that is given, and which numbers that may be, if one is given.
+    fn value<'a>(&self) -> Option<(&'static str, ValueParser<'a>)> {
+        match self {
+            OptionKind::Mark => Some(("BYTES", value_parser!(u32).range(0..=MAX_MARK))),
+            OptionKind::Size => Some(("BYTES", value_parser!(u16))),
+            OptionKind::Records => Some((
+                "RECORDS",
+                value_parser!(u32).range(1..=i64::from(MAX_RECORDS)),
+            )),
+            OptionKind::Flag => None,
+        }
+    }
 }

@@ -1,7 +1,7 @@
 ghost use Rattle.std.specs.Prelude.{◌≡◌};
 
 /// What is wrong with a line of a script. The faults are asked in the order of this list.
-#[derive(Clone, Copy, Debug, PartialEq, Eq)]
+#[derive(Clone, Copy, Debug)]
 pub enum LineFault {
     /// It has more than 200 bytes, not counting the byte that ends it.
     LongLine = 6,

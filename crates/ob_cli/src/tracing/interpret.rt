@@ -44,7 +44,7 @@ fn write_trace<I: Interpreter, W: Write>(
     let mut interpreter = interpreter;
     let mut waiting = Vec::new(alloc);
     let ended = trace_script(alloc, &mut interpreter, script, &mut waiting, writer);
-    if ended == Err(ScriptFault::Write) {
+    if matches!(ended, Err(ScriptFault::Write)) {
         return ended;
     }
     if writer.write_all(&waiting).is_err() || writer.flush().is_err() {

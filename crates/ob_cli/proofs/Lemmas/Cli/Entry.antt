@@ -1,5 +1,5 @@
 -- What the program leaves where a line is faulty, and where memory runs out.
-use Rattle.std.proofs.Common.{◌≡◌, ℕ, List, Option, None, Some, Err, IfSome, append-nil, refl, sym}
+use Rattle.std.proofs.Common.{◌≡◌, ◌≤◌, ℕ, arith, List, Option, None, Some, Err, IfSome, append-nil, refl, sym}
 use Rattle.std.specs.Prelude.{IsErrOf}
 use Rattle.std.specs.Io.KnownBytes.{Appends}
 use Rattle.ob_cli.specs.Cli.Entry.{WritesTraceOfFirst, WritesWhole}
@@ -10,6 +10,23 @@ use Rattle.ob_cli.specs.declared.cli.request.Request.{Request}
 use Rattle.ob_cli.specs.declared.cli.request.Request.TheVariants.{Core}
 use Rattle.ob_cli.specs.declared.script_fault.ScriptFault.{ScriptFault}
 use Rattle.ob_cli.specs.declared.script_fault.ScriptFault.TheVariants.{Line, Read, TooLong, Write, NoMemory, Drive}
+
+-- no fault of a run has a status below 2
+pub two_at_least : (fault : ScriptFault) → 2 ≤ status_of fault
+two_at_least (Line number fault) = omega arith
+two_at_least Read = omega arith
+two_at_least TooLong = omega arith
+two_at_least Write = omega arith
+two_at_least NoMemory = omega arith
+two_at_least (Drive fault) = omega arith
+
+-- a run to the end of its script writes all that it was asked for
+pub whole : (request : Request) (read : Option (List ℕ)) (old new : Option (List ℕ))
+    → IfSome read (λ script. WritesRequested request script None old new)
+    → IfSome read (λ script. None ≡ requested_fault request script)
+    → IfSome read (λ script. WritesWhole script None old new)
+whole request None old new written told = tt
+whole request (Some script) old new written told = (request, written, sym told)
 
 -- the status 2 comes of a faulty line alone, up to which all is written
 cut_short_at : (request : Request) (fault : ScriptFault) (script : List ℕ) (old new : Option (List ℕ))
