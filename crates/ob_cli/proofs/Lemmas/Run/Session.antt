@@ -1,7 +1,16 @@
 -- What a session does with one command.
-use Rattle.std.proofs.Common.{◌≡◌, ◌∙◌, ◌++◌, ℕ, List, [], ◌∷◌, refl, ap, sym}
+use Rattle.std.proofs.Common.{◌≡◌, ◌∙◌, ◌++◌, ℕ, Bool, true, false, not, List, [], ◌∷◌, Result, get_or, length, refl, ap, sym}
 use Rattle.ob_types.specs.declared.command.Command.{Command}
+use Rattle.ob_types.specs.declared.refusal.Refusal.{Refusal}
+use Rattle.ob_types.specs.declared.reply.Reply.{Reply}
+use Rattle.ob_seq.specs.declared.look.Look.{Look}
+use Rattle.ob_history.specs.Call.{history_after, is_full}
 use Rattle.ob_history.specs.History.{History}
+use Rattle.ob_history.specs.Seen.{seen_now}
+use Rattle.ob_history.specs.declared.record.Record.{Record}
+use Rattle.ob_history.proofs.Calls.{answer_with_place, record_at_place}
+use Rattle.ob_cli.specs.Run.Call.{told_after, told_by}
+use Rattle.ob_cli.specs.Run.Text.{command_text}
 use Rattle.ob_cli.specs.Run.Script.{block_write, call_text, history_after_line, history_after_lines, line_trace}
 use Rattle.ob_cli.specs.declared.run.line.RunLine.{RunLine}
 use Rattle.ob_cli.specs.declared.run.line.RunLine.TheVariants.{Block}
@@ -19,3 +28,31 @@ pub block-told : (history : History) (size : ℕ) (command : Command) (line : Ru
     → line ≡ Block size → new ≡ old ++ call_text history command → new ≡ old ++ line_trace history line
 block-told history size command line old new made is told =
     told ∙ ap (λ c. old ++ call_text history c) made ∙ ap (λ l. old ++ line_trace history l) (sym is)
+
+-- a history that took a command was not full
+pub has_room : (taken full : Bool) → taken ≡ not full → taken ≡ true → full ≡ false
+has_room taken true is so = sym so ∙ is
+has_room taken false is so = refl
+
+-- nor was one that would have refused it
+pub never_full : (full : Bool) → (full ≡ true → ⊥) → full ≡ false
+never_full true refused = absurd (refused refl)
+never_full false refused = refl
+
+-- what is told of a command that a history took is the reply in the record behind those before it
+pub told-last : (history after : History) (command : Command) (records : List Record) (place : ℕ) (other : Record)
+    (reply : Result Reply Refusal)
+    → is_full history ≡ false → place ≡ length history.records → after ≡ history_after history 0 command
+    → records ≡ after.records → (get_or records place other).reply ≡ reply → reply ≡ told_after history command
+told-last history after command records place other reply room is_place is_after same found =
+    sym found ∙ ap (λ (all : List Record). (get_or all place other).reply) same
+    ∙ ap (λ (one : Record). one.reply) (record_at_place history after 0 command place other room is_place is_after).1
+    ∙ sym (ap told_by (answer_with_place history 0 command room))
+
+-- the text of what is told of a command and of the look behind it is the text of the command
+pub call-told : (history : History) (command : Command) (reply : Result Reply Refusal) (look : Look) (old new : List ℕ)
+    → reply ≡ told_after history command → look ≡ (seen_now (history_after history 0 command)).look
+    → new ≡ old ++ command_text reply look → new ≡ old ++ call_text history command
+call-told history command reply look old new told seen text =
+    text ∙ ap (λ answer. old ++ command_text answer look) told
+    ∙ ap (λ shown. old ++ command_text (told_after history command) shown) seen

@@ -8,6 +8,7 @@ use Rattle.ob_pool.specs.declared.config.Config.{Config}
 use Rattle.ob_pool.specs.declared.fault.DriveFault.{DriveFault}
 use Rattle.ob_cli.specs.Drive.Report.{ComesTo}
 use Rattle.ob_cli.specs.Drive.Script.{plans_in}
+use Rattle.ob_cli.specs.declared.script_fault.ScriptFault.TheVariants.{Drive}
 use Rattle.ob_cli.proofs.drive.drive_session.Goals as goal
 
 -- what comes to a report was not refused for a fault of its plans
@@ -21,6 +22,10 @@ first_told : (T : Type 0) (fault : DriveFault) (found : Option DriveFault) →
     IfSome found (λ first. IsErrOf {T = T} (Err fault) first) → IfSome found (λ first. fault ≡ first)
 first_told T fault None refused = tt
 first_told T fault (Some first) refused = cc refused
+
+-- one fault of the drive is told
+told_once : {T : Type 0} (told fault : DriveFault) → IsErrOf {T = T} (Err (Drive told)) (Drive fault) → told ≡ fault
+told_once told fault is = cc
 
 pub returns-in-Ok-clause-told : goal.returns-in-Ok-clause-told
 returns-in-Ok-clause-told g c =
@@ -42,7 +47,8 @@ returns-clause-drive g c = λ fault is.
     let given = ap (λ (config : Config). plans_fault config.estimate config.task c.in_ok-plans.plans.items)
     c.config-config.ensures in
     let found = given ∙ ap (plans_fault c.args.options.now.estimate c.args.options.now.task) plans in
-    subst (ComesTo c.args.options.now (plans_in c.args.session.writers.items)) (cc is) (record {
+    subst (ComesTo c.args.options.now (plans_in c.args.session.writers.items))
+    (told_once c.in-Err.fault fault is) (record {
       first = subst (λ found. IfSome found (λ first. c.in-Err.fault ≡ first)) found
           (first_told _ c.in-Err.fault _ c.in-Err.ensures.refused);
       later = λ none. c.in-Err.ensures.planned (found ∙ none);
