@@ -7,16 +7,16 @@ const GREATEST_MARK: u64 = 2147483647;
 const LONGEST_LINE: usize = 200;
 const MOST_WORDS: usize = 4;
 
-/// What is wrong with a line.
+/// What is wrong with a line, by numbers from 1 on.
 #[derive(Clone, Copy)]
 pub enum LineFault {
     FirstWord = 1,
-    Number = 2,
-    Range = 3,
-    TooFew = 4,
-    TooMany = 5,
-    TooLong = 6,
-    Misplaced = 7,
+    Number,
+    Range,
+    TooFew,
+    TooMany,
+    TooLong,
+    Misplaced,
 }
 
 /// The lines of a script; what stands behind the last line end is one more, if it is anything.
