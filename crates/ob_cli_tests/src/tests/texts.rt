@@ -191,7 +191,7 @@ fn tells_lines<H: Host>(rt: &H, words: &str, wanted: &str) -> Result<(), Fail> {
     Ok(())
 }
 
-/// The first line that is wanted and is told otherwise, or is told and not wanted.
+/// The first line that is wanted and is told otherwise, or is told and not wanted, or does not end.
 fn first_other<'a>(told: &'a str, wanted: &'a str) -> Option<(&'a str, &'a str)> {
     let mut lines = told.lines();
     for part in wanted.split(['\n', '|']) {
@@ -202,7 +202,8 @@ fn first_other<'a>(told: &'a str, wanted: &'a str) -> Option<(&'a str, &'a str)>
     }
     match lines.next() {
         Some(line) => Some(("no line", line)),
-        None => None,
+        None if told.ends_with('\n') => None,
+        None => Some(("a line end", told)),
     }
 }
 
