@@ -1,7 +1,7 @@
 //! `drive`: writers in threads, a transport beside them, and a report that counts the history.
 
 use crate::{Fault, TASK};
-use crate::buffer::{Bytes, Command, Estimate, Marks, Message, Outcome, Refusal};
+use crate::outbound::{Bytes, Command, Estimate, Marks, Message, Outcome, Refusal};
 use crate::hand_off::HandOff;
 use crate::history::{Record, Recorded};
 use crate::script::{GREATEST_U32, LineFault, Words, lines};

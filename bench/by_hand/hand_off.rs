@@ -1,6 +1,6 @@
 //! The one word on which writers charge what they hand over: the word above, the total below.
 
-use crate::buffer::Marks;
+use crate::outbound::Marks;
 use std::sync::atomic::{AtomicU64, Ordering::SeqCst};
 
 const MARK: u64 = 1 << 32;

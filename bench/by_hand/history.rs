@@ -1,6 +1,6 @@
 //! A buffer with a record of each call, which no call of a thread of its own passes by.
 
-use crate::buffer::{Buffer, Command, Estimate, Marks, Refusal, Reply};
+use crate::outbound::{Buffer, Command, Estimate, Marks, Refusal, Reply};
 
 #[derive(Clone, PartialEq)]
 pub struct Record {

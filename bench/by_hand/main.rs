@@ -2,19 +2,19 @@
 //! plain Rust on std alone, with the duties of the program (each call is recorded, writers and transport keep receipts,
 //! and at the end all are compared with the history), and nothing proved. `bench/peer` times it beside the program.
 
-// the timed cycles of `bench/cycle_by_hand` stand on the same buffer, and ask it what this program does not
-#[allow(dead_code)]
-mod buffer;
 mod drive;
 mod hand_off;
 mod history;
+// the timed cycles of `bench/cycle_by_hand` stand on the same buffer, and ask it what this program does not
+#[allow(dead_code, unused_imports)]
+mod outbound;
 mod run;
 mod script;
 mod trace;
 mod turns;
 
-use buffer::{Estimate, Marks};
 use history::Recorded;
+use outbound::{Estimate, Marks};
 use script::LineFault;
 use std::io::{self, Read};
 use trace::Trace;

@@ -1,7 +1,7 @@
 //! `run`: the commands of a script, each with its trace.
 
 use crate::Fault;
-use crate::buffer::{Answer, Bytes, Command, Message, Outcome, Reply};
+use crate::outbound::{Answer, Bytes, Command, Message, Outcome, Reply};
 use crate::history::Recorded;
 use crate::script::{LineFault, Words, lines};
 use crate::trace::Trace;

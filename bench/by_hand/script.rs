@@ -1,6 +1,6 @@
 //! The lines of a script and their words, with the faults of a line by the numbers that the program prints.
 
-use crate::buffer::Marks;
+use crate::outbound::Marks;
 
 pub const GREATEST_U32: u64 = u32::MAX as u64;
 const GREATEST_MARK: u64 = 2147483647;

@@ -1,6 +1,6 @@
 //! The lines that are written, in large pieces.
 
-use crate::buffer::Change;
+use crate::outbound::Change;
 use std::io::{self, Write};
 
 const PIECE: usize = 65536;

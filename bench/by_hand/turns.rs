@@ -1,7 +1,7 @@
 //! `core`: turns of lanes on one word, each with its trace.
 
 use crate::Fault;
-use crate::buffer::{Change, Marks};
+use crate::outbound::{Change, Marks};
 use crate::script::{GREATEST_U32, LineFault, Words, lines};
 use crate::trace::Trace;
 use std::io::Write;

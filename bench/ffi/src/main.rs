@@ -1,10 +1,10 @@
-//! Times the cycle (write of 64 bytes, flush, remove) and 16 writes, flush, gather and removal of their bytes, behind so
-//! many messages that wait: through the crate `limekeel`, by the same rules in plain Rust, and by the barest queue.
+//! Times the cycle (write of 64 bytes, flush, remove) and 16 writes, flush, gather and removal of their bytes, behind messages
+//! that wait: through the crate `limekeel`, by the same rules in plain Rust, and by the barest queue.
 //! Prints lines of a name, a depth and the nanoseconds of a cycle and of a message in a batch.
 
-// of the buffer by hand this needs not all
-#[allow(dead_code)]
-#[path = "../../by_hand/buffer.rs"]
+// of what is there by hand this needs the connection alone
+#[allow(dead_code, unused_imports)]
+#[path = "../../by_hand/outbound/mod.rs"]
 mod by_hand;
 
 use limekeel::{Block, Connection, Estimate, Marks};
@@ -14,7 +14,7 @@ use std::io::IoSlice;
 use std::time::Instant;
 
 const DEPTHS: [usize; 4] = [1, 16, 1_000, 100_000];
-/// So many messages are timed at once, so often, and the least time counts: other programs cannot make it less.
+/// How many messages are timed at once, and how often; the least time counts, which other programs cannot make less.
 const MESSAGES: usize = 480;
 const TIMES: usize = 1_000;
 const BATCH: usize = 16;
@@ -80,12 +80,12 @@ impl Shares for Copied {
 }
 
 /// The same rules in plain Rust, each message copied.
-struct ByHand(by_hand::Buffer);
+struct ByHand(by_hand::Connection);
 
 impl Queue for ByHand {
     fn open() -> Self {
         let marks = by_hand::Marks { low: 32768, high: 65536 };
-        ByHand(by_hand::Buffer::new(marks, by_hand::Estimate { overhead: 96, unknown: 8 }))
+        ByHand(by_hand::Connection::new(marks, by_hand::Estimate { overhead: 96, unknown: 8 }))
     }
 
     fn write(&mut self) {
@@ -109,7 +109,7 @@ impl Queue for ByHand {
             count += bytes.len();
         }
         black_box(&pieces);
-        black_box(self.0.remove_bytes(ALL).expect("they wait"));
+        black_box(self.0.take_sent(ALL).expect("they wait"));
         count
     }
 }
@@ -203,7 +203,7 @@ fn filled<Q: Queue>(depth: usize) -> Q {
     black_box(queue)
 }
 
-/// The nanoseconds of a message, where each turn moves so many.
+/// The nanoseconds of a message; each turn moves `each` of them.
 fn least<Q: Queue>(depth: usize, each: usize, mut turn: impl FnMut(&mut Q)) -> f64 {
     let mut queue = filled::<Q>(depth);
     let mut least = f64::INFINITY;
