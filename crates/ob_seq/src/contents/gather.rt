@@ -51,7 +51,7 @@ fn push_copy(gathered: &mut Vec<Bytes>, bytes: &Bytes) -> Result<(), AllocError>
     Ok(gathered.push(copy)?)
 }
 
-/// Whether one more block goes along with so many others, which left this much room: the first does in any case.
+/// Whether one more block goes along with `count` others, which left this much room: the first does in any case.
 pub(super) fn has_room(count: usize, max_count: usize, length: u64, room: u64) -> bool
     ensures { result ≡ (nat_lt count max_count && (nat_le count 0 || nat_le length room)) }
 {
