@@ -13,7 +13,7 @@ pub record GrowAlike (before after : Standing) : Type 0 where
   pub units : (more : ℕ) × (after.sink.units ≡ before.sink.units + more)
       × (sent_units_in after.history ≡ sent_units_in before.history + more)
 
--- they grow alike but for so many bytes, which were taken last, and are the first unread ones
+-- they grow alike but for `taken` bytes, which were taken last, and are the first unread ones
 pub record GrowAlikeBut (taken : ℕ) (before after : Standing) : Type 0 where
   pub unread : taken ≤ length (unread_in after.history)
   pub booked : Content

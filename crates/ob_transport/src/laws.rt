@@ -28,7 +28,7 @@ pub fn what_a_pass_takes_is_sent()
         → IsPass limits caller before (Err (Unbooked taken)) after → GrowAlikeBut taken before after }
 {}
 
-/// What a legal history sends is what its records send, one behind another: so it can be told by the receipts of those
+/// What a legal history sends is what its records send, one after another: so it can be read off the receipts of those
 /// who send, each with its place.
 pub fn a_history_sends_what_its_records_send()
     ensures bytes { (settings : Settings) (records : List Record) → IsLegal settings records
