@@ -33,7 +33,7 @@ abbrev pub ObeysFor : {A C : Type 0} → Option Connected → Command → (List 
 ObeysFor handle command tell in_c told new =
     Answers handle (λ old result after. Obeys old command tell result after) in_c told new
 
--- the same of a command that takes no memory, and so never tells that it is wanted
+-- the same of a command that does not allocate, and so never reports that it is out of memory
 abbrev pub ObeysFrugallyFor : {A C : Type 0} → Option Connected → Command → (List PromiseState → A → Reply) →
     (Result A ℕ → C) → C → Option Connected → Type 0
 ObeysFrugallyFor handle command tell in_c told new =
