@@ -48,7 +48,7 @@ Takes command outcome old result new =
 abbrev pub TakesFor : Option Connected → Command → Outcome → Taken → Option Connected → Type 0
 TakesFor handle command outcome told new = Answers handle (Takes command outcome) taken_in_c told new
 
--- a connection obeys a command, but that memory may be wanted before it is asked, which changes nothing
+-- a connection obeys a command, but that memory may run out before it is asked, which changes nothing
 abbrev pub ObeysOrWants : {A : Type 0} → Connected → Command → (List PromiseState → A → Reply) → Result A Refusal →
     Connected → Type 0
 ObeysOrWants old command tell result new =

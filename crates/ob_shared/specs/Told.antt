@@ -32,6 +32,6 @@ pub record IsCopiedFreely (one : Record) : Type 0 where
   pub command : writes_block one.command ≡ false
   pub few : length (settled_by one.reply) ≤ 4
 
--- what settles a promise in a history is copied without memory
+-- what settles a promise in a history is copied without an allocation
 abbrev pub IsToldFreely : List Record → PromiseId → Type 0
 IsToldFreely records id = All (λ one. settles id one ≡ true → IsCopiedFreely one) records

@@ -106,7 +106,7 @@ book 6 / n 6 + 0:ok 1:ok 2:ok 3:ok 4:ok 5:ok: place 8, t=0 cur=0, 000102030405
 settled / 0:ok 1:ok 2:ok 3:ok 4:ok 5:ok
 ";
 
-/// A pass that is booked in the end (`send`), over more blocks than promises are settled without memory.
+/// A pass that is booked in the end (`send`), over more blocks than promises are settled without an allocation.
 pub static SIX: &str = "what the sink took is booked, whichever growth is refused
 $ transport --low 200 --high 400 then 100
 4 times b 1 / id 3 t=388 w=00000000

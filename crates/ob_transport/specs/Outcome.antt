@@ -11,8 +11,8 @@ use Rattle.ob_transport.specs.declared.fault.Pass.TheVariants.{Idle, Stalled, Cl
 use Rattle.ob_transport.specs.declared.fault.PassFault.{PassFault}
 use Rattle.ob_transport.specs.declared.fault.PassFault.TheVariants.{Sink, HistoryFull, NoMemory, Unbooked}
 
--- the front is taken away by a command, with nothing offered: it is recorded; or the history is full; or memory is
--- wanted, which a reserved call does not
+-- the front is taken away by a command, with nothing offered: it is recorded; or the history is full; or memory runs
+-- out, which it never does for a reserved call
 abbrev pub Clears : ℕ → Command → Standing → Result Pass PassFault → Standing → Type 0
 Clears caller command before (Ok Idle) after = ⊥
 Clears caller command before (Ok Stalled) after = ⊥

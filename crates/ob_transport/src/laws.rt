@@ -17,7 +17,7 @@ ghost use Rattle.ob_transport.specs.declared.fault.PassFault.{PassFault};
 ghost use Rattle.ob_transport.specs.declared.fault.PassFault.TheVariants.{Unbooked};
 ghost use Rattle.ob_transport.specs.declared.limits.Limits.{Limits};
 
-/// What a pass takes is sent, and nothing else: after accepted commands the bytes and the units taken grow by just
+/// What a pass takes is sent, and nothing else: after accepted commands the bytes and the units taken grow by exactly
 /// those by which the sent ones do, but for bytes that it leaves unbooked, which stand at the front.
 pub fn what_a_pass_takes_is_sent()
     ensures alike { (limits : Limits) (caller : ℕ) (before after : Standing) (result : Result Pass PassFault) →

@@ -30,7 +30,7 @@ impl Reply {
         Ok(self.with(self.settled.copy()?))
     }
 
-    /// The same reply, in memory that was taken before. It takes no more.
+    /// The same reply, in memory that was allocated before. It allocates no more.
     pub fn copy_in(&self, spare: Spare) -> Reply
         requires { length self.now.settled ≤ spare }
         ensures { result ≡ self.now }

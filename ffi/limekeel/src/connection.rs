@@ -38,7 +38,7 @@ impl Default for Estimate {
 /// What a server has written to one client and the socket has not yet taken (Netty's `ChannelOutboundBuffer`), without
 /// end.
 ///
-/// Only [`Connection::open`], a write and a cancellation allocate. A call that is refused changes nothing.
+/// Only [`Connection::open`], a write and a cancellation need memory. A call that is refused changes nothing.
 #[derive(Debug)]
 pub struct Connection {
     pub(crate) handle: Handle,

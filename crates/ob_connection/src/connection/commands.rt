@@ -46,7 +46,7 @@ impl Connection {
 
     /// Takes the first flushed message away, as sent (Netty's `remove()`): unless it was voided its promise succeeds, and
     /// the pending bytes fall with notice. With nothing flushed nothing changes. It takes the same few steps whatever
-    /// is pending, and does not allocate.
+    /// is pending, and never runs out of memory.
     ///
     /// `Closed` comes if the connection is closed.
     pub fn remove(&mut self) -> Result<Removed, Refusal>
@@ -57,7 +57,7 @@ impl Connection {
     }
 
     /// Takes the first flushed message away as `remove` does, but as failed for this cause (Netty's
-    /// `remove(Throwable)`), and costs the same. It does not allocate.
+    /// `remove(Throwable)`), and costs the same. It never runs out of memory.
     ///
     /// `Closed` comes if the connection is closed.
     pub fn remove_with(&mut self, cause: Cause) -> Result<Removed, Refusal>
@@ -73,7 +73,7 @@ impl Connection {
     /// Each message that is gone whole is taken away as by `remove`, empty and voided ones along with the others; what
     /// is left of the bytes is skipped in the next message, and added to its progress, which stops at
     /// 9223372036854775807. So 0 bytes take away the empty messages in front. Bytes that are skipped stay pending until
-    /// their message is gone. It goes over the messages that it takes away, and one more, and does not allocate.
+    /// their message is gone. It goes over the messages that it takes away, and one more, and never runs out of memory.
     ///
     /// `Closed` comes if the connection is closed, and then `TooManyBytes` if the flushed blocks before the first other
     /// message hold fewer bytes; both leave everything as it was.
@@ -112,7 +112,7 @@ impl Connection {
     /// Takes all flushed messages away, oldest first, as failed for this cause (Netty's `failFlushed`), and returns
     /// which they were, voided ones too. The promise of each that was not voided fails. If `notify` is not set the
     /// pending bytes fall without notice: the word stays as it was, below the low mark too. It goes over the messages
-    /// that it takes away, and does not allocate.
+    /// that it takes away, and never runs out of memory.
     ///
     /// `Closed` comes if the connection is closed.
     pub fn fail_flushed(&mut self, cause: Cause, notify: bool) -> Result<Taken, Refusal>
@@ -127,7 +127,7 @@ impl Connection {
     /// Closes the connection for good: takes all messages away that no flush has reached, oldest first and without
     /// notice, fails their promises for this cause unless they were cancelled, and returns which messages they were
     /// (Netty's `close`). The word stays as it was. After it each command is refused as `Closed`, and looks still show
-    /// what there is. It goes over the messages that it takes away, and does not allocate.
+    /// what there is. It goes over the messages that it takes away, and never runs out of memory.
     ///
     /// `Closed` comes if the connection is closed already, and then `FlushedLeft` if a flushed message is left, voided ones
     /// too; both leave everything as it was.
@@ -143,7 +143,7 @@ impl Connection {
     /// Gives the connection up: fails what is flushed for this cause without notice, and closes for it, as
     /// `fail_flushed` and then `close` do, and returns one interval of all messages that were pending. The promise of
     /// each that was not cancelled in time fails. The word stays as it was. It never fails on an open connection. It
-    /// goes over the messages that it takes away, and does not allocate. Our own.
+    /// goes over the messages that it takes away, and never runs out of memory. Our own.
     ///
     /// `Closed` comes if the connection is closed, and no other refusal does.
     pub fn give_up(&mut self, cause: Cause) -> Result<Taken, Refusal>

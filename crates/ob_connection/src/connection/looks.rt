@@ -47,7 +47,7 @@ impl Connection {
     /// message that is no block, at most `max_count` of them, and together at most `max_bytes` bytes; but the first of them
     /// however long it is, and none if `max_count` is 0. They share their memory with the connection, which stays as it is.
     ///
-    /// It goes over the blocks that it gives and the empty ones that it passes, and takes memory for the list alone.
+    /// It goes over the blocks that it gives and the empty ones that it passes, and allocates the list alone.
     /// `NoMemory` comes if the allocator refused or a block has more owners than can be counted, and not if nothing is
     /// gathered.
     pub fn gather(&self, max_count: u32, max_bytes: u32) -> Result<Vec<Bytes>, Refusal>

@@ -72,8 +72,8 @@ fn shows(buffer: &Buffer, look: Look) -> bool
     buffer.look() == look
 }
 
-/// Gives a buffer the commands of the records of a legal history from one place to another. It fails for want of
-/// memory alone.
+/// Gives a buffer the commands of the records of a legal history from one place to another. It fails only if it is out
+/// of memory.
 fn go_on(buffer: &mut Buffer, records: &[Record], from: usize, to: usize) -> Result<(), AllocError>
     requires legal { IsLegal buffer.old.settings records.now }
     requires stands { StandsFor buffer.old (accepted_commands (take from records.now)) }

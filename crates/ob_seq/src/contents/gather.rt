@@ -12,7 +12,7 @@ use std::alloc::AllocError;
 const FIRST_ROOM: usize = 16;
 
 impl Contents {
-    /// The blocks in front that `Buffer::gather` gives. It takes memory for the list alone.
+    /// The blocks in front that `Buffer::gather` gives. It allocates the list alone.
     pub fn gather(&self, max_count: u32, max_bytes: u32) -> Result<Vec<Bytes>, Refusal>
         ensures blocks { IfOk result (λ blocks. blocks.items
             ≡ first_blocks max_count max_bytes (with_bytes (blocks_left (pending_entries self.now.line)))) }

@@ -35,7 +35,7 @@ impl Spare {
         })
     }
 
-    /// A copy of settlements for which there is room. It takes no further memory.
+    /// A copy of settlements for which there is room. It does not allocate.
     pub fn copy_of(self, settled: &Settlements) -> Settlements
         requires { length settled.now ≤ self }
         ensures { result ≡ settled.now }
