@@ -28,14 +28,14 @@ struct rattle_block rattle_alloc(size_t size, size_t align);
 struct rattle_block rattle_realloc(unsigned char *at, size_t kept, size_t size, size_t align);
 void rattle_dealloc(unsigned char *at);
 
-/* A block of so many bytes; of none it may be any. */
+/* A block of `size` bytes; of none it may be any. */
 struct rattle_block rattle_alloc(size_t size, size_t align)
 {
     (void)align;
     return block_or_none(malloc(size > 0 ? size : 1));
 }
 
-/* The block with another size. The first `kept` bytes stay; where memory is refused the old
+/* The block with another size. The first `kept` bytes stay; if memory is refused the old
  * block is as it was. */
 struct rattle_block rattle_realloc(unsigned char *at, size_t kept, size_t size, size_t align)
 {

@@ -2,7 +2,7 @@
  * Limekeel: an outbound buffer that a network server can trust with its memory.
  *
  * What a server has written to one client and the socket has not yet taken: Netty's
- * ChannelOutboundBuffer and WriteBufferWaterMark, without end. Each call answers what a short
+ * ChannelOutboundBuffer and WriteBufferWaterMark, without end. Each call returns what a short
  * definition says, whatever was called before; the archive liblimekeel.a was compiled from a
  * proof of that. docs/ffi.md says up to which edge.
  *
@@ -18,7 +18,7 @@
  *     limekeel_free(&connection);
  *
  * Linking. Link liblimekeel.a, and compile heap.c into the program once: it defines the three
- * functions through which the archive takes memory. `pkg-config --cflags --libs limekeel` gives
+ * functions through which the archive allocates. `pkg-config --cflags --libs limekeel` gives
  * the flags. The archive needs nothing else, and starts no thread and takes no lock.
  *
  * Ownership. A connection and a block are made as LIMEKEEL_CONNECTION and LIMEKEEL_BLOCK, which
@@ -36,8 +36,8 @@
  * a block; the block itself is used by one call at a time. No call may be made from a signal
  * handler, nor in the child of a fork of a process with threads.
  *
- * Errors. Each call answers a status, alone or as the first member of a struct: LIMEKEEL_OK, or
- * why the call did nothing. A call that did not answer LIMEKEEL_OK left everything as it was, and
+ * Errors. Each call returns a status, alone or as the first member of a struct: LIMEKEEL_OK, or
+ * why the call did nothing. A call that did not return LIMEKEEL_OK left everything as it was, and
  * all else in its struct is 0. A handle that owns nothing is LIMEKEEL_NOT_OPEN and no crash. No
  * call sets errno, aborts, or calls back. Pointers may not be NULL, but for the bytes and
  * pieces of limekeel_write, limekeel_block_new and limekeel_gather if there are none.
@@ -59,8 +59,8 @@ enum {
     LIMEKEEL_OVERSIZE = 1,         /* the message counts more than 2147483647 bytes, or a region is longer than INT64_MAX */
     LIMEKEEL_BAD_MARKS = 2,        /* the low mark is above the high mark, or that above 2147483647 */
     LIMEKEEL_TOO_MUCH = 3,         /* more than 4294967295 bytes would be pending, or 2^64 - 1 writes were accepted */
-    LIMEKEEL_CLOSED = 4,           /* the connection is closed; looks still answer */
-    LIMEKEEL_NOTHING_FLUSHED = 5,  /* progress was told of, and no message is flushed */
+    LIMEKEEL_CLOSED = 4,           /* the connection is closed; looks still work */
+    LIMEKEEL_NOTHING_FLUSHED = 5,  /* progress was to be added, and no message is flushed */
     LIMEKEEL_TOO_FAR = 6,          /* the progress of a message would pass INT64_MAX */
     LIMEKEEL_TOO_MANY_BYTES = 7,   /* the flushed blocks in front hold fewer bytes */
     LIMEKEEL_BAD_INDEX = 8,        /* the index of a user bit is 1 to 31 */
@@ -73,7 +73,7 @@ enum {
     LIMEKEEL_NO_BLOCK = 16         /* the block that is to be written owns nothing */
 };
 
-/* How a call changed writability. Each change is told once: act on it. */
+/* How a call changed writability. Each change is reported once: act on it. */
 enum {
     LIMEKEEL_UNCHANGED = 0,
     LIMEKEEL_UNWRITABLE = 1, /* stop writing */
@@ -84,7 +84,7 @@ enum {
 enum {
     LIMEKEEL_NO_OUTCOME = 0,
     LIMEKEEL_SUCCESS = 1,  /* the message was sent */
-    LIMEKEEL_FAILED = 2,   /* it was given up, for the cause that is told */
+    LIMEKEEL_FAILED = 2,   /* it was given up, for the cause that is reported */
     LIMEKEEL_CANCELLED = 3 /* it was taken back before a flush */
 };
 
@@ -94,7 +94,7 @@ enum {
     LIMEKEEL_WAITING = 1,       /* it may still be cancelled */
     LIMEKEEL_FIXED = 2,         /* it can no longer be cancelled */
     LIMEKEEL_SETTLED = 3,       /* it was cancelled, and its message still waits */
-    LIMEKEEL_SETTLED_BEFORE = 4 /* its message is gone; the call that took it away told the outcome */
+    LIMEKEEL_SETTLED_BEFORE = 4 /* its message is gone; the call that took it away reported the outcome */
 };
 
 /* What stands in front: limekeel_gathered.front. */
@@ -183,8 +183,8 @@ struct limekeel_look {
     uint32_t status;
     uint32_t total;             /* the pending bytes */
     uint32_t word;              /* bit 0: the mark; bit i: user bit i. 0: writable */
-    uint32_t before_unwritable; /* so many more bytes make a writable connection unwritable, else 0 */
-    uint32_t before_writable;   /* so many fewer bring an unwritable one below its low mark, else 0 */
+    uint32_t before_unwritable; /* how many more bytes make a writable connection unwritable, else 0 */
+    uint32_t before_writable;   /* how many fewer bring an unwritable one below its low mark, else 0 */
     uint64_t size;              /* how many messages are flushed and not removed */
     uint64_t current_progress;  /* the progress of the first of them */
 };
@@ -210,7 +210,7 @@ struct limekeel_front {
 struct limekeel_current {
     uint32_t status;
     uint32_t kind;
-    uint64_t number; /* bytes that are left of a block or a region, or the number of another message */
+    uint64_t number; /* bytes that are left of a block, the length of a region, or the number of another message */
 };
 
 struct limekeel_gathered {
@@ -225,7 +225,7 @@ struct limekeel_gathered {
 uint32_t limekeel_open(struct limekeel_connection *connection, uint32_t low, uint32_t high, uint32_t overhead,
                        uint32_t unknown);
 
-/* Frees a connection with all that waits in it. Promises that wait are not told. */
+/* Frees a connection with all that waits in it. Promises that wait are not reported. */
 uint32_t limekeel_free(struct limekeel_connection *connection);
 
 /* Copies bytes into a block. */
@@ -234,7 +234,7 @@ uint32_t limekeel_block_of_bytes(struct limekeel_block *block, const uint8_t *by
 /* Lets a block go. The memory is freed with the last message that shares it. */
 uint32_t limekeel_block_free(struct limekeel_block *block);
 
-/* Writes a copy of these bytes behind all else. They wait, and are not sent before a flush.
+/* Writes a copy of these bytes after all else. They wait, and are not sent before a flush.
  * LIMEKEEL_NO_MEMORY may come before any other refusal, since the copy is made first. */
 struct limekeel_written limekeel_write_bytes(struct limekeel_connection *connection, const uint8_t *bytes,
                                               size_t length);
@@ -242,7 +242,7 @@ struct limekeel_written limekeel_write_bytes(struct limekeel_connection *connect
 /* Writes the bytes of a block, which the message then shares: nothing is copied. */
 struct limekeel_written limekeel_write_block(struct limekeel_connection *connection, struct limekeel_block *block);
 
-/* Writes a region: so many bytes of something that you send yourself, as of a file by sendfile. */
+/* Writes a region: `length` bytes of something that you send yourself, as of a file by sendfile. */
 struct limekeel_written limekeel_write_region(struct limekeel_connection *connection, uint64_t length);
 
 /* Writes any other message, by a number that means something to you alone. */
@@ -256,11 +256,11 @@ struct limekeel_flushed limekeel_flush(struct limekeel_connection *connection);
 struct limekeel_removed limekeel_remove(struct limekeel_connection *connection);
 struct limekeel_removed limekeel_remove_with(struct limekeel_connection *connection, uint32_t cause);
 
-/* Takes n bytes off the flushed blocks in front, as sent: what writev answered. A message that is
+/* Takes n bytes off the flushed blocks in front, as sent: what writev returned. A message that is
  * sent whole is gone, and empty ones with it, so call it with 0 if only empty blocks stand in front. */
 struct limekeel_taken limekeel_take_sent(struct limekeel_connection *connection, uint64_t n);
 
-/* Tells of n more bytes of progress of the first flushed message, as of a region. */
+/* Adds n bytes to the progress of the first flushed message, as of a region. */
 uint32_t limekeel_progress(struct limekeel_connection *connection, uint64_t n);
 
 /* Takes a promise back, if no flush has fixed it yet. */
@@ -293,7 +293,7 @@ struct limekeel_current limekeel_current(struct limekeel_connection *connection)
 
 /* Fills pieces with where the flushed blocks in front lie that hold a byte, up to the first message
  * that is no block: at most `length` and LIMEKEEL_PIECES of them, and at most max_bytes bytes, but
- * the first in any case. The other pieces stay as they were. It takes no memory. */
+ * the first in any case. The other pieces stay as they were. It does not allocate. */
 struct limekeel_gathered limekeel_gather_pieces(struct limekeel_connection *connection, struct limekeel_piece *pieces,
                                                 size_t length, uint32_t max_bytes);
 

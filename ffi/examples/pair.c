@@ -156,7 +156,7 @@ static void open_sender(struct sender *sender)
         fail("block_new", status);
 }
 
-/* Misuse is told, and does no harm. */
+/* Misuse is reported, and does no harm. */
 static void misuse(void)
 {
     struct limekeel_connection none = LIMEKEEL_CONNECTION;

@@ -1,6 +1,6 @@
 /*
- * Each growth of memory refused, in turn: the call that wanted it says LIMEKEEL_NO_MEMORY and changes nothing, and when it
- * is made again all goes on as if nothing had been refused. Links no heap.c: the heap here refuses.
+ * Each growth of memory refused, in turn: the call that asked for it says LIMEKEEL_NO_MEMORY and changes nothing, and
+ * when it is made again all goes on as if nothing had been refused. Links no heap.c: the heap here refuses.
  */
 #include <stdio.h>
 #include <stdlib.h>
@@ -66,7 +66,7 @@ static bool same(struct limekeel_look one, struct limekeel_look other)
 
 static int wanted;
 
-/* A write, made again if memory was wanted. */
+/* A write, made again if memory was refused. */
 static struct limekeel_written written(struct limekeel_connection *connection, struct limekeel_block *block,
                                        const char *text)
 {
@@ -81,7 +81,7 @@ static struct limekeel_written written(struct limekeel_connection *connection, s
     }
 }
 
-/* A life of a connection. Answers how often memory was wanted. */
+/* A life of a connection. Returns how often memory was refused. */
 static int life(void)
 {
     struct limekeel_connection connection = LIMEKEEL_CONNECTION;

@@ -1,4 +1,4 @@
--- What the pointer of a handle tells of its value. Assumes `Logic`.
+-- What the pointer of a handle says of its value. Assumes `Logic`.
 use Rattle.std.proofs.Common.{◌≡◌, ℕ, List, ◌∷◌, refl}
 use Rattle.std.specs.Prelude.{Option, Some, None}
 use seplogic.Ra.Ura.{Ura}

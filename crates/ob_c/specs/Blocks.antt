@@ -9,7 +9,7 @@ use Rattle.ob_c.specs.Obeying.{ObeysOrWantsFor}
 use Rattle.ob_c.specs.Replies.{written_in_c}
 use Rattle.ob_c.specs.declared.replies.Written.{Written}
 
--- a block is made of these bytes, unless there is one already or memory is wanted
+-- a block is made of these bytes, unless there is one already or memory runs out
 abbrev pub IsMadeOf : Option (List ℕ) → List ℕ → ℕ → Option (List ℕ) → Type 0
 IsMadeOf (Some old) bytes status new = (status ≡ already_open) × (new ≡ Some old)
 IsMadeOf None bytes status None = status ≡ no_memory

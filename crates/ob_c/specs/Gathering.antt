@@ -16,20 +16,22 @@ most_pieces = 64
 abbrev pub piece_length : Piece → ℕ
 piece_length piece = piece.length
 
--- what stands in front, if so many pieces were filled: 0 nothing, 1 blocks, 2 empty blocks, 3 a region, 4 another message
+-- what stands in front, if `count` pieces were filled: 0 nothing, 1 blocks, 2 empty blocks, 3 a region, 4 another
+-- message
 abbrev pub front_number : Option Message → ℕ → ℕ
 front_number None count = 0
 front_number (Some (Block bytes)) count = if nat_eq count 0 && nat_eq (length bytes) 0 then 2 else 1
 front_number (Some (Region size)) count = 3
 front_number (Some (Other value)) count = 4
 
--- so many pieces have the lengths of the blocks that are gathered from a connection, for at most so many and so many bytes
+-- `count` pieces have the lengths of the blocks that are gathered from a connection, for at most `most` blocks and
+-- `max_bytes` bytes
 abbrev pub gathered_as : Connected → ℕ → ℕ → ℕ → List Piece → Type 0
 gathered_as connection most max_bytes count pieces =
     (blocks : List (List ℕ)) × AreGathered connection most max_bytes blocks × (count ≡ length blocks)
     × (map piece_length (take count pieces) ≡ map (λ block. length block) blocks)
 
--- the same for so many pieces, of which at most 64 are filled
+-- the same for `given` pieces, of which at most 64 are filled
 abbrev pub AreLaid : Connected → ℕ → ℕ → ℕ → List Piece → Type 0
 AreLaid connection given max_bytes count pieces = gathered_as connection (min most_pieces given) max_bytes count pieces
 

@@ -62,7 +62,8 @@ front_in_c None = record { status = not_open; any = false; id = 0 }
 front_in_c (Some None) = record { status = done; any = false; id = 0 }
 front_in_c (Some (Some id)) = record { status = done; any = true; id = id }
 
--- what is left of the front: 0 nothing, 1 a block of so many bytes, 2 a region of so many, 3 another with its number
+-- what is left of the front: 0 nothing, 1 a block with its length, 2 a region with its length, 3 another with its
+-- number
 abbrev pub current_in_c : Option (Option Message) → Current
 current_in_c None = record { status = not_open; kind = 0; number = 0 }
 current_in_c (Some None) = record { status = done; kind = 0; number = 0 }

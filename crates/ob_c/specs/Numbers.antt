@@ -11,7 +11,7 @@ use Rattle.ob_types.specs.declared.reply.Change.TheVariants.{Unwritable, Writabl
 abbrev pub done : ℕ
 done = 0
 
--- the status of a call that wanted memory, which the allocator refused
+-- the status of a call that is out of memory
 abbrev pub no_memory : ℕ
 no_memory = 12
 
@@ -31,7 +31,7 @@ bad_estimate = 15
 abbrev pub no_block : ℕ
 no_block = 16
 
--- what a call has to tell: its reply, or else the status of a handle that holds nothing, or of its refusal
+-- what a call has to report: its reply, or else the status of a handle that holds nothing, or of its refusal
 abbrev pub accepted : {A : Type 0} → Option (Result A Refusal) → Result A ℕ
 accepted None = Err not_open
 accepted (Some (Err refusal)) = Err (number_of refusal)

@@ -33,7 +33,7 @@ abbrev pub ObeysFor : {A C : Type 0} → Option Connected → Command → (List 
 ObeysFor handle command tell in_c told new =
     Answers handle (λ old result after. Obeys old command tell result after) in_c told new
 
--- the same of a command that takes no memory, and so never tells that it is wanted
+-- the same of a command that does not allocate, and so never reports that it is out of memory
 abbrev pub ObeysFrugallyFor : {A C : Type 0} → Option Connected → Command → (List PromiseState → A → Reply) →
     (Result A ℕ → C) → C → Option Connected → Type 0
 ObeysFrugallyFor handle command tell in_c told new =
@@ -48,7 +48,7 @@ Takes command outcome old result new =
 abbrev pub TakesFor : Option Connected → Command → Outcome → Taken → Option Connected → Type 0
 TakesFor handle command outcome told new = Answers handle (Takes command outcome) taken_in_c told new
 
--- a connection obeys a command, but that memory may be wanted before it is asked, which changes nothing
+-- a connection obeys a command, but that memory may run out before it is asked, which changes nothing
 abbrev pub ObeysOrWants : {A : Type 0} → Connected → Command → (List PromiseState → A → Reply) → Result A Refusal →
     Connected → Type 0
 ObeysOrWants old command tell result new =

@@ -24,7 +24,7 @@ abbrev pub settings_of : ℕ → ℕ → ℕ → ℕ → Result Settings ℕ
 settings_of low high overhead unknown = settings_with (water_mark_of low high) overhead unknown
 
 -- a connection with these settings and nothing written is opened, unless there is one already, they are refused, or
--- memory is wanted
+-- memory runs out
 abbrev pub Opens : Option Connected → Result Settings ℕ → ℕ → Option Connected → Type 0
 Opens (Some old) settings status new = (status ≡ already_open) × (new ≡ Some old)
 Opens None (Err refused) status new = (status ≡ refused) × (new ≡ None)

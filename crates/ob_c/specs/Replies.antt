@@ -1,5 +1,5 @@
--- What the structs that cross to C say of the reply to a command, or of the status in its place. The status comes first; where
--- it is not 0 all else is.
+-- What the structs that cross to C say of the reply to a command, or of the status in its place. The status comes
+-- first; if it is not 0, all else is 0.
 use Rattle.std.specs.Prelude.{ℕ, Bool, true, false, Option, Some, None, Result, Ok, Err}
 use Rattle.ob_types.specs.declared.promise.Outcome.{Outcome}
 use Rattle.ob_types.specs.declared.reply.Change.{Change}

@@ -9,7 +9,7 @@ use std::alloc::Global;
 
 /// Copies bytes into a block, which writes to any number of connections then share.
 ///
-/// The status is 14 if the block holds bytes already, and 12 if memory is wanted.
+/// The status is 14 if the block holds bytes already, and 12 if it is out of memory.
 #[unsafe(no_mangle)]
 pub extern "C" fn limekeel_block_of_bytes(alloc: Global, block: &mut Block, bytes: &[u8]) -> u32
     ensures { IsMadeOf block.old.value bytes.now result block.new.value }

@@ -22,7 +22,7 @@ pub extern "C" fn limekeel_flush(alloc: Global, handle: &mut Handle) -> Flushed
     Flushed::of(handle.command(alloc, |connection| connection.flush()))
 }
 
-/// Tells of so many more bytes of progress of the first flushed message.
+/// Adds *n* bytes to the progress of the first flushed message.
 #[unsafe(no_mangle)]
 pub extern "C" fn limekeel_progress(alloc: Global, handle: &mut Handle, n: u64) -> u32
     ensures { ObeysFrugallyFor handle.old.value (Progress n) done_reply status_in_c result handle.new.value }

@@ -16,7 +16,7 @@ use std::io::IoSlice;
 /// The most pieces that are given at once.
 const MOST_PIECES: usize = 64;
 
-/// Up to so many pieces are found in less room.
+/// Up to this many pieces are found in less room.
 const FEW_PIECES: usize = 16;
 
 /// What was gathered.
@@ -60,7 +60,7 @@ pub extern "C" fn limekeel_gather_pieces(
     }
 }
 
-/// Fills pieces from a connection, and answers how many.
+/// Fills pieces from a connection, and returns how many.
 fn lay(connection: &Connection, pieces: &mut [Piece], max_bytes: u32) -> usize
     ensures laid { AreLaid connection.now (length pieces.old) max_bytes result pieces.new }
     ensures rest { drop result pieces.new ≡ drop result pieces.old }
@@ -102,7 +102,7 @@ fn place(slices: &[IoSlice<'_>], pieces: &mut [Piece])
     }
 }
 
-/// The number of what stands in front, where so many pieces were filled.
+/// The number of what stands in front, if `count` pieces were filled.
 fn front_number(message: Option<&Message>, count: usize) -> u32
     ensures { result ≡ front_number (option_copied message.entry) count }
 {

@@ -8,7 +8,7 @@ use ob_types::{Change, Outcome, Refusal};
 /// The status of a call that was accepted.
 pub(crate) const DONE: u32 = 0;
 
-/// The status of a call that wanted memory, which the allocator refused.
+/// The status of a call that is out of memory.
 pub(crate) const NO_MEMORY: u32 = 12;
 
 /// The status of a call with a handle that holds nothing.
@@ -23,7 +23,7 @@ pub(crate) const BAD_ESTIMATE: u32 = 15;
 /// The status of a write of a block that holds no bytes.
 pub(crate) const NO_BLOCK: u32 = 16;
 
-/// What a call has to tell: its reply, or else the status of a handle that holds nothing, or of its refusal.
+/// What a call has to report: its reply, or else the status of a handle that holds nothing, or of its refusal.
 pub(crate) fn accepted<T>(answer: Option<Result<T, Refusal>>) -> Result<T, u32>
     ensures { result ≡ accepted answer }
 {

@@ -18,7 +18,8 @@ const MAX_ESTIMATE: u32 = 65535;
 /// Opens a connection with nothing written. The marks, the overhead of a message and the size of a message that is
 /// neither a block nor a region are in bytes.
 ///
-/// The status is 14 if the handle holds a connection, 2 for bad marks, 15 for a bad estimate and 12 if memory is wanted.
+/// The status is 14 if the handle holds a connection, 2 for bad marks, 15 for a bad estimate and 12 if it is out of
+/// memory.
 #[unsafe(no_mangle)]
 pub extern "C" fn limekeel_open(
     alloc: Global,

@@ -28,7 +28,7 @@ pub extern "C" fn limekeel_remove_with(alloc: Global, handle: &mut Handle, cause
     Removed::of(handle.command(alloc, |connection| connection.remove_with(Cause(cause))))
 }
 
-/// Takes so many bytes off the flushed blocks in front, as sent, and tells which messages it took away.
+/// Takes *n* bytes off the flushed blocks in front, as sent, and returns which messages it took away.
 #[unsafe(no_mangle)]
 pub extern "C" fn limekeel_take_sent(alloc: Global, handle: &mut Handle, n: u64) -> Taken
     ensures { TakesFor handle.old.value (RemoveBytes n) Success result handle.new.value }
@@ -36,7 +36,7 @@ pub extern "C" fn limekeel_take_sent(alloc: Global, handle: &mut Handle, n: u64)
     Taken::of(handle.command(alloc, |connection| connection.take_sent(n)))
 }
 
-/// Takes all flushed messages away, as failed for this cause, and tells which they were.
+/// Takes all flushed messages away, as failed for this cause, and returns which they were.
 #[unsafe(no_mangle)]
 pub extern "C" fn limekeel_fail_flushed(
     alloc: Global,
@@ -53,7 +53,8 @@ pub extern "C" fn limekeel_fail_flushed(
     ))
 }
 
-/// Closes the connection for good: fails the messages that no flush has reached for this cause, and tells which they were.
+/// Closes the connection for good: fails the messages that no flush has reached for this cause, and returns which they
+/// were.
 #[unsafe(no_mangle)]
 pub extern "C" fn limekeel_close(alloc: Global, handle: &mut Handle, cause: u32) -> Taken
     ensures { TakesFor handle.old.value (Close (record { 0 = cause })) (Failed (record { 0 = cause })) result handle.new.value }

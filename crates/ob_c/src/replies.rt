@@ -1,4 +1,4 @@
-//! What the commands tell C, by value. Each begins with its status; where that is not 0 all else is.
+//! What the commands return to C, by value. Each begins with its status; if that is not 0, all else is 0.
 
 ghost use Rattle.std.specs.Prelude.{◌≡◌};
 ghost use Rattle.ob_c.specs.Replies.{written_in_c, flushed_in_c, removed_in_c, taken_in_c, cancelled_in_c, changed_in_c};
@@ -8,7 +8,7 @@ ghost use Rattle.ob_c.specs.Numbers.{change_number};
 use crate::numbers::{DONE, cause_number, change_number, outcome_number};
 use ob_types::Change;
 
-/// What a write tells.
+/// What a write returns.
 #[repr(C)]
 #[derive(Clone, Copy)]
 pub struct Written {
@@ -21,7 +21,7 @@ pub struct Written {
 }
 
 impl Written {
-    /// What C is told of this answer.
+    /// What C gets for this answer.
     pub(crate) fn of(answer: Result<ob_connection::Written, u32>) -> Written
         ensures { result ≡ written_in_c answer }
     {
@@ -40,7 +40,7 @@ impl Written {
     }
 }
 
-/// What a flush tells.
+/// What a flush returns.
 #[repr(C)]
 #[derive(Clone, Copy)]
 pub struct Flushed {
@@ -53,7 +53,7 @@ pub struct Flushed {
 }
 
 impl Flushed {
-    /// What C is told of this answer.
+    /// What C gets for this answer.
     pub(crate) fn of(answer: Result<ob_connection::Flushed, u32>) -> Flushed
         ensures { result ≡ flushed_in_c answer }
     {
@@ -72,7 +72,7 @@ impl Flushed {
     }
 }
 
-/// What the removal of the first flushed message tells.
+/// What the removal of the first flushed message returns.
 #[repr(C)]
 #[derive(Clone, Copy)]
 pub struct Removed {
@@ -93,7 +93,7 @@ pub struct Removed {
 }
 
 impl Removed {
-    /// What C is told of this answer.
+    /// What C gets for this answer.
     pub(crate) fn of(answer: Result<ob_connection::Removed, u32>) -> Removed
         ensures { result ≡ removed_in_c answer }
     {
@@ -111,7 +111,7 @@ impl Removed {
         }
     }
 
-    /// What C is told of a removal.
+    /// What C gets for a removal.
     fn done(reply: ob_connection::Removed) -> Removed
         ensures { result ≡ removed_with (change_number reply.change) reply.any reply.settled }
     {
@@ -139,7 +139,7 @@ impl Removed {
     }
 }
 
-/// What a call tells that takes several messages away. It settled each promise from `from` on and below `to` that was
+/// What a call returns that takes several messages away. It settled each promise from `from` on and below `to` that was
 /// not settled before.
 #[repr(C)]
 #[derive(Clone, Copy)]
@@ -156,12 +156,12 @@ pub struct Taken {
     pub count: u64,
     /// The promise of the first of them.
     pub from: u64,
-    /// The promise behind that of the last.
+    /// The promise after that of the last.
     pub to: u64,
 }
 
 impl Taken {
-    /// What C is told of this answer.
+    /// What C gets for this answer.
     pub(crate) fn of(answer: Result<ob_connection::Taken, u32>) -> Taken
         ensures { result ≡ taken_in_c answer }
     {
@@ -188,7 +188,7 @@ impl Taken {
     }
 }
 
-/// What a cancellation tells.
+/// What a cancellation returns.
 #[repr(C)]
 #[derive(Clone, Copy)]
 pub struct Cancelled {
@@ -199,7 +199,7 @@ pub struct Cancelled {
 }
 
 impl Cancelled {
-    /// What C is told of this answer.
+    /// What C gets for this answer.
     pub(crate) fn of(answer: Result<bool, u32>) -> Cancelled
         ensures { result ≡ cancelled_in_c answer }
     {
@@ -211,7 +211,7 @@ impl Cancelled {
     }
 }
 
-/// What a change of a user bit tells.
+/// What a change of a user bit returns.
 #[repr(C)]
 #[derive(Clone, Copy)]
 pub struct Changed {
@@ -222,7 +222,7 @@ pub struct Changed {
 }
 
 impl Changed {
-    /// What C is told of this answer.
+    /// What C gets for this answer.
     pub(crate) fn of(answer: Result<Option<Change>, u32>) -> Changed
         ensures { result ≡ changed_in_c answer }
     {

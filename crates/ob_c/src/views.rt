@@ -1,4 +1,4 @@
-//! What the looks tell C, by value. Each begins with its status; where that is not 0 all else is.
+//! What the looks return to C, by value. Each begins with its status; if that is not 0, all else is 0.
 
 ghost use Rattle.std.specs.Option.{option_copied};
 ghost use Rattle.std.specs.Prelude.{◌≡◌, option_map, Some, None};
@@ -29,7 +29,7 @@ pub struct Look {
 }
 
 impl Look {
-    /// What C is told of this look.
+    /// What C gets for this look.
     pub(crate) fn of(look: Option<ob_connection::Look>) -> Look
         ensures { result ≡ look_in_c look }
     {
@@ -67,7 +67,7 @@ pub struct Truth {
 }
 
 impl Truth {
-    /// What C is told of this answer.
+    /// What C gets for this answer.
     pub(crate) fn of(answer: Option<bool>) -> Truth
         ensures { result ≡ truth_in_c answer }
     {
@@ -111,7 +111,7 @@ impl Promise {
         }
     }
 
-    /// What C is told of this promise.
+    /// What C gets for this promise.
     pub(crate) fn of(promise: Option<Option<Status>>) -> Promise
         ensures { result ≡ promise_in_c promise }
     {
@@ -144,7 +144,7 @@ pub struct Front {
 }
 
 impl Front {
-    /// What C is told of this promise.
+    /// What C gets for this promise.
     pub(crate) fn of(front: Option<Option<u64>>) -> Front
         ensures { result ≡ front_in_c front }
     {
@@ -170,7 +170,7 @@ pub struct Current {
 }
 
 impl Current {
-    /// What C is told if there is no connection.
+    /// What C gets if there is no connection.
     pub(crate) fn not_open() -> Current
         ensures { result ≡ current_in_c None }
     {
@@ -181,7 +181,7 @@ impl Current {
         }
     }
 
-    /// What C is told of this front.
+    /// What C gets for this front.
     pub(crate) fn of(message: Option<&Message>) -> Current
         ensures { result ≡ current_in_c (Some (option_copied message.entry)) }
     {

@@ -19,7 +19,7 @@ use std::alloc::Global;
 
 /// Writes a copy of these bytes.
 ///
-/// The status is 12 if memory is wanted, also before the connection is asked; it is as it was then.
+/// The status is 12 if it is out of memory, also before the connection is asked; the connection is as it was then.
 #[unsafe(no_mangle)]
 pub extern "C" fn limekeel_write_bytes(alloc: Global, handle: &mut Handle, bytes: &[u8]) -> Written
     ensures { ObeysOrWantsFor handle.old.value (Write (AsBlock bytes.now)) written_reply written_in_c result
@@ -52,7 +52,7 @@ pub extern "C" fn limekeel_write_block(
     Written::of(answer)
 }
 
-/// Writes a region of so many bytes, which the transport sends by itself.
+/// Writes a region of `length` bytes, which the transport sends by itself.
 #[unsafe(no_mangle)]
 pub extern "C" fn limekeel_write_region(alloc: Global, handle: &mut Handle, length: u64) -> Written
     ensures { ObeysFor handle.old.value (Write (AsRegion length)) written_reply written_in_c result handle.new.value }

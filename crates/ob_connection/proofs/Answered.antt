@@ -42,7 +42,7 @@ stopped_later earlier now ending took stopped = record {
   ends = stopped.ends;
 }
 
--- a turn behind others that the socket took bytes in
+-- a turn after others that the socket took bytes in
 one_more : (turns : ℕ) (earlier now : List Answered) (ending : Ending) → EndsWithin turns earlier TurnsUsed →
     EndsWithin 1 now ending → EndsWithin (turns + 1) (earlier ++ now) ending
 one_more turns earlier now Drained before ends =
@@ -102,7 +102,7 @@ module _ (Due : ℕ → List ℕ → Type 0) where
         (offers_as Here further same (taken + bytes_of call.answer) calls offers.1),
   )
 
-  -- calls behind others
+  -- calls after others
   offers_more : (taken : ℕ) (earlier now : List Call) → OffersInTurns Due taken earlier →
       OffersInTurns Due (taken + sum_by (λ call. bytes_of call.answer) earlier) now →
       OffersInTurns Due taken (earlier ++ now)
@@ -115,7 +115,7 @@ module _ (Due : ℕ → List ℕ → Type 0) where
   )
 
   module _ {turns first : ℕ} {before : Option (List Call)} {mid : Option (List Call)} where
-    -- turns behind which the sending goes on, and one more
+    -- turns after which the sending goes on, and one more
     pub asks_more : {more : ℕ} {was ending : Ending} {after : Option (List Call)} → was ≡ TurnsUsed →
         (Here : ℕ → List ℕ → Type 0) → ((taken : ℕ) (bytes : List ℕ) → Here taken bytes → Due (first + taken) bytes) →
         AsksInTurns Due turns first before was mid → AsksInTurns Here 1 more mid ending after →

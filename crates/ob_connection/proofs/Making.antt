@@ -17,7 +17,7 @@ makes_refused old step refusal other is = record {
   no_memory_last = λ wants. absurd (other (cc));
 }
 
--- a step that wants memory, and is not refused else
+-- a step that is out of memory, and is not refused otherwise
 makes_wanting : (old : Pending) (step : Step) → old.closed ≡ false → step.refusal ≡ None →
     Makes old step (Err NoMemory) old
 makes_wanting old step unclosed none = record {
@@ -58,7 +58,7 @@ module _ {A : Type 0} (step : Pending → Step) (tell : List PromiseState → A 
       refused = refl;
     })
 
-    -- it wants memory if nothing else refuses it
+    -- it may be out of memory if nothing else refuses it
     pub wanting : (new : Connected) → new ≡ inside → ((past : Past inside) → (step (held past)).refusal ≡ None) →
         Steps step old tell (Err NoMemory) new
     wanting new same none =

@@ -7,7 +7,7 @@ use Rattle.ob_seq.specs.Answer.{are_accepted_within}
 use Rattle.ob_connection.specs.Obeying.{Accepts}
 use Rattle.ob_seq.proofs.Simulating.Simulated.{answer_is, goes_on, simulated}
 
--- a result that is told wants memory exactly if it does
+-- a result as the model's is out of memory exactly if it is
 told_wants : {A : Type 0} (tell : A → Reply) (result : Result A Refusal) → IsErrOf (told_by tell result) NoMemory →
     IsErrOf result NoMemory
 told_wants tell (Ok value) wants = absurd (cc)
@@ -18,7 +18,7 @@ wants_told : {A : Type 0} (tell : A → Reply) (result : Result A Refusal) → I
 wants_told tell (Ok value) wants = absurd (cc)
 wants_told tell (Err refusal) wants = cc
 
--- a step that answers is neither refused as closed nor else
+-- a step that replies is neither refused as closed nor otherwise
 answered : (old : Pending) (step : Step) (reply : Reply) → Ok reply ≡ answer_by old step →
     (old.closed ≡ false) × (step.refusal ≡ None)
 answered old step reply said = grind arith

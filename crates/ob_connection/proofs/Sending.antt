@@ -77,7 +77,7 @@ by_tests : (closed few : Bool) (reply : Reply) (refusal : Refusal) → closed �
     Err refusal ≡ unless_refused first reply) → ⊥
 by_tests closed few reply refusal unclosed enough same = grind arith
 
--- so an open connection does not refuse to take so many away
+-- so an open connection does not refuse to take as many away
 pub not_refused : (settings : Settings) (commands : List Command) (n : ℕ) (refusal : Refusal) →
     is_closed commands ≡ false → n ≤ bytes_in (byte_run (rows_after settings.estimate commands)) →
     Err refusal ≡ answer_of_connection settings commands (RemoveBytes n) → ⊥
@@ -104,7 +104,7 @@ is_empty now none commands stands = let same = line_count now commands stands in
 is_not_empty : (now : Connected) → 0 < length now.unsent.line → Gives now empty_after false
 is_not_empty now some commands stands = let same = line_count now commands stands in grind (arith, nat_tests)
 
--- what is left where a sending ended so, by the history
+-- what is left when a sending ended so, by the history
 pub ends_are : (now : Connected) (ending : Ending) → EndsAt now.unsent ending → Ends now ending
 ends_are now Drained none = is_empty now none
 ends_are now NoRoom some = is_not_empty now some
@@ -138,7 +138,7 @@ asked_for (Took count) blocks nothing something = let some = something (λ same.
 asked_for AskedBlocked blocks nothing something = let some = something (λ same. absurd (cc)) in grind (arith, nat_tests)
 asked_for AskedBroken blocks nothing something = let some = something (λ same. absurd (cc)) in grind (arith, nat_tests)
 
--- what an open connection asks of a socket that it made an offer, and tells
+-- what an open connection asks of a socket that it made an offer, and reports
 pub asks_by : {inside now : Connected} → inside ≡ now → Gives now closed_after false → (max_count max_bytes : ℕ) →
     (sent_before sent_after : Option (List ℕ)) (before after : Option (List Call)) (offer : Offer) →
     Offers (min most_pieces max_count) max_bytes inside.unsent sent_before before offer sent_after after →
@@ -161,7 +161,7 @@ asks_by {now = now} view unclosed max_count max_bytes sent_before sent_after bef
       told = λ commands stands. told ∙ ap (λ closed. sent_or_fault closed (answer_of offer)) (unclosed commands stands);
     }
 
--- what is left once so many bytes were taken away is what is gathered behind a removal of them
+-- what is left once `taken` bytes were taken away is what is gathered after a removal of them
 pub due_after : {now : Connected} → Gives now closed_after false → (max_bytes taken : ℕ) (bytes : List ℕ) →
     IsLeft max_bytes now taken bytes → IsDue max_bytes now taken bytes
 due_after {now} unclosed max_bytes taken bytes left = record {

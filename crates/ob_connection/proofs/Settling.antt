@@ -26,7 +26,7 @@ use Rattle.ob_connection.specs.declared.replies.Taken.{Taken}
 use Rattle.ob_connection.proofs.Kept.{front_id_there}
 use Rattle.ob_connection.proofs.Making.{nothing_turned}
 
--- the promises of the first so many entries in line settle what the entries do
+-- the promises of the first `count` entries in line settle what the entries do
 settled_entries : (outcome : Outcome) (id count : ℕ) (line : List Entry) (rest : List PromiseState) →
     count ≤ length line →
     settled_from outcome id (take count (map fixed_state line ++ rest))
@@ -49,7 +49,7 @@ abbrev pub taken_between : ℕ → ℕ → Outcome → Option Change → Taken
 taken_between from to outcome change =
     record { count = to - from; change = change; from = from; to = to; outcome = outcome }
 
--- so many in line that were taken away are told as the model tells them
+-- the first `count` in line that were taken away are reported as the model reports them
 pub line_replied : {connection : Connected} (past : Past connection) (to count : ℕ) (outcome : Outcome)
     (change told : Option Change) → to ≡ connection.gone + count → count ≤ length connection.unsent.line →
     change ≡ told →
@@ -76,7 +76,7 @@ settled_failures : (cause : Cause) (id : ℕ) (unflushed : List Entry) →
 settled_failures cause id [] = refl
 settled_failures cause id (entry ∷ unflushed) = let more = settled_failures cause (suc id) unflushed in grind arith
 
--- so a close tells them as the model does
+-- so a close reports them as the model does
 pub close_replied : {connection : Connected} (past : Past connection) (to : ℕ) (cause : Cause)
     (change told : Option Change) → to ≡ connection.gone + length connection.unsent.unflushed →
     length connection.unsent.line ≡ 0 → change ≡ told →

@@ -128,7 +128,7 @@ offered_some max_count max_bytes unsent some =
     holds_bytes (run_of unsent)
     (omega (arith, some, length-take (min max_count (max 1 (pieces_within max_bytes holding))) holding))
 
--- what is left behind a turn is left from the start, so many bytes further on
+-- what is left after a turn is left from the start, `a` bytes further on
 pub left_further : (old mid : Connected) (a : ℕ) → Becomes (removed a) old mid → a ≤ bytes_in (run_of old.unsent) →
     (max_bytes taken : ℕ) (bytes : List ℕ) → IsLeft max_bytes mid taken bytes → IsLeft max_bytes old (a + taken) bytes
 left_further old mid a first fits max_bytes taken bytes left =

@@ -48,7 +48,7 @@ module _ (n : ℕ) (piece : List ℕ) (pieces : List (List ℕ)) where
   cut_within : n < length piece → whole_cut n (piece ∷ pieces) ≡ record { whole = 0; rest = n }
   cut_within few = rw (within_is_fitting n (piece ∷ pieces)) (grind (arith, nat_tests))
 
--- a removal of nothing where nothing is left
+-- a removal of nothing when nothing is left
 pub removed_none : (now : Pending) → blocks_left now.line ≡ [] → removed 0 now ≡ now
 removed_none now none =
     ap (λ pieces. bytes_removed (whole_cut 0 pieces) now) none ∙ ap (λ cut. bytes_removed cut now) (cut_at_end 0)
@@ -153,7 +153,7 @@ order zero n = inl (omega arith)
 order (suc m) zero = inr (omega arith)
 order (suc m) (suc n) = elim (order m n) [ inl less ↦ inl (omega (arith, less)) | inr more ↦ inr (omega (arith, more)) ]
 
--- a removal behind another one is as one of all the bytes
+-- a removal after another one is as one of all the bytes
 pub record InTurns (a b : ℕ) (now : Pending) : Type 0 where
   pub state : removed b (removed a now) ≡ removed (a + b) now
   pub whole : (cut_at a now).whole + (cut_at b (removed a now)).whole ≡ (cut_at (a + b) now).whole
@@ -175,7 +175,7 @@ none_at_end now none zero zero within = at_end now none
 none_at_end now none (suc a) b within = absurd (omega (arith, within))
 none_at_end now none zero (suc b) within = absurd (omega (arith, within))
 
--- where the first of two ends behind the front
+-- if the first of two ends behind the front
 module _ (now : Pending) (entry : PendingEntry) (entries : List PendingEntry) (is : now.line ≡ entry ∷ entries)
     {bytes : List ℕ} (block : entry.message ≡ Block bytes) (a b : ℕ) where
   turns_behind : length bytes ≤ a → InTurns (a - length bytes) b (sent now) → InTurns a b now
@@ -257,7 +257,7 @@ in_turns (entry ∷ entries) now is a b within =
     by_message (Region units) other behind = none (λ bytes block. let both = sym other ∙ block in absurd (cc))
     by_message (Other value) other behind = none (λ bytes block. let both = sym other ∙ block in absurd (cc))
 
--- what is left in front of a removal is what is behind the bytes that it takes
+-- what is left in front after a removal is what is behind the bytes that it takes
 pub run_behind : (line : List PendingEntry) (now : Pending) → now.line ≡ line → (n : ℕ) →
     n ≤ bytes_in (blocks_left line) →
     concat (blocks_left (removed n now).line) ≡ drop n (concat (blocks_left line))
@@ -329,7 +329,7 @@ some_in_line unsent some =
     first [] some same = absurd (omega (arith, some))
     first (entry ∷ entries) some same = omega (arith, same)
 
--- a turn behind another one
+-- a turn after another one
 module _ (old mid : Connected) (a : ℕ) (first : Becomes (removed a) old mid) (fits : a ≤ bytes_in (run_of old.unsent))
   where
     pub run_mid : concat (run_of mid.unsent) ≡ drop a (concat (run_of old.unsent))

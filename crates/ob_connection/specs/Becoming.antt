@@ -33,11 +33,11 @@ held {connection = connection} past = whole past.outcomes connection.unsent
 abbrev pub Becomes : (Pending → Pending) → Connected → Connected → Type 0
 Becomes step old new = (past : Past old) → (after : Past new) × (held after ≡ step (held past))
 
--- where a removal of so many bytes ends in what is held
+-- where a removal of *n* bytes ends in what is held
 abbrev pub cut_at : ℕ → Pending → Cut
 cut_at n now = whole_cut n (blocks_left now.line)
 
--- what is held once so many bytes are removed
+-- what is held once *n* bytes are removed
 abbrev pub removed : ℕ → Pending → Pending
 removed n now = bytes_removed (cut_at n now) now
 
@@ -54,7 +54,7 @@ abbrev pub Moves : {A : Type 0} → Connected → Command → (List PromiseState
     Connected → Type 0
 Moves old command tell result new = Steps (step_within connection_limit command) old tell result new
 
--- so many bytes were taken away as sent, and this tells which messages are gone by that
+-- `bytes` bytes were taken away as sent, and this says which messages are gone by that
 abbrev pub TakesSent : Connected → ℕ → Taken → Connected → Type 0
 TakesSent old bytes taken new =
     let result : Result Taken Refusal = Ok taken in Moves old (RemoveBytes bytes) taken_reply result new

@@ -11,7 +11,7 @@ pub record Call : Type 0 where
 abbrev pub most_pieces : ℕ
 most_pieces = 64
 
--- what a socket answered, as a list
+-- what a socket returned, as a list
 abbrev pub answers_in : Option (Result ℕ SocketFault) → List (Result ℕ SocketFault)
 answers_in None = []
 answers_in (Some answer) = answer ∷ []

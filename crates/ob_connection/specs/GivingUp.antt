@@ -14,8 +14,8 @@ use Rattle.ob_connection.specs.declared.replies.Taken.{Taken}
 abbrev pub as_result : Taken → Result Taken Refusal
 as_result taken = Ok taken
 
--- what is flushed fails without notice, and then the connection closes, each as a call does it that takes messages away;
--- what both took away is one interval, and no change of writability is told
+-- what is flushed fails without notice, and then the connection closes, each as a call does it that takes messages
+-- away; what both took away is one interval, and no change of writability is reported
 pub record GivesUpBy (Takes : Connected → Command → Taken → Connected → Type 0) (old : Connected) (cause : Cause)
     (taken : Taken) (new : Connected) : Type 0 where
   pub between : Connected

@@ -27,14 +27,14 @@ look_told look = record {
 abbrev pub Shows : Connected → Look → Type 0
 Shows connection look = Gives connection look_after (look_told look)
 
--- what is told of a promise with this id: its state, but not the outcome of one whose message is gone
+-- what is reported of a promise with this id: its state, but not the outcome of one whose message is gone
 abbrev pub status_of : ℕ → ℕ → Option PromiseState → Option Status
 status_of gone id None = None
 status_of gone id (Some StillWaiting) = Some Waiting
 status_of gone id (Some IsFixed) = Some Fixed
 status_of gone id (Some (IsSettled outcome)) = if nat_lt id gone then Some SettledBefore else Some (Settled outcome)
 
--- whatever history the connection stands for, this is what is told of the promise after it
+-- whatever history the connection stands for, this is what is reported of the promise after it
 abbrev pub Tells : Connected → ℕ → Option Status → Type 0
 Tells connection id status =
     Gives connection

@@ -18,7 +18,8 @@ use Rattle.ob_connection.specs.declared.replies.Taken.{Taken}
 abbrev pub promises_after : Settings → List Command → List PromiseState
 promises_after settings commands = map (λ row. row.promise) (rows_after settings.estimate commands)
 
--- whatever history the old connection stands for, the result says what the model answers to one more command after it
+-- whatever history the old connection stands for, the result says what the model's answer to one more command after it
+-- is
 abbrev pub Answers : {A : Type 0} → Connected → Command → (List PromiseState → A → Reply) → Result A Refusal → Type 0
 Answers old command tell result =
     (commands : List Command) → StandsFor old commands →
@@ -39,8 +40,8 @@ Follows old command result new =
 abbrev pub Accepts : Connected → Command → Type 0
 Accepts old command = Gives old (λ settings commands. connection_accepts settings commands command) true
 
--- a connection obeys a command if it gives the answer to it, unless memory is wanted, and then stands for what follows;
--- its settings stay, a refusal changes nothing, and memory is wanted only if the command is accepted
+-- a connection obeys a command if it gives the answer to it, unless it is out of memory, and then stands for what
+-- follows; its settings stay, a refusal changes nothing, and it is out of memory only if the command is accepted
 pub record Obeys {A : Type 0} (old : Connected) (command : Command) (tell : List PromiseState → A → Reply)
     (result : Result A Refusal) (new : Connected) : Type 0 where
   pub answer : ¬ IsErrOf result NoMemory → Answers old command tell result
@@ -56,6 +57,6 @@ IsNext old outcome result new =
     IfOk result (λ taken.
     (taken ≡ record taken { from = old.gone; to = old.gone + taken.count; outcome = outcome }) × (new.gone ≡ taken.to))
 
--- a call that took messages away without notice told of no change of writability
+-- a call that took messages away without notice reported no change of writability
 abbrev pub IsQuiet : Result Taken Refusal → Type 0
 IsQuiet result = IfOk result (λ taken. taken.change ≡ None)

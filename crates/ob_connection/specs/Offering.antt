@@ -31,7 +31,7 @@ bytes_taken (Took bytes) = bytes
 bytes_taken Blocked = 0
 bytes_taken Broken = 0
 
--- what the socket answered, if it was asked
+-- what the socket returned, if it was asked
 abbrev pub answer_of : Offer → Option (Result ℕ SocketFault)
 answer_of Nothing = None
 answer_of (Took bytes) = Some (Ok bytes)
@@ -49,7 +49,7 @@ pub record Offers (max_count max_bytes : ℕ) (unsent : Unsent) (sent_before : O
   pub nothing : offer ≡ Nothing → offered max_count max_bytes unsent ≡ []
   pub something : ¬ (offer ≡ Nothing) → 0 < length (offered max_count max_bytes unsent)
 
--- these bytes are what a turn offers once so many of those in front were taken away, whatever outcomes the messages had
+-- these bytes are what a turn offers once `taken` of those in front were taken away, whatever outcomes the messages had
 -- that are gone
 pub record IsLeft (max_bytes : ℕ) (old : Connected) (taken : ℕ) (bytes : List ℕ) : Type 0 where
   pub some : 0 < length bytes
@@ -57,7 +57,7 @@ pub record IsLeft (max_bytes : ℕ) (old : Connected) (taken : ℕ) (bytes : Lis
   pub left : (past : Past old) →
       bytes ≡ concat (first_blocks most_pieces max_bytes (with_bytes (blocks_left (removed taken (held past)).line)))
 
--- what is left where a sending ended so
+-- what is left when a sending ended so
 abbrev pub EndsAt : Unsent → Ending → Type 0
 EndsAt unsent Drained = length unsent.line ≡ 0
 EndsAt unsent EndsBlocked = 0 < length unsent.line

@@ -1,5 +1,5 @@
--- What the answer of a call says, as the reply of the model: a call tells ids and intervals of ids, and the model lists
--- settlements. Each goes by the promises as they were before the call.
+-- What the answer of a call says, as the reply of the model: a call reports ids and intervals of ids, and the model
+-- lists settlements. Each goes by the promises as they were before the call.
 use Rattle.std.specs.Prelude.{ℕ, suc, ◌-◌, Bool, List, [], ◌∷◌, ◌++◌, take, drop, if◌then◌else◌, Option, Some, None, Result, Ok, Err}
 use Rattle.std.specs.Prelude.{⊤}
 use Rattle.ob_types.specs.declared.promise.Outcome.{Outcome}

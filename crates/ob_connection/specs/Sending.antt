@@ -32,8 +32,8 @@ use Rattle.ob_connection.specs.declared.replies.Taken.{Taken}
 abbrev pub bytes_in_front_after : Settings → List Command → ℕ
 bytes_in_front_after settings commands = bytes_in (byte_run (rows_after settings.estimate commands))
 
--- what was sent are the first bytes of what is gathered, as many as are told; so many were taken away, which answers
--- what is told; and it is told whether a flushed message is left
+-- what was sent are the first bytes of what is gathered, as many as are reported; as many were taken away, with the
+-- reply that is reported; and it is reported whether a flushed message is left
 pub record Sends (max_count max_bytes : ℕ) (old : Connected) (sent_before : Option (List ℕ)) (done : Sent)
     (new : Connected) (sent_after : Option (List ℕ)) : Type 0 where
   pub sent : Gives old
@@ -49,7 +49,8 @@ abbrev pub offered_after : ℕ → ℕ → Settings → List Command → List (L
 offered_after max_count max_bytes settings commands =
     gathered_after settings commands (min most_pieces max_count) max_bytes
 
--- how many bytes are sent, or why none, by whether the connection is closed and by what the socket answered, if it was asked
+-- how many bytes are sent, or why none, by whether the connection is closed and by what the socket returned, if it was
+-- asked
 abbrev pub sent_or_fault : Bool → Option (Result ℕ SocketFault) → Result ℕ SendFault
 sent_or_fault true answer = Err Closed
 sent_or_fault false None = Ok 0
@@ -57,13 +58,13 @@ sent_or_fault false (Some (Ok count)) = Ok count
 sent_or_fault false (Some (Err HasNoRoom)) = Ok 0
 sent_or_fault false (Some (Err FailedForGood)) = Err Broken
 
--- how many bytes a sending at once told of, or its fault
+-- how many bytes a sending at once reported, or its fault
 abbrev pub bytes_or_fault : Result Sent SendFault → Result ℕ SendFault
 bytes_or_fault (Ok done) = Ok done.bytes
 bytes_or_fault (Err fault) = Err fault
 
 -- a sending at once asks the socket if the connection is open and there is something to offer, once, and offers it all;
--- and it tells what the socket answered
+-- and it reports what the socket returned
 pub record Asks (max_count max_bytes : ℕ) (old : Connected) (before : Option (List Call)) (result : Result Sent SendFault)
     (after : Option (List Call)) : Type 0 where
   pub answer : Option (Result ℕ SocketFault)
@@ -84,16 +85,16 @@ Ends new OtherInFront = Gives new empty_after false × Gives new bytes_in_front_
 Ends new TurnsUsed = Gives new empty_after false
 Ends new IsBroken = Gives new empty_after false
 
--- these bytes are what a turn offers once so many were taken away: what is gathered then, and that is not nothing
+-- these bytes are what a turn offers once `taken` were taken away: what is gathered then, and that is not nothing
 pub record IsDue (max_bytes : ℕ) (old : Connected) (taken : ℕ) (bytes : List ℕ) : Type 0 where
   pub some : 0 < length bytes
   pub gathered : Gives old
       (λ settings commands. concat (gathered_after settings (commands ++ RemoveBytes taken ∷ []) most_pieces max_bytes))
       bytes
 
--- all turns together took the first bytes of those in front, as many as are told; they were taken away as by one removal,
--- which answers what is told; each turn offered what is gathered behind the bytes of those before it; and it is told how
--- they ended
+-- all turns together took the first bytes of those in front, as many as are reported; they were taken away as by one
+-- removal, with the reply that is reported; each turn offered what is gathered past the bytes of those before it; and
+-- it is reported how they ended
 pub record SendsInTurns (max_turns max_bytes : ℕ) (old : Connected) (sent_before : Option (List ℕ))
     (calls_before : Option (List Call)) (done : SentTurns) (new : Connected) (sent_after : Option (List ℕ))
     (calls_after : Option (List Call)) : Type 0 where
@@ -107,7 +108,7 @@ pub record SendsInTurns (max_turns max_bytes : ℕ) (old : Connected) (sent_befo
   pub asks : AsksInTurns (IsDue max_bytes old) (max 1 max_turns) done.bytes calls_before done.ending calls_after
   pub ends : Ends new done.ending
 
--- a connection that is closed sends nothing, and no other tells that it is
+-- a connection that is closed sends nothing, and no other reports that it is
 abbrev pub EndsSending : {A : Type 0} → Connected → Result A SendFault → Type 0
 EndsSending old (Ok done) = Gives old closed_after false
 EndsSending old (Err Closed) = Gives old closed_after true

@@ -17,13 +17,14 @@ use std::marker::Model;
 /// What a server has written to one connection and the socket has not yet taken (Netty's `ChannelOutboundBuffer`), for
 /// one thread, and without end.
 ///
-/// It answers each call as `ob_seq::Buffer` answers the command, but for the limit on writes: ids are 64 bits, so 2^64 - 1
-/// writes are accepted.
+/// Each call returns what the call of an `ob_seq::Buffer` returns, but for the limit on writes: ids are 64 bits, so
+/// 2^64 - 1 writes are accepted.
 ///
-/// Only a write takes memory, and what is gone takes none. What waits takes one ring of entries of 64 bytes, beside the
-/// memory of the blocks. A connection with nothing written has no ring. After each removal and each failing a ring with
-/// room for more than 64 entries has room for fewer than four times as many as wait, or for 64; a close gives it all back.
-/// If the allocator refuses the smaller ring, the connection keeps the one that it has until the next removal.
+/// Only a write can run out of memory, and what is gone takes none. What waits takes one ring of entries of 64 bytes,
+/// beside the memory of the blocks. A connection with nothing written has no ring. After each removal and each failing
+/// a ring with room for more than 64 entries has room for fewer than four times as many as wait, or for 64; a close
+/// gives it all back. If the allocator refuses the smaller ring, the connection keeps the one that it has until the
+/// next removal.
 #[derive(Debug, Drop)]
 pub struct Connection {
     inner: Inner,
@@ -42,8 +43,8 @@ impl Model for Connection {
 }
 
 impl Connection {
-    /// A connection with nothing written, which takes no memory. The overhead and the size of unknown messages are at
-    /// most 65535 bytes.
+    /// A connection with nothing written. To make one does not allocate. The overhead and the size of unknown messages
+    /// are at most 65535 bytes.
     pub fn new(alloc: Global, marks: WaterMark, estimate: Estimate) -> Connection
         requires overhead { estimate.overhead ≤ greatest_overhead }
         requires unknown { estimate.unknown ≤ greatest_unknown }
@@ -56,8 +57,8 @@ impl Connection {
     }
 
     /// Keeps memory for what waits and for no more: none if nothing waits. It cannot fail: if the allocator refuses a
-    /// smaller block, the connection keeps the one that it has. For a connection that has sent all and is idle: each next
-    /// write takes memory anew. Our own; the name is Rust's.
+    /// smaller block, the connection keeps the one that it has. For a connection that has sent all and is idle: each
+    /// next write allocates anew. Our own; the name is Rust's.
     pub fn shrink_to_fit(&mut self)
         ensures { self.new ≡ self.old }
     {

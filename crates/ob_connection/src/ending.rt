@@ -9,6 +9,6 @@ pub enum Ending {
     OtherInFront,
     /// The turns are used up, and flushed messages are left: send again when the others had their turn.
     TurnsUsed,
-    /// The socket is broken: give the connection up. What it took before is told along with this.
+    /// The socket is broken: give the connection up. What it took before is reported along with this.
     Broken,
 }

@@ -1,5 +1,5 @@
-//! What holds of the answers to every list of commands. The calls of a connection answer by the definitions that these
-//! laws speak of.
+//! What holds of the answers to every list of commands. The calls of a connection return what the definitions give that
+//! these laws speak of.
 
 ghost use Rattle.std.specs.List.{Contains};
 ghost use Rattle.std.specs.Prelude.{◌≡◌, ◌<◌, ◌≤◌, ◌↔◌, List, Some};
@@ -16,8 +16,8 @@ ghost use Rattle.ob_seq.specs.Writes.{writes_in};
 ghost use Rattle.ob_connection.specs.Limit.{accepted_by_connection, answer_of_connection, answer_without_limit, most_ids};
 ghost use Rattle.ob_connection.specs.Limit.{settled_by_connection};
 
-/// After fewer than 2^64 - 1 writes a connection answers each command as if there were no limit on writes, and after fewer
-/// than 1048576 it answers as a buffer does.
+/// After fewer than 2^64 - 1 writes each command has the answer that it has without a limit on writes, and after fewer
+/// than 1048576 the answer of a buffer.
 pub fn the_limit_is_out_of_reach()
     ensures unlimited { (settings : Settings) (commands : List Command) (command : Command) →
         writes_in commands < most_ids

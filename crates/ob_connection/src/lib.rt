@@ -1,5 +1,5 @@
-//! An outbound buffer for servers: a connection that no number of writes ends. It answers as `ob_seq`'s buffer does, and
-//! keeps what waits and nothing of what is gone but its number.
+//! An outbound buffer for servers: a connection that no number of writes ends. Its calls return what those of
+//! `ob_seq`'s buffer do, and it keeps what waits and nothing of what is gone but its number.
 #![tactic(auto)]
 
 mod connection;

@@ -1,4 +1,4 @@
-//! What the calls of a connection answer.
+//! What the calls of a connection return.
 
 ghost use Rattle.std.specs.Prelude.{◌≡◌};
 
@@ -6,7 +6,7 @@ use crate::ending::Ending;
 use ob_types::{Change, Outcome};
 use std::ops::Range;
 
-/// What an accepted write answers. It must be used: nothing tells the change again.
+/// What an accepted write returns. It must be used: nothing reports the change again.
 #[must_use]
 #[derive(Clone, Copy, Debug, PartialEq, Eq)]
 pub struct Written {
@@ -16,7 +16,7 @@ pub struct Written {
     pub change: Option<Change>,
 }
 
-/// What a flush answers.
+/// What a flush returns.
 #[must_use]
 #[derive(Clone, Copy, Debug, PartialEq, Eq)]
 pub struct Flushed {
@@ -26,7 +26,7 @@ pub struct Flushed {
     pub change: Option<Change>,
 }
 
-/// What the removal of the first flushed message answers.
+/// What the removal of the first flushed message returns.
 #[must_use]
 #[derive(Clone, Copy, Debug, PartialEq, Eq)]
 pub struct Removed {
@@ -38,7 +38,7 @@ pub struct Removed {
     pub change: Option<Change>,
 }
 
-/// What a call answers that takes several messages away. It settles each promise from `from` on and below `to` that was
+/// What a call returns that takes several messages away. It settles each promise from `from` on and below `to` that was
 /// not settled before, so all but those whose cancellation came in time, in this order and with this outcome.
 #[must_use]
 #[derive(Clone, Copy, Debug, PartialEq, Eq)]
@@ -49,7 +49,7 @@ pub struct Taken {
     pub change: Option<Change>,
     /// The promise of the first message that it took away.
     pub from: u64,
-    /// The promise behind that of the last one.
+    /// The promise after that of the last one.
     pub to: u64,
     /// The outcome of the promises that it settled.
     pub outcome: Outcome,
@@ -68,7 +68,7 @@ impl Taken {
     }
 }
 
-/// What a sending of several turns answers.
+/// What a sending of several turns returns.
 #[must_use]
 #[derive(Clone, Copy, Debug, PartialEq, Eq)]
 pub struct SentTurns {

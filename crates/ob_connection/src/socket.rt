@@ -23,17 +23,17 @@ pub enum SocketFault {
 ///
 /// A call takes a beginning of what it is given, which may be all of it or nothing. A call that fails takes nothing.
 ///
-/// The two ghosts are for contracts alone: what a connection promises of its sending is said by them. A socket that tells
-/// nothing has `{ λ _. None }` for either, and what is promised of the connection itself holds all the same.
+/// The two ghosts are for contracts alone: what a connection promises of its sending is said by them. A socket that
+/// reports nothing has `{ λ _. None }` for either, and what is promised of the connection itself holds all the same.
 pub trait Socket {
-    /// The bytes that it took so far, of a socket that tells them, as one in memory. Of a real socket no contract can say
-    /// what the system does with the bytes.
+    /// The bytes that it took so far, of a socket that reports them, as one in memory. Of a real socket no contract can
+    /// say what the system does with the bytes.
     ghost sent: { Self → Option (List ℕ) };
 
-    /// Its calls so far, each with what it was offered and what it answered, of a socket that tells them.
+    /// Its calls so far, each with what it was offered and what it returned, of a socket that reports them.
     ghost calls: { Self → Option (List Call) };
 
-    /// Writes pieces, one after another, and answers how many of their bytes were taken, from the front (`writev`).
+    /// Writes pieces, one after another, and returns how many of their bytes were taken, from the front (`writev`).
     fn write_vectored(&mut self, pieces: &[IoSlice<'_>]) -> Result<usize, SocketFault>
         ensures within { IfOk result (λ count. count ≤ length (io_slices_bytes pieces.now)) }
         ensures taken { IfOk result (λ count. sent self.new ≡ with_more (sent self.old) (take count (io_slices_bytes pieces.now))) }

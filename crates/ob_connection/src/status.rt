@@ -1,6 +1,6 @@
 use ob_types::Outcome;
 
-/// What a connection tells of a promise.
+/// What a connection reports of a promise.
 #[derive(Clone, Copy, Debug, PartialEq, Eq)]
 pub enum Status {
     /// It may still be cancelled.
@@ -9,6 +9,6 @@ pub enum Status {
     Fixed,
     /// It is settled, and its message still stands in the connection: it was cancelled.
     Settled(Outcome),
-    /// It is settled, and its message is gone. The call that took it away told the outcome, which stands nowhere.
+    /// It is settled, and its message is gone. The call that took it away reported the outcome, which is kept nowhere.
     SettledBefore,
 }

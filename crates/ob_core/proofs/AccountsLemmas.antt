@@ -91,7 +91,7 @@ module _ (grant : Grant) (core : CoreState) (index : ℕ) (lane new : Lane)
   abbrev after : CoreState
   after = record { total = total; word = word; marks = core.marks; lanes = set core.lanes index new }
 
-  -- the accounts of the bytes hold where the total moves by as much as the debt, and the room stays
+  -- the accounts of the bytes hold if the total moves by as much as the debt, and the room stays
   BytesAgree-put : BytesAgree grant core → total + owed_by lane ≡ core.total + owed_by new → new.room ≡ lane.room
       → (IsWithinRoom lane → IsWithinRoom new) → BytesAgree grant after
   BytesAgree-put agree moved room within = record {
@@ -102,7 +102,7 @@ module _ (grant : Grant) (core : CoreState) (index : ℕ) (lane new : Lane)
         (within (all_at IsWithinRoom core.lanes index lane is_lane agree.within)) agree.within;
   }
 
-  -- those of the bits hold where the word moves by as much as the raised bits, and the held bits stay
+  -- those of the bits hold if the word moves by as much as the raised bits, and the held bits stay
   BitsAgree-put : BitsAgree grant core → new.held ≡ lane.held
       → (AreAmong lane.raised lane.held → AreAmong new.raised new.held)
       → ((i : ℕ) → 0 < i → bit_at word i + bit_at lane.raised i ≡ bit_at core.word i + bit_at new.raised i)

@@ -1,4 +1,4 @@
--- What the words hold where one free lane has the whole room: nothing is owed, so bit 0 is clear.
+-- What the words hold if one free lane has the whole room: nothing is owed, so bit 0 is clear.
 use Rattle.std.proofs.Common.{◌≡◌, ℕ, ◌<◌, ◌≤◌, false, Some, ap, unwrap_or, arith}
 use Rattle.std.specs.List.{slice_get}
 use Rattle.ob_types.specs.WaterMark.{Marks}

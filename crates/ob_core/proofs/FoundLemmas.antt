@@ -7,7 +7,7 @@ use Rattle.ob_core.specs.Found.{value_found, change_found}
 use Rattle.ob_core.specs.LaneStep.{word_after}
 use Rattle.ob_core.specs.declared.lane_step.LaneStep.{LaneStep}
 
--- a word and a total are found again in the number that they were packed into, where the total fits its half
+-- a word and a total are found again in the number that they were packed into, if the total fits its half
 pub word_half-packed : (word total : ℕ) → total < 4294967296 → word_half (packed word total) ≡ word
 word_half-packed word total fits = omega (arith, fits)
 

@@ -56,7 +56,7 @@ two-le-sum_by f (first ∷ lanes) (suc index) (suc other) lane second apart is_l
       two-le-sum_by f lanes index other lane second (λ same. apart (ap suc same)) is_lane is_second,
     )
 
--- where each lane has of the one no more than of the other, so have all
+-- if each lane has of the one no more than of the other, so have all
 pub sum_by-le-each : (f g : Lane → ℕ) (lanes : List Lane) → All (λ l. f l ≤ g l) lanes → sum_by f lanes ≤ sum_by g lanes
 sum_by-le-each f g [] each = omega arith
 sum_by-le-each f g (lane ∷ lanes) each =
@@ -64,7 +64,7 @@ sum_by-le-each f g (lane ∷ lanes) each =
     sum_by-le-each f g lanes (All-tail (λ l. f l ≤ g l) lane lanes each) in
     omega (arith, sum_by-cons f lane lanes, sum_by-cons g lane lanes, All-head (λ l. f l ≤ g l) lane lanes each, later)
 
--- where no lane has any, all have none
+-- if no lane has any, all have none
 pub sum_by-none : (f : Lane → ℕ) (lanes : List Lane) → All (λ l. f l ≡ 0) lanes → sum_by f lanes ≡ 0
 sum_by-none f [] none = refl
 sum_by-none f (lane ∷ lanes) none =

@@ -84,7 +84,7 @@ clear_below grant core same agree ordered below =
     let same_high : core.marks.high ≡ grant.marks.high = ap (λ (m : Marks). m.high) same in
     agree.below (omega (arith, same_low, below)) (omega (arith, same_high, ordered, below))
 
--- where nothing is owed, bit 0 is clear
+-- if nothing is owed, bit 0 is clear
 pub clear_at_rest : (grant : Grant) (core : CoreState) → BytesAgree grant core → MarkAgrees core
     → 0 < grant.marks.low → sum_owed core.lanes ≡ 0 → is_set core.word 0 ≡ false
 clear_at_rest grant core bytes agree low nothing =

@@ -10,7 +10,7 @@ use Rattle.std.proofs.lemmas.Nat.Bits.{bit_at_and, bit_at_or, bit_at-zero, same_
 use Rattle.ob_core.specs.Beginning.{share_a_bit, any_overlap}
 use Rattle.ob_core.specs.declared.lane_start.LaneStart.{LaneStart}
 
--- where two masks together have no bit of a third, neither has the second
+-- if two masks together have no bit of a third, neither has the second
 apart_of_both : (a b other : ℕ) → bit_and (bit_or a b) other ≡ 0 → bit_and b other ≡ 0
 apart_of_both a b other none =
     same_from_bits (bit_and b other) 0 (λ i.
@@ -22,7 +22,7 @@ made_up-cases : (both first second : ℕ) → (second ≡ 0 → both ≡ first) 
     → not (eqb both 0) ≡ (not (eqb first 0) || not (eqb second 0))
 made_up-cases both first second only_first neither = grind (arith, nat_tests)
 
--- two masks together have a bit of a third where one of them has
+-- two masks together have a bit of a third exactly if one of them has
 share_a_bit-or : (a b other : ℕ) → share_a_bit (bit_or a b) other ≡ (share_a_bit a other || share_a_bit b other)
 share_a_bit-or a b other =
     made_up-cases (bit_and (bit_or a b) other) (bit_and a other) (bit_and b other) (and_or_apart other a b)

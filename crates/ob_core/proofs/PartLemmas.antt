@@ -104,7 +104,7 @@ sum_by-merged f core index other lane other_lane both meet same none =
       none,
     )
 
--- new lanes have together what the old ones had, and each is as a lane has to be where each old one was
+-- new lanes have together what the old ones had, and each is as a lane has to be if each old one was
 record HaveTogether (old new : List Lane) : Type 0 where
   owed : sum_owed new ≡ sum_owed old
   rooms : sum_of_rooms new ≡ sum_of_rooms old

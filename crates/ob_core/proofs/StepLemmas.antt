@@ -94,13 +94,13 @@ pub bit_at-lowered_word : (marks : Marks) (total word i : ℕ) → 0 < i
     → bit_at (lowered_word marks total word) i ≡ bit_at word i
 bit_at-lowered_word marks total word i above = lowered_above word i (nat_lt total marks.low) above
 
--- how a bit that some lanes raise goes with the word: as many raise it as before but for this lane, and where this lane
+-- how a bit that some lanes raise goes with the word: as many raise it as before but for this lane, and if this lane
 -- holds it, no other does
 pub record Raising (i word : ℕ) (lane : Lane) (others : ℕ) : Type 0 where
   pub shown : others + bit_at lane.raised i ≡ bit_at word i
   pub alone : bit_at lane.held i ≡ 1 → others ≡ 0
 
--- it does where the lane puts a bit that it holds, in the word and in its own mask
+-- it does if the lane puts a bit that it holds, in the word and in its own mask
 shown-bit : (value word index new_word raised : ℕ) (lane : Lane) (i others : ℕ) → is_held lane index ≡ true
     → PutsBit value word index new_word → PutsBit value lane.raised index raised → Raising i word lane others
     → others + bit_at raised i ≡ bit_at new_word i
@@ -151,7 +151,7 @@ lowered_clear marks total word below =
     let yes : nat_lt total marks.low ≡ true = grind (arith, nat_tests) in
     rw yes (zero-clear (without_bit word 0) 0 (ClearsBit-without_bit word 0).here)
 
--- the word stays where the total passes no mark
+-- the word stays if the total passes no mark
 not_raised : (marks : Marks) (total word : ℕ) → total ≤ marks.high → raised_word marks total word ≡ word
 not_raised marks total word within =
     let no : nat_lt marks.high total ≡ false = grind (arith, nat_tests) in rw no refl

@@ -67,7 +67,7 @@ pub record HasTurn (core : CoreState) (turn : Turn) (lane : Lane) : Type 0 where
   pub is_lane : slice_get core.lanes turn.lane ≡ Some lane
   pub accepted : refusal_of lane turn.ask ≡ None
 
--- it has where it is found among the core's lanes, and no refusal is
+-- it has if it is found among the core's lanes, and no refusal is
 pub HasTurn-found : (core : CoreState) (turn : Turn) {lane : Lane} {lanes : List Lane}
     → Some lane ≡ slice_get lanes turn.lane → lanes ≡ core.lanes → None ≡ refusal_of lane turn.ask
     → HasTurn core turn lane

@@ -31,7 +31,7 @@ pub record BytesAgree (grant : Grant) (core : CoreState) : Type 0 where
   pub within : All IsWithinRoom core.lanes
 
 -- bit 0 is set while the total is above the high mark and not below the low one, and clear while it is below the low
--- mark and not above the high one; where the low mark is at most the high one, nothing is below the one and above the
+-- mark and not above the high one; if the low mark is at most the high one, nothing is below the one and above the
 -- other
 pub record MarkAgrees (core : CoreState) : Type 0 where
   pub above : core.marks.high < core.total → core.marks.low ≤ core.total → is_set core.word 0 ≡ true

@@ -15,11 +15,11 @@ total_after (SetBit index) total = total
 total_after (ClearBit index) total = total
 total_after Load total = total
 
--- the word once the total is this: bit 0 is set where that is above the high mark
+-- the word once the total is this: bit 0 is set if that is above the high mark
 abbrev pub raised_word : Marks → ℕ → ℕ → ℕ
 raised_word marks total word = if nat_lt marks.high total then with_bit word 0 else word
 
--- the word once the total is this: bit 0 is clear where that is below the low mark
+-- the word once the total is this: bit 0 is clear if that is below the low mark
 abbrev pub lowered_word : Marks → ℕ → ℕ → ℕ
 lowered_word marks total word = if nat_lt total marks.low then without_bit word 0 else word
 

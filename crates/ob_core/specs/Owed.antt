@@ -2,7 +2,7 @@
 use Rattle.std.specs.Prelude.{ℕ, List, unwrap_or, sum_by}
 use Rattle.ob_core.specs.declared.lane.Lane.{Lane}
 
--- the bytes that a lane owes, 0 where it has no debt
+-- the bytes that a lane owes, 0 if it has no debt
 abbrev pub owed_by : Lane → ℕ
 owed_by lane = unwrap_or lane.debt 0
 

@@ -12,7 +12,7 @@ pub record IsFree (lane : Lane) : Type 0 where
 abbrev pub spent_lane : Lane
 spent_lane = record { room = 0; debt = None; held = 0; raised = 0 }
 
--- two free lanes have together the room and the bits of a third, each raised bit where it is held
+-- two free lanes have together the room and the bits of a third, each raised bit with the lane that holds it
 pub record AreParts (whole first second : Lane) : Type 0 where
   pub whole_free : IsFree whole
   pub first_free : IsFree first

@@ -13,13 +13,13 @@ abbrev pub core_after_all : CoreState → List Turn → CoreState
 core_after_all core [] = core
 core_after_all core (turn ∷ turns) = core_after_all (core_after core turn) turns
 
--- the change of the last turn; where there is no turn, the one before
+-- the change of the last turn; if there is no turn, the one before
 abbrev pub last_change_after : WorldState → List Turn → Option Change
 last_change_after world [] = world.last_change
 last_change_after world (turn ∷ turns) =
     last_change_after (record { core = core_after world.core turn; last_change = change_of world.core turn }) turns
 
--- what each turn answers: its event and its change
+-- what each turn returns: its event and its change
 abbrev pub answers_of : CoreState → List Turn → List (Event × Option Change)
 answers_of core [] = []
 answers_of core (turn ∷ turns) = (event_of core turn, change_of core turn) ∷ answers_of (core_after core turn) turns

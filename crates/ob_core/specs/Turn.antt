@@ -16,11 +16,11 @@ use Rattle.ob_core.specs.declared.lane.Lane.{Lane}
 use Rattle.ob_core.specs.declared.lane_step.LaneStep.{LaneStep}
 use Rattle.ob_core.specs.declared.lane_step.LaneStep.TheVariants.{Add, Subtract, SetBit, ClearBit, Load}
 
--- the step of a charge, none where it is 0
+-- the step of a charge, none if it is 0
 abbrev pub charge_step : ℕ → Option LaneStep
 charge_step amount = if amount == 0 then None else Some (Add amount)
 
--- the step of the discharge of a debt, none where that is 0
+-- the step of the discharge of a debt, none if that is 0
 abbrev pub discharge_step : Option ℕ → Option LaneStep
 discharge_step None = None
 discharge_step (Some amount) = if amount == 0 then None else Some (Subtract amount)

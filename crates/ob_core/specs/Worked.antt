@@ -119,7 +119,7 @@ WordsAfter =
     × (word_after (Subtract 11) grant.marks 60 5 ≡ 4)
     × (word_after (Subtract 10) grant.marks 60 5 ≡ 5)
 
--- the writers stop where a bit was set in a word of 0, and go on where the one bit that was set was cleared, whatever
+-- the writers stop if a bit was set in a word of 0, and go on if the one bit that was set was cleared, whatever
 -- the total beside it
 abbrev pub Changes : Type 0
 Changes =

@@ -11,7 +11,7 @@ pub enum Ask {
     /// Takes the bytes that the lane owes off the total (Netty's `decrementPendingOutboundBytes`). Bit 0 of the word is
     /// cleared in the same step if the total is below the low mark then.
     Discharge,
-    /// Sets a user bit of index 1 to 31 where the flag is false, and clears it where it is true
+    /// Sets a user bit of index 1 to 31 if the flag is false, and clears it if it is true
     /// (Netty's `setUserDefinedWritability`).
     Bit(u32, bool),
     /// Reads the word.
@@ -26,7 +26,7 @@ impl Ask {
     ghost use Rattle.std.specs.Prelude.{◌≡◌};
     ghost use Rattle.ob_core.specs.Turn.{event_of_ask};
 
-    /// What a turn answers in which the ask is a step.
+    /// The event of a turn if its ask is a step.
     pub(crate) fn event(self) -> Event
         ensures { result ≡ event_of_ask self }
     {

@@ -1,7 +1,7 @@
 ghost use Rattle.std.specs.Prelude.{◌≡◌, ◌<◌};
 ghost use Rattle.ob_core.specs.Bits.{is_set, with_bit, without_bit};
 
-/// The index of the bit that tells whether the total has passed a mark. It is no lane's.
+/// The index of the bit that shows whether the total has passed a mark. It is no lane's.
 pub const MARK_BIT: u32 = 0;
 
 /// Whether the bit with this index is set.

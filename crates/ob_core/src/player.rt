@@ -7,10 +7,10 @@ use crate::world::World;
 use ob_types::{Change, Refusal};
 use std::alloc::Global;
 
-/// Plays a schedule, one turn after the other, and answers each turn's event and change.
+/// Plays a schedule, one turn after the other, and returns each turn's event and change.
 ///
-/// The room for all answers is made before the first turn: `NoMemory` is the only refusal, and comes only then, with
-/// the world as it was. A schedule without a turn wants none.
+/// The room for all results is made before the first turn: `NoMemory` is the only refusal, and comes only then, with
+/// the world as it was. A schedule without a turn allocates nothing.
 pub fn play(
     alloc: Global,
     world: &mut World,

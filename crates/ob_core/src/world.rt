@@ -44,8 +44,8 @@ impl Model for World {
 
 impl World {
     /// A world whose lanes are numbered from 0 in the order given. The total and the word are 0, and no
-    /// lane owes anything. The faults are asked in the order of `WorldFault`; `NoMemory` comes only
-    /// where there is no other.
+    /// lane owes anything. The faults are asked in the order of `WorldFault`; `NoMemory` comes only if there is no
+    /// other.
     pub fn new(alloc: Global, marks: WaterMark, starts: &[LaneStart]) -> Result<World, WorldFault>
         ensures fault { IfSome (start_fault starts.now) (λ fault. result ≡ Err fault) }
         ensures no_memory { start_fault starts.now ≡ None → IsOkUnless result WorldFault.NoMemory }
@@ -64,7 +64,7 @@ impl World {
         })
     }
 
-    /// Gives a lane its turn, and tells what it did. It takes no memory.
+    /// Gives a lane its turn, and returns what it did. It does not allocate.
     ///
     /// A refused ask changes nothing but that there is no last change then. `Go` is refused with `NotInside` by every
     /// lane there is, since each call is one step. A charge of 0 and its discharge do not touch the word, and the lane

@@ -17,7 +17,7 @@ use Rattle.ob_history.specs.declared.record.Record.{Record}
 use Rattle.ob_history.proofs.Beginnings.{begins_itself}
 use Rattle.ob_history.proofs.Histories.{legal_with_next}
 
--- a history that is not full answers a call with the receipt of its record
+-- a history that is not full returns for a call the receipt of its record
 pub answer_with_place : (history : History) (caller : ℕ) (command : Command) → is_full history ≡ false →
     call_answer history caller command ≡ Ok (receipt_of (next_record history caller command))
 answer_with_place history caller command free =
@@ -119,7 +119,7 @@ called_with_place old caller command receipt new call =
         λ full. if full then Err HistoryFull else Ok (receipt_of (next_record old caller command)) in
         absurd (cc (answer ∙ ap by is))
 
--- whatever a call answers, the records before it begin those after it
+-- whatever a call returns, the records before it begin those after it
 pub called_begins : (old : History) (caller : ℕ) (command : Command) (result : Result Receipt Refusal) (new : History) →
     IsCall old caller command result new → IsBeginning old.records new.records
 called_begins old caller command (Ok receipt) new call =

@@ -6,14 +6,14 @@ use Rattle.ob_types.specs.declared.reply.Reply.{Reply}
 use Rattle.ob_types.specs.declared.reply.Answer.{Answer}
 use Rattle.ob_types.specs.declared.reply.Answer.TheVariants.{Id, Count, Yes, Done}
 
--- the count that a reply tells, or 0
+-- the count that a reply reports, or 0
 abbrev pub count_of : Answer → ℕ
 count_of (Id id) = 0
 count_of (Count n) = n
 count_of (Yes is) = 0
 count_of Done = 0
 
--- the count that an answer tells, or 0
+-- the count in an answer, or 0
 abbrev pub count_in : Result Reply Refusal → ℕ
 count_in (Ok reply) = count_of reply.answer
 count_in (Err refusal) = 0

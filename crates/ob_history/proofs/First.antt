@@ -30,7 +30,7 @@ pub first_against : {X : Type 0} (P : X → Type 0) (xs : List X) (i : ℕ) (d :
 first_against P xs i d within before against =
     record { within = within; before = before; broken = λ all. against (last_of P xs i d within all) }
 
--- where something holds of each item, no item is the first against it
+-- if something holds of each item, no item is the first against it
 pub never_against : {X : Type 0} (P : X → Type 0) (xs : List X) (i : ℕ) → IsFirstBreak (All P) xs i → All P xs → ⊥
 never_against P xs i first all = first.broken (All-take P (i + 1) xs all)
 
@@ -118,7 +118,7 @@ own_beginning caller records receipts count within own =
           omega (arith, up, earlier, later);
     }
 
--- so where receipts are a caller's own, none of them is the first that is not
+-- so if receipts are a caller's own, none of them is the first that is not
 pub never_foreign : (caller : ℕ) (records : List Record) (receipts : List Receipt) (index : ℕ) →
     IsFirstBreak (AreOwn caller records) receipts index → AreOwn caller records receipts → ⊥
 never_foreign caller records receipts index first own =

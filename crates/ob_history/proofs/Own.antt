@@ -1,4 +1,4 @@
--- A caller's own receipts are at most its records, and where they are as many, they are these.
+-- A caller's own receipts are at most its records, and if they are as many, they are these.
 use Rattle.std.proofs.Common.{◌≡◌, ℕ, zero, suc, ◌+◌, ◌<◌, ◌≤◌, Bool, true, false, not, eqb, List, [], ◌∷◌, ◌++◌, ◌⊎◌}
 use Rattle.std.proofs.Common.{inl, inr, length, map, cond, refl, sym, ap, ◌∙◌, subst, append_assoc, append-nil, arith}
 use Rattle.std.specs.Prelude.{◌≢◌, Some, slice_get, filter, sum_by}
@@ -48,7 +48,7 @@ module _ (caller : ℕ) where
             (λ k d within. omega (arith, own.rising 0 (suc k) d (omega arith) (omega (arith, within)))),
       )
 
-  -- receipts are at most so many as these records, and are these where they are as many
+  -- receipts are at most as many as these records, and are these if they are as many
   record AreWithin (records : List Record) (receipts : List Receipt) : Type 0 where
     fits : length receipts ≤ length records
     all : length receipts ≡ length records → map record_of receipts ≡ records
@@ -128,7 +128,7 @@ module _ (caller : ℕ) where
 abbrev is_of_another : ℕ → Record → Bool
 is_of_another caller one = not (eqb one.caller caller)
 
--- the records of a caller stay where those of another are left out
+-- the records of a caller stay if those of another are left out
 left_for_another : (caller other : ℕ) → caller ≢ other → (records : List Record) →
     records_of other records ≡ records_of other (filter (is_of_another caller) records)
 left_for_another caller other apart [] = refl
@@ -196,7 +196,7 @@ held_at_most records (one ∷ holdings) distinct =
 abbrev pub HoldsIts : List Record → Holding → Type 0
 HoldsIts records one = map record_of one.receipts ≡ records_of one.caller records
 
--- receipts of their own are at most as many as these callers have records, and all of these where they are as many
+-- receipts of their own are at most as many as these callers have records, and all of these if they are as many
 record AreAmong (records : List Record) (holdings : List Holding) : Type 0 where
   fits : sum_by its_receipts holdings ≤ records_held records holdings
   all : sum_by its_receipts holdings ≡ records_held records holdings → All (HoldsIts records) holdings

@@ -18,7 +18,7 @@ kept_in inside records reserved = record {
 }
 
 module _ (inside : Inside) (records : Vec Record Global) where
-  -- the same records, with places and memory for so many reserved calls, are kept as well
+  -- the same records, with places and memory for `reserved` calls, are kept as well
   pub IsSound-kept_in : (reserved : ℕ) → records.items ≡ inside.records.items → records.len + reserved ≤ inside.limit →
       records.len + reserved ≤ records.cap → IsSound inside → IsSound (kept_in inside records reserved)
   IsSound-kept_in reserved items places memory sound = record {

@@ -1,4 +1,4 @@
--- In a legal history a promise is settled with an outcome exactly where the two stand among the settlements, and a
+-- In a legal history a promise is settled with an outcome exactly if the two stand among the settlements, and a
 -- record that settles it is found.
 use Rattle.std.proofs.Common.{◌≡◌, ℕ, zero, suc, Bool, true, false, List, [], ◌∷◌, ◌++◌, inl, inr, length, map, cond}
 use Rattle.std.proofs.Common.{refl, sym, ap, ◌∙◌, append_assoc, append-nil, subst, arith}
@@ -55,7 +55,7 @@ legal_are_accepted settings records legal =
     ap (are_accepted settings []) (accepted_of_legal settings records legal)
     ∙ among_are_accepted settings (map command_of records)
 
--- a promise is settled exactly where it is told
+-- a promise is settled exactly if it is reported
 pub legal_is_told : (settings : Settings) (records : List Record) (id : PromiseId) (outcome : Outcome) →
     IsLegal settings records →
     promise_after settings (accepted_commands records) id ≡ Some (Settled outcome)
@@ -81,7 +81,7 @@ found_there test (y ∷ xs) x is = by_test (test y) refl (found_there test xs x)
     by_test true passes rest is = let same : y ≡ x = cc in (ap test (sym same) ∙ passes, (0, is))
     by_test false fails rest is = let later = rest is in (later.0, (suc later.1.0, later.1.1))
 
--- where nothing is found, nothing passes the test
+-- if nothing is found, nothing passes the test
 pub none_found : {X : Type 0} (test : X → Bool) (xs : List X) → find test xs ≡ None → All (λ x. test x ≡ false) xs
 none_found test [] none = All-nil (λ x. test x ≡ false)
 none_found test (y ∷ xs) none = by_test (test y) refl (none_found test xs) none
@@ -122,7 +122,7 @@ module _ (id : PromiseId) where
       Contains-append_right (settled_by first.reply) (settlements_in records) (id, outcome)
       (told_by records index one outcome is there)
 
-  -- where no record settles it, it is not among the settlements
+  -- if no record settles it, it is not among the settlements
   not_told : (records : List Record) (outcome : Outcome) → All (λ one. settles id one ≡ false) records →
       Contains (settlements_in records) (id, outcome) → ⊥
   not_told [] outcome none there = absurd (omega (arith, there.1))
@@ -157,7 +157,7 @@ module _ (id : PromiseId) where
           let there = (found_there (settles id) records one.now (sym is)).1 in
           subst (λ place. slice_get records place ≡ Some one.now) (sym (legal there.0 one.now there.1).place) there.1
 
-      -- where the promise is settled, a record is found that settles it so
+      -- if the promise is settled, a record is found that settles it so
       pub settled_is_found : (result : Option (Bor Record)) → IsFound result → (outcome : Outcome) →
           promise_after settings (accepted_commands records) id ≡ Some (Settled outcome) →
           MatchOption result ⊥ (λ one. Contains (settled_by one.now.reply) (id, outcome))

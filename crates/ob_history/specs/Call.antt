@@ -41,14 +41,14 @@ abbrev pub history_after : History → ℕ → Command → History
 history_after history caller command =
     if is_full history then history else with_record history (next_record history caller command)
 
--- a call is covered where one is reserved, and its command is no write and settles at most four promises
+-- a call is covered if one is reserved, and its command is no write and settles at most four promises
 pub record IsCovered (history : History) (command : Command) : Type 0 where
   pub reserved : 0 < history.reserved
   pub no_write : is_write command ≡ false
   pub few : settled_after history.settings (accepted_commands history.records) command ≤ inline_settlements
 
--- one more call of a history gives its answer and leaves the history after it, unless memory is wanted; memory is
--- wanted only if the history is not full, and not by a covered call; what is refused leaves the history as it was
+-- one more call of a history gives its answer and leaves the history after it, unless it is out of memory; it is out of
+-- memory only if the history is not full and the call is not covered; what is refused leaves the history as it was
 pub record IsCall (old : History) (caller : ℕ) (command : Command) (result : Result Receipt Refusal) (new : History)
     : Type 0 where
   pub answer : ¬ IsErrOf result NoMemory → result ≡ call_answer old caller command
@@ -57,8 +57,8 @@ pub record IsCall (old : History) (caller : ℕ) (command : Command) (result : R
   pub frugal : IsCovered old command → IsOk result
   pub refused : OnErr result (new ≡ old)
 
--- one more call of a history whose receipt nobody asks for: a full history is refused, and any other has its record unless
--- memory is wanted, which a covered call does not; what is refused leaves the history as it was
+-- one more call of a history whose receipt nobody asks for: a full history is refused, and any other has its record
+-- unless the call is out of memory, which a covered call never is; what is refused leaves the history as it was
 pub record IsRecording (old : History) (caller : ℕ) (command : Command) (result : Result (Unit {0}) Refusal) (new : History)
     : Type 0 where
   pub full : is_full old ≡ true → IsErrOf result HistoryFull

@@ -6,7 +6,7 @@ use Rattle.ob_types.specs.declared.command.Command.{Command}
 use Rattle.ob_seq.specs.Pending.{Pending, StandsFor}
 use Rattle.ob_seq.specs.Settles.{settled_after}
 
--- whatever history a buffer stands for, a command settles at most so many promises after it
+-- whatever history a buffer stands for, a command settles at most `most` promises after it
 abbrev pub SettlesAtMost : Pending → Command → ℕ → Type 0
 SettlesAtMost buffer command most =
     (commands : List Command) → StandsFor buffer commands → settled_after buffer.settings commands command ≤ most

@@ -22,21 +22,21 @@ new_history settings limit = record { settings = settings; limit = limit; record
 abbrev pub most_records : ℕ
 most_records = 1048576
 
--- a history is bounded where its records and the reserved calls have places under its limit, which is at most 1048576
+-- a history is bounded if its records and the reserved calls have places under its limit, which is at most 1048576
 pub record IsBounded (history : History) : Type 0 where
   pub places : length history.records + history.reserved ≤ history.limit
   pub limit : history.limit ≤ most_records
 
--- a history lacks so many places where its limit is below the number of its records with them
+-- a history lacks `count` places exactly if its limit is below the number of its records with them
 abbrev pub LacksPlaces : History → ℕ → Type 0
 LacksPlaces history count = history.limit < length history.records + count
 
--- a history with at least so many calls reserved
+-- a history with at least `count` calls reserved
 abbrev pub with_reserved : History → ℕ → History
 with_reserved history count = record history { reserved = max history.reserved count }
 
--- a reservation leaves at least so many calls reserved; it is refused as full just if the history lacks so many
--- places, and else for want of memory alone, but not if so many are reserved already; what is refused leaves the
+-- a reservation leaves at least `count` calls reserved; it is refused as full exactly if the history lacks as many
+-- places, and else only if it is out of memory, and never if as many are reserved already; what is refused leaves the
 -- history as it was
 pub record IsReservation (old : History) (count : ℕ) {A : Type 0} (result : Result A Refusal) (new : History)
     : Type 0 where

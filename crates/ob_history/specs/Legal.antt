@@ -13,7 +13,7 @@ pub record IsRecordAt (settings : Settings) (records : List Record) (index : ℕ
   pub place : one.place ≡ index
   pub reply : one.reply ≡ answer_to settings (accepted_commands (take index records)) one.command
 
--- a history is legal where each of its records stands rightly at its index
+-- a history is legal exactly if each of its records stands rightly at its index
 abbrev pub IsLegal : Settings → List Record → Type 0
 IsLegal settings records =
     (index : ℕ) (one : Record) → slice_get records index ≡ Some one → IsRecordAt settings records index one

@@ -16,14 +16,13 @@ records_of caller records = filter (λ one. one.caller == caller) records
 abbrev pub receipts_since : ℕ → ℕ → List Record → List Receipt
 receipts_since caller place records = map receipt_of (records_of caller (drop place records))
 
--- what is given are the receipts of the records of a caller from a place on, and they are refused for want of memory
--- alone
+-- what is given are the receipts of the records of a caller from a place on, and they are refused only out of memory
 pub record AreGivenSince {V : Type 0} (items : V → List Receipt) (records : List Record) (caller place : ℕ)
     (result : Result V Refusal) : Type 0 where
   pub receipts : IfOk result (λ given. items given ≡ receipts_since caller place records)
   pub no_memory : IsOkUnless result NoMemory
 
--- receipts are a caller's own where each is the record at its place and names the caller, and their places rise
+-- receipts are a caller's own if each is the record at its place and names the caller, and their places rise
 pub record AreOwn (caller : ℕ) (records : List Record) (receipts : List Receipt) : Type 0 where
   pub kept : All (IsReceiptIn records) receipts
   pub named : All (λ receipt. receipt.caller ≡ caller) receipts

@@ -19,8 +19,8 @@ pub record IsLookAt (history : History) (look : Seen) : Type 0 where
   pub seen : look ≡ seen_now history
   pub bounded : IsBounded history
 
--- a look is of a history where its place is at most the number of records, and it shows what a new buffer shows after
--- the accepted commands of so many first records
+-- a look is of a history if its place is at most the number of records, and it shows what a new buffer shows after the
+-- accepted commands of the records before its place
 pub record IsSeenIn (settings : Settings) (records : List Record) (seen : Seen) : Type 0 where
   pub within : seen.place ≤ length records
   pub look : seen.look ≡ look_after settings (accepted_commands (take seen.place records))

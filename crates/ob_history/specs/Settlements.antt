@@ -10,6 +10,6 @@ use Rattle.ob_history.specs.declared.record.Record.{Record}
 abbrev pub settlements_in : List Record → List (PromiseId × Outcome)
 settlements_in records = flat_map (λ one. settled_by one.reply) records
 
--- a record settles a promise where that stands among the settlements of its reply
+-- a record settles a promise exactly if that stands among the settlements of its reply
 abbrev pub settles : PromiseId → Record → Bool
 settles id one = list_any (λ settlement. settlement.0.0 == id.0) (settled_by one.reply)

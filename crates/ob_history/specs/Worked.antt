@@ -1,4 +1,4 @@
--- The definitions on a small history, worked out by hand beforehand.
+-- The definitions on a small history, worked out by hand.
 use Rattle.std.specs.Prelude.{◌≡◌, ℕ, true, false, List, [], ◌∷◌, replicate, take, Some, None, Result, Ok, Err}
 use Rattle.ob_types.specs.declared.command.Command.TheVariants.{Write, Flush, Remove, Cancel, SetMarks}
 use Rattle.ob_types.specs.declared.message.Message.TheVariants.{Block, Region}
@@ -46,7 +46,7 @@ write_at place = record {
 abbrev pub refused_cancel : Record
 refused_cancel = record { place = 1; caller = 2; command = Cancel (record { 0 = 5 }); reply = Err UnknownPromise }
 
--- caller 7 flushes, and is told of so many messages
+-- caller 7 flushes, and `count` messages are flushed
 abbrev pub flush_of : ℕ → Record
 flush_of count = record { place = 2; caller = 7; command = Flush; reply = quiet_reply (Count count) [] }
 
@@ -83,7 +83,7 @@ IllegalAtAnotherPlace = ¬ IsLegal settings (write_at 1 ∷ [])
 abbrev pub IllegalWithAnotherReply : Type 0
 IllegalWithAnotherReply = ¬ IsLegal settings (write_at 0 ∷ refused_cancel ∷ flush_of 2 ∷ [])
 
--- a history of so many of these records, of which there may be four, with one call reserved
+-- a history of `count` of these records, of which there may be four, with one call reserved
 abbrev pub stored : ℕ → History
 stored count = record { settings = settings; limit = 4; records = take count worked_records; reserved = 1 }
 
@@ -130,11 +130,11 @@ write_under_new_marks = record {
   reply = Ok (record { answer = Id (record { 0 = 1 }); settled = []; change = Some Unwritable });
 }
 
--- a call that sets marks is one of a legal history, and the calls behind it go by the new marks
+-- a call that sets marks is one of a legal history, and the calls after it go by the new marks
 abbrev pub LegalUnderNewMarks : Type 0
 LegalUnderNewMarks = IsLegal settings (write_at 0 ∷ marks_lowered ∷ write_under_new_marks ∷ [])
 
--- and so do a look at the place behind it, and a glance at the end
+-- and so do a look at the place after it, and a glance at the end
 abbrev pub SeenUnderNewMarks : Type 0
 SeenUnderNewMarks =
     (seen_now (record { settings = settings; limit = 4; records = write_at 0 ∷ marks_lowered ∷ []; reserved = 0 })
@@ -184,7 +184,7 @@ holdings =
 abbrev pub AllHeld : Type 0
 AllHeld = HoldAll worked_records holdings
 
--- but not where one receipt is held back
+-- but not if one receipt is held back
 abbrev pub OneHeldBack : Type 0
 OneHeldBack =
     ¬ HoldAll worked_records (record { caller = 7; receipts = receipt_of (write_at 0) ∷ receipt_of removal ∷ [] }

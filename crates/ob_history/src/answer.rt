@@ -11,7 +11,7 @@ use ob_seq::Buffer;
 use ob_types::{Command, Refusal, Reply, Spare};
 use std::alloc::AllocError;
 
-/// Gives a buffer one command. Want of memory is no answer: it leaves the buffer as it was.
+/// Gives a buffer one command. `NoMemory` is no answer: it leaves the buffer as it was.
 pub fn give(buffer: &mut Buffer, command: Command) -> Result<Result<Reply, Refusal>, AllocError>
     ensures answer { IfOk result (λ answer. Answers buffer.old command answer) }
     ensures stands { IfOk result (λ answer. Follows buffer.old command answer buffer.new) }
@@ -26,14 +26,14 @@ pub fn give(buffer: &mut Buffer, command: Command) -> Result<Result<Reply, Refus
     }
 }
 
-/// Whether an answer is want of memory.
+/// Whether an answer is `NoMemory`.
 pub fn wants_memory(answer: &Result<Reply, Refusal>) -> bool
     ensures { IsTrue result ↔ IsErrOf answer.now Refusal.NoMemory }
 {
     matches!(answer, Err(Refusal::NoMemory))
 }
 
-/// The same answer. It fails for want of memory alone, and not where at most four promises are settled.
+/// The same answer. It fails only if it is out of memory, and never if at most four promises are settled.
 pub fn copy(answer: &Result<Reply, Refusal>) -> Result<Result<Reply, Refusal>, AllocError>
     ensures same { IfOk result (λ copy. copy ≡ answer.now) }
     ensures succeeds { length (settled_by answer.now) ≤ inline_settlements → IsOk result }
@@ -44,7 +44,7 @@ pub fn copy(answer: &Result<Reply, Refusal>) -> Result<Result<Reply, Refusal>, A
     }
 }
 
-/// The same answer, in memory that was taken before.
+/// The same answer, in memory that was allocated before.
 pub fn copy_in(answer: &Result<Reply, Refusal>, spare: Spare) -> Result<Reply, Refusal>
     requires { length (settled_by answer.now) ≤ spare }
     ensures { result ≡ answer.now }

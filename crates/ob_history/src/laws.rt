@@ -27,8 +27,8 @@ pub fn a_history_settles_each_promise_once()
     no_promise_is_settled_twice();
 }
 
-/// In a legal history a promise is settled with an outcome exactly where the two stand together among the settlements.
-/// It is unknown exactly where its id is not below the number of accepted writes.
+/// In a legal history a promise is settled with an outcome exactly if the two stand together among the settlements.
+/// It is unknown exactly if its id is not below the number of accepted writes.
 pub fn a_history_tells_each_settled_promise()
     ensures told { (settings : Settings) (records : List Record) (id : PromiseId) (outcome : Outcome) →
         IsLegal settings records → promise_after settings (accepted_commands records) id ≡ Some (Settled outcome)

@@ -16,14 +16,14 @@ pub struct Receipt {
     pub caller: u32,
     /// What was asked.
     pub command: Command,
-    /// What the buffer answered: a reply, or a refusal.
+    /// What the buffer returned: a reply, or a refusal.
     pub reply: Result<Reply, Refusal>,
 }
 
 impl Receipt {
-    /// The same receipt, of which a written block shares its memory. It fails where the allocator refused, or the block
-    /// has more owners than can be counted, and not where the command writes no block and its reply settles at most
-    /// four promises.
+    /// The same receipt, of which a written block shares its memory. It fails only if the allocator refused, or the
+    /// block has more owners than can be counted, and never if the command writes no block and its reply settles at
+    /// most four promises.
     pub fn copy(&self) -> Result<Receipt, AllocError>
         ensures same { IfOk result (λ copy. copy ≡ self.now) }
         ensures succeeds { writes_block self.now.command ≡ false → length (settled_by self.now.reply) ≤ inline_settlements
@@ -33,7 +33,7 @@ impl Receipt {
     }
 }
 
-/// A receipt with a copy of what was asked and of what was answered. It fails for want of memory alone.
+/// A receipt with a copy of the command and of the reply. It fails only if it is out of memory.
 pub fn copied(
     place: u32,
     caller: u32,

@@ -17,14 +17,14 @@ pub struct Record {
     pub caller: u32,
     /// What was asked.
     pub command: Command,
-    /// What the buffer answered: a reply, or the refusal of a command that changed nothing.
+    /// What the buffer returned: a reply, or the refusal of a command that changed nothing.
     pub reply: Result<Reply, Refusal>,
 }
 
 impl Record {
-    /// A receipt of the record, of which a written block shares its memory. It fails where the allocator refused, or
-    /// the block has more owners than can be counted, and not where the command writes no block and its reply settles
-    /// at most four promises.
+    /// A receipt of the record, of which a written block shares its memory. It fails only if the allocator refused, or
+    /// the block has more owners than can be counted, and never if the command writes no block and its reply settles at
+    /// most four promises.
     pub fn receipt(&self) -> Result<Receipt, AllocError>
         ensures same { IfOk result (λ receipt. receipt ≡ receipt_of self.now) }
         ensures succeeds { writes_block self.now.command ≡ false → length (settled_by self.now.reply) ≤ inline_settlements

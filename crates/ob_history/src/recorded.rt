@@ -44,7 +44,7 @@ impl Model for Recorded {
 }
 
 impl Recorded {
-    /// An empty buffer with no record, which may have up to `limit` of them. It takes no memory. The overhead and the
+    /// An empty buffer with no record, which may have up to `limit` of them. It does not allocate. The overhead and the
     /// size of unknown messages are at most 65535 bytes, and the limit is 1 to 1048576 records.
     pub fn new(alloc: Global, marks: WaterMark, estimate: Estimate, limit: u32) -> Recorded
         requires overhead { estimate.overhead ≤ greatest_overhead }
@@ -63,7 +63,7 @@ impl Recorded {
         }
     }
 
-    /// The records, oldest first. They are a legal history, and at most 1048576. It takes no memory.
+    /// The records, oldest first. They are a legal history, and at most 1048576. It does not allocate.
     pub fn records(&self) -> &[Record]
         ensures value { result.now ≡ self.now.records }
         ensures legal { IsLegal self.now.settings self.now.records }
@@ -72,7 +72,7 @@ impl Recorded {
         self.records.as_slice()
     }
 
-    /// The buffer after the accepted commands of the records, which are a legal history. It takes no memory.
+    /// The buffer after the accepted commands of the records, which are a legal history. It does not allocate.
     pub fn buffer(&self) -> &Buffer
         ensures { IsBufferOf self.now result.now }
     {

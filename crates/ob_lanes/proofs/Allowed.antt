@@ -66,7 +66,7 @@ module _ (words : WordsInside) (are : AreWords words) (value : WordsValue) (view
       let same = are.key ∙ ap (λ (v : WordsValue). v.grant) view_is in
       computes ∙ ap (λ m. packed_after step m found) (is ∙ sym (ap (λ (o : Grant). o.marks) same))
 
-  -- where the lane may make the step, and it makes of the word what the core says
+  -- if the lane may make the step, and it makes of the word what the core says
   always : (step : LaneStep) → MayMake value seat step → (makes : ℕ → ℕ)
       → ((found : ℕ) → found < 2 ^ 64 → makes found ≡ packed_after step grant.marks found)
       → MayDo makes (Told step me)
@@ -83,7 +83,7 @@ module _ (words : WordsInside) (are : AreWords words) (value : WordsValue) (view
   pub may_load : MayMake value seat Load → MayDo (λ n. n) (Told Load me)
   may_load asked = always Load asked (λ n. n) (λ found small. sym (halves_packed found))
 
-  -- an exchange is the step where it finds what it expects, and a read elsewhere
+  -- an exchange is the step if it finds what it expects, and a read otherwise
   module _ (step : LaneStep) (asked : MayMake value seat step) (expected next : ℕ)
       (computes : next ≡ packed_after step grant.marks expected) where
     by_case : (s : St) (ruled : Ruled grant s) (at : get_elem? s.views seat.id ≡ some me.0) (same : Bool)
@@ -182,7 +182,7 @@ made_or_read step_of {found = found} {now = now} {old = old} {new = new} is ensu
   told = subst (λ n. ToldTry (step_of n) found old.me now new.me) is ensured.2;
 }
 
--- where no two bits have one mask, a step that is told of the bit of its mask is told of its bit
+-- if no two bits have one mask, a step that is told of the bit of its mask is told of its bit
 pub told_of : (bit_step : ℕ → LaneStep) (mask_of : ℕ → ℕ)
     → ((a b : ℕ) → a < 32 → b < 32 → mask_of a ≡ mask_of b → a ≡ b) → (index : ℕ) → index < 32
     → (by : Step (Unit {0})) (old : Knows) (found : ℕ) (new : Knows) → by.first ≡ mask_of index

@@ -11,7 +11,7 @@ use Rattle.std.proofs.lemmas.Nat.Bits.{bit_at-lt, bit_at-zero, bit_at_above, bit
 use Rattle.ob_core.specs.Bits.{is_set, AreAmong}
 use Rattle.ob_lanes.specs.Split.{are_held}
 
--- one bit is at most another just when the test finds so
+-- one bit is at most another exactly if the test finds so
 passes : (bit other : ℕ) → bit ≤ other → other < 2 → (not (eqb bit 1) || eqb other 1) ≡ true
 passes zero other at_most small = refl
 passes (suc bit) other at_most small = or_right (not (eqb (suc bit) 1)) (eqb other 1) (eq-eqb other 1 (omega arith))

@@ -85,7 +85,7 @@ below_power n k none =
     let same : n ≡ n % 2 ^ k = same_from_bits n (n % 2 ^ k) (λ i. ⊎_elim (low i) (high i) (cases_lt i k)) in
     omega (arith, same, small)
 
--- the word fits 32 bits where the grant's bits do
+-- the word fits 32 bits if the grant's bits do
 pub word_fits : (grant : Grant) (core : CoreState) → AccountsHold grant core → grant.bits < 2 ^ 32
     → core.word < 2 ^ 32
 word_fits grant core holds bits =

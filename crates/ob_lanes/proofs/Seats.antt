@@ -127,7 +127,7 @@ module _ (grant : Grant) (s : St) (id : ℕ) (facts : Facts) (room bits : ℕ) (
         (All-one Taken given (All-nil (HasEnded halves)));
   }
 
--- a seat that is free may be cut in two, where it has the room and the bits
+-- a seat that is free may be cut in two, if it has the room and the bits
 pub division_allowed : (grant : Grant) (id : ℕ) (facts : Facts) (room bits : ℕ) → facts.spent ≡ false → IsFree facts.lane → bits < 2 ^ 32
     → split_fault facts.lane room bits ≡ None
     → Splits (Ruled grant) id facts (kept_facts room bits facts) (given_facts room bits facts)

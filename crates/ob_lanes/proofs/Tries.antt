@@ -28,7 +28,7 @@ step_hears step found old new told run whole =
     begins_behind _ told.sees.before old.0.seen run told.sees.begins
     (subst (BeginsWithAll run) told.sees.seen_is whole)
 
--- what a read tells of the lane holds of it behind the read too
+-- what a read tells of the lane holds of it after the read too
 still_told : (found : ℕ) (old new : Knows) → Told Load old found new → PackedTold new.0 found
 still_told found old new told =
     subst (λ (f : Facts). PackedTold f found) (sym told.after)
@@ -77,7 +77,7 @@ next_read found other old now new trying told = record {
 pub begun : (old now : Seat (Unit {0}) Facts) (found : ℕ) → Makes Load old found now → SeatTries old found now
 begun old now found made = record { same = made.same; trying = first_read found old.me now.me made.told }
 
--- and so it is behind an exchange that found another value than was read last, which is a read
+-- and so it is after an exchange that found another value than was read last, which is a read
 pub again : (step : LaneStep) (found other : ℕ) (old now new : Seat (Unit {0}) Facts) → other ≢ found
     → SeatTries old found now → MakesOrReads step found now other new → SeatTries old other new
 again step found other old now new missed tries made = record {

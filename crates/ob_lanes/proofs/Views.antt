@@ -77,7 +77,7 @@ spent-apart views id seat facts other at live their_at spent = λ same.
     let wrong : true ≡ false = sym spent ∙ ap (λ (f : Facts). f.spent) is ∙ live in
     absurd (cc)
 
--- the lanes that were taken in have ended still, where all seats that are spent stay
+-- the lanes that were taken in have ended still, if all seats that are spent stay
 pub ended-stays : (views after : List Facts)
     → ((seat : ℕ) (facts : Facts) → get_elem? views seat ≡ some facts → facts.spent ≡ true
     → get_elem? after seat ≡ some facts)

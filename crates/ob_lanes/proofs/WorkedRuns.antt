@@ -158,7 +158,7 @@ met_seen =
     seen_last 1 first_run (way 60 (half (Some 60)) (half None)) (met 1) first_adds refl refl (begins_none first_run)
     met_in_run
 
--- the first half reads before the second adds, and behind it
+-- the first half reads before the second adds, and after it
 pub early_seen : Sees grant (first_run ∷ []) Load 60 [] (half (Some 60)) (one_step (Add 60) 0 ++ one_step Load 60)
     ((Steps 0 Load 60 ∷ first_run) ∷ [])
 early_seen =

@@ -2,7 +2,7 @@
 use Rattle.std.specs.Prelude.{◌≡◌, ◌++◌, List, All}
 use Rattle.ob_lanes.specs.declared.facts.Move.{Move}
 
--- a run, the latest move of which comes first, begins with another: it has some moves more, behind those
+-- a run, the latest move of which comes first, begins with another: it has some moves more, after those
 pub record BeginsWith (run earlier : List Move) : Type 0 where
   pub later : List Move
   pub run_is : run ≡ later ++ earlier

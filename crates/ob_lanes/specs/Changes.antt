@@ -16,7 +16,7 @@ changes_of marks (Steps seat step found ∷ earlier) =
 changes_of marks (Divides seat kept given name ∷ earlier) = changes_of marks earlier
 changes_of marks (Merges seat other both ∷ earlier) = changes_of marks earlier
 
--- whether the writers may go on behind these changes: at first they may
+-- whether the writers may go on after these changes: at first they may
 abbrev pub writable_after : List Change → Bool
 writable_after [] = true
 writable_after (Unwritable ∷ earlier) = false

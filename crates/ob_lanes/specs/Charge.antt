@@ -17,7 +17,7 @@ debt_of amount = if amount == 0 then None else Some amount
 abbrev pub AreReads : List Made → Type 0
 AreReads reads = All (λ made. made.step ≡ Load) reads
 
--- behind some reads a lane has made one step more, which it sees; the change is that of the step by what it found
+-- after some reads a lane has made one step more, which it sees; the change is that of the step by what it found
 pub record IsOneStep (step : LaneStep) (old new : RunningLane) (change : Option Change) : Type 0 where
   pub reads : List Made
   pub are_reads : AreReads reads

@@ -35,7 +35,7 @@ abbrev pub facts_after : LaneStep → ℕ → List (List Move) → Facts → Fac
 facts_after step found seen facts =
     record facts { lane = lane_after step facts.lane; made = facts.made ++ one_step step found; seen = seen }
 
--- the own steps of the seat with this number, none where there is no such seat
+-- the own steps of the seat with this number, none if there is no such seat
 abbrev pub made_at : List Facts → ℕ → List Made
 made_at [] seat = []
 made_at (facts ∷ others) zero = facts.made

@@ -3,7 +3,7 @@ use Rattle.std.specs.Prelude.{ℕ, List, [], ◌∷◌, ◌++◌}
 use Rattle.ob_lanes.specs.declared.facts.Move.{Move}
 use Rattle.ob_lanes.specs.declared.facts.Move.TheVariants.{Steps, Divides, Merges}
 
--- the name of the lane in each place behind these moves, the latest of which comes first: the first lane has the empty
+-- the name of the lane in each place after these moves, the latest of which comes first: the first lane has the empty
 -- name, and a division puts the name of the new lane behind the others
 abbrev pub names_in : List Move → List (List ℕ)
 names_in [] = [] ∷ []

@@ -1,4 +1,4 @@
--- What a read of one half of the one word does, and what it tells of the lane that makes it.
+-- What a read of one half of the one word does, and what it shows of the lane that makes it.
 use Rattle.std.specs.Prelude.{◌≡◌, ◌≤◌, ◌+◌, ℕ}
 use Rattle.ob_types.specs.Packed.{word_half, total_half}
 use Rattle.ob_core.specs.Owed.{owed_by}

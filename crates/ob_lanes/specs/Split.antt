@@ -24,7 +24,7 @@ split_fault lane room bits =
     first_fault ((nat_lt lane.room room, NoRoom) ∷ (not (are_held bits lane.held), NotHeld) ∷ [])
 
 -- two lanes that are free have together the room and the bits of the lane that was split; the second has this room and
--- these bits, raised where they were
+-- these bits, raised if they were
 pub record IsSplit (room bits : ℕ) (lane first second : Lane) : Type 0 where
   pub first_free : IsFree first
   pub second_free : IsFree second

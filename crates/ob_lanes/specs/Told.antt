@@ -79,7 +79,7 @@ pub record Makes (step : LaneStep) (old : Seat (Unit {0}) Facts) (found : ℕ) (
   pub same : IsSameSeat old new
   pub told : Told step old.me found new.me
 
--- the seat is the same, and its lane has made the step where the exchange found what it expected, and a read elsewhere
+-- the seat is the same, and its lane has made the step if the exchange found what it expected, and a read otherwise
 pub record MakesOrReads (step : LaneStep) (expected : ℕ) (old : Seat (Unit {0}) Facts) (found : ℕ)
     (new : Seat (Unit {0}) Facts) : Type 0 where
   pub same : IsSameSeat old new

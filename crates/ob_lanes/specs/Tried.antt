@@ -37,7 +37,7 @@ pub record SeatTries (old : Seat (Unit {0}) Facts) (found : ℕ) (now : Seat (Un
   pub same : IsSameSeat old now
   pub trying : IsTrying old.me found now.me
 
--- behind some reads the lane has made the step
+-- after some reads the lane has made the step
 pub record HasTried (step : LaneStep) (old : Knows) (found : ℕ) (new : Knows) : Type 0 where
   pub reads : List Made
   pub are_reads : AreReads reads

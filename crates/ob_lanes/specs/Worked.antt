@@ -68,7 +68,7 @@ OwnSteps =
 abbrev pub RaisedNothing : Type 0
 RaisedNothing = Leads (one_lane grant) meeting (met 0) → ⊥
 
--- in the run of both the second add alone has a change, and no run has two such changes one behind the other
+-- in the run of both the second add alone has a change, and no run has two such changes one after the other
 abbrev pub OneChange : Type 0
 OneChange =
     (changes_of grant.marks meeting ≡ Unwritable ∷ [])
@@ -158,7 +158,7 @@ reads_then id made run = runs_alone id 4 None made (run ∷ [])
 abbrev pub read_run : List Move
 read_run = Steps 0 Load shows_bit_2 ∷ bit_2_run
 
--- it reads behind that; not in front of it, not in its place, not on a word that was opened without a bit, and not in a
+-- it reads after that; not before it, not in its place, not on a word that was opened without a bit, and not in a
 -- run that forgets what it has seen
 abbrev pub ReadsBehind : Type 0
 ReadsBehind =
@@ -179,7 +179,7 @@ ShowsBit2 =
     × (ShowsHeld (lone 4 None) 6 → ⊥)
     × (ShowsHeld (lone 4 None) 0 → ⊥)
 
--- a lane that raised bit 2 reads a word of 4; it is told no other word than it found, none without its bit, and stays as
+-- a lane that raised bit 2 reads a word of 4; it gets no other word than it found, none without its bit, and stays as
 -- it was
 abbrev pub ReadsWord : Type 0
 ReadsWord =
@@ -255,7 +255,7 @@ abbrev pub has_read : TableId → ℕ → List Move → RunningLane
 has_read id found run =
     runs_beside [] 1 id (Some 60) (one_step (Add 60) 0 ++ one_step Load found) ((Steps 0 Load found ∷ run) ∷ [])
 
--- it reads at least the 60 that it owes, and at most the 60 of the other lane more, and is told what it found
+-- it reads at least the 60 that it owes, and at most the 60 of the other lane more, and gets what it found
 abbrev pub ReadsTotal : Type 0
 ReadsTotal =
     (id : TableId) →

@@ -28,8 +28,8 @@ pub fn the_mark_stands()
         Leads (one_lane grant) moves core → core.total < grant.marks.low → is_set core.word 0 ≡ false }
 {}
 
-/// What all lanes report along a run goes to and fro, and begins with `Unwritable`; the writers may go on behind it just
-/// if no bit of the word is set. The room fits 32 bits, as every room that a word is opened with.
+/// What all lanes report along a run goes to and fro, and begins with `Unwritable`; the writers may go on after it
+/// exactly if no bit of the word is set. The room fits 32 bits, as every room that a word is opened with.
 pub fn the_changes_of_every_run_take_turns()
     ensures turns { (grant : Grant) (moves : List Move) (core : CoreState) →
         is_set grant.bits 0 ≡ false → grant.room < 2 ^ 32 → Leads (one_lane grant) moves core →

@@ -14,7 +14,7 @@ use std::alloc::Global;
 /// reads first is a total of 0, and a word that shows none of its bits.
 ///
 /// `room` is the most bytes that all lanes together may owe at a time, and `bits` the mask of the user bits, with an
-/// index of 1 to 31 each. `NoMemory` comes only if the allocator refuses; no later call takes memory.
+/// index of 1 to 31 each. `NoMemory` comes only if the allocator refuses; no later call allocates.
 pub fn lanes(
     alloc: Global,
     marks: WaterMark,

@@ -31,7 +31,7 @@ use Rattle.ob_seq.specs.UserBit.{is_user_index}
 use Rattle.ob_seq.specs.Word.{word_after}
 use Rattle.ob_seq.specs.Closed.{is_closed}
 
--- whether so many writes are all that a limit allows; without a limit they never are
+-- whether this many writes are all that a limit allows; without a limit they never are
 abbrev pub is_full : Option ℕ → ℕ → Bool
 is_full None count = false
 is_full (Some limit) count = nat_le limit count
@@ -78,7 +78,7 @@ abbrev pub still_waits : Option PromiseState → Bool
 still_waits None = false
 still_waits (Some state) = is_waiting state
 
--- what an accepted command answers: a write its promise; a flush how many rows it reached; a removal whether there was
+-- what an accepted command returns: a write its promise; a flush how many rows it reached; a removal whether there was
 -- a front; a cancellation whether the promise still waited; a removal of bytes, a failing of the flushed messages and a
 -- close how many rows they took away
 abbrev pub answer_of : List Row → Command → Answer
@@ -100,7 +100,7 @@ outcome_of Waiting = None
 outcome_of Fixed = None
 outcome_of (Settled outcome) = Some outcome
 
--- the settlement of one promise: there is one where it was not settled before and is settled after
+-- the settlement of one promise: there is one if it was not settled before and is settled after
 abbrev pub settlement : ℕ → Option Outcome → Option Outcome → List (PromiseId × Outcome)
 settlement id None None = []
 settlement id None (Some outcome) = (record { 0 = id }, outcome) ∷ []
@@ -136,7 +136,7 @@ abbrev pub answer_within : Option ℕ → Settings → List Command → Command 
 answer_within limit settings commands command =
     unless_refused (first_refusal_within limit settings.estimate commands command) (reply_of settings commands command)
 
--- a command is accepted under a limit on writes, after a history, where its answer is a reply
+-- a command is accepted under a limit on writes, after a history, exactly if its answer is a reply
 abbrev pub is_accepted_within : Option ℕ → Settings → List Command → Command → Bool
 is_accepted_within limit settings commands command = is_ok (answer_within limit settings commands command)
 
@@ -167,7 +167,7 @@ first_refusal estimate commands command = first_refusal_within buffer_limit esti
 abbrev pub answer_to : Settings → List Command → Command → Result Reply Refusal
 answer_to settings commands command = answer_within buffer_limit settings commands command
 
--- a command is accepted after a history where its answer is a reply
+-- a command is accepted after a history exactly if its answer is a reply
 abbrev pub is_accepted : Settings → List Command → Command → Bool
 is_accepted settings commands command = is_accepted_within buffer_limit settings commands command
 

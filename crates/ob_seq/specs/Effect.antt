@@ -15,8 +15,7 @@ use Rattle.ob_seq.specs.Line.{is_in_line, line}
 use Rattle.ob_seq.specs.ByteRun.{whole_rows, bytes_left_over}
 use Rattle.ob_types.specs.declared.promise.PromiseState.{PromiseState}
 
--- a row that a flush reaches: it stands in line, voided where its promise was cancelled, and else with its promise
--- fixed
+-- a row that a flush reaches: it stands in line, voided if its promise was cancelled, and else with its promise fixed
 abbrev pub reached_row : Row → Row
 reached_row row =
     if is_cancelled row.promise then record row { place = Voided } else record row { place = Flushed; promise = Fixed }
@@ -50,7 +49,7 @@ abbrev pub with_front : (Row → Row) → List Row → List Row
 with_front change [] = []
 with_front change (row ∷ rows) = if is_in_line row then change row ∷ rows else row ∷ with_front change rows
 
--- whether a row stands in line, and fewer than so many rows in line stand before it
+-- whether a row stands in line, and fewer than `count` rows in line stand before it
 abbrev pub is_among_first : ℕ → List Row → Row → Bool
 is_among_first count before row = is_in_line row && nat_lt (length (line before)) count
 
@@ -61,20 +60,20 @@ with_first_behind count change before (row ∷ rows) =
     (if is_among_first count before row then change row else row)
     ∷ with_first_behind count change (before ++ row ∷ []) rows
 
--- the rows with so many of the line changed: a row changes where it is in line and fewer than so many rows in line
--- stand before it
+-- the rows with the first `count` of the line changed: a row changes if it is in line and fewer than `count` rows in
+-- line stand before it
 abbrev pub with_first : ℕ → (Row → Row) → List Row → List Row
 with_first count change rows = with_first_behind count change [] rows
 
--- a row of which so many more bytes are skipped, and told as progress, which stops at the greatest progress
+-- a row of which *n* more bytes are skipped, and added to its progress, which stops at the greatest progress
 abbrev pub skipped_row : ℕ → Row → Row
 skipped_row n row = record row { skipped = row.skipped + n; progress = min (row.progress + n) greatest_progress }
 
--- the rows with so many bytes skipped in the front, and unchanged if that is none
+-- the rows with *n* bytes skipped in the front, and unchanged if that is none
 abbrev pub with_skipped : ℕ → List Row → List Row
 with_skipped n rows = if nat_lt 0 n then with_front (skipped_row n) rows else rows
 
--- a row of which so much more progress was told
+-- a row with *n* more bytes of progress
 abbrev pub progressed_row : ℕ → Row → Row
 progressed_row n row = record row { progress = row.progress + n }
 

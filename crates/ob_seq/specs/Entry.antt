@@ -5,7 +5,7 @@ use Rattle.ob_seq.specs.Row.{Row, unread_part, is_voided}
 use Rattle.ob_seq.specs.Total.{counted_size}
 use Rattle.ob_seq.specs.ByteRun.{blocks_in_front}
 
--- what is left of a message, the bytes that it counts, the progress that was told of it, and whether it was voided
+-- what is left of a message, the bytes that it counts, its progress so far, and whether it was voided
 pub record PendingEntry : Type 0 where
   pub message : Message
   pub size : ℕ

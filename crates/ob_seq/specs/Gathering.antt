@@ -11,8 +11,8 @@ use Rattle.ob_seq.specs.Effect.{rows_after}
 abbrev pub with_bytes : List (List ℕ) → List (List ℕ)
 with_bytes blocks = filter (λ block. nat_lt 0 (length block)) blocks
 
--- of a list of blocks as many from the front as hold together at most so many bytes, but the first in any case, and
--- at most so many
+-- of a list of blocks as many from the front as hold together at most `max_bytes` bytes, but the first in any case, and
+-- at most `max_count`
 abbrev pub first_blocks : ℕ → ℕ → List (List ℕ) → List (List ℕ)
 first_blocks max_count max_bytes blocks = take (min max_count (max 1 (pieces_within max_bytes blocks))) blocks
 

@@ -9,8 +9,8 @@ use Rattle.ob_seq.specs.Closed.{is_closed}
 use Rattle.ob_seq.specs.Word.{word_after}
 use Rattle.ob_seq.specs.Holding.{Pending}
 
--- a buffer is what these commands leave where it holds the marks in force, and what the rows and the moments say, after
--- them, and it is closed where one of them is a close
+-- a buffer is what these commands leave if it holds the marks in force, and what the rows and the moments say, after
+-- them, and it is closed exactly if one of them is a close
 pub record Leaves (buffer : Pending) (commands : List Command) : Type 0 where
   pub closed : buffer.closed ≡ is_closed commands
   pub marks : buffer.marks ≡ marks_after buffer.settings commands

@@ -18,18 +18,18 @@ use Rattle.ob_types.specs.declared.promise.PromiseState.{PromiseState}
 use Rattle.ob_types.specs.declared.message.Message.{Message}
 use Rattle.ob_seq.specs.Answer.{promise_at}
 
--- how many bytes more make a writable buffer unwritable (Netty's `bytesBeforeUnwritable`); 0 where it is not writable
+-- how many bytes more make a writable buffer unwritable (Netty's `bytesBeforeUnwritable`); 0 if it is not writable
 abbrev pub before_unwritable : Marks → ℕ → ℕ → ℕ
 before_unwritable marks word sum = if is_writable word && nat_le sum marks.high then marks.high - sum + 1 else 0
 
 -- how many bytes fewer bring the pending bytes of an unwritable buffer below the low mark (Netty's
--- `bytesBeforeWritable`), one more than there are where that mark is 0, at most the greatest total; 0 where the
--- buffer is writable, or its pending bytes are below the low mark
+-- `bytesBeforeWritable`), one more than there are if that mark is 0, at most the greatest total; 0 if the buffer is
+-- writable, or its pending bytes are below the low mark
 abbrev pub before_writable : Marks → ℕ → ℕ → ℕ
 before_writable marks word sum =
     if not (is_writable word) && nat_le marks.low sum then min (sum - marks.low + 1) greatest_total else 0
 
--- the progress of the front, or 0 where nothing stands in line (Netty's `currentProgress`)
+-- the progress of the front, or 0 if nothing stands in line (Netty's `currentProgress`)
 abbrev pub progress_of : Option Row → ℕ
 progress_of None = 0
 progress_of (Some row) = row.progress
@@ -48,11 +48,11 @@ look_after settings commands =
       current_progress = progress_of (front rows);
     }
 
--- what has become of a promise after a history, or nothing where no write was accepted under its id
+-- what has become of a promise after a history, or nothing if no write was accepted under its id
 abbrev pub promise_after : Settings → List Command → PromiseId → Option PromiseState
 promise_after settings commands id = promise_at (rows_after settings.estimate commands) id.0
 
--- the unread part of the front after a history, or nothing where nothing stands in line (Netty's `current`)
+-- the unread part of the front after a history, or nothing if nothing stands in line (Netty's `current`)
 abbrev pub current_after : Settings → List Command → Option Message
 current_after settings commands = option_map unread_part (front (rows_after settings.estimate commands))
 

@@ -1,4 +1,4 @@
--- The mark: set where the last moment that decided it was a rise.
+-- The mark: set exactly if the last moment that decided it was a rise.
 use Rattle.std.specs.Prelude.{Bool, true, false, List, [], ◌∷◌, ◌++◌, filter, reverse, slice_get, nat_lt, Option, Some}
 use Rattle.std.specs.Prelude.{None}
 use Rattle.ob_types.specs.WaterMark.{Marks}
@@ -16,8 +16,8 @@ decides marks (Rise sum) = nat_lt marks.high sum
 decides marks (NoticedFall sum) = nat_lt sum marks.low
 decides marks (SilentFall sum) = false
 
--- the deciding moments of commands that are accepted one after another where a history left these rows, oldest first,
--- each by the marks in force at its command
+-- the deciding moments of commands that are accepted one after another once a history has left these rows, oldest
+-- first, each by the marks in force at its command
 abbrev pub deciding_from : Settings → List Command → List Row → List Command → List Moment
 deciding_from settings earlier rows [] = []
 deciding_from settings earlier rows (command ∷ commands) =
@@ -34,7 +34,7 @@ is_rise (Rise sum) = true
 is_rise (NoticedFall sum) = false
 is_rise (SilentFall sum) = false
 
--- the mark is set where the last deciding moment is a rise, and clear where there is none
+-- the mark is set if the last deciding moment is a rise, and clear if there is none
 abbrev pub is_set_by : Option Moment → Bool
 is_set_by None = false
 is_set_by (Some moment) = is_rise moment

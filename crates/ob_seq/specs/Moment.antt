@@ -17,7 +17,7 @@ pub data Moment : Type 0 where
 abbrev pub fall : Bool → ℕ → Moment
 fall notice sum = if notice then NoticedFall sum else SilentFall sum
 
--- the moment when one row's count goes from before to after and the pending bytes are then sum: none where it stays
+-- the moment when one row's count goes from before to after and the pending bytes are then sum: none if it stays
 abbrev pub moment_of : Bool → ℕ → ℕ → ℕ → List Moment
 moment_of notice before after sum =
     if nat_lt before after then Rise sum ∷ [] else (if nat_lt after before then fall notice sum ∷ [] else [])

@@ -23,19 +23,19 @@ outcome_since (run ∷ runs) before place =
 abbrev pub outcome_at : List Run → ℕ → Outcome
 outcome_at runs place = outcome_since runs Success place
 
--- the outcome of the last of the first so many runs, or else this one
+-- the outcome of the last of the first `count` runs, or else this one
 abbrev pub outcome_before : List Run → ℕ → Outcome → Outcome
 outcome_before runs zero before = before
 outcome_before runs (suc count) before = (slice_index_or runs count (record { from = 0; outcome = before })).outcome
 
--- the outcomes that runs tell of so many messages
+-- the outcomes that runs give of `count` messages
 abbrev pub endings_of : Inside → Endings
 endings_of inside = record {
   list = map (outcome_at inside.runs.items) (range_with_len 0 inside.count);
   room = vec_capacity inside.runs - vec_len inside.runs;
 }
 
--- what every call keeps: no run begins before the one in front of it, or behind the messages, which are within the limit
+-- what every call keeps: no run begins before the one in front of it, or past the messages, which are within the limit
 pub record IsOrdered (inside : Inside) : Type 0 where
   pub rise : IsNonDecreasingBy (λ run. run.from) inside.runs.items
   pub begun : (place : ℕ) (other : Run) → place < length inside.runs.items →

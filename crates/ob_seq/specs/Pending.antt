@@ -16,7 +16,7 @@ use Rattle.ob_seq.specs.declared.look.Look.{Look}
 use Rattle.ob_seq.specs.Looks.{look_after, promise_after, current_after, front_promise_after, flushed_after}
 use Rattle.ob_seq.specs.Gathering.{gathered_after}
 
--- a buffer stands for a history where each command of it was accepted, and the buffer is what they leave
+-- a buffer stands for a history exactly if each command of it was accepted, and the buffer is what they leave
 pub record StandsFor (buffer : Pending) (commands : List Command) : Type 0 where
   pub accepted : are_accepted buffer.settings [] commands ≡ true
   pub leaves : Leaves buffer commands
@@ -40,8 +40,8 @@ abbrev pub Follows : Pending → Command → Result Reply Refusal → Pending �
 Follows old command result new =
     (commands : List Command) → StandsFor old commands → StandsFor new (commands_with commands command result)
 
--- a buffer obeys a command if it gives the answer to it, unless memory is wanted, and then holds what follows; its
--- settings stay, a refusal changes nothing, and memory is wanted only if the command is accepted
+-- a buffer obeys a command if it gives the answer to it, unless it is out of memory, and then holds what follows; its
+-- settings stay, a refusal changes nothing, and it is out of memory only if the command is accepted
 pub record Obeys (old : Pending) (command : Command) (result : Result Reply Refusal) (new : Pending) : Type 0 where
   pub answer : ¬ IsErrOf result NoMemory → Answers old command result
   pub stands : Follows old command result new
@@ -74,6 +74,6 @@ abbrev pub AreGathered : Pending → ℕ → ℕ → List (List ℕ) → Type 0
 AreGathered buffer max_count max_bytes blocks =
     Gives buffer (λ settings commands. gathered_after settings commands max_count max_bytes) blocks
 
--- whether a command is never in want of memory
+-- whether a command never runs out of memory
 abbrev pub takes_no_memory : Command → Bool
 takes_no_memory command = not (traits_of command).wants_memory

@@ -10,7 +10,7 @@ bytes_in pieces = sum_by (λ piece. length piece) pieces
 abbrev pub greatest : List ℕ → ℕ
 greatest numbers = fold max 0 numbers
 
--- the greatest number of pieces, from the first on, that hold together at most so many bytes
+-- the greatest number of pieces, from the first on, that hold together at most `limit` bytes
 abbrev pub pieces_within : ℕ → List (List ℕ) → ℕ
 pieces_within limit pieces =
     greatest (filter (λ count. nat_le (bytes_in (take count pieces)) limit) (range_with_len 0 (suc (length pieces))))

@@ -15,8 +15,8 @@ pub data Place : Type 0 where
   Voided : Place
   Gone : Place
 
--- a message with its pending size, its place, the bytes of it that were skipped, the progress that was told of it,
--- and its promise; its id is its index among the rows
+-- a message with its pending size, its place, the bytes of it that were skipped, its progress so far, and its promise;
+-- its id is its index among the rows
 pub record Row : Type 0 where
   pub message : Message
   pub size : ℕ
@@ -57,13 +57,13 @@ is_voided Flushed = false
 is_voided Voided = true
 is_voided Gone = false
 
--- what is left of a message when so many bytes of it are skipped
+-- what is left of a message when `skipped` bytes of it are skipped
 abbrev pub without_skipped : ℕ → Message → Message
 without_skipped skipped (Block bytes) = Block (drop skipped bytes)
 without_skipped skipped (Region units) = Region units
 without_skipped skipped (Other value) = Other value
 
--- the unread part: an empty block where the row was voided, a block without its skipped bytes, else the message
+-- the unread part: an empty block if the row was voided, a block without its skipped bytes, else the message
 abbrev pub unread_part : Row → Message
 unread_part row = if is_voided row.place then Block [] else without_skipped row.skipped row.message
 

@@ -11,7 +11,7 @@ use Rattle.ob_seq.specs.Settings.{Settings}
 use Rattle.ob_seq.specs.Answer.{answer_to, answer_within, buffer_limit, commands_after_within}
 use Rattle.ob_seq.specs.Pending.{Pending, StandsFor, Gives}
 
--- what an answer settles: the settlements of a reply, and nothing where the command was refused
+-- what an answer settles: the settlements of a reply, and nothing if the command was refused
 abbrev pub settled_by : Result Reply Refusal → List (PromiseId × Outcome)
 settled_by (Ok reply) = reply.settled
 settled_by (Err refusal) = []
@@ -20,12 +20,12 @@ settled_by (Err refusal) = []
 abbrev pub settled_after : Settings → List Command → Command → ℕ
 settled_after settings commands command = length (settled_by (answer_to settings commands command))
 
--- whatever history the buffer stands for, one more command settles so many promises after it
+-- whatever history the buffer stands for, one more command settles `count` promises after it
 abbrev pub Settles : Pending → Command → ℕ → Type 0
 Settles buffer command count = Gives buffer (λ settings commands. settled_after settings commands command) count
 
--- whatever history the old buffer stands for, where the command settles no more promises after it than want no memory,
--- its result is not want of memory
+-- whatever history the old buffer stands for, if the command settles no more promises after it than need no allocation,
+-- its result is not NoMemory
 abbrev pub SparesMemory : Pending → Command → Result Reply Refusal → Type 0
 SparesMemory old command result =
     (commands : List Command) → StandsFor old commands

@@ -1,4 +1,4 @@
--- What a buffer tells of its state: whether it is writable, whether it is empty, its user bits, and the writes left.
+-- What a buffer shows of its state: whether it is writable, whether it is empty, its user bits, and the writes left.
 use Rattle.std.specs.Prelude.{ℕ, ◌-◌, ◌==◌, ◌&&◌, Bool, not, List, length, if◌then◌else◌}
 use Rattle.ob_types.specs.Change.{is_writable}
 use Rattle.ob_types.specs.Limits.{most_writes}

@@ -29,7 +29,7 @@ nothing_unsent settings =
 abbrev pub waiting_count : Unsent → ℕ
 waiting_count unsent = length unsent.line + length unsent.unflushed
 
--- an entry in line as a contract sees it: it was voided where its promise was taken back
+-- an entry in line as a contract sees it: it was voided if its promise was taken back
 abbrev pub pending_entry : Entry → PendingEntry
 pending_entry entry =
     record { message = entry.message; size = entry.size; progress = entry.progress; voided = entry.taken_back }
@@ -67,6 +67,6 @@ whole gone unsent = record {
   closed = unsent.closed;
 }
 
--- how the promise of an entry ends that leaves with this outcome: it was settled before where it was taken back
+-- how the promise of an entry ends that leaves with this outcome: it was settled before if it was taken back
 abbrev pub ended : Outcome → Entry → Outcome
 ended outcome entry = if entry.taken_back then Cancelled else outcome

@@ -17,6 +17,6 @@ bit_request index command = asked_of index (traits_of command).bit
 abbrev pub is_user_index : ℕ → Bool
 is_user_index index = nat_le 1 index && nat_le index 31
 
--- a user bit is as the last command that asked something of it left it, and clear where none did
+-- a user bit is as the last command that asked something of it left it, and clear if none did
 abbrev pub user_bit : List Command → ℕ → Bool
 user_bit commands index = unwrap_or (slice_get (reverse (filter_map (bit_request index) commands)) 0) false

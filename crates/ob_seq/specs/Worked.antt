@@ -1,4 +1,4 @@
--- The definitions on small histories, computed by hand beforehand.
+-- The definitions on small histories, worked out by hand.
 use Rattle.std.specs.Prelude.{◌≡◌, ℕ, true, false, List, [], ◌∷◌, ◌++◌, replicate, Option, Some, None, Result, Ok, Err}
 use Rattle.ob_types.specs.declared.command.Command.{Command}
 use Rattle.ob_types.specs.declared.command.Command.TheVariants.{Write, Flush, Remove, RemoveWith, RemoveBytes, Progress}
@@ -28,7 +28,7 @@ use Rattle.ob_seq.specs.Gathering.{gathered_after}
 abbrev pub marked : ℕ → ℕ → Settings
 marked low high = record { marks = record { low = low; high = high }; estimate = record { overhead = 96; unknown = 8 } }
 
--- a write of a block of so many bytes
+-- a write of a block of *n* bytes
 abbrev pub block : ℕ → Command
 block n = Write (Block (replicate n 0))
 

@@ -1,4 +1,4 @@
--- The definitions on small histories of bytes, computed by hand beforehand.
+-- The definitions on small histories of bytes, worked out by hand.
 use Rattle.std.specs.Prelude.{◌≡◌, ℕ, true, List, [], ◌∷◌, ◌++◌, Some, None}
 use Rattle.ob_types.specs.declared.command.Command.{Command}
 use Rattle.ob_types.specs.declared.command.Command.TheVariants.{Write, Flush, Remove, RemoveWith, RemoveBytes}
@@ -21,7 +21,7 @@ abbrev pub twice_skipped : List Command
 twice_skipped =
     block_of (11 ∷ 12 ∷ 13 ∷ 14 ∷ 15 ∷ []) ∷ block_of (21 ∷ 22 ∷ []) ∷ Flush ∷ RemoveBytes 2 ∷ RemoveBytes 1 ∷ []
 
--- skipped bytes add up: a removal begins behind those of the removals before it, and at most what is unread is removed
+-- skipped bytes add up: a removal begins after those of the removals before it, and at most what is unread is removed
 abbrev pub TwoSkips : Type 0
 TwoSkips =
     shown (marked 200 400) [] (twice_skipped ++ RemoveBytes 5 ∷ RemoveBytes 3 ∷ [])
@@ -53,7 +53,7 @@ WritableByBytes =
     ∷ replied (Id (record { 0 = 2 })) [] (Some Unwritable) 296 1 ∷ replied (Count 3) [] None 296 1
     ∷ replied (Count 1) (succeeds 0) None 197 1 ∷ replied (Count 1) (succeeds 1) (Some Writable) 98 0 ∷ []
 
--- of several blocks that one removal of bytes takes away any may bring writability back, and it is told once
+-- of several blocks that one removal of bytes takes away any may bring writability back, and it is reported once
 abbrev pub WritableByManyBytes : Type 0
 WritableByManyBytes =
     shown (marked 100 200) [] (three_blocks ++ RemoveBytes 8 ∷ [])
@@ -71,11 +71,11 @@ WritableByFailure =
     ∷ replied (Count 2) [] None 204 1
     ∷ replied (Yes true) (settles 0 (Failed (record { 0 = 6 }))) (Some Writable) 99 0 ∷ []
 
--- a region that was voided, in line before a block, and progress told of it
+-- a region that was voided, in line before a block, with progress added to it
 abbrev pub voided_region : List Command
 voided_region = Write (Region 700) ∷ block_of (5 ∷ 6 ∷ []) ∷ Cancel (record { 0 = 0 }) ∷ Flush ∷ Progress 7 ∷ []
 
--- a voided region is an empty block in the byte run: progress may be told of it, and the next removal of bytes takes
+-- a voided region is an empty block in the byte run: progress may be added to it, and the next removal of bytes takes
 -- it away and settles nothing
 abbrev pub VoidedRegion : Type 0
 VoidedRegion =

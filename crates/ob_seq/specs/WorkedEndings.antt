@@ -1,4 +1,4 @@
--- The definitions on small histories that end, computed by hand beforehand.
+-- The definitions on small histories that end, worked out by hand.
 use Rattle.std.specs.Prelude.{◌≡◌, true, List, [], ◌∷◌, ◌++◌, Some, None}
 use Rattle.ob_types.specs.declared.command.Command.{Command}
 use Rattle.ob_types.specs.declared.command.Command.TheVariants.{Flush, Remove, RemoveBytes, Cancel, FailFlushed, Close}

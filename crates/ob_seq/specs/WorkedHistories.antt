@@ -1,4 +1,4 @@
--- What is read off a whole history, computed by hand beforehand.
+-- What is read off a whole history, worked out by hand.
 use Rattle.std.specs.Prelude.{◌≡◌, true, List, [], ◌∷◌, ◌++◌, map}
 use Rattle.ob_types.specs.declared.command.Command.{Command}
 use Rattle.ob_types.specs.declared.command.Command.TheVariants.{Flush, Remove, Progress, Cancel, FailFlushed}

@@ -1,4 +1,4 @@
--- The definitions at the limits, computed by hand beforehand.
+-- The definitions at the limits, worked out by hand.
 use Rattle.std.specs.Prelude.{◌≡◌, ℕ, true, List, [], ◌∷◌, ◌++◌, Some, None}
 use Rattle.ob_types.specs.declared.command.Command.{Command}
 use Rattle.ob_types.specs.declared.command.Command.TheVariants.{Write, Flush, Remove, RemoveBytes, Progress}
@@ -45,8 +45,8 @@ LookAtTheLimit =
 abbrev pub heavy : Settings
 heavy = wide 2147483646 2
 
--- a message with the greatest pending size is taken, and so is the longest region; one byte more is oversize, and told
--- as that also where it would be too much as well
+-- a message with the greatest pending size is taken, and so is the longest region; one byte more is oversize, and
+-- refused as that also if it would be too much as well
 abbrev pub SizesAtTheirLimits : Type 0
 SizesAtTheirLimits =
     shown heavy []
@@ -56,11 +56,11 @@ SizesAtTheirLimits =
     ∷ replied (Id (record { 0 = 1 })) [] (Some Unwritable) 4294967293 1 ∷ refused Oversize 4294967293 1
     ∷ refused Oversize 4294967293 1 ∷ refused TooMuch 4294967293 1 ∷ []
 
--- a block in line with progress told up to one below the top, and three of its four bytes removed
+-- a block in line with progress up to one below the top, and three of its four bytes removed
 abbrev pub skipped_past_the_top : List Command
 skipped_past_the_top = block_of (1 ∷ 2 ∷ 3 ∷ 4 ∷ []) ∷ Flush ∷ Progress 9223372036854775806 ∷ RemoveBytes 3 ∷ []
 
--- skipped bytes bring progress up to its top and no further, and are not refused; progress that is told past it is
+-- skipped bytes bring progress up to its top and no further, and are not refused; progress that is added past it is
 abbrev pub ProgressAtItsTop : Type 0
 ProgressAtItsTop =
     (shown (marked 200 400) [] (skipped_past_the_top ++ Progress 1 ∷ Progress 0 ∷ RemoveBytes 1 ∷ [])

@@ -1,5 +1,4 @@
--- The two numbers of a look where the pending bytes equal a mark, and the promise of the front, computed by hand
--- beforehand.
+-- The two numbers of a look when the pending bytes equal a mark, and the promise of the front, worked out by hand.
 use Rattle.std.specs.Prelude.{◌≡◌, true, false, [], ◌∷◌, Some, None}
 use Rattle.ob_types.specs.declared.command.Command.TheVariants.{Flush, Remove, RemoveBytes, Progress, Cancel}
 use Rattle.ob_types.specs.declared.command.Command.TheVariants.{FailFlushed, Close, UserBit}
@@ -67,7 +66,7 @@ VoidedInFront =
     × (front_promise_after (marked 200 400) (block 1 ∷ block 2 ∷ Cancel (record { 0 = 0 }) ∷ Flush ∷ Remove ∷ [])
     ≡ Some (record { 0 = 1 }))
 
--- a message stays in front while a part of it is sent and its progress told
+-- a message stays in front while a part of it is sent and its progress grows
 abbrev pub PartlySentInFront : Type 0
 PartlySentInFront =
     (front_promise_after (marked 200 400) (block 1 ∷ block 2 ∷ Flush ∷ RemoveBytes 2 ∷ []) ≡ Some (record { 0 = 1 }))

@@ -1,4 +1,4 @@
--- Marks that are set while a buffer is open, on small histories, computed by hand beforehand.
+-- Marks that are set while a buffer is open, on small histories, worked out by hand.
 use Rattle.std.specs.Prelude.{◌≡◌, ℕ, true, false, [], ◌∷◌, Some, None}
 use Rattle.ob_types.specs.declared.command.Command.{Command}
 use Rattle.ob_types.specs.declared.command.Command.TheVariants.{Flush, Remove, FailFlushed, Close, UserBit, SetMarks}

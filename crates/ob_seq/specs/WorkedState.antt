@@ -1,5 +1,4 @@
--- What a buffer tells of its state after small histories, and which commands never want memory, worked out by hand
--- beforehand.
+-- What a buffer shows of its state after small histories, and which commands never allocate, worked out by hand.
 use Rattle.std.specs.Prelude.{◌≡◌, true, false, List, [], ◌∷◌, map}
 use Rattle.ob_types.specs.declared.command.Command.{Command}
 use Rattle.ob_types.specs.declared.command.Command.TheVariants.{Write, Flush, Remove, RemoveWith, RemoveBytes, Progress}
@@ -36,7 +35,7 @@ ClosedByAClose =
     (closed_after (marked 200 400) (block 4 ∷ []) ≡ false)
     × (closed_after (marked 200 400) (block 4 ∷ Close (record { 0 = 3 }) ∷ []) ≡ true)
 
--- a user bit is told by its index; at 0 and at 32 there is none, even with the mark set
+-- a user bit is shown by its index; at 0 and at 32 there is none, even with the mark set
 abbrev pub UserBitsTold : Type 0
 UserBitsTold =
     (user_writable_after 5 (marked 200 400) (UserBit 5 false ∷ []) ≡ false)
@@ -59,7 +58,7 @@ one_of_each =
     ∷ Cancel (record { 0 = 0 }) ∷ FailFlushed (record { 0 = 1 }) true ∷ Close (record { 0 = 1 }) ∷ UserBit 1 true
     ∷ SetMarks (record { low = 1; high = 2 }) ∷ []
 
--- a write, a removal of bytes, a failing and a close may want memory, and no other command
+-- a write, a removal of bytes, a failing and a close may allocate, and no other command
 abbrev pub WantsOfMemory : Type 0
 WantsOfMemory =
     map takes_no_memory one_of_each

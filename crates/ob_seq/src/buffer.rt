@@ -33,7 +33,8 @@ impl Model for Buffer {
 }
 
 impl Buffer {
-    /// An empty buffer, which takes no memory. The overhead and the size of unknown messages are at most 65535 bytes.
+    /// An empty buffer. To make one does not allocate. The overhead and the size of unknown messages are at most 65535
+    /// bytes.
     pub fn new(alloc: Global, marks: WaterMark, estimate: Estimate) -> Buffer
         requires overhead { estimate.overhead ≤ greatest_overhead }
         requires unknown { estimate.unknown ≤ greatest_unknown }
@@ -56,12 +57,12 @@ impl Buffer {
     /// Gives one command: the call of the same name.
     ///
     /// A refused command leaves the buffer as it was, and `Closed` refuses each one once the buffer is closed.
-    /// `NoMemory` comes for a write, and for another command that settles more than four promises, where the allocator
-    /// refused.
+    /// `NoMemory` comes only if the allocator refused, and only for a write and for another command that settles more
+    /// than four promises.
     pub fn apply(&mut self, command: Command) -> Result<Reply, Refusal>
         ensures obeys { Obeys self.old command result self.new }
 
-        // Memory is wanted by some commands alone.
+        // Only some commands allocate.
         ensures frugal { IsTrue (takes_no_memory command) → ¬ IsErrOf result Refusal.NoMemory }
         ensures spares { is_write command ≡ false → SparesMemory self.old command result }
     {

@@ -5,7 +5,7 @@ use ob_types::Message;
 pub struct Entry {
     /// What is left of the message.
     pub message: Message,
-    /// The progress that was told of it, in bytes.
+    /// Its progress so far, in bytes.
     pub progress: u64,
     /// The bytes that it counts: none once it was voided.
     pub size: u32,

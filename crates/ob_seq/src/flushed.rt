@@ -11,7 +11,7 @@ use std::iter::FusedIterator;
 use std::marker::Model;
 
 /// The flushed messages that were not voided, oldest first, each as what is left of it (Netty's
-/// `forEachFlushedMessage`). It ends, and takes no memory.
+/// `forEachFlushedMessage`). It ends, and does not allocate.
 #[derive(Drop)]
 pub struct Flushed<'a> {
     /// What stands in line behind the messages that were handed out.

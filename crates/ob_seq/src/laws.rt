@@ -1,5 +1,5 @@
-//! What holds of the answers to every list of commands. The calls of a buffer answer by the definitions that these
-//! laws speak of.
+//! What holds of the answers to every list of commands. The calls of a buffer return what the definitions give that
+//! these laws speak of.
 
 ghost use Rattle.std.specs.Int.{bit_at};
 ghost use Rattle.std.specs.List.{All, Contains};
@@ -37,7 +37,7 @@ pub fn no_promise_is_settled_twice()
         → promise_after settings (commands_after settings commands command) id ≡ Some (Settled outcome) }
 {}
 
-/// Whatever commands a new buffer is given, a promise is settled with an outcome exactly where the two stand together
+/// Whatever commands a new buffer is given, a promise is settled with an outcome exactly if the two stand together
 /// among what the commands settle. The second clause says the same of commands that are all accepted.
 pub fn a_settled_promise_is_told()
     ensures told { (settings : Settings) (commands : List Command) (id : PromiseId) (outcome : Outcome) →
@@ -60,7 +60,7 @@ pub fn refused_commands_leave_no_trace()
         are_accepted settings [] commands ≡ true → accepted_among settings commands ≡ commands }
 {}
 
-/// After accepted commands a promise is unknown exactly where its id is not below the number of writes among them, and
+/// After accepted commands a promise is unknown exactly if its id is not below the number of writes among them, and
 /// there is one row for each of those.
 pub fn a_promise_is_unknown_past_the_writes()
     ensures unknown { (settings : Settings) (commands : List Command) (id : PromiseId) →
@@ -121,7 +121,7 @@ pub fn marks_that_are_set_leave_the_word()
         → marks_after settings (commands ++ command ∷ []) ≡ marks_after settings commands }
 {}
 
-/// The look's `before_unwritable`, where it is not 0, is the least rise that brings the pending bytes above the high
+/// The look's `before_unwritable`, if it is not 0, is the least rise that brings the pending bytes above the high
 /// mark. The second clause says so of the look after a history, of which the high mark is the one in force at it.
 pub fn before_unwritable_is_the_least_rise()
     ensures least { (marks : Marks) (word sum rise : ℕ) → 0 < before_unwritable marks word sum →
@@ -132,7 +132,7 @@ pub fn before_unwritable_is_the_least_rise()
         ↔ (marks_after settings commands).high < (look_after settings commands).total + rise }
 {}
 
-/// Under a positive low mark the look's `before_writable`, where it is not 0, is the least fall that brings the pending
+/// Under a positive low mark the look's `before_writable`, if it is not 0, is the least fall that brings the pending
 /// bytes below the low mark. No buffer has more than 4294967295 of them, so the second clause says the same of the look
 /// after accepted commands, of which the low mark is the one in force at it.
 pub fn before_writable_is_the_least_fall()

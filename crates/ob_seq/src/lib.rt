@@ -1,4 +1,4 @@
-//! The outbound buffer of one thread (Netty's `ChannelOutboundBuffer`): each call answers what the model answers.
+//! The outbound buffer of one thread (Netty's `ChannelOutboundBuffer`): each call returns what the model says.
 #![tactic(auto)]
 
 mod buffer;

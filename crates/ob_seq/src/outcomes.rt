@@ -26,7 +26,8 @@ pub struct Run {
 /// otherwise take none: so an outcome costs memory only if it differs from the one before.
 #[derive(Debug, Drop)]
 pub struct Outcomes {
-    /// Each begins behind the one before, and the last ends with the newest message. What comes before the first was sent.
+    /// Each begins after the one before, and the last ends with the newest message. What comes before the first was
+    /// sent.
     runs: Vec<Run>,
     /// How many messages are gone.
     count: usize,
@@ -43,7 +44,7 @@ impl Model for Outcomes {
 }
 
 impl Outcomes {
-    /// None, which takes no memory.
+    /// None. To make it does not allocate.
     pub fn new(alloc: Global) -> Outcomes
         ensures { result.list ≡ [] }
     {
@@ -68,7 +69,7 @@ impl Outcomes {
         outcome_at(&self.runs, place)
     }
 
-    /// Takes room for so many more, whatever they are. If that fails, all is as it was.
+    /// Takes room for `count` more, whatever they are. If that fails, all is as it was.
     pub fn reserve(&mut self, count: usize) -> Result<(), AllocError>
         ensures list { self.new.list ≡ self.old.list }
         ensures room { self.old.room ≤ self.new.room }
@@ -77,7 +78,7 @@ impl Outcomes {
         self.runs.reserve(count)
     }
 
-    /// Adds one behind the others, for which there is room.
+    /// Adds one after the others, for which there is room.
     pub fn push(&mut self, outcome: Outcome)
         requires few { length self.old.list < most_writes }
         requires room { 0 < self.old.room }
@@ -103,7 +104,7 @@ fn outcome_at(runs: &[Run], place: usize) -> Outcome
     outcome_before(runs, begun)
 }
 
-/// The outcome of the last of the first so many runs.
+/// The outcome of the last of the first `count` runs.
 fn outcome_before(runs: &[Run], count: usize) -> Outcome
     requires { count ≤ length runs.now }
     ensures { result ≡ outcome_before runs.now count Success }

@@ -88,7 +88,7 @@ impl Whole {
         self.gone.len()
     }
 
-    /// The id of the first promise of an unflushed message, or of the next one where there is none.
+    /// The id of the first promise of an unflushed message, or of the next one if there is none.
     pub fn first_unflushed(&self) -> usize
         ensures { result ≡ unflushed_id self.now }
     {

@@ -16,7 +16,7 @@ use Rattle.ob_shared.specs.Sight.{sight_of}
 abbrev pub now_with : Handed → ShareValue → List Receipt → Handed
 now_with old share receipts = record old { maker = share.maker; sight = share.sight; receipts = receipts }
 
--- with the share that left after its record, and the receipt behind the others
+-- with the share that left after its record, and the receipt after the others
 pub keeps_record : (old : Handed) (history after : History) (who maker : Maker) (share : ShareValue) (command : Command)
     (receipt : Receipt) (receipts : List Receipt) → who ≡ old.maker → IsCall history who.caller command (Ok receipt) after
     → maker ≡ one_more who → share ≡ share_after maker after.records → receipts ≡ old.receipts ++ receipt ∷ []

@@ -54,7 +54,7 @@ module _ (settings : Settings) (records : List Record) where
         );
   }
 
-  -- where a list has an item that breaks it, what was handed in does not stand
+  -- if a list has an item that breaks it, what was handed in does not stand
   pub foreign_receipt : (one : Handed) (index : ℕ) →
       IsFirstBreak (AreOwn one.maker.caller records) one.receipts index → ¬ StandsIn settings records one
   foreign_receipt one index break = λ stands. break.broken
@@ -70,7 +70,7 @@ module _ (settings : Settings) (records : List Record) where
   foreign_seen one index break = λ stands. break.broken
       (All-take (IsSeenIn settings records) (index + 1) one.seen stands.seen)
 
-  -- where what one hands in does not stand, and all before it does, its first foreign item is the first of all
+  -- if what one hands in does not stand, and all before it does, its first foreign item is the first of all
   pub foreign_of_all : (handed : List Handed) (index : ℕ) (one : Handed) (place : ℕ) → index < length handed →
       one ≡ get_or handed index one → All (StandsIn settings records) (take index handed) →
       ¬ StandsIn settings records one → IsFirstForeign settings records one place →
@@ -125,7 +125,7 @@ module _ (settings : Settings) (records : List Record) where
         sum_by-cons (λ (one : Handed). one.maker.made) one handed,
       )
 
-  -- where each caller hands in once, as many receipts as it made records, and all stands, these are all its records
+  -- if each caller hands in once, as many receipts as it made records, and all stands, these are all its records
   pub all_is_handed_in : (callers : ℕ) (handed : List Handed) → ¬ LacksShare callers handed →
       length handed ≤ callers → first_short handed ≡ None →
       made_by handed ≡ length records → All (StandsIn settings records) handed → All (HandsInAll records) handed

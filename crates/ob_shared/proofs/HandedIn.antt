@@ -28,7 +28,7 @@ still_handed_in gone caller (one ∷ handed) apart =
         sym (ap (λ first. first || has_handed_in caller handed) other)
     by_cases others false differs = ap (λ rest. (one.maker.caller == caller) || rest) others
 
--- where each of so many callers handed in, at least as many handed in
+-- if each of `callers` callers handed in, at least as many handed in
 enough_handed_in : (callers : ℕ) (handed : List Handed) →
     ((caller : ℕ) → caller < callers → has_handed_in caller handed ≡ true) → callers ≤ length handed
 enough_handed_in zero handed here = omega arith
@@ -38,13 +38,13 @@ enough_handed_in (suc last) handed here =
     ∙ here caller (omega (arith, below))) in
     omega (arith, fewer, length-remove_key (λ one. one.maker.caller == last) handed (here last (omega arith)))
 
--- where no share is missing, there are at least as many as callers
+-- if no share is missing, there are at least as many as callers
 pub as_many_as_callers : (callers : ℕ) (handed : List Handed) → ¬ LacksShare callers handed → callers ≤ length handed
 as_many_as_callers callers handed complete =
     enough_handed_in callers handed (λ caller below. true_from_ne_false _
     (λ missing. complete (caller, below, missing)))
 
--- where a caller handed in at two places, it has still handed in without the first of them
+-- if a caller handed in at two places, it has still handed in without the first of them
 twice_handed_in : (caller : ℕ) (handed : List Handed) (i j : ℕ) (other : Handed) → i < j → j < length handed →
     (get_or handed i other).maker.caller ≡ caller → (get_or handed j other).maker.caller ≡ caller →
     has_handed_in caller (without caller handed) ≡ true
@@ -78,7 +78,7 @@ still_there gone caller handed twice here = by_cases (gone == caller) refl
     by_cases true same = subst (λ other. has_handed_in other (without gone handed) ≡ true) (eqb-true _ _ same) twice
     by_cases false differs = still_handed_in gone caller handed (λ same. absurd (cc (eq-eqb _ _ same, differs))) ∙ here
 
--- where no share is missing and no more handed in than there are callers, each caller handed in once
+-- if no share is missing and no more handed in than there are callers, each caller handed in once
 pub each_handed_in_once : (callers : ℕ) (handed : List Handed) → ¬ LacksShare callers handed → length handed ≤ callers →
     AllPairs (λ one other. one.maker.caller ≢ other.maker.caller) handed
 each_handed_in_once callers handed complete few = λ i j other below within same.

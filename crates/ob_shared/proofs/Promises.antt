@@ -1,4 +1,4 @@
--- What a history tells of a promise, where its state is known.
+-- What a history tells of a promise, if its state is known.
 use Rattle.std.proofs.Common.{◌≡◌, ℕ, true, List, Some, subst}
 use Rattle.std.specs.Prelude.{slice_get}
 use Rattle.std.proofs.lemmas.Option.{get_or_from_slice_get, slice_get_within}
@@ -7,7 +7,7 @@ use Rattle.ob_history.specs.Settlements.{settles}
 use Rattle.ob_history.specs.declared.record.Record.{Record}
 use Rattle.ob_shared.specs.Told.{IsCopiedFreely, IsToldFreely}
 
--- where what settles a promise is copied without memory, so is a record that stands in the history and settles it
+-- if what settles a promise is copied without an allocation, so is a record that stands in the history and settles it
 pub copied_freely : (records : List Record) (id : PromiseId) (place : ℕ) (one : Record) →
     slice_get records place ≡ Some one → settles id one ≡ true → IsToldFreely records id → IsCopiedFreely one
 copied_freely records id place one there settled freely =

@@ -18,7 +18,7 @@ use Rattle.ob_shared.specs.Sight.{sight_of}
 abbrev pub nothing_done : ShareValue → Handed
 nothing_done share = record { maker = share.maker; sight = share.sight; receipts = []; told = []; seen = [] }
 
--- what a caller has to hand in after one more record behind these: its receipt stands behind its others, and its share
+-- what a caller has to hand in after one more record past these: its receipt comes after its others, and its share
 -- has seen all
 abbrev pub with_record_of : Handed → List Record → Record → Handed
 with_record_of caller records one = record caller {
@@ -27,8 +27,8 @@ with_record_of caller records one = record caller {
   receipts = caller.receipts ++ receipt_of one ∷ [];
 }
 
--- a call is recorded in a history that was kept as it was opened, and the caller has the receipt of its record; or it is
--- refused, by a full history or for want of memory alone, and the caller has what it had; what its share had seen begins
+-- a call is recorded in a history that was kept as it was opened, and the caller has the receipt of its record; or it
+-- is refused, only by a full history or out of memory, and the caller has what it had; what its share had seen begins
 -- what it has seen then
 pub record IsKept (opened : Opened) (old : Handed) (command : Command) (result : Result Unit Refusal) (new : Handed)
     : Type 0 where

@@ -16,7 +16,7 @@ is_short one = not (length one.receipts == one.maker.made)
 abbrev pub first_short : List Handed → Option ℕ
 first_short handed = option_map (λ one. one.maker.caller) (find is_short handed)
 
--- what a caller hands in stands in a history where the receipts are the caller's own there, each that it was told of is
+-- what a caller hands in stands in a history if the receipts are the caller's own there, each that it was told of is
 -- the record at its place, and each look is of the history
 pub record StandsIn (settings : Settings) (records : List Record) (one : Handed) : Type 0 where
   pub own : AreOwn one.maker.caller records one.receipts

@@ -19,7 +19,7 @@ pub record Handed : Type 0 where
 abbrev pub has_handed_in : ℕ → List Handed → Bool
 has_handed_in caller handed = list_any (λ one. one.maker.caller == caller) handed
 
--- the share of a caller is missing where one of so many callers did not hand in
+-- the share of a caller is missing exactly if one of `callers` callers did not hand in
 abbrev pub LacksShare : ℕ → List Handed → Type 0
 LacksShare callers handed = (caller : ℕ) × (caller < callers) × (has_handed_in caller handed ≡ false)
 

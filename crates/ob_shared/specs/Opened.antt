@@ -28,14 +28,14 @@ nothing_opened = record {
   table = no_table;
 }
 
--- a name is that of an opening where it stands for what was opened, and its ledger is the one that was opened, with a
+-- a name is that of an opening if it stands for what was opened, and its ledger is the one that was opened, with a
 -- part for each caller
 pub record IsNameOf (opening named : Opened) (number parts : ℕ) : Type 0 where
   pub opened : named ≡ opening
   pub ledger : number ≡ opening.ledger
   pub callers : parts ≡ opening.callers
 
--- a history is kept as it was opened where it has the settings and the limit of the opening, and its records are legal
+-- a history is kept as it was opened if it has the settings and the limit of the opening, and its records are legal
 pub record IsAsOpened (opened : Opened) (history : History) : Type 0 where
   pub settings : history.settings ≡ opened.settings
   pub limit : history.limit ≡ opened.limit

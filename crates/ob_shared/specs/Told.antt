@@ -12,26 +12,26 @@ use Rattle.ob_history.specs.Settlements.{settlements_in, settles}
 use Rattle.ob_history.specs.declared.record.Record.{Record}
 use Rattle.ob_history.specs.declared.receipt.Receipt.{Receipt}
 
--- a promise is unknown to a history where no write was accepted under its id, which is the number of writes accepted
--- before it
+-- a promise is unknown to a history exactly if no write was accepted under its id, which is the number of writes
+-- accepted before it
 abbrev pub IsUnknown : List Record → PromiseId → Type 0
 IsUnknown records id = writes_in (accepted_commands records) ≤ id.0
 
--- a promise is not settled in a history where it stands with no outcome among the settlements
+-- a promise is not settled in a history exactly if it stands with no outcome among the settlements
 abbrev pub IsUnsettled : List Record → PromiseId → Type 0
 IsUnsettled records id = (outcome : Outcome) → ¬ Contains (settlements_in records) (id, outcome)
 
--- a receipt tells of the settlement of a promise where it is the record at its place, and that record settles the
+-- a receipt tells of the settlement of a promise if it is the record at its place, and that record settles the
 -- promise
 pub record TellsOf (records : List Record) (id : PromiseId) (receipt : Receipt) : Type 0 where
   pub kept : IsReceiptIn records receipt
   pub settled : settles id (record_of receipt) ≡ true
 
--- a record is copied without memory where its command shares none, and it settles at most four promises
+-- a record is copied without an allocation if its command shares no block, and it settles at most four promises
 pub record IsCopiedFreely (one : Record) : Type 0 where
   pub command : writes_block one.command ≡ false
   pub few : length (settled_by one.reply) ≤ 4
 
--- what settles a promise in a history is copied without memory
+-- what settles a promise in a history is copied without an allocation
 abbrev pub IsToldFreely : List Record → PromiseId → Type 0
 IsToldFreely records id = All (λ one. settles id one ≡ true → IsCopiedFreely one) records

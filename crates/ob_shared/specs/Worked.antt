@@ -1,4 +1,4 @@
--- The definitions on the small history of two callers, worked out by hand beforehand.
+-- The definitions on the small history of two callers, worked out by hand.
 use Rattle.std.specs.Prelude.{◌≡◌, ℕ, true, List, [], ◌∷◌, replicate, take, None, Some, Ok}
 use Rattle.std.specs.List.{All}
 use Rattle.ob_types.specs.declared.command.Command.{Command}
@@ -26,7 +26,7 @@ use Rattle.ob_shared.specs.Told.{IsUnknown, IsUnsettled, TellsOf}
 abbrev pub settings : Settings
 settings = record { marks = record { low = 32768; high = 65536 }; estimate = record { overhead = 96; unknown = 8 } }
 
--- a record with a reply that tells of no change
+-- a record with a reply that reports no change
 abbrev recorded : ℕ → ℕ → Command → Answer → List (PromiseId × Outcome) → Record
 recorded place caller command answer settled = record {
   place = place;

@@ -63,7 +63,7 @@ impl<'b, L: Named> Desk<'b, L> {
         }
     }
 
-    /// What is pending now, and how many calls are recorded. It takes no memory.
+    /// What is pending now, and how many calls are recorded. It does not allocate.
     pub fn look(&self) -> Seen
         ensures { IsLookAt self.now.history result }
     {
@@ -71,7 +71,7 @@ impl<'b, L: Named> Desk<'b, L> {
     }
 
     /// The receipts of the records of the desk's caller from a place on, in the order of its calls. So a receipt can be
-    /// had again that was let go, as by a pass of a transport, or that could not be kept for want of memory.
+    /// had again that was let go, as by a pass of a transport, or that could not be kept because memory had run out.
     ///
     /// It goes over the records from that place on once, with the lock in hand. `NoMemory` comes if the allocator
     /// refused, or a block has more owners than can be counted. Our own.
@@ -82,8 +82,8 @@ impl<'b, L: Named> Desk<'b, L> {
         self.locked.receipts_since(self.share.caller(), place)
     }
 
-    /// Lets the lock go, and gives the share back, which has seen the whole history then. If a call at this desk settled
-    /// something, it wakes all who wait for a promise. It takes no memory.
+    /// Lets the lock go, and gives the share back, which has seen the whole history then. If a call at this desk
+    /// settled something, it wakes all who wait for a promise. It does not allocate.
     pub fn leave(self) -> Share<L>
         ensures share { result ≡ share_after self.entry.maker self.entry.history.records }
         ensures opened { IsAsOpened L.opened self.entry.history }

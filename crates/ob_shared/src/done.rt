@@ -37,8 +37,8 @@ impl<L: Named> Model for Done<L> {
 }
 
 impl<L: Named> Done<L> {
-    /// What the caller of a share hands in before its first call: the share, and no receipt and no look. It takes no
-    /// memory.
+    /// What the caller of a share hands in before its first call: the share, and no receipt and no look. It does not
+    /// allocate.
     pub fn new(alloc: Global, share: Share<L>) -> Done<L>
         ensures { result ≡ nothing_done share }
     {

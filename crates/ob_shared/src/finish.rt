@@ -11,7 +11,7 @@ use crate::named::Named;
 use ob_history::Recorded;
 use ob_types::Refusal;
 
-/// Whether the share of one of so many callers is not among those that were handed in.
+/// Whether the share of one of `callers` callers is not among those that were handed in.
 pub fn lacks_share<L: Named>(callers: u32, dones: &[Done<L>]) -> bool
     ensures { IsTrue result ↔ LacksShare callers dones.now }
 {
@@ -45,7 +45,7 @@ fn is_short<L: Named>(done: &Done<L>) -> bool
 }
 
 /// The caller and the place of the first item that is not of the history: Done by Done, in each first the receipts,
-/// then what was told, then what was seen. It fails for want of memory alone, and not without a look.
+/// then what was told, then what was seen. It fails only if it is out of memory, and never without a look.
 pub fn first_foreign<L: Named>(
     recorded: &Recorded,
     dones: &[Done<L>],

@@ -10,7 +10,7 @@ pub enum FinishFault {
     #[error("the share of a caller is missing")]
     SharesMissing,
     /// What a caller handed in is not of the history, and names this place: a receipt that is not the record there, or
-    /// that names another caller, or stands behind one of a later place; a receipt that the caller was told of and that
+    /// that names another caller, or comes after one of a later place; a receipt that the caller was told of and that
     /// is not the record there; or a look that shows something else.
     #[error("caller {caller} handed in what is not of the history, at place {place}")]
     ForeignReceipt { caller: u32, place: u32 },

@@ -124,7 +124,7 @@ impl<L: Named> Locked<L> {
         self.recorded.look()
     }
 
-    /// Reserves so many calls.
+    /// Reserves `count` calls.
     pub fn reserve(&mut self, count: u32) -> Result<(), Refusal>
         ensures { IsReservation self.old count result self.new }
     {
@@ -260,7 +260,7 @@ fn merged<L: Named>(
     all
 }
 
-/// The receipt of a record. It fails for want of memory alone.
+/// The receipt of a record. It fails only if it is out of memory.
 fn receipt(one: &Record) -> Result<Receipt, Refusal>
     ensures same { IfOk result (λ receipt. receipt ≡ receipt_of one.now) }
     ensures no_memory { IsOkUnless result Refusal.NoMemory }

@@ -56,8 +56,8 @@ impl Model for Opening {
 }
 
 impl Opening {
-    /// What a buffer of so many callers is to be opened with. The overhead and the size of unknown messages are at most
-    /// 65535 bytes, the limit is 1 to 1048576 records, and there are 1 to 65 callers. `NoMemory` comes where the
+    /// What a buffer of `callers` callers is to be opened with. The overhead and the size of unknown messages are at
+    /// most 65535 bytes, the limit is 1 to 1048576 records, and there are 1 to 65 callers. `NoMemory` comes if the
     /// allocator refused.
     pub fn new(
         alloc: Global,
@@ -97,7 +97,7 @@ impl Opening {
     }
 
     /// The buffer under its lock, with an empty history, and a share for each caller, numbered from 0. `NoMemory` comes
-    /// where the allocator refused, and then the opening is given up.
+    /// if the allocator refused, and then the opening is given up.
     pub fn begin<L: Named>(self) -> Result<(SharedBuffer<L>, Vec<Share<L>>), Refusal>
         requires { IsNameOf self L.opened L.name L.parts }
         ensures shares { IfOk result (λ begun. begun.1.items ≡ new_shares self.callers) }
@@ -125,7 +125,7 @@ impl Opening {
 }
 
 /// A share for each caller, cut from a whole ledger in which nothing is counted, with a reader of what is published. It
-/// fails for want of memory alone.
+/// fails only if it is out of memory.
 fn shares<L: Named>(
     alloc: Global,
     words: &Words<L>,

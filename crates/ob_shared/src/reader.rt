@@ -44,7 +44,7 @@ impl<L: Named> Reader<L> {
     }
 
     /// The word and the total after a history that begins with all that this reader had seen: never older than its last
-    /// glance or look, and perhaps older than another caller's newest record. One load; it takes no memory, and waits
+    /// glance or look, and perhaps older than another caller's newest record. One load; it does not allocate, and waits
     /// for nobody. Our own: Netty's readers look at two fields, and race.
     pub fn read(&mut self, buffer: &SharedBuffer<L>) -> Glance
         ensures { IsRead L.opened.settings self.old result self.new }

@@ -51,14 +51,14 @@ impl<L: Named> Share<L> {
         }
     }
 
-    /// The number of the caller, from 0. It takes no memory.
+    /// The number of the caller, from 0. It does not allocate.
     pub fn caller(&self) -> u32
         ensures { result ≡ self.now.maker.caller }
     {
         self.caller
     }
 
-    /// How many records were made with this share. It takes no memory.
+    /// How many records were made with this share. It does not allocate.
     pub fn made(&self) -> u32
         ensures { result ≡ self.now.maker.made }
     {
@@ -66,9 +66,9 @@ impl<L: Named> Share<L> {
     }
 
     /// The word and the total after a history that begins with all that this share has seen: never older than what its
-    /// caller's last desk left or its last glance showed, and perhaps older than another caller's newest record. One load;
-    /// it takes no memory, and waits for nobody. Our own: Netty's `isWritable` may be older than what the thread itself
-    /// has seen change.
+    /// caller's last desk left or its last glance showed, and perhaps older than another caller's newest record. One
+    /// load; it does not allocate, and waits for nobody. Our own: Netty's `isWritable` may be older than what the
+    /// thread itself has seen change.
     pub fn read(&mut self, buffer: &SharedBuffer<L>) -> Glance
         ensures read { IsRead L.opened.settings self.old.sight result self.new.sight }
         ensures same { self.new.maker ≡ self.old.maker }
@@ -77,7 +77,7 @@ impl<L: Named> Share<L> {
     }
 
     /// A reader for whoever shall read beside this caller, as a watcher in another thread. It has seen what this share
-    /// has. It takes no memory. Our own.
+    /// has. It does not allocate. Our own.
     pub fn reader(&mut self, buffer: &SharedBuffer<L>) -> Reader<L>
         ensures reader { result ≡ sight_of self.old.sight.seen }
         ensures same { self.new ≡ self.old }

@@ -64,8 +64,8 @@ impl<L: Named> SharedBuffer<L> {
 
     /// A desk for the caller of a share, whose history begins with all that the share has seen. It waits while another
     /// caller has one: it lets other threads run and tries again, ten times; then it naps for 50 microseconds between
-    /// tries, a hundred times; and then it sleeps until it is woken. It takes no memory. The lock is never poisoned, and
-    /// no desk is refused; that it is given in any order, or ever, is not promised.
+    /// tries, a hundred times; and then it sleeps until it is woken. It does not allocate. The lock is never poisoned,
+    /// and no desk is refused; that it is given in any order, or ever, is not promised.
     pub fn desk<R: Wait>(&self, rt: &R, share: Share<L>) -> Desk<'_, L>
         ensures maker { result.maker ≡ share.maker }
         ensures part { IsBeginning share.sight.seen result.history.records }
@@ -94,7 +94,7 @@ impl<L: Named> SharedBuffer<L> {
         self.locked.lock(rt)
     }
 
-    /// Makes one call from a desk of its own, and keeps its receipt behind the caller's others. It waits while another
+    /// Makes one call from a desk of its own, and keeps its receipt after the caller's others. It waits while another
     /// caller has a desk.
     ///
     /// `HistoryFull` comes if the history is full. `NoMemory` comes if the allocator refuses room for the receipt, which
@@ -147,8 +147,8 @@ impl<L: Named> SharedBuffer<L> {
     /// that settled it. While it waits the lock is free. It asks again whenever a desk was left at which a call settled
     /// something, and walks over the records once, when there is something to find.
     ///
-    /// `UnknownPromise` comes at once, and just where no write was accepted under the id. `NoMemory` comes where the
-    /// promise is settled and the allocator refused the receipt, and not where at most three others were settled with
+    /// `UnknownPromise` comes at once, exactly if no write was accepted under the id. `NoMemory` comes only if the
+    /// promise is settled and the allocator refused the receipt, and never if at most three others were settled with
     /// it. The desk is given in any case.
     ///
     /// Whoever has a desk of this buffer already, or waits for what it alone could settle, waits for ever.
@@ -179,27 +179,27 @@ impl<L: Named> SharedBuffer<L> {
     }
 
     /// Looks under the lock, for a reader that has no share: what is pending after all records, and how many they are. The
-    /// reader has seen all of them then, and what it had seen begins them. It waits while a caller has a desk, and takes
-    /// no memory. Our own.
+    /// reader has seen all of them then, and what it had seen begins them. It waits while a caller has a desk, and does
+    /// not allocate. Our own.
     pub fn check_in<R: Wait>(&self, rt: &R, reader: &mut Reader<L>) -> Seen
         ensures { IsCheckIn L.opened.settings reader.old result reader.new }
     {
         self.lock(rt).check_in(&self.words, reader)
     }
 
-    /// Ends the buffer, where each caller has handed in, and gives the whole history. Its records are a legal history,
+    /// Ends the buffer, if each caller has handed in, and gives the whole history. Its records are a legal history,
     /// as many as were made with all shares together. The records of each caller are the receipts that it handed in, in
     /// the order of its calls; each receipt that a caller was told of is the record at its place, and each look is of
     /// the history. What each share had seen begins the records. No promise is settled twice.
     ///
     /// So whatever the schedule was, the history kept under the lock is one of one thread: each reply and each change
-    /// of writability is what a buffer of one thread answers there.
+    /// of writability is what a buffer of one thread returns there.
     ///
-    /// `SharesMissing` comes just where a caller's share is not handed in, and else `ReceiptsMissing` just where a
+    /// `SharesMissing` comes exactly if a caller's share is not handed in, and else `ReceiptsMissing` exactly if a
     /// caller hands in another number of receipts than were made with its share; it names the first. Then all is
     /// compared, Done by Done, in each first its receipts, then those that it was told of, then its looks:
-    /// `ForeignReceipt` names the first that is not of the history, and `NoMemory` comes where a look was to be
-    /// compared and the allocator refused, and so not without a look. With each fault all that was handed in is given
+    /// `ForeignReceipt` names the first that is not of the history, and `NoMemory` comes only if a look was to be
+    /// compared and the allocator refused, and so never without a look. With each fault all that was handed in is given
     /// back, and the buffer stays as it was.
     pub fn finish(self, dones: Vec<Done<L>>) -> Result<Final, Unfinished<L>>
         ensures missing { IsErrAnd result (λ unfinished. unfinished.fault ≡ FinishFault.SharesMissing)

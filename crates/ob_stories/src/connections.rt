@@ -1,8 +1,8 @@
-/// What a server does with a connection whose socket takes so many bytes at a time (`takes`): it responds with bytes of
-/// one value, writes a message that no flush follows, sends, gives up, renews its buffer, or spends writes. Each line
-/// answers whether that went well, what the server was last told of reading, whether more may be written, how many bytes
-/// were sent and promises settled, the pending bytes, how many more make the buffer unwritable, and how many writes are
-/// left.
+/// What a server does with a connection whose socket takes a given number of bytes at a time (`takes`): it responds
+/// with bytes of one value, writes a message that no flush follows, sends, gives up, renews its buffer, or spends
+/// writes. Each line's answer says whether that went well, what the server was last told of reading, whether more may
+/// be written, how many bytes were sent and promises settled, the pending bytes, how many more make the buffer
+/// unwritable, and how many writes are left.
 pub static CONNECTIONS: &str = "
 # a slow peer is not read until it has caught up: the responses count 400 and 100 bytes, and leave in pieces of 100
 $ connection --low 200 --high 400

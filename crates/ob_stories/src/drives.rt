@@ -115,9 +115,9 @@ b 0 1 1
 / writes 1, flushes 0, cancels 0, bits 0, refused 0, taken 0, success 0, failed 0, cancelled 0, left 1, hand 0 00000000
 ";
 
-/// The same with lines that tests alone give: `each` gives a line to so many writers, from the first on, a block may have any
-/// length, and `rm` gives a removal. `sink` tells how many bytes the sink took and how often it failed, `fails` what was
-/// failed for that, and `why` the text of the fault.
+/// The same with lines that tests alone give: `each` gives a line to the first *n* writers, a block may have any
+/// length, and `rm` gives a removal. `sink` reports how many bytes the sink took and how often it failed, `fails` what
+/// was failed for that, and `why` the text of the fault.
 pub static PLANS: &str = "
 # sixty-four writers
 $ drive

@@ -1,8 +1,8 @@
-/// What a history keeps. A line that begins with the number of a caller is a call in its name, and answers the place of
-/// its record; `?` looks, at a place; `reserve N` reserves calls. The receipt of call K is asked for by its number, with
-/// an `f` behind it if it tells of a flush instead, or with `@` and another place; a look is asked for in the same way.
-/// `check` asks whether a receipt is of the history and `seen` whether a look is; `own`, `told` and `looks` ask which
-/// of those that a caller hands in is the first that is not.
+/// What a history keeps. A line that begins with the number of a caller is a call in its name, and returns the place of
+/// its record; `?` looks, at a place; `reserve N` reserves calls. The receipt of call K is asked for by its number,
+/// with an `f` behind it if it is of a flush instead, or with `@` and another place; a look is asked for in the same
+/// way. `check` asks whether a receipt is of the history and `seen` whether a look is; `own`, `told` and `looks` ask
+/// which of those that a caller hands in is the first that is not.
 pub static HISTORY: &str = "
 # a recorded history at its limit: of three places no more are reserved, and a fourth call is refused
 $ history --limit 3

@@ -1,4 +1,4 @@
-//! The worked rows: what each crate is asked, line by line, and what it answers, worked out by hand beforehand.
+//! The worked rows: what each crate is asked, line by line, and what it answers, worked out by hand.
 //!
 //! A text holds stories. Each begins with `#` and what is so, and a line of `$` and the words of a command line. Then
 //! come its lines: what is asked, a slash, and what is answered, in the words of the scripts and traces of `ob_tool` if

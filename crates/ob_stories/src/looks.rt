@@ -1,5 +1,5 @@
-/// What a buffer tells between its commands, by lines that tests alone ask: of a promise, of the message in front and its
-/// promise, of the flushed messages, of its state (writable or not, its line empty or not, open or closed, how many
+/// What a buffer shows between its commands, by lines that tests alone ask: of a promise, of the message in front and
+/// its promise, of the flushed messages, of its state (writable or not, its line empty or not, open or closed, how many
 /// writes are left), and of a user bit.
 pub static LOOKS: &str = "
 # a refused write leaves all as it was
@@ -171,8 +171,8 @@ bit 6 / clear
 bit 32 / clear
 ";
 
-/// The limits of a buffer, met. So many empty regions are written; so many messages are removed, each with a write and a
-/// flush behind it; all that is flushed fails.
+/// The limits of a buffer, met. Many empty regions are written; many messages are removed, each with a write and a
+/// flush after it; all that is flushed fails.
 pub static LIMITS: &str = "
 # the write past the limit is too much, and a removal makes no room under this limit
 $ run --low 200 --high 400

@@ -1,6 +1,6 @@
 /// What a transport does. Behind the options of the buffer stand what its sink does in its first calls and how much it
-/// takes at most in each later one; `--count` is how many blocks it is offered at once. A pass, a drain of so many turns
-/// and a booking of taken bytes answer what came of them, how many calls are recorded, what is pending, the progress in
+/// takes at most in each later one; `--count` is how many blocks it is offered at once. A pass, a drain of *n* turns
+/// and a booking of taken bytes return what came of them, how many calls are recorded, what is pending, the progress in
 /// front, and all bytes that the sink has taken.
 pub static PASSES: &str = "
 # a sink fault takes nothing
@@ -81,7 +81,7 @@ sink / 3 units, 0 failures
 settled / 0:ok 1:ok 2:ok 3:ok 4:ok 5:ok 6:ok 7:ok 8:ok 9:ok 10:ok 11:ok 12:f1
 ";
 
-/// The same over a buffer that wants memory for the removal of more than four messages right behind a reserve.
+/// The same over a buffer that allocates for the removal of more than four messages right after a reserve.
 pub static SCARCE: &str = "
 # bytes whose removal wants memory stay in front, and are booked later
 $ transport --low 200 --high 400 then 5
@@ -106,7 +106,7 @@ book 6 / n 6 + 0:ok 1:ok 2:ok 3:ok 4:ok 5:ok: place 8, t=0 cur=0, 000102030405
 settled / 0:ok 1:ok 2:ok 3:ok 4:ok 5:ok
 ";
 
-/// A pass that is booked in the end (`send`), over more blocks than promises are settled without memory.
+/// A pass that is booked in the end (`send`), over more blocks than promises are settled without an allocation.
 pub static SIX: &str = "what the sink took is booked, whichever growth is refused
 $ transport --low 200 --high 400 then 100
 4 times b 1 / id 3 t=388 w=00000000

@@ -3,11 +3,11 @@
 /// anew (`again`). `made` asks how many records each made. `finish` hands in all shares, receipts and looks, but for
 /// what was laid aside: all that a caller has (`without`), its last receipt (`short`), or the command of one of its
 /// receipts (`forge`) or of the first that it was told of (`told`), with a flush in its place, which goes aside in turn
-/// where a second one is laid there; `seen` changes its first look. `exchange` gives each of two callers the receipts of
+/// if a second one is laid there; `seen` changes its first look. `exchange` gives each of two callers the receipts of
 /// the other, and `twice` puts the first receipt of a caller in the place of its last one too. The same line puts that
-/// back, the last one first.
-/// `why` asks for the text of the last fault. `read`, behind the number of a caller, is a glance without the lock; `watch`
-/// makes a reader of a caller's share, `watched` is the glance of the last one, and `check` its look under the lock.
+/// back, the last one first. `why` asks for the text of the last fault. `read`, behind the number of a caller, is a
+/// glance without the lock; `watch` makes a reader of a caller's share, `watched` is the glance of the last one, and
+/// `check` its look under the lock.
 pub static SHARED: &str = "
 # two callers finish: the first writes and the second flushes
 $ shared --callers 2 --limit 8
@@ -166,14 +166,15 @@ forge 64 0
 finish / 2 records: size=1 cur=0 bu=65437 bw=0 t=100 w=00000000
 ";
 
-/// Scenes: between per cent signs stands what each caller plays in a thread of its own, in the order of their numbers, and
-/// the last part is played by all that are left. `come` says that one comes, `until N` waits until so many have come,
-/// and `pause N` lets milliseconds pass. `calls N of A, B` makes so many calls of these commands in turn, and `calls N`
-/// by chance; `sees N` waits for that total, without the lock. `desk` flushes and removes at one desk, which it `leaves`
-/// then, or `goes-on` at with one call more, or `drops`. `waits N` waits for so many promises, one by one, each of which
-/// another caller `settles` when the wait for it begins. Behind the last sign stands what is asked in turn when all have
-/// played. `ends` is `finish` without what is pending; `same` asks whether a buffer of one thread makes the same
-/// history, `left` how many writes are left, and `glances` how many readers saw glances of the history in order.
+/// Scenes: between per cent signs stands what each caller plays in a thread of its own, in the order of their numbers,
+/// and the last part is played by all that are left. `come` says that one comes, `until N` waits until *N* have come,
+/// and `pause N` lets milliseconds pass. `calls N of A, B` makes *N* calls of these commands in turn, and `calls N` *N*
+/// random ones; `sees N` waits for that total, without the lock. `desk` flushes and removes at one desk, which it
+/// `leaves` then, or `goes-on` at with one call more, or `drops`. `waits N` waits for *N* promises, one by one,
+/// each of which another caller `settles` when the wait for it begins. Behind the last sign stands what is asked in
+/// turn when all have played. `ends` is `finish` without what is pending; `same` asks whether a buffer of one thread
+/// makes the same history, `left` how many writes are left, and `glances` how many readers saw glances of the history
+/// in order.
 pub static CROSSING: &str = "
 # both who wait for one promise are told of it by a desk that is left
 $ shared --callers 3 --limit 8

@@ -18,7 +18,7 @@ use Rattle.ob_transport.specs.declared.fault.PassFault.TheVariants.{Sink, Histor
 use Rattle.ob_transport.specs.declared.limits.Limits.{Limits}
 use Rattle.ob_transport.specs.declared.sink.SinkFault.{SinkFault}
 
--- what is cleared tells no answer
+-- what is cleared shows no answer
 pub clears_unasked : (caller : ℕ) (command : Command) (before after : Standing) (result : Result Pass PassFault) →
     Clears caller command before result after → answer_told result ≡ None
 clears_unasked caller command before after (Ok Idle) clears = absurd clears
@@ -30,7 +30,7 @@ clears_unasked caller command before after (Err HistoryFull) clears = refl
 clears_unasked caller command before after (Err NoMemory) clears = refl
 clears_unasked caller command before after (Err (Unbooked taken)) clears = absurd clears
 
--- where no answer is told, a sink that is as it was is asked as it should be
+-- if no answer is shown, a sink that is as it was is asked as it should be
 pub unasked : {S : Type 0} (does : S → Asked → Result ℕ SinkFault → S → Type 0) (Kind : Asked → Type 0)
     (before after : S) (told : Option (Result ℕ SinkFault)) →
     told ≡ None → after ≡ before → IsAskedOnce does Kind before told after

@@ -14,7 +14,7 @@ use Rattle.ob_history.specs.declared.receipt.Receipt.{Receipt}
 use Rattle.ob_transport.specs.InFront.{sent_bytes_in, unread_in}
 use Rattle.ob_transport.proofs.Passes.{removal_sends}
 
--- a call that answers a receipt found a place
+-- a call that returns a receipt found a place
 found_place : (history : History) (caller : ℕ) (command : Command) (receipt : Receipt) →
     Ok receipt ≡ call_answer history caller command →
     is_full history ≡ false

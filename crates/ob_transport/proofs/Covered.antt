@@ -73,7 +73,7 @@ pub removal_settles_few : (settings : Settings) (commands : List Command) → se
 removal_settles_few settings commands =
     few_settled settings commands Remove (few_with_front (taken_row Success) 0 (rows_after settings.estimate commands))
 
--- a call neither meets a full history nor wants memory where a place is left and the call is covered
+-- a call neither meets a full history nor runs out of memory if a place is left and the call is covered
 pub never_refused : (caller : ℕ) (command : Command) (before after : History) (fault : PassFault) →
     is_full before ≡ false → IsCovered before command → Given {A = Unit {0}} caller command before (Err fault) after → ⊥
 never_refused caller command before after (Sink fault) room covered given = given

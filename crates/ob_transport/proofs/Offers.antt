@@ -114,7 +114,7 @@ ends_there limits caller before buffer offer result after stands settings is end
 full_lacks : (count limit : ℕ) → eqb count limit ≡ true → limit < count + 2
 full_lacks count limit is = grind (arith, nat_tests)
 
--- a pass is refused as a full history only where two places are lacking, before it and after it
+-- a pass is refused as a full history only if two places are lacking, before it and after it
 pub full_of_offer : (caller : ℕ) (offer : Offer) (before after : Standing) →
     Ends caller offer before (Err HistoryFull) after →
     LacksPlaces after.history 2

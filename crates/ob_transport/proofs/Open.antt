@@ -84,7 +84,7 @@ module _ (settings : Settings) where
             absurd (let none = empty closed in cc)
         by_test false closed = refl
 
-  -- a message that is no region is short, and a region where its length is at most the greatest
+  -- a message that is no region is short, and a region if its length is at most the greatest
   pub IsShort : Message → Type 0
   IsShort (Block bytes) = Unit {0}
   IsShort (Region length) = length ≤ greatest_region

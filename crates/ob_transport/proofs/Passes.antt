@@ -68,7 +68,7 @@ front_progressed n (row ∷ rows) = by_line (is_in_line row) refl (front_progres
     by_line true is rest = ap (λ here. cond here (Some (progressed_row n row)) (front rows)) is
     by_line false is rest = ap (λ here. cond here (Some row) (front (with_front (progressed_row n) rows))) is ∙ rest
 
--- with this result what is taken is sent, but for bytes that are told of as unbooked
+-- with this result what is taken is sent, but for bytes that are reported as unbooked
 abbrev Grows : Standing → Result Pass PassFault → Standing → Type 0
 Grows before (Ok pass) after = GrowAlike before after
 Grows before (Err (Sink fault)) after = GrowAlike before after
@@ -76,7 +76,7 @@ Grows before (Err HistoryFull) after = GrowAlike before after
 Grows before (Err NoMemory) after = GrowAlike before after
 Grows before (Err (Unbooked taken)) after = GrowAlikeBut taken before after
 
--- so where no bytes are unbooked, both grow alike
+-- so if no bytes are unbooked, both grow alike
 pub alike_of : {before after : Standing} (result : Result Pass PassFault) → Grows before result after →
     IsBooked result → GrowAlike before after
 alike_of (Ok pass) grows booked = grows
@@ -86,7 +86,7 @@ alike_of (Err NoMemory) grows booked = grows
 alike_of (Err (Unbooked taken)) grows booked = absurd (booked taken refl)
 
 module _ (before : Standing) where
-  -- where neither grows, both grow alike
+  -- if neither grows, both grow alike
   alike_still : (after : Standing) → after.sink.bytes ≡ before.sink.bytes → after.sink.units ≡ before.sink.units →
       sent_bytes_in after.history ≡ sent_bytes_in before.history →
       sent_units_in after.history ≡ sent_units_in before.history → GrowAlike before after
@@ -148,7 +148,7 @@ module _ (before : Standing) where
         module _ (row : Row) (is : front (rows_in before.history) ≡ Some row) (offered : List ℕ)
             (first : (n : ℕ) → n ≤ length offered →
             (take n offered ≡ take n (unread_in before.history)) × (n ≤ length (unread_in before.history))) where
-          -- offered bytes that were taken are sent by their removal, and where that met want of memory, they are the
+          -- offered bytes that were taken are sent by their removal, and if memory ran out for that, they are the
           -- first unread ones
           sends_bytes_grow : (result : Result Pass PassFault) (after : Standing) →
               SendsBytes caller offered before result after → Grows before result after

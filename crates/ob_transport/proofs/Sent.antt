@@ -26,7 +26,7 @@ bytes_at occasion = bytes_sent_by occasion.rows occasion.command
 abbrev pub units_at : Occasion → ℕ
 units_at occasion = units_sent_by occasion.rows occasion.command
 
--- the occasion of one more command comes behind the others
+-- the occasion of one more command comes after the others
 occasions_more : (estimate : Estimate) (rows : List Row) (commands : List Command) (command : Command) →
     occasions_from estimate rows (commands ++ command ∷ [])
     ≡ occasions_from estimate rows commands
@@ -62,7 +62,7 @@ module _ (settings : Settings) where
       ∙ sum_by-append units_at (occasions_from settings.estimate [] commands) (one ∷ [])
       ∙ ap (λ more. units_of commands + more) (sum_by-cons units_at one [] ∙ omega arith)
 
-  -- an accepted command comes behind the others
+  -- an accepted command comes after the others
   accepted_behind : (commands : List Command) (command : Command) →
       first_refusal settings.estimate commands command ≡ None →
       commands_after settings commands command ≡ commands ++ command ∷ []
@@ -100,7 +100,7 @@ module _ (history : History) (caller : ℕ) (command : Command) where
             ap (of history.settings) recorded
             ∙ by_answer (is_ok (answer_to history.settings (accepted_commands history.records) command))
 
-  -- where the command sends no bytes, the history sends no more of them
+  -- if the command sends no bytes, the history sends no more of them
   pub no_bytes_sent : bytes_sent_by (rows_after history.settings.estimate (accepted_commands history.records)) command
       ≡ [] →
       sent_bytes (history_after history caller command).settings (history_after history caller command).records
@@ -122,7 +122,7 @@ module _ (history : History) (caller : ℕ) (command : Command) where
 
   module _ (place : is_full history ≡ false)
       (accepted : first_refusal history.settings.estimate (accepted_commands history.records) command ≡ None) where
-    -- a recorded and accepted command comes behind the others
+    -- a recorded and accepted command comes after the others
     accepted_commands_after : accepted_commands (history_after history caller command).records
         ≡ accepted_commands history.records ++ command ∷ []
     accepted_commands_after =
@@ -134,7 +134,7 @@ module _ (history : History) (caller : ℕ) (command : Command) where
     settings_after = ap (λ full. (cond full history
         (with_record history (next_record history caller command))).settings) place
 
-    -- so what is told of a history is told of them
+    -- so what is said of a history is said of them
     pub one_more : {A : Type 0} (of : Settings → List Command → A) →
         of (history_after history caller command).settings
         (accepted_commands (history_after history caller command).records)

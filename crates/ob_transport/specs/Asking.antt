@@ -11,7 +11,7 @@ use Rattle.ob_transport.specs.declared.fault.PassFault.TheVariants.{Sink, Histor
 use Rattle.ob_transport.specs.declared.limits.Limits.{Limits}
 use Rattle.ob_transport.specs.declared.sink.SinkFault.{SinkFault}
 
--- to take of these bytes, or of so many units of a region
+-- to take of these bytes, or of *n* units of a region
 pub data Asked : Type 0 where
   OfBytes : List ℕ → Asked
   OfUnits : ℕ → Asked
@@ -22,7 +22,7 @@ StandsInFront limits history (OfBytes bytes) = bytes ≡ concat (gathered_in lim
 StandsInFront limits history (OfUnits units) =
     (length : ℕ) × (current_in history ≡ Some (message.Region length)) × (units ≡ length - progress_in history)
 
--- the answer of a sink that the result of a pass tells, where it tells one
+-- the answer of a sink that the result of a pass shows, if it shows one
 abbrev pub answer_told : Result Pass PassFault → Option (Result ℕ SinkFault)
 answer_told (Ok Idle) = None
 answer_told (Ok Stalled) = Some (Ok 0)
@@ -33,7 +33,7 @@ answer_told (Err HistoryFull) = None
 answer_told (Err NoMemory) = None
 answer_told (Err (Unbooked taken)) = Some (Ok taken)
 
--- where no answer is told, a sink is not asked, and is as it was; and where one is told, the sink is asked once, for
+-- if no answer is shown, a sink is not asked, and is as it was; and if one is shown, the sink is asked once, for
 -- something of this kind, and that is its answer
 abbrev pub IsAskedOnce : {S : Type 0} → (S → Asked → Result ℕ SinkFault → S → Type 0) → (Asked → Type 0) → S →
     Option (Result ℕ SinkFault) → S → Type 0

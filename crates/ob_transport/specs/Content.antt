@@ -11,7 +11,7 @@ pub record Content : Type 0 where
 abbrev pub with_more_bytes : List ℕ → Content → Content
 with_more_bytes bytes content = record content { bytes = content.bytes ++ bytes }
 
--- what was taken, and so many units
+-- what was taken, and `units` more units
 abbrev pub with_more_units : ℕ → Content → Content
 with_more_units units content = record content { units = content.units + units }
 

@@ -17,14 +17,14 @@ GoesOn Stalled = ⊥
 GoesOn Cleared = Unit {0}
 GoesOn (Took n) = Unit {0}
 
--- so many passes, one after another, after each of which there may be more to do
+-- `count` passes, one after another, after each of which there may be more to do
 abbrev pub Passes : Limits → ℕ → ℕ → Standing → Standing → Type 0
 Passes limits caller zero before after = after ≡ before
 Passes limits caller (suc count) before after =
     (middle : Standing) × (pass : Pass) × Passes limits caller count before middle × GoesOn pass
     × IsPass limits caller middle (Ok pass) after
 
--- so many such passes, and then one with this result
+-- `count` such passes, and then one with this result
 pub record EndsWith (limits : Limits) (caller count : ℕ) (before : Standing) (result : Result Pass PassFault)
     (after : Standing) : Type 0 where
   pub middle : Standing

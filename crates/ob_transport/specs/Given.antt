@@ -6,7 +6,7 @@ use Rattle.ob_history.specs.History.{History, LacksPlaces, with_reserved}
 use Rattle.ob_transport.specs.declared.fault.PassFault.{PassFault}
 use Rattle.ob_transport.specs.declared.fault.PassFault.TheVariants.{Sink, HistoryFull, NoMemory, Unbooked}
 
--- a command is recorded, or the history is full, or memory is wanted, which a reserved call does not
+-- a command is recorded, or the history is full, or it is out of memory, which a reserved call never is
 abbrev pub Given : {A : Type 0} → ℕ → Command → History → Result A PassFault → History → Type 0
 Given caller command before (Ok done) after = (is_full before ≡ false) × (after ≡ history_after before caller command)
 Given caller command before (Err (Sink fault)) after = ⊥
@@ -15,7 +15,8 @@ Given caller command before (Err NoMemory) after = (is_full before ≡ false) ×
     × (after ≡ before)
 Given caller command before (Err (Unbooked taken)) after = ⊥
 
--- two calls are reserved, or fewer places are left, or memory is wanted, which calls that are reserved already do not
+-- two calls are reserved, or fewer places are left, or it is out of memory, which it never is if they are reserved
+-- already
 abbrev pub Readied : {A : Type 0} → History → Result A PassFault → History → Type 0
 Readied before (Ok done) after = (¬ LacksPlaces before 2) × (after ≡ with_reserved before 2)
 Readied before (Err (Sink fault)) after = ⊥

@@ -6,14 +6,14 @@ use Rattle.ob_transport.specs.Standing.{Standing}
 use Rattle.ob_transport.specs.declared.fault.PassFault.{PassFault}
 use Rattle.ob_transport.specs.declared.fault.PassFault.TheVariants.{Unbooked}
 
--- the bytes taken grow by just those by which the sent bytes do, and the units by as many as the sent units
+-- the bytes taken grow by exactly those by which the sent bytes do, and the units by as many as the sent units
 pub record GrowAlike (before after : Standing) : Type 0 where
   pub bytes : (more : List ℕ) × (after.sink.bytes ≡ before.sink.bytes ++ more)
       × (sent_bytes_in after.history ≡ sent_bytes_in before.history ++ more)
   pub units : (more : ℕ) × (after.sink.units ≡ before.sink.units + more)
       × (sent_units_in after.history ≡ sent_units_in before.history + more)
 
--- they grow alike but for so many bytes, which were taken last, and are the first unread ones
+-- they grow alike but for `taken` bytes, which were taken last, and are the first unread ones
 pub record GrowAlikeBut (taken : ℕ) (before after : Standing) : Type 0 where
   pub unread : taken ≤ length (unread_in after.history)
   pub booked : Content

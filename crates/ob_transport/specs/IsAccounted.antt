@@ -7,8 +7,8 @@ use Rattle.ob_transport.specs.Standing.{Standing}
 use Rattle.ob_transport.specs.declared.fault.PassFault.{PassFault}
 use Rattle.ob_transport.specs.declared.fault.PassFault.TheVariants.{HistoryFull, Unbooked}
 
--- what a sink took is accounted for if it is booked, but for bytes that are told of, and stand at the front; if each
--- failure of the sink is told of; and if a full history is told of only when two places are lacking
+-- what a sink took is accounted for if it is booked, but for bytes that are reported, and stand at the front; if each
+-- failure of the sink is reported; and if a full history is reported only when two places are lacking
 pub record IsAccounted {A : Type 0} (before : Standing) (result : Result A PassFault) (after : Standing) : Type 0 where
   pub alike : IsBooked result → GrowAlike before after
   pub unbooked : (taken : ℕ) → result ≡ Err (Unbooked taken) → GrowAlikeBut taken before after

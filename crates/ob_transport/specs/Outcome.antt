@@ -11,8 +11,8 @@ use Rattle.ob_transport.specs.declared.fault.Pass.TheVariants.{Idle, Stalled, Cl
 use Rattle.ob_transport.specs.declared.fault.PassFault.{PassFault}
 use Rattle.ob_transport.specs.declared.fault.PassFault.TheVariants.{Sink, HistoryFull, NoMemory, Unbooked}
 
--- the front is taken away by a command, with nothing offered: it is recorded; or the history is full; or memory is
--- wanted, which a reserved call does not
+-- the front is taken away by a command, with nothing offered: it is recorded; or the history is full; or memory runs
+-- out, which it never does for a reserved call
 abbrev pub Clears : ℕ → Command → Standing → Result Pass PassFault → Standing → Type 0
 Clears caller command before (Ok Idle) after = ⊥
 Clears caller command before (Ok Stalled) after = ⊥
@@ -35,7 +35,7 @@ pub record Comes (before after expected : Standing) : Type 0 where
   pub left : after ≡ expected
 
 -- bytes are offered, with two calls reserved before: the sink takes none; or it takes some, and their removal is
--- recorded; or it fails; or fewer than two places are left; or memory is wanted, for what is offered or for the two
+-- recorded; or it fails; or fewer than two places are left; or memory runs out, for what is offered or for the two
 -- calls; or for the removal alone, and the bytes taken stand unbooked
 abbrev pub SendsBytes : ℕ → List ℕ → Standing → Result Pass PassFault → Standing → Type 0
 SendsBytes caller offered before (Ok Idle) after = ⊥
@@ -57,15 +57,15 @@ SendsBytes caller offered before (Err (Unbooked taken)) after =
       sink = with_more_bytes (take taken offered) before.sink;
     })
 
--- the history once so many units of the front are booked: their progress, and the removal of the front where the rest
--- was taken
+-- the history once *n* units of the front are booked: their progress, and the removal of the front if the rest was
+-- taken
 abbrev pub booked_units : ℕ → ℕ → ℕ → History → History
 booked_units caller rest n history =
     let progressed = history_after history caller (Progress n) in
     if n == rest then history_after progressed caller Remove else progressed
 
--- so many units are offered, with two calls reserved before: the sink takes none; or it takes some, and they are
--- booked; or it fails; or fewer than two places are left; or memory is wanted for the two calls
+-- `rest` units are offered, with two calls reserved before: the sink takes none; or it takes some, and they are
+-- booked; or it fails; or fewer than two places are left; or memory runs out for the two calls
 abbrev pub SendsUnits : ℕ → ℕ → Standing → Result Pass PassFault → Standing → Type 0
 SendsUnits caller rest before (Ok Idle) after = ⊥
 SendsUnits caller rest before (Ok Stalled) after = Comes before after (record before { history = ready before })

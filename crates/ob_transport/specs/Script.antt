@@ -34,17 +34,17 @@ next_step script = first_step script.steps script.most_after
 abbrev pub with_step_used : Script → Script
 with_step_used script = record script { steps = drop 1 script.steps }
 
--- what a step answers to a call that offers so much: it takes at most its number of it, or fails with its number
+-- what a step returns for a call that offers this much: it takes at most its number of it, or fails with its number
 abbrev pub answer_by : SinkStep → ℕ → Result ℕ SinkFault
 answer_by (Take most) offered = Ok (min most offered)
 answer_by (Fail number) offered = Err (record { 0 = number })
 
--- the fault of a script's sink where memory was refused
+-- the fault of a script's sink if memory was refused
 abbrev pub wants_memory : SinkFault
 wants_memory = record { 0 = 12 }
 
--- a call answers as the step says; but where a failure can't be counted any more, where the units can't, or where memory
--- is refused for bytes
+-- a call answers as the step says, unless a failure can't be counted any more, the units can't, or memory is refused
+-- for bytes
 abbrev pub AnswersBy : Script → Asked → Result ℕ SinkFault → Type 0
 AnswersBy script (OfBytes bytes) answer = script.content.failures < 2 ^ 64 - 1 → ¬ IsErrOf answer wants_memory
     → answer ≡ answer_by (next_step script) (length bytes)

@@ -28,7 +28,7 @@ abbrev pub front_bytes : Option Row → List ℕ
 front_bytes None = []
 front_bytes (Some row) = block_bytes (unread_part row)
 
--- of so many units of progress those that are sent: all if the front is a region, and else none
+-- of *n* units of progress those that are sent: all if the front is a region, and else none
 abbrev pub units_at : ℕ → Option Message → ℕ
 units_at n None = 0
 units_at n (Some (Block bytes)) = 0

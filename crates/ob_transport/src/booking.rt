@@ -28,20 +28,20 @@ pub fn make_ready<B: Booked>(booked: &mut B) -> Result<(), PassFault>
     Ok(())
 }
 
-/// Books bytes that a sink has taken, and that a pass left unbooked: it records their removal, and answers its receipt.
+/// Books bytes that a sink has taken, and that a pass left unbooked: it records their removal, and returns its receipt.
 ///
-/// `HistoryFull` comes just where the history is full, and `NoMemory` where the allocator refused, and not to a
+/// `HistoryFull` comes exactly if the history is full, and `NoMemory` only if the allocator refused, and never to a
 /// reserved call of a removal that settles at most four promises. Then there is no record, and all is as it was.
 pub fn book<B: Booked>(booked: &mut B, taken: u64) -> Result<Receipt, Refusal>
     ensures is_call { IsCall (B.history booked.old) (B.caller booked.old) (RemoveBytes taken) result
         (B.history booked.new) }
     ensures caller { B.caller booked.new ≡ B.caller booked.old }
 
-    // Where the line still begins with the taken bytes, they are sent, and nothing else.
+    // If the line still begins with the taken bytes, they are sent, and nothing else.
     ensures sent { (bytes rest : List ℕ) → length bytes ≡ taken → unread_in (B.history booked.old) ≡ bytes ++ rest
         → OnOk result (sent_bytes_in (B.history booked.new) ≡ sent_bytes_in (B.history booked.old) ++ bytes) }
 {
-    // That the commands of its history were accepted is told with the buffer.
+    // That the commands of its history were accepted comes with the buffer.
     let _ = booked.buffer();
     booked.call(Command::RemoveBytes(taken))
 }

@@ -13,8 +13,7 @@ pub enum Pass {
     Stalled,
     /// What stood in front was taken away without the sink.
     Cleared,
-    /// The sink took so many bytes of the blocks in front, or so many units of the region in front, and they are
-    /// booked.
+    /// The sink took this many bytes of the blocks in front, or units of the region in front, and they are booked.
     Took(u64),
 }
 
@@ -30,7 +29,7 @@ pub enum PassFault {
     /// The allocator refused memory, or a block has more owners than can be counted.
     #[error("out of memory")]
     NoMemory,
-    /// The sink took so many bytes, which still stand at the front: their removal met want of memory. `book` makes it
+    /// The sink took `taken` bytes, which still stand at the front: memory ran out for their removal. `book` makes it
     /// later.
     #[error("out of memory with {taken} bytes taken and not booked")]
     Unbooked {
@@ -65,7 +64,7 @@ impl From<SinkFault> for PassFault {
     }
 }
 
-/// A call of a booked buffer is refused as a full history or for want of memory alone.
+/// A call of a booked buffer is refused only as a full history or as out of memory.
 impl From<Refusal> for PassFault {
     ghost use Rattle.ob_transport.specs.Refused.{fault_of};
 

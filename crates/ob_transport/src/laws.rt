@@ -17,7 +17,7 @@ ghost use Rattle.ob_transport.specs.declared.fault.PassFault.{PassFault};
 ghost use Rattle.ob_transport.specs.declared.fault.PassFault.TheVariants.{Unbooked};
 ghost use Rattle.ob_transport.specs.declared.limits.Limits.{Limits};
 
-/// What a pass takes is sent, and nothing else: after accepted commands the bytes and the units taken grow by just
+/// What a pass takes is sent, and nothing else: after accepted commands the bytes and the units taken grow by exactly
 /// those by which the sent ones do, but for bytes that it leaves unbooked, which stand at the front.
 pub fn what_a_pass_takes_is_sent()
     ensures alike { (limits : Limits) (caller : ℕ) (before after : Standing) (result : Result Pass PassFault) →
@@ -28,7 +28,7 @@ pub fn what_a_pass_takes_is_sent()
         → IsPass limits caller before (Err (Unbooked taken)) after → GrowAlikeBut taken before after }
 {}
 
-/// What a legal history sends is what its records send, one behind another: so it can be told by the receipts of those
+/// What a legal history sends is what its records send, one after another: so it can be read off the receipts of those
 /// who send, each with its place.
 pub fn a_history_sends_what_its_records_send()
     ensures bytes { (settings : Settings) (records : List Record) → IsLegal settings records

@@ -17,11 +17,11 @@ pub enum Next {
     Clear(Command),
     /// To offer these blocks.
     Blocks(Vec<Bytes>),
-    /// To offer so many units of the region in front.
+    /// To offer *n* units of the region in front.
     Region(u64),
 }
 
-/// What there is to do for the front of a buffer. Want of memory comes only where there are bytes to be offered.
+/// What there is to do for the front of a buffer. `NoMemory` comes only if there are bytes to be offered.
 pub fn next_of(buffer: &Buffer, limits: Limits) -> Result<Next, Refusal>
     ensures offer { IfOk result (λ next. (commands : List Command) → StandsFor buffer.now commands
         → offer_of next ≡ offer_after limits buffer.now.settings commands) }

@@ -10,13 +10,13 @@ use bytes::Bytes;
 use std::alloc::AllocError;
 use std::marker::Model;
 
-/// The number of the fault that stands for want of memory.
+/// The number of the fault that stands for a refusal of the allocator.
 const NO_MEMORY: u32 = 12;
 
 /// What a sink of a script does in one call.
 #[derive(Clone, Copy, Debug, PartialEq, Eq)]
 pub enum SinkStep {
-    /// It takes at most so much of what is offered: bytes of blocks, or units of a region.
+    /// It takes at most *n* of what is offered: bytes of blocks, or units of a region.
     Take(u64),
     /// It fails with this number.
     Fail(u32),
@@ -47,7 +47,7 @@ impl Model for ScriptSink {
 
 impl ScriptSink {
     /// A sink whose calls do one of these steps each, and which takes at most `after` in a call once they are used up.
-    /// It takes no memory.
+    /// It does not allocate.
     pub fn new(steps: Vec<SinkStep>, after: u64) -> ScriptSink
         ensures { result ≡ new_script steps.items after }
     {
@@ -62,21 +62,21 @@ impl ScriptSink {
         }
     }
 
-    /// The bytes that were taken, in order. It takes no memory.
+    /// The bytes that were taken, in order. It does not allocate.
     pub fn taken(&self) -> &[u8]
         ensures { result.now ≡ self.now.content.bytes }
     {
         self.taken.as_slice()
     }
 
-    /// How many units of regions were taken. It takes no memory.
+    /// How many units of regions were taken. It does not allocate.
     pub fn units(&self) -> u128
         ensures { result ≡ self.now.content.units }
     {
         self.units
     }
 
-    /// How many calls failed. It takes no memory.
+    /// How many calls failed. It does not allocate.
     pub fn failures(&self) -> u64
         ensures { result ≡ self.now.content.failures }
     {
@@ -97,7 +97,7 @@ impl ScriptSink {
         }
     }
 
-    /// Fails with this number and counts it, but where the count is at its top.
+    /// Fails with this number and counts it, unless the count is at its top.
     fn fail(&mut self, number: u32) -> Result<(), SinkFault>
         ensures counted { IfErr result (λ fault. (fault.0 ≡ number)
             × (self.new ≡ record self.old { content = with_failure self.old.content })) }
@@ -110,7 +110,7 @@ impl ScriptSink {
         Ok(())
     }
 
-    /// Keeps at most so many bytes of the beginning of blocks, and answers how many.
+    /// Keeps at most `most` bytes of the beginning of blocks, and returns how many.
     fn keep(&mut self, blocks: &[Bytes], most: u64) -> Result<usize, AllocError>
         ensures count { IfOk result (λ count. count ≡ min most (length (concat blocks.now))) }
         ensures kept { OnOk result (self.new ≡ record self.old {
@@ -127,7 +127,7 @@ impl ScriptSink {
     }
 }
 
-/// Adds at most so many bytes of the beginning of blocks. If memory is refused, some of them may stand there.
+/// Adds at most `most` bytes of the beginning of blocks. If memory is refused, some of them may stand there.
 fn push_beginning(bytes: &mut Vec<u8>, blocks: &[Bytes], most: u64) -> Result<(), AllocError>
     ensures added { OnOk result (bytes.new.items ≡ bytes.old.items ++ take most (concat blocks.now)) }
     ensures before { take (vec_len bytes.old) bytes.new.items ≡ bytes.old.items }
@@ -147,8 +147,8 @@ impl Sink for ScriptSink {
 
     ghost does = { Plays };
 
-    /// Does what the next step says of all bytes of the blocks. `SinkFault(12)` comes where memory was refused too. A
-    /// failure that can no longer be counted takes nothing, and tells no fault.
+    /// Does what the next step says of all bytes of the blocks. `SinkFault(12)` comes also if memory was refused. A
+    /// failure that can no longer be counted takes nothing, and reports no fault.
     fn take(&mut self, blocks: &[Bytes]) -> Result<usize, SinkFault>
         ensures within { IfOk result (λ count. count ≤ length (concat blocks.now)) }
         ensures taken { IfOk result (λ count. self.new.content
@@ -173,7 +173,7 @@ impl Sink for ScriptSink {
     }
 
     /// Does what the next step says of the units. Units that can no longer be counted are not taken, and a failure that
-    /// cannot takes nothing, and tells no fault.
+    /// cannot takes nothing, and reports no fault.
     fn take_region(&mut self, units: u64) -> Result<u64, SinkFault>
         ensures within { IfOk result (λ count. count ≤ units) }
         ensures taken { IfOk result (λ count. self.new.content ≡ with_more_units count self.old.content) }

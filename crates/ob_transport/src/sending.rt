@@ -20,20 +20,20 @@ use bytes::Bytes;
 use ob_history::Booked;
 use ob_types::Command;
 
-/// Lets a sink take once of what stands in front, and books what it took; or takes the front away where nothing of it
-/// is left to be sent. At least one block and one byte may be offered at once.
+/// Lets a sink take once of what stands in front, and books what it took; or takes the front away if nothing of it is
+/// left to be sent. At least one block and one byte may be offered at once.
 ///
 /// With nothing flushed it is `Idle`, and does nothing. A block in front is offered with those behind it, as
-/// `Buffer::gather`; where none of them holds a byte, they are removed, and it is `Cleared`. Of a region the rest is
-/// offered, which is its length less its progress; where there is no rest, it is removed, and it is `Cleared`. Any
-/// other message is given up with cause 1, and it is `Cleared`. Where the sink takes nothing it is `Stalled`. Where it
-/// takes something it is `Took`, and what it took is recorded: the removal of so many bytes, or the progress of the
-/// region, and its removal with the last unit.
+/// `Buffer::gather`; if none of them holds a byte, they are removed, and it is `Cleared`. Of a region the rest is
+/// offered, which is its length less its progress; if there is no rest, it is removed, and it is `Cleared`. Any
+/// other message is given up with cause 1, and it is `Cleared`. If the sink takes nothing it is `Stalled`. If it takes
+/// something it is `Took`, and what it took is recorded: the removal of as many bytes, or the progress of the region,
+/// and its removal with the last unit.
 ///
-/// Two calls are reserved just before a sink is asked, and only then: `HistoryFull` comes where fewer places are left,
-/// or none for the record that clears the front. `Sink` comes where the sink failed, and `NoMemory` where memory was
-/// refused; then nothing was taken, and all records are as before. `Unbooked` comes where the removal of taken bytes
-/// met want of memory, which it does for more than four promises alone; `book` makes it later.
+/// Two calls are reserved just before a sink is asked, and only then: `HistoryFull` comes if fewer places are left, or
+/// none for the record that clears the front. `Sink` comes if the sink failed, and `NoMemory` if memory was refused;
+/// then nothing was taken, and all records are as before. `Unbooked` comes if memory ran out for the removal of taken
+/// bytes, which it can for more than four promises alone; `book` makes it later.
 pub fn pass<B: Booked, S: Sink>(
     booked: &mut B,
     sink: &mut S,

@@ -3,11 +3,11 @@ use Rattle.std.specs.Prelude.{ℕ, Bool, true, false, ◌==◌, Option, Some, No
 use Rattle.ob_types.specs.declared.reply.Change.{Change}
 use Rattle.ob_types.specs.declared.reply.Change.TheVariants.{Unwritable, Writable}
 
--- a buffer is writable where no bit of its word is set
+-- a buffer is writable exactly if no bit of its word is set
 abbrev pub is_writable : ℕ → Bool
 is_writable word = word == 0
 
--- the change from one writability to another: none where they agree
+-- the change from one writability to another: none if they agree
 abbrev pub turn : Bool → Bool → Option Change
 turn true true = None
 turn true false = Some Unwritable

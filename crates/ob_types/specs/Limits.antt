@@ -33,6 +33,6 @@ greatest_total = 4294967295
 abbrev pub most_writes : ℕ
 most_writes = 1048576
 
--- the most settlements that want no memory of the allocator
+-- the most settlements that need no allocation
 abbrev pub inline_settlements : ℕ
 inline_settlements = 4

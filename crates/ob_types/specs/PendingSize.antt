@@ -23,7 +23,8 @@ is_long_region (Block bytes) = false
 is_long_region (Region units) = nat_lt greatest_region units
 is_long_region (Other value) = false
 
--- a message is too large where it counts more than the greatest pending size, or is a region past the greatest length
+-- a message is too large exactly if it counts more than the greatest pending size, or is a region past the greatest
+-- length
 abbrev pub is_oversize : Estimate → Message → Bool
 is_oversize estimate message = nat_lt greatest_pending_size (counted_bytes estimate message) || is_long_region message
 

@@ -12,8 +12,8 @@ pub record BitRequest : Type 0 where
   pub set : Bool
 
 -- the traits of a command: the message that it writes, whether it is a flush, a cancellation, a failing of what is
--- flushed or a close, what it asks of a user bit, the marks that it sets, how many bytes it names to be removed, whether
--- its falls are with notice, whether it may want memory, and whether it may stand in a plan of a writer
+-- flushed or a close, what it asks of a user bit, the marks that it sets, how many bytes it names to be removed,
+-- whether its falls are with notice, whether it may allocate, and whether it may stand in a plan of a writer
 pub record Traits : Type 0 where
   pub message : Option Message
   pub flush : Bool
@@ -27,7 +27,7 @@ pub record Traits : Type 0 where
   pub wants_memory : Bool
   pub planned : Bool
 
--- the traits that most commands have: it is nothing of these, its falls are with notice, and it wants no memory
+-- the traits that most commands have: it is nothing of these, its falls are with notice, and it does not allocate
 abbrev pub plain : Traits
 plain = record {
   message = None;

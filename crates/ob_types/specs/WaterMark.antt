@@ -14,7 +14,7 @@ pub record AreMarks (marks : Marks) : Type 0 where
   pub ordered : marks.low ≤ marks.high
   pub within_limit : marks.high ≤ greatest_mark
 
--- the marks of two numbers, or BadMarks where they are no marks
+-- the marks of two numbers, or BadMarks if they are no marks
 abbrev pub water_mark_of : ℕ → ℕ → Result Marks Refusal
 water_mark_of low high =
     if nat_lt high low || nat_lt greatest_mark high then Err BadMarks else Ok (record { low = low; high = high })

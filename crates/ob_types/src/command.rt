@@ -17,19 +17,19 @@ pub enum Command {
     Remove,
     /// Takes the first flushed message away, as failed for this cause (Netty's `remove(Throwable)`).
     RemoveWith(Cause),
-    /// Takes so many bytes off the front of the flushed messages, as sent (Netty's `removeBytes`).
+    /// Takes *n* bytes off the front of the flushed messages, as sent (Netty's `removeBytes`).
     RemoveBytes(u64),
-    /// Tells of so many more bytes of progress of the first flushed message (Netty's `progress`).
+    /// Adds *n* bytes to the progress of the first flushed message (Netty's `progress`).
     Progress(u64),
     /// Takes a promise back, unless a flush has fixed it (Netty's `Future.cancel`).
     Cancel(PromiseId),
-    /// Takes all flushed messages away, as failed for this cause; the pending bytes fall with notice where the second is
-    /// set, and without where it is not (Netty's `failFlushed`).
+    /// Takes all flushed messages away, as failed for this cause; the pending bytes fall with notice if the second is
+    /// set, else without (Netty's `failFlushed`).
     FailFlushed(Cause, bool),
     /// Takes all messages away that no flush has reached, fails for this cause those of their promises that still wait,
     /// and refuses every later command (Netty's `close`).
     Close(Cause),
-    /// Sets the user bit of this index where the second is not set, and clears it where it is (Netty's
+    /// Clears the user bit of this index if the second is set, else sets it (Netty's
     /// `setUserDefinedWritability`).
     UserBit(u32, bool),
     /// Sets the marks that are in force from then on, for later moments and looks. It moves no bit of the word itself
@@ -38,7 +38,7 @@ pub enum Command {
 }
 
 impl Command {
-    /// The same command. It fails only where the copy of its message does: for a write of a block alone.
+    /// The same command. It fails only if the copy of its message does: for a write of a block alone.
     pub fn copy(&self) -> Result<Command, AllocError>
         ensures same { IfOk result (λ copy. copy ≡ self.now) }
         ensures succeeds { writes_block self.now ≡ false → IsOk result }

@@ -20,9 +20,9 @@ pub struct Estimate {
 }
 
 /// The bytes that the message counts while it is pending: the readable bytes of a block, 0 for a region and
-/// `unknown` for any other message, and the overhead. It takes no memory.
+/// `unknown` for any other message, and the overhead. It does not allocate.
 ///
-/// `Oversize` comes where this passes 2147483647, or where a region is longer than 9223372036854775807.
+/// `Oversize` comes exactly if this passes 2147483647, or a region is longer than 9223372036854775807.
 pub fn pending_size(message: &Message, estimate: Estimate) -> Result<u32, Refusal>
     ensures { result ≡ pending_size_of estimate message.now }
 {

@@ -16,10 +16,9 @@ pub enum Message {
 }
 
 impl Message {
-    /// The same message. A block shares its memory with the copy: no byte of it is copied, and no memory is taken.
+    /// The same message. A block shares its memory with the copy: no byte of it is copied, and nothing is allocated.
     ///
-    /// It fails for a block alone, where so many share it that they can no longer be counted. The allocator's error
-    /// stands for that.
+    /// It fails for a block alone, if more share it than can be counted. The allocator's error stands for that.
     pub fn copy(&self) -> Result<Message, AllocError>
         ensures same { IfOk result (λ copy. copy ≡ self.now) }
         ensures succeeds { is_block self.now ≡ false → IsOk result }

@@ -18,7 +18,7 @@ pub enum Refusal {
     /// The buffer was closed.
     #[error("the buffer is closed")]
     Closed = 4,
-    /// Progress was told of, and no message is flushed.
+    /// Progress was to be added, and no message is flushed.
     #[error("no message is flushed")]
     NothingFlushed = 5,
     /// The progress of a message would pass 9223372036854775807.

@@ -6,14 +6,14 @@ use crate::promise::PromiseId;
 use crate::settlements::{Settlements, Spare};
 use std::alloc::AllocError;
 
-/// What an accepted command answers, which promises it settled, and whether it turned writability.
+/// What an accepted command returns, which promises it settled, and whether it turned writability.
 ///
-/// A reply is the one notice of the change that it tells, and of its settlements: nothing tells them again. So it must
-/// be used, or let go with `let _ = ..`.
+/// A reply is the one notice of the change that it reports, and of its settlements: nothing reports them again. So it
+/// must be used, or let go with `let _ = ..`.
 #[must_use]
 #[derive(Debug, Drop)]
 pub struct Reply {
-    /// What the command answers.
+    /// What the command returns.
     pub answer: Answer,
     /// The promises that it settled, with their outcomes, in the order of the writes.
     pub settled: Settlements,
@@ -22,7 +22,7 @@ pub struct Reply {
 }
 
 impl Reply {
-    /// The same reply. It fails for want of memory alone, and not where at most four promises are settled.
+    /// The same reply. It fails only if it is out of memory, and never if at most four promises are settled.
     pub fn copy(&self) -> Result<Reply, AllocError>
         ensures same { IfOk result (λ copy. copy ≡ self.now) }
         ensures succeeds { length self.now.settled ≤ inline_settlements → IsOk result }
@@ -30,7 +30,7 @@ impl Reply {
         Ok(self.with(self.settled.copy()?))
     }
 
-    /// The same reply, in memory that was taken before. It takes no more.
+    /// The same reply, in memory that was allocated before. It allocates no more.
     pub fn copy_in(&self, spare: Spare) -> Reply
         requires { length self.now.settled ≤ spare }
         ensures { result ≡ self.now }
@@ -38,7 +38,7 @@ impl Reply {
         self.with(spare.copy_of(&self.settled))
     }
 
-    /// Whether the other reply has the same answer, settlements and change. It takes no memory.
+    /// Whether the other reply has the same answer, settlements and change. It does not allocate.
     pub fn is_same(&self, other: &Reply) -> bool
         ensures { IsTrue result ↔ (self.now ≡ other.now) }
     {
@@ -73,7 +73,7 @@ pub enum Answer {
     Done,
 }
 
-/// How a command turned writability (Netty's `fireChannelWritabilityChanged`, told in the reply).
+/// How a command turned writability (Netty's `fireChannelWritabilityChanged`, reported in the reply).
 #[derive(Clone, Copy, Debug, PartialEq, Eq)]
 pub enum Change {
     /// Writers should stop.
@@ -83,9 +83,9 @@ pub enum Change {
 }
 
 impl Change {
-    /// How a word of unwritable bits turned writability, by the word before and after: `Unwritable` where it was 0
-    /// and is not 0 any more, `Writable` in the opposite case, else none. Where one of several set bits was cleared,
-    /// nothing turned.
+    /// How a word of unwritable bits turned writability, by the word before and after: `Unwritable` if it was 0 and is
+    /// not 0 any more, `Writable` in the opposite case, else none. If one of several set bits was cleared, nothing
+    /// turned.
     pub fn between(before: u32, after: u32) -> Option<Change>
         ensures { result ≡ change_between before after }
     {

@@ -9,12 +9,12 @@ pub use spare::Spare;
 use std::alloc::{AllocError, Global};
 use std::marker::Model;
 
-/// How many settlements stand in the list itself, and want no memory of the allocator.
+/// How many settlements stand in the list itself, without an allocation.
 const INLINE: usize = 4;
 
 /// The promises that a command settled, with their outcomes, in the order of the writes.
 ///
-/// The first four need no memory of the allocator.
+/// The first four need no allocation.
 #[derive(Debug, Drop)]
 pub struct Settlements {
     list: SmallVec<(PromiseId, Outcome), INLINE>,
@@ -43,7 +43,7 @@ impl Settlements {
         }
     }
 
-    /// No settlement, with room for as many. It fails for want of memory alone, and not for up to four.
+    /// No settlement, with room for `count`. It fails only if it is out of memory, and never for up to four.
     pub fn with_room(alloc: Global, count: u32) -> Result<Settlements, AllocError>
         ensures none { IfOk result (λ settled. settled ≡ []) }
         ensures succeeds { count ≤ inline_settlements → IsOk result }
@@ -53,7 +53,7 @@ impl Settlements {
         })
     }
 
-    /// One settlement. It takes no memory.
+    /// One settlement. It does not allocate.
     pub fn one(alloc: Global, id: PromiseId, outcome: Outcome) -> Settlements
         ensures { result ≡ (id, outcome) ∷ [] }
     {
@@ -62,8 +62,8 @@ impl Settlements {
         Settlements { list }
     }
 
-    /// Adds a settlement behind the others. It fails for want of memory alone, and not for the first four;
-    /// then the list is as it was.
+    /// Adds a settlement after the others. It fails only if it is out of memory, and never for the first four; then the
+    /// list is as it was.
     pub fn push(&mut self, id: PromiseId, outcome: Outcome) -> Result<(), AllocError>
         ensures ok { OnOk result (self.new ≡ self.old ++ (id, outcome) ∷ []) }
         ensures err { OnErr result (self.new ≡ self.old) }
@@ -79,7 +79,7 @@ impl Settlements {
         self.list.as_slice()
     }
 
-    /// The same settlements. It fails for want of memory alone, and not for up to four.
+    /// The same settlements. It fails only if it is out of memory, and never for up to four.
     pub fn copy(&self) -> Result<Settlements, AllocError>
         ensures same { IfOk result (λ copy. copy ≡ self.now) }
         ensures succeeds { length self.now ≤ inline_settlements → IsOk result }
@@ -89,7 +89,7 @@ impl Settlements {
         })
     }
 
-    /// Whether the others are the same promises with the same outcomes, in the same order. It takes no memory.
+    /// Whether the others are the same promises with the same outcomes, in the same order. It does not allocate.
     pub fn is_same(&self, others: &Settlements) -> bool
         ensures { IsTrue result ↔ (self.now ≡ others.now) }
     {

@@ -32,8 +32,8 @@ impl Model for WaterMark {
 }
 
 impl WaterMark {
-    /// The marks, which may be equal. `BadMarks` comes where low is above high, or high above 2147483647.
-    /// It takes no memory.
+    /// The marks, which may be equal. `BadMarks` comes exactly if low is above high, or high above 2147483647. It does
+    /// not allocate.
     pub fn new(low: u32, high: u32) -> Result<WaterMark, Refusal>
         ensures { result ≡ water_mark_of low high }
     {

@@ -26,7 +26,7 @@ fn block_or_none(at: *mut c_void) -> Tried {
     Tried { ok: true, at: at.cast() }
 }
 
-/// A block of so many bytes. `malloc` aligns it to each power of two up to 16 that divides its size, and more is never
+/// A block of `size` bytes. `malloc` aligns it to each power of two up to 16 that divides its size, and more is never
 /// asked for.
 #[unsafe(no_mangle)]
 extern "C" fn rattle_alloc(size: usize, _align: usize) -> Tried {

@@ -63,7 +63,7 @@ impl Client {
         }
     }
 
-    /// Reads once, unless too much waits already. Tells whether something came.
+    /// Reads once, unless too much waits already. Returns whether something came.
     fn read(&mut self, seen: &mut Seen) -> Result<bool, Box<dyn Error>> {
         if self.ended || !self.may_write {
             return Ok(false);
@@ -87,7 +87,7 @@ impl Client {
         }
     }
 
-    /// Sends once. Tells whether something went out.
+    /// Sends once. Returns whether something went out.
     fn send(&mut self, seen: &mut Seen) -> Result<bool, Box<dyn Error>> {
         let sent = self.connection.send_to(&mut self.socket)?;
         seen.echoed += sent.bytes as u64;
@@ -155,7 +155,7 @@ fn main() -> Result<(), Box<dyn Error>> {
             _ => address = word,
         }
     }
-    // bad marks are told before the first client comes
+    // bad marks are reported before the first client comes
     drop(Connection::open(marks, Estimate::default())?);
     let listener = TcpListener::bind(&address)?;
     println!("echoes on {}", listener.local_addr()?);

@@ -38,12 +38,12 @@ impl Default for Estimate {
 /// What a server has written to one client and the socket has not yet taken (Netty's `ChannelOutboundBuffer`), without
 /// end.
 ///
-/// Only [`Connection::open`], a write and a cancellation take memory. A call that is refused changes nothing.
+/// Only [`Connection::open`], a write and a cancellation need memory. A call that is refused changes nothing.
 #[derive(Debug)]
 pub struct Connection {
     pub(crate) handle: Handle,
-    /// Promises that were cancelled and whose messages are not gone. The archive tells an interval of promises, and which
-    /// of them it had settled before; this is to leave those out.
+    /// Promises that were cancelled and whose messages are not gone. The archive reports an interval of promises, and
+    /// which of them it had settled before; this is to leave those out.
     cancelled: BTreeSet<u64>,
 }
 
@@ -55,7 +55,7 @@ impl Connection {
         Ok(Connection { handle, cancelled: BTreeSet::new() })
     }
 
-    /// Writes a copy of these bytes behind all else. They are not sent before a flush.
+    /// Writes a copy of these bytes after all else. They are not sent before a flush.
     #[inline]
     pub fn write(&mut self, bytes: &[u8]) -> Result<Written, Refusal> {
         Written::of(self.handle.write(bytes))
@@ -67,7 +67,7 @@ impl Connection {
         Written::of(self.handle.write_block(&block.slot))
     }
 
-    /// Writes a region: so many bytes of something that the caller sends, as of a file.
+    /// Writes a region: `length` bytes of something that the caller sends, as of a file.
     pub fn write_region(&mut self, length: u64) -> Result<Written, Refusal> {
         Written::of(self.handle.write_region(length))
     }
@@ -107,12 +107,12 @@ impl Connection {
         Ok(self.settled_by(taken))
     }
 
-    /// Tells of *n* more bytes of progress of the first flushed message.
+    /// Adds *n* bytes to the progress of the first flushed message.
     pub fn progress(&mut self, n: u64) -> Result<(), Refusal> {
         done(self.handle.progress(n))
     }
 
-    /// Takes a promise back, and answers whether that came in time: a promise that a flush has fixed stays as it is.
+    /// Takes a promise back, and returns whether that came in time: a promise that a flush has fixed stays as it is.
     pub fn cancel(&mut self, id: u64) -> Result<bool, Refusal> {
         let told = self.handle.cancel(id);
         done(told.status)?;
@@ -184,7 +184,8 @@ impl Connection {
     }
 
     /// Where the flushed blocks in front lie that hold a byte, up to the first message that is no block: at most *N* and 64
-    /// of them, and at most `max_bytes` bytes, but the first in any case. It borrows the connection, and takes no memory.
+    /// of them, and at most `max_bytes` bytes, but the first in any case. It borrows the connection, and does not
+    /// allocate.
     #[must_use]
     pub fn pieces<const N: usize>(&self, max_bytes: u32) -> Pieces<'_, N> {
         self.handle.pieces(max_bytes)
@@ -204,7 +205,7 @@ impl Connection {
         self.cancelled.pop_first();
     }
 
-    /// Tells which of these promises were cancelled before, and forgets them.
+    /// Leaves out those of these promises that were cancelled before, and forgets them.
     fn settled_by(&mut self, taken: Taken) -> Taken {
         if self.cancelled.is_empty() {
             return taken;

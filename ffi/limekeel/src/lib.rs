@@ -2,7 +2,7 @@
 //!
 //! A server often writes faster than a client reads. What is not yet sent waits in a [`Connection`], which counts it:
 //! above a high mark it tells writers to stop, below a low mark to go on. It is Netty's `ChannelOutboundBuffer` and
-//! `WriteBufferWaterMark`, without end. The archive below was compiled from a proof that each call answers what a short
+//! `WriteBufferWaterMark`, without end. The archive below was compiled from a proof that each call returns what a short
 //! definition says, whatever was called before. This crate over it is not proved; it is small, and its `unsafe` stands
 //! in one file.
 //!

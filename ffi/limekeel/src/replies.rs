@@ -1,4 +1,4 @@
-//! What the commands answer.
+//! What the commands return.
 
 use limekeel_sys as sys;
 use std::error::Error;
@@ -17,7 +17,7 @@ pub enum Refusal {
     TooMuch,
     /// The connection is closed.
     Closed,
-    /// Progress was told of, and no message is flushed.
+    /// Progress was to be added, and no message is flushed.
     NothingFlushed,
     /// The progress of the message would pass `i64::MAX`.
     TooFar,
@@ -106,7 +106,7 @@ pub(crate) fn done(status: u32) -> Result<(), Refusal> {
     if status == 0 { Ok(()) } else { Err(Refusal::of(status)) }
 }
 
-/// How a call turned writability. Each change is told once.
+/// How a call turned writability. Each change is reported once.
 #[derive(Clone, Copy, Debug, PartialEq, Eq, Hash)]
 pub enum Change {
     /// Writers should stop.
@@ -148,7 +148,7 @@ impl Outcome {
     }
 }
 
-/// What an accepted write answers.
+/// What an accepted write returns.
 #[must_use = "nothing tells the change of writability again"]
 #[derive(Clone, Copy, Debug, PartialEq, Eq)]
 pub struct Written {
@@ -166,7 +166,7 @@ impl Written {
     }
 }
 
-/// What a flush answers.
+/// What a flush returns.
 #[must_use = "nothing tells the change of writability again"]
 #[derive(Clone, Copy, Debug, PartialEq, Eq)]
 pub struct Flushed {
@@ -184,7 +184,7 @@ impl Flushed {
     }
 }
 
-/// What the removal of the first flushed message answers.
+/// What the removal of the first flushed message returns.
 #[must_use = "nothing tells the change of writability or the settlement again"]
 #[derive(Clone, Copy, Debug, PartialEq, Eq)]
 pub struct Removed {
@@ -205,7 +205,7 @@ impl Removed {
     }
 }
 
-/// What a call answers that takes several messages away.
+/// What a call returns that takes several messages away.
 #[must_use = "nothing tells the change of writability or the settlements again"]
 #[derive(Clone, Debug, PartialEq, Eq)]
 pub struct Taken {

@@ -43,7 +43,7 @@ pub enum Promise {
     Fixed,
     /// It is settled, and its message still stands in the connection: it was cancelled.
     Settled(Outcome),
-    /// Its message is gone. The call that took it away told the outcome.
+    /// Its message is gone. The call that took it away reported the outcome.
     SettledBefore,
 }
 
@@ -89,9 +89,9 @@ impl Front {
 /// What is left of the first flushed message.
 #[derive(Clone, Copy, Debug, PartialEq, Eq)]
 pub enum Current {
-    /// A block of so many bytes.
+    /// A block, with the number of its bytes that are left.
     Block(u64),
-    /// A region of so many bytes.
+    /// A region, with its length in bytes.
     Region(u64),
     /// Another message, by its number.
     Other(u32),

@@ -21,7 +21,7 @@ fn byte_at(seed: u64, place: u64) -> u8 {
     (place.wrapping_mul(2654435761).wrapping_add(seed) >> 7) as u8
 }
 
-/// Sends so many bytes from one thread, and reads them in another after so long a wait.
+/// Sends `count` bytes from one thread, and reads them in another after a wait.
 fn echoes(address: SocketAddr, seed: u64, count: u64, wait: Duration) {
     let socket = TcpStream::connect(address).expect("it connects");
     let mut sender = socket.try_clone().expect("it clones");

@@ -21,7 +21,7 @@ fn the_trace_of_the_readme() {
     assert_eq!(player.trace("b 304\nb 0\nf\nrm\n"), wanted);
 }
 
-/// Numbers by chance, the same at each run (xorshift).
+/// Random numbers, the same at each run (xorshift).
 struct Dice(u64);
 
 impl Dice {
@@ -37,7 +37,7 @@ impl Dice {
     }
 }
 
-/// A script by chance, with its options.
+/// A random script, with its options.
 fn script(dice: &mut Dice) -> (Marks, Estimate, String) {
     let high = dice.below(2000) as u32;
     let marks = Marks { low: dice.below(u64::from(high) + 1) as u32, high };

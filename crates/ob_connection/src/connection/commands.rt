@@ -17,8 +17,8 @@ use crate::replies::{Flushed, Removed, Taken, Written};
 use ob_types::{Cause, Change, Message, Outcome, Refusal, WaterMark};
 
 impl Connection {
-    /// Adds a message behind all others (Netty's `addMessage`), and answers its promise: ids rise by one from 0. It takes
-    /// the same few steps whatever is pending; a growth of the ring is shared among the writes that filled it.
+    /// Adds a message behind all others (Netty's `addMessage`), and returns its promise: ids rise by one from 0. It
+    /// takes the same few steps whatever is pending; a growth of the ring is shared among the writes that filled it.
     ///
     /// `Closed` comes if the connection is closed, then `Oversize` if the message counts more than 2147483647 bytes or is
     /// a region longer than 9223372036854775807, then `TooMuch` if more than 4294967295 bytes would be pending or 2^64 - 1
@@ -31,10 +31,10 @@ impl Connection {
         self.inner.write(message)
     }
 
-    /// Lets the transport have all that was written so far (Netty's `addFlush`), fixes the promises of those messages, and
-    /// answers how many they are. A message whose promise was cancelled is voided: it becomes an empty block that counts
-    /// nothing, and stays in line. It takes the same few steps whatever is pending, unless a promise was cancelled since
-    /// the last flush: then it goes once over the messages that it reaches. It takes no memory.
+    /// Lets the transport have all that was written so far (Netty's `addFlush`), fixes the promises of those messages,
+    /// and returns how many they are. A message whose promise was cancelled is voided: it becomes an empty block that
+    /// counts nothing, and stays in line. It takes the same few steps whatever is pending, unless a promise was
+    /// cancelled since the last flush: then it goes once over the messages that it reaches. It does not allocate.
     ///
     /// `Closed` comes if the connection is closed.
     pub fn flush(&mut self) -> Result<Flushed, Refusal>
@@ -45,8 +45,8 @@ impl Connection {
     }
 
     /// Takes the first flushed message away, as sent (Netty's `remove()`): unless it was voided its promise succeeds, and
-    /// the pending bytes fall with notice. With nothing flushed nothing changes. It takes the same few steps whatever is
-    /// pending, and no memory.
+    /// the pending bytes fall with notice. With nothing flushed nothing changes. It takes the same few steps whatever
+    /// is pending, and never runs out of memory.
     ///
     /// `Closed` comes if the connection is closed.
     pub fn remove(&mut self) -> Result<Removed, Refusal>
@@ -56,8 +56,8 @@ impl Connection {
         self.inner.remove(Outcome::Success)
     }
 
-    /// Takes the first flushed message away as `remove` does, but as failed for this cause (Netty's `remove(Throwable)`),
-    /// and costs the same. It takes no memory.
+    /// Takes the first flushed message away as `remove` does, but as failed for this cause (Netty's
+    /// `remove(Throwable)`), and costs the same. It never runs out of memory.
     ///
     /// `Closed` comes if the connection is closed.
     pub fn remove_with(&mut self, cause: Cause) -> Result<Removed, Refusal>
@@ -67,13 +67,13 @@ impl Connection {
         self.inner.remove(Outcome::Failed(cause))
     }
 
-    /// Takes *n* bytes off the flushed blocks in front, as sent (Netty's `removeBytes`), and answers which messages it took
-    /// away.
+    /// Takes *n* bytes off the flushed blocks in front, as sent (Netty's `removeBytes`), and returns which messages it
+    /// took away.
     ///
-    /// Each message that is gone whole is taken away as by `remove`, empty and voided ones along with the others; what is
-    /// left of the bytes is skipped in the next message, and added to its progress, which stops at 9223372036854775807. So
-    /// 0 bytes take away the empty messages in front. Bytes that are skipped stay pending until their message is gone. It
-    /// goes over the messages that it takes away, and one more, and takes no memory.
+    /// Each message that is gone whole is taken away as by `remove`, empty and voided ones along with the others; what
+    /// is left of the bytes is skipped in the next message, and added to its progress, which stops at
+    /// 9223372036854775807. So 0 bytes take away the empty messages in front. Bytes that are skipped stay pending until
+    /// their message is gone. It goes over the messages that it takes away, and one more, and never runs out of memory.
     ///
     /// `Closed` comes if the connection is closed, and then `TooManyBytes` if the flushed blocks before the first other
     /// message hold fewer bytes; both leave everything as it was.
@@ -85,8 +85,8 @@ impl Connection {
         self.inner.take_sent(n)
     }
 
-    /// Tells of *n* more bytes of progress of the first flushed message (Netty's `progress`). It takes the same few steps
-    /// whatever is pending, and no memory.
+    /// Adds *n* bytes to the progress of the first flushed message (Netty's `progress`). It takes the same few
+    /// steps whatever is pending, and does not allocate.
     ///
     /// `Closed` comes if the connection is closed, then `NothingFlushed` if no message is flushed, and then `TooFar` if the
     /// progress would pass 9223372036854775807.
@@ -97,9 +97,9 @@ impl Connection {
         self.inner.progress(n)
     }
 
-    /// Takes a promise back (Netty's `Future.cancel`), and answers whether that came in time: a promise that a flush has
-    /// fixed, or that is settled, stays as it is. The pending bytes stay too: they fall at the flush. It takes the same few
-    /// steps whatever is pending, and no memory.
+    /// Takes a promise back (Netty's `Future.cancel`), and returns whether that came in time: a promise that a flush
+    /// has fixed, or that is settled, stays as it is. The pending bytes stay too: they fall at the flush. It takes the
+    /// same few steps whatever is pending, and does not allocate.
     ///
     /// `Closed` comes if the connection is closed, and then `UnknownPromise` if no write was accepted under the id.
     pub fn cancel(&mut self, id: u64) -> Result<bool, Refusal>
@@ -109,10 +109,10 @@ impl Connection {
         self.inner.cancel(id)
     }
 
-    /// Takes all flushed messages away, oldest first, as failed for this cause (Netty's `failFlushed`), and answers which
-    /// they were, voided ones too. The promise of each that was not voided fails. If `notify` is not set the pending bytes
-    /// fall without notice: the word stays as it was, below the low mark too. It goes over the messages that it takes away,
-    /// and takes no memory.
+    /// Takes all flushed messages away, oldest first, as failed for this cause (Netty's `failFlushed`), and returns
+    /// which they were, voided ones too. The promise of each that was not voided fails. If `notify` is not set the
+    /// pending bytes fall without notice: the word stays as it was, below the low mark too. It goes over the messages
+    /// that it takes away, and never runs out of memory.
     ///
     /// `Closed` comes if the connection is closed.
     pub fn fail_flushed(&mut self, cause: Cause, notify: bool) -> Result<Taken, Refusal>
@@ -124,10 +124,10 @@ impl Connection {
         self.inner.fail_flushed(cause, notify)
     }
 
-    /// Closes the connection for good: takes all messages away that no flush has reached, oldest first and without notice,
-    /// fails their promises for this cause unless they were cancelled, and answers which messages they were (Netty's
-    /// `close`). The word stays as it was. After it each command is refused as `Closed`, and looks still answer. It goes
-    /// over the messages that it takes away, and takes no memory.
+    /// Closes the connection for good: takes all messages away that no flush has reached, oldest first and without
+    /// notice, fails their promises for this cause unless they were cancelled, and returns which messages they were
+    /// (Netty's `close`). The word stays as it was. After it each command is refused as `Closed`, and looks still show
+    /// what there is. It goes over the messages that it takes away, and never runs out of memory.
     ///
     /// `Closed` comes if the connection is closed already, and then `FlushedLeft` if a flushed message is left, voided ones
     /// too; both leave everything as it was.
@@ -140,10 +140,10 @@ impl Connection {
         self.inner.close(cause)
     }
 
-    /// Gives the connection up: fails what is flushed for this cause without notice, and closes for it, as `fail_flushed`
-    /// and then `close` do, and answers one interval of all messages that were pending. The promise of each that was not
-    /// cancelled in time fails. The word stays as it was. An open connection always answers. It goes over the messages that
-    /// it takes away, and takes no memory. Our own.
+    /// Gives the connection up: fails what is flushed for this cause without notice, and closes for it, as
+    /// `fail_flushed` and then `close` do, and returns one interval of all messages that were pending. The promise of
+    /// each that was not cancelled in time fails. The word stays as it was. It never fails on an open connection. It
+    /// goes over the messages that it takes away, and never runs out of memory. Our own.
     ///
     /// `Closed` comes if the connection is closed, and no other refusal does.
     pub fn give_up(&mut self, cause: Cause) -> Result<Taken, Refusal>
@@ -158,9 +158,9 @@ impl Connection {
         Ok(self.inner.give_up(cause))
     }
 
-    /// Sets the user bit of this index, or clears it if `writable` is set (Netty's `setUserDefinedWritability`), and answers
-    /// how that changed writability. The connection is writable while no user bit and no mark is set. It takes the same few
-    /// steps whatever is pending, and no memory.
+    /// Sets the user bit of this index, or clears it if `writable` is set (Netty's `setUserDefinedWritability`), and
+    /// returns how that changed writability. The connection is writable while no user bit and no mark is set. It takes
+    /// the same few steps whatever is pending, and does not allocate.
     ///
     /// `Closed` comes if the connection is closed, and then `BadIndex` if the index is not 1 to 31.
     pub fn user_bit(&mut self, index: u32, writable: bool) -> Result<Option<Change>, Refusal>
@@ -170,10 +170,10 @@ impl Connection {
         self.inner.user_bit(index, writable)
     }
 
-    /// Sets the marks that are in force from now on (Netty's `setWriteBufferWaterMark` on an open channel, for which Netty
-    /// states no rule). It moves no bit, settles nothing and changes no writability, even if what is pending is above the
-    /// new high mark or below the new low mark: only the next rise or fall goes by the new marks, and each look from now on.
-    /// It takes the same few steps whatever is pending, and no memory.
+    /// Sets the marks that are in force from now on (Netty's `setWriteBufferWaterMark` on an open channel, for which
+    /// Netty states no rule). It moves no bit, settles nothing and changes no writability, even if what is pending is
+    /// above the new high mark or below the new low mark: only the next rise or fall goes by the new marks, and each
+    /// look from now on. It takes the same few steps whatever is pending, and does not allocate.
     ///
     /// `Closed` comes if the connection is closed.
     pub fn set_marks(&mut self, marks: WaterMark) -> Result<(), Refusal>

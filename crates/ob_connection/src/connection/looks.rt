@@ -16,7 +16,7 @@ use std::io::IoSlice;
 
 impl Connection {
     /// What is left of the first flushed message: the unread part of a block, which is empty if the message was voided
-    /// (Netty's `current`). It takes the same few steps whatever is pending, and no memory.
+    /// (Netty's `current`). It takes the same few steps whatever is pending, and does not allocate.
     pub fn current(&self) -> Option<&Message>
         ensures { IsCurrent self.now (option_copied result) }
     {
@@ -24,8 +24,8 @@ impl Connection {
     }
 
     /// The promise of the first flushed message, which is the one that `current` shows; none exactly if `current` is none.
-    /// A removal settles it next, unless the message was voided. It takes the same few steps whatever is pending, and no
-    /// memory.
+    /// A removal settles it next, unless the message was voided. It takes the same few steps whatever is pending, and
+    /// does not allocate.
     pub fn front(&self) -> Option<u64>
         ensures { IsFrontPromise self.now result }
     {
@@ -35,8 +35,8 @@ impl Connection {
         Some(self.inner.gone())
     }
 
-    /// What is left of each flushed message that was not voided, oldest first (Netty's `forEachFlushedMessage`). It takes
-    /// no memory, and the iterator goes over what it gives and over the voided messages that it passes.
+    /// What is left of each flushed message that was not voided, oldest first (Netty's `forEachFlushedMessage`). It
+    /// does not allocate, and the iterator goes over what it gives and over the voided messages that it passes.
     pub fn flushed(&self) -> Flushed<'_>
         ensures { AreFlushed self.now result }
     {
@@ -47,7 +47,7 @@ impl Connection {
     /// message that is no block, at most `max_count` of them, and together at most `max_bytes` bytes; but the first of them
     /// however long it is, and none if `max_count` is 0. They share their memory with the connection, which stays as it is.
     ///
-    /// It goes over the blocks that it gives and the empty ones that it passes, and takes memory for the list alone.
+    /// It goes over the blocks that it gives and the empty ones that it passes, and allocates the list alone.
     /// `NoMemory` comes if the allocator refused or a block has more owners than can be counted, and not if nothing is
     /// gathered.
     pub fn gather(&self, max_count: u32, max_bytes: u32) -> Result<Vec<Bytes>, Refusal>
@@ -60,8 +60,9 @@ impl Connection {
     }
 
     /// Puts the blocks that `gather` gives for as many as there are pieces into these pieces, from the first on, and
-    /// answers how many they are. The other pieces stay as they were. It borrows the blocks, so it takes no memory, counts
-    /// up no owner, and the connection cannot change while the pieces are in use. A vectored write takes such pieces.
+    /// returns how many they are. The other pieces stay as they were. It borrows the blocks, so it does not allocate,
+    /// counts up no owner, and the connection cannot change while the pieces are in use. A vectored write takes such
+    /// pieces.
     pub fn gather_into<'a>(&'a self, pieces: &mut [IoSlice<'a>], max_bytes: u32) -> usize
         ensures blocks { AreGathered self.now (length pieces.old) max_bytes
             (map io_slice_bytes (take result pieces.new)) }

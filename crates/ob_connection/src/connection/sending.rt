@@ -36,8 +36,8 @@ pub enum SendFault {
 
 impl Connection {
     /// Offers a socket once the flushed blocks in front, as `gather_into` gives them, and takes away what it took: the
-    /// messages that are sent whole, empty and voided ones along with the others. At most 64 blocks are offered at once,
-    /// whatever `max_count` is; what is left is for the next call. It takes no memory.
+    /// messages that are sent whole, empty and voided ones along with the others. At most 64 blocks are offered at
+    /// once, whatever `max_count` is; what is left is for the next call. It never runs out of memory.
     ///
     /// If nothing is gathered the socket is not asked, and the empty messages in front are taken away all the same. A
     /// region or any other message in front is the caller's to send: then `more` is set and nothing was sent.
@@ -75,14 +75,14 @@ impl Connection {
 
 impl Connection {
     /// Offers a socket the flushed blocks in front, turn by turn as `send_once` does, until no flushed message is left, a
-    /// region or any other message is in front, the socket takes nothing more, or so many turns were made; one turn is made
-    /// at least. A turn offers at most 64 blocks, and together at most `max_bytes` bytes, but the first however long it is.
-    /// It takes no memory.
+    /// region or any other message is in front, the socket takes nothing more, or `max_turns` turns were made; one turn
+    /// is made at least. A turn offers at most 64 blocks, and together at most `max_bytes` bytes, but the first however
+    /// long it is. It never runs out of memory.
     ///
-    /// What the turns took away is told as one interval, and the change of writability once, over all of them. A socket
-    /// that takes less than it was offered is asked again, since some take a few pieces a call: it is blocked once it takes
-    /// nothing. If it breaks, what it took before is told along with that, and the messages that it took whole are gone;
-    /// empty messages in front are taken away then too, since all before them was sent.
+    /// What the turns took away is reported as one interval, and the change of writability once, over all of them. A
+    /// socket that takes less than it was offered is asked again, since some take a few pieces a call: it is blocked
+    /// once it takes nothing. If it breaks, what it took before is reported along with that, and the messages that it
+    /// took whole are gone; empty messages in front are taken away then too, since all before them was sent.
     ///
     /// `Closed` comes if the connection is closed, and no other fault does; then nothing was sent. Our own.
     pub fn send_until_blocked<S: Socket>(

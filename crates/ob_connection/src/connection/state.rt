@@ -10,7 +10,7 @@ use crate::status::Status;
 use ob_types::PromiseState;
 
 impl Connection {
-    /// What is pending now. It changes nothing, takes the same few steps whatever is pending, and no memory.
+    /// What is pending now. It changes nothing, takes the same few steps whatever is pending, and does not allocate.
     pub fn look(&self) -> Look
         ensures { Shows self.now result }
     {
@@ -26,30 +26,30 @@ impl Connection {
     }
 
     /// Whether writers may go on: whether neither the mark nor a user bit is set, so that the word is 0 (Netty's
-    /// `isWritable`). A close leaves it as it was. It takes no memory.
+    /// `isWritable`). A close leaves it as it was. It does not allocate.
     pub fn is_writable(&self) -> bool
         ensures { Gives self.now writable_after result }
     {
         self.inner.contents().word() == 0
     }
 
-    /// Whether no message is flushed and not yet removed, voided ones too (Netty's `isEmpty`). As in Netty, messages that
-    /// no flush has reached are not asked for. It takes no memory.
+    /// Whether no message is flushed and not yet removed, voided ones too (Netty's `isEmpty`). As in Netty, messages
+    /// that no flush has reached are not asked for. It does not allocate.
     pub fn is_empty(&self) -> bool
         ensures { Gives self.now empty_after result }
     {
         self.inner.contents().line_count() == 0
     }
 
-    /// Whether a close was accepted: from then on each command is refused as `Closed`. It takes no memory.
+    /// Whether a close was accepted: from then on each command is refused as `Closed`. It does not allocate.
     pub fn is_closed(&self) -> bool
         ensures { Gives self.now closed_after result }
     {
         self.inner.contents().is_closed()
     }
 
-    /// What has become of a promise, or nothing if no write was accepted under the id. It takes the same few steps whatever
-    /// is pending, and no memory.
+    /// What has become of a promise, or nothing if no write was accepted under the id. It takes the same few steps
+    /// whatever is pending, and does not allocate.
     pub fn promise(&self, id: u64) -> Option<Status>
         ensures { Tells self.now id result }
     {

@@ -19,7 +19,7 @@ const MOST_PIECES: usize = 64;
 pub enum Offer {
     /// There was nothing to offer, so it was not asked.
     Nothing,
-    /// It took so many bytes.
+    /// It took *n* bytes.
     Took(u64),
     /// It has no room now.
     Blocked,
@@ -40,8 +40,8 @@ impl Offer {
 }
 
 impl Inner {
-    /// Offers a socket the blocks in front, at most `max_count` of them and at most 64, and together at most `max_bytes`
-    /// bytes, but the first however long it is. It takes no memory.
+    /// Offers a socket the blocks in front, at most `max_count` of them and at most 64, and together at most
+    /// `max_bytes` bytes, but the first however long it is. It does not allocate.
     pub fn offer<S: Socket>(&self, socket: &mut S, max_count: u32, max_bytes: u32) -> Offer
         ensures { Offers (min most_pieces max_count) max_bytes self.now.unsent (S.sent socket.old)
             (S.calls socket.old) result (S.sent socket.new) (S.calls socket.new) }

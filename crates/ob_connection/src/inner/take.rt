@@ -108,7 +108,7 @@ impl Inner {
         self.contents.skip_in_front(cut.rest);
     }
 
-    /// Takes the first so many in line away. Without notice the word stays.
+    /// Takes the first `count` in line away. Without notice the word stays.
     fn take_first(&mut self, count: usize, notice: bool)
         requires { count ≤ length self.old.unsent.line }
         ensures becomes { (outcome : Outcome) → Becomes (times count (front_taken notice outcome)) self.old self.new }

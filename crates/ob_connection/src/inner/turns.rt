@@ -55,7 +55,7 @@ impl Inner {
         }
     }
 
-    /// Offers a socket the blocks in front, takes away what it took, and answers how many bytes these were, and how a
+    /// Offers a socket the blocks in front, takes away what it took, and returns how many bytes these were, and how a
     /// sending ends that makes no further turn.
     fn send_turn<S: Socket>(&mut self, socket: &mut S, max_bytes: u32) -> (u64, Ending)
         ensures becomes { Becomes (removed result.0) self.old self.new }
@@ -73,7 +73,7 @@ impl Inner {
         (bytes, self.ending_after(offer))
     }
 
-    /// Takes so many bytes off the blocks in front.
+    /// Takes *n* bytes off the blocks in front.
     fn take_bytes(&mut self, n: u64)
         requires { n ≤ bytes_in (run_of self.old.unsent) }
         ensures becomes { Becomes (removed n) self.old self.new }
@@ -85,7 +85,7 @@ impl Inner {
         self.take_cut(cut);
     }
 
-    /// How a sending ends that makes no further turn behind one that had this offer.
+    /// How a sending ends that makes no further turn after one that had this offer.
     fn ending_after(&self, offer: Offer) -> Ending
         requires nothing { offer ≡ Offer.Nothing → bytes_in (run_of self.now.unsent) ≡ 0 }
         requires left { ¬ (offer ≡ Offer.Nothing) → bytes_taken offer ≡ 0 → 0 < length self.now.unsent.line }

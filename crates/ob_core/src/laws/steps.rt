@@ -1,4 +1,4 @@
-//! What one step does: it finds the word and the total in one number, tells its change by that, and leaves the rest.
+//! What one step does: it finds the word and the total in one number, reads its change off that, and leaves the rest.
 
 ghost use Rattle.std.specs.Prelude.{◌≡◌, ◌<◌, ◌^◌, ℕ};
 ghost use Rattle.ob_types.specs.Change.{change_between};

@@ -7,7 +7,7 @@ use crate::world::World;
 use ob_types::Change;
 
 impl World {
-    /// The total, in bytes (Netty's `totalPendingSize`). It takes no memory.
+    /// The total, in bytes (Netty's `totalPendingSize`). It does not allocate.
     pub fn total(&self) -> u32
         ensures value { result ≡ self.now.core.total }
         ensures counted { result ≡ sum_owed self.now.core.lanes }
@@ -17,7 +17,7 @@ impl World {
 
     /// The word: bit 0 is the mark's, and bit i is the user bit with index i (Netty's `unwritable`). Bit 0 is set while
     /// the total is above the high mark, and clear while it is below the low mark. If the low mark is positive and
-    /// nothing is owed, bit 0 is clear; at a low mark of 0 it may stay set. It takes no memory.
+    /// nothing is owed, bit 0 is clear; at a low mark of 0 it may stay set. It does not allocate.
     pub fn word(&self) -> u32
         ensures value { result ≡ self.now.core.word }
         ensures above { self.now.core.marks.high < self.now.core.total → is_set result 0 ≡ true }
@@ -27,7 +27,7 @@ impl World {
         self.word
     }
 
-    /// What all lanes owe together, in bytes, added up anew. It takes no memory.
+    /// What all lanes owe together, in bytes, added up anew. It does not allocate.
     pub fn owed(&self) -> u32
         ensures { result ≡ sum_owed self.now.core.lanes }
     {
@@ -35,7 +35,7 @@ impl World {
     }
 
     /// Whether no lane is in the middle of a call. None ever is, since each call is one step, so this is always true.
-    /// It takes no memory.
+    /// It does not allocate.
     pub fn quiet(&self) -> bool
         ensures { result ≡ true }
     {
@@ -43,7 +43,7 @@ impl World {
     }
 
     /// How the last turn turned writability, if it did: `Unwritable` if the word was 0 before it and is not 0
-    /// after it, `Writable` in the opposite case. There is none before the first turn. It takes no memory.
+    /// after it, `Writable` in the opposite case. There is none before the first turn. It does not allocate.
     pub fn last_change(&self) -> Option<Change>
         ensures { result ≡ self.now.last_change }
     {

@@ -8,12 +8,12 @@ use crate::recorded::copies::Copies;
 use ob_types::{Command, Refusal};
 
 impl Recorded {
-    /// Gives the buffer one command, records the call, and answers the receipt of the record. A command that the
+    /// Gives the buffer one command, records the call, and returns the receipt of the record. A command that the
     /// buffer refuses is recorded too, with the refusal as its reply.
     ///
-    /// `HistoryFull` comes first, and just where the history holds as many records as it may, whatever the buffer
-    /// would have answered. `NoMemory` comes where the allocator refused, or the written block has more owners than can
-    /// be counted, and not to a reserved call of a command that is no write and settles at most four promises. Then
+    /// `HistoryFull` comes first, exactly if the history holds as many records as it may, whatever the buffer would
+    /// have returned. `NoMemory` comes only if the allocator refused, or the written block has more owners than can be
+    /// counted, and never to a reserved call of a command that is no write and settles at most four promises. Then
     /// there is no record, and all is as it was.
     pub fn call(&mut self, caller: u32, command: Command) -> Result<Receipt, Refusal>
         ensures { IsCall self.old caller command result self.new }

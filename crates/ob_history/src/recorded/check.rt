@@ -10,7 +10,7 @@ use crate::seen::Seen;
 use ob_types::Refusal;
 
 impl Recorded {
-    /// Whether the receipt is the record at its place. It changes nothing and takes no memory.
+    /// Whether the receipt is the record at its place. It changes nothing and does not allocate.
     pub fn check(&self, receipt: &Receipt) -> bool
         ensures { IsTrue result ↔ IsReceiptIn self.now.records receipt.now }
     {
@@ -20,9 +20,9 @@ impl Recorded {
         }
     }
 
-    /// Whether the look is that of a new buffer after the first `place` records, and so many records are there. It
-    /// gives a new buffer their commands, and changes nothing here. `NoMemory` comes where the allocator refused, or a
-    /// block has more owners than can be counted, and not where fewer records are there.
+    /// Whether the look is that of a new buffer after the first `place` records, and there are as many. It
+    /// gives a new buffer their commands, and changes nothing here. `NoMemory` comes only if the allocator refused, or
+    /// a block has more owners than can be counted, and never if fewer records are there.
     pub fn check_seen(&self, seen: &Seen) -> Result<bool, Refusal>
         ensures answer { IfOk result (λ answer. IsTrue answer ↔ IsSeenIn self.now.settings self.now.records seen.now) }
         ensures no_memory { IsOkUnless result Refusal.NoMemory }

@@ -20,7 +20,7 @@ pub struct Copies {
 }
 
 impl Copies {
-    /// What the receipt of a command to a buffer needs. It fails for want of memory alone.
+    /// What the receipt of a command to a buffer needs. It fails only if it is out of memory.
     pub fn new(alloc: Global, buffer: &Buffer, command: &Command) -> Result<Copies, AllocError>
         ensures told { IfOk result (λ copies. copies.told ≡ command.now) }
         ensures spare { IfOk result (λ copies. SettlesAtMost buffer.now command.now copies.spare) }
@@ -32,7 +32,7 @@ impl Copies {
         })
     }
 
-    /// The receipt of a record of that command. It takes no memory.
+    /// The receipt of a record of that command. It does not allocate.
     pub fn receipt(self, one: &Record) -> Receipt
         requires command { one.now.command ≡ self.told }
         requires few { length (settled_by one.now.reply) ≤ self.spare }

@@ -11,8 +11,8 @@ use ob_types::Refusal;
 
 impl Recorded {
     /// The index of the first receipt with which a list is no longer the caller's own: one that is not the record at
-    /// its place, or names another caller, or whose place is not above the one before it. Nothing where all are the
-    /// caller's own. It changes nothing and takes no memory.
+    /// its place, or names another caller, or whose place is not above the one before it. Nothing if all are the
+    /// caller's own. It changes nothing and does not allocate.
     pub fn first_foreign_receipt(&self, caller: u32, receipts: &[Receipt]) -> Option<usize>
         ensures own { IsNone result ↔ AreOwn caller self.now.records receipts.now }
         ensures foreign { IfSome result (IsFirstBreak (AreOwn caller self.now.records) receipts.now) }
@@ -25,8 +25,8 @@ impl Recorded {
         None
     }
 
-    /// The index of the first receipt that is not the record at its place, whoever made the call; nothing where each
-    /// is. It changes nothing and takes no memory.
+    /// The index of the first receipt that is not the record at its place, whoever made the call; nothing if each is.
+    /// It changes nothing and does not allocate.
     pub fn first_foreign_told(&self, told: &[Receipt]) -> Option<usize>
         ensures kept { IsNone result ↔ All (IsReceiptIn self.now.records) told.now }
         ensures foreign { IfSome result (IsFirstBreak (All (IsReceiptIn self.now.records)) told.now) }
@@ -39,11 +39,11 @@ impl Recorded {
         None
     }
 
-    /// The index of the first look that is not of the history, as `check_seen` asks it; nothing where each is. It gives
+    /// The index of the first look that is not of the history, as `check_seen` asks it; nothing if each is. It gives
     /// a new buffer the commands, once as long as the places of the looks do not fall, and all again for a look at an
-    /// earlier place than the one before it; it changes nothing here. `NoMemory` comes where the allocator refused, or
-    /// a block has more owners than can be counted, and not where the first look names more records than there are, or
-    /// there is none.
+    /// earlier place than the one before it; it changes nothing here. `NoMemory` comes only if the allocator refused,
+    /// or a block has more owners than can be counted, and never if the first look names more records than there are,
+    /// or there is none.
     pub fn first_foreign_seen(&self, seen: &[Seen]) -> Result<Option<usize>, Refusal>
         ensures seen { IfOk result (λ found.
             IsNone found ↔ All (IsSeenIn self.now.settings self.now.records) seen.now) }

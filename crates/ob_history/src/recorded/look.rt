@@ -7,7 +7,7 @@ use crate::recorded::Recorded;
 use crate::seen::Seen;
 
 impl Recorded {
-    /// What is pending now, and how many calls are recorded. It changes nothing and takes no memory.
+    /// What is pending now, and how many calls are recorded. It changes nothing and does not allocate.
     pub fn look(&self) -> Seen
         ensures { IsLookAt self.now result }
     {
@@ -17,7 +17,7 @@ impl Recorded {
         }
     }
 
-    /// The word and the pending bytes now. It changes nothing and takes no memory. Our own.
+    /// The word and the pending bytes now. It changes nothing and does not allocate. Our own.
     pub fn glance(&self) -> Glance
         ensures { result ≡ glance_after self.now.settings self.now.records }
     {

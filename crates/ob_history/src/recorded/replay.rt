@@ -23,7 +23,7 @@ pub struct Replay {
 }
 
 impl Recorded {
-    /// A replay before the first record. It takes no memory.
+    /// A replay before the first record. It does not allocate.
     pub(crate) fn replay(&self) -> Replay
         ensures start { result.place ≡ 0 }
         ensures replay { IsReplay self.now.settings self.now.records result }
@@ -34,7 +34,7 @@ impl Recorded {
         }
     }
 
-    /// Starts the replay again where it is past this place.
+    /// Starts the replay again if it is past this place.
     fn turn_back(&self, replay: &mut Replay, place: usize)
         requires { IsReplay self.now.settings self.now.records replay.old }
         ensures kept { IsReplay self.now.settings self.now.records replay.new }
@@ -45,7 +45,7 @@ impl Recorded {
         }
     }
 
-    /// What `check_seen` answers. The replay goes on to the look, and from the first record only where it is past it.
+    /// What `check_seen` returns. The replay goes on to the look, and from the first record only if it is past it.
     pub(crate) fn check_along(&self, replay: &mut Replay, seen: &Seen) -> Result<bool, Refusal>
         requires replay { IsReplay self.now.settings self.now.records replay.old }
         ensures kept { OnOk result (IsReplay self.now.settings self.now.records replay.new) }
@@ -72,8 +72,8 @@ fn shows(buffer: &Buffer, look: Look) -> bool
     buffer.look() == look
 }
 
-/// Gives a buffer the commands of the records of a legal history from one place to another. It fails for want of
-/// memory alone.
+/// Gives a buffer the commands of the records of a legal history from one place to another. It fails only if it is out
+/// of memory.
 fn go_on(buffer: &mut Buffer, records: &[Record], from: usize, to: usize) -> Result<(), AllocError>
     requires legal { IsLegal buffer.old.settings records.now }
     requires stands { StandsFor buffer.old (accepted_commands (take from records.now)) }

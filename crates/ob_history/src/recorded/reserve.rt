@@ -4,11 +4,11 @@ use crate::recorded::Recorded;
 use ob_types::Refusal;
 
 impl Recorded {
-    /// Reserves so many calls: places in the history, and memory for their records. After `Ok` the next `count` calls
-    /// want no memory, but for writes and for commands that settle more than four promises.
+    /// Reserves `count` calls: places in the history, and memory for their records. After `Ok` the next `count` calls
+    /// do not allocate, but for writes and for commands that settle more than four promises.
     ///
-    /// `HistoryFull` comes first, and just where fewer places are left; `NoMemory` comes where the allocator refused,
-    /// and not where so many calls are reserved already. Then all is as it was.
+    /// `HistoryFull` comes first, exactly if fewer places are left; `NoMemory` comes only if the allocator refused, and
+    /// never if as many calls are reserved already. Then all is as it was.
     pub fn reserve(&mut self, count: u32) -> Result<(), Refusal>
         ensures { IsReservation self.old count result self.new }
     {

@@ -12,8 +12,8 @@ use crate::recorded::Recorded;
 use ob_types::PromiseId;
 
 impl Recorded {
-    /// The record that settles a promise, or nothing where no record of the history does. There is one wherever the
-    /// buffer says that the promise is settled, and the record says the same outcome. It takes no memory.
+    /// The record that settles a promise, or nothing if no record of the history does. There is one whenever the buffer
+    /// says that the promise is settled, and the record says the same outcome. It does not allocate.
     pub fn settling(&self, id: PromiseId) -> Option<&Record>
         ensures settles { IfSome result (λ one. settles id one.now ≡ true) }
         ensures there { IfSome result (λ one. slice_get self.now.records one.now.place ≡ Some one.now) }

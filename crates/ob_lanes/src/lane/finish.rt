@@ -10,9 +10,9 @@ use crate::fault::RoomOut;
 use crate::words::Words;
 
 impl Lane {
-    /// Ends the word, and tells the total, which is 0 then, and the word.
+    /// Ends the word, and returns the total, which is 0 then, and the word.
     ///
-    /// `RoomOut` comes just if the lane has less than the whole room, and hands back what came in. Bit 0 is clear
+    /// `RoomOut` comes exactly if the lane has less than the whole room, and hands back what came in. Bit 0 is clear
     /// if the low mark is positive; at a low mark of 0 nothing ever clears it.
     pub fn finish(self, words: Words) -> Result<(u64, u32), (Words, Lane, RoomOut)>
         requires { self.words ≡ words }

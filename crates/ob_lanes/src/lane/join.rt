@@ -8,8 +8,8 @@ use std::marker::Brand;
 impl Lane {
     /// One lane with the room and the bits of both, set as they were. Its own steps are those of the first lane.
     ///
-    /// The rooms of two lanes never add up to more than the whole room. The next step of the lane is behind all that both
-    /// had seen.
+    /// The rooms of two lanes never add up to more than the whole room. The next step of the lane comes after all that
+    /// both had seen.
     pub fn join(self, words: &Words, other: Lane) -> Lane
         requires words { self.words ≡ words.now }
         requires other { other.words ≡ words.now }

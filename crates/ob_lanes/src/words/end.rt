@@ -8,7 +8,7 @@ use crate::rule::BOTH;
 use atomic_table::Seat;
 
 impl Words {
-    /// Gives the memory back, and tells both as they were.
+    /// Gives the memory back, and returns both as they were.
     pub(crate) fn end(self, seat: Seat<(), Facts>) -> u64
         requires words { IsSeatOf self seat }
         ensures end { IsEnd self.grant seat result }

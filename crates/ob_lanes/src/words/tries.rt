@@ -11,7 +11,7 @@ use atomic_table::Seat;
 use std::sync::Wait;
 
 impl Words {
-    /// Adds, and tells what it found then.
+    /// Adds, and returns what it found then.
     pub(crate) fn add<R: Wait>(&self, rt: &R, seat: &mut Seat<(), Facts>, amount: u32) -> u64
         requires { MayMake self.now seat.old (Add amount) }
         ensures seat { IsSameSeat seat.old seat.new }
@@ -29,7 +29,7 @@ impl Words {
         unreachable!()
     }
 
-    /// Subtracts, and tells what it found then.
+    /// Subtracts, and returns what it found then.
     pub(crate) fn subtract<R: Wait>(&self, rt: &R, seat: &mut Seat<(), Facts>, amount: u32) -> u64
         requires { MayMake self.now seat.old (Subtract amount) }
         ensures seat { IsSameSeat seat.old seat.new }

@@ -31,7 +31,7 @@ pub entry_at : (items : List Entry) (i : ℕ) (entry : Entry) (d : PendingEntry)
     entry ≡ get_or items i entry → pending_entry entry ≡ get_or (pending_entries items) i d
 entry_at items i entry d within is = ap pending_entry is ∙ sym (get_or-map pending_entry items i entry d within)
 
--- where no entry was taken back, neither was the first, nor was one behind it
+-- if no entry was taken back, neither was the first, nor was one behind it
 module _ (entry : Entry) (entries : List Entry) (none : none_taken_back (entry ∷ entries) ≡ true) where
   pub first_not_back : entry.taken_back ≡ false
   first_not_back = grind (arith, none)

@@ -5,7 +5,7 @@ use Rattle.ob_seq.proofs.Words.{length-take-le, take_more, take-append-drop, sum
 use Rattle.ob_seq.proofs.Words.{PendingEntry, entry_settlement, entry_settlements}
 use Rattle.std.proofs.lemmas.List.{take-take}
 
--- a list settles what each of its elements does, where their ids go on from a first one
+-- a list settles what each of its elements does, if their ids go on from a first one
 pub record SettlesEach {A : Type 0} (one : ℕ → A → List (PromiseId × Outcome))
     (all : ℕ → List A → List (PromiseId × Outcome)) : Type 0 where
   pub none : (id : ℕ) → all id [] ≡ []
@@ -27,7 +27,7 @@ module _ {A : Type 0} {one : ℕ → A → List (PromiseId × Outcome)} {all : �
       rw (take_more xs i d inside, ← read, append id (take i xs) (x ∷ []), size, is.more (id + i) x [])
       (rw (is.none (suc (id + i)), append-nil (one (id + i) x)))
 
-  -- fewer elements settle fewer promises, where one that is left out settles one
+  -- fewer elements settle fewer promises, if one that is left out settles one
   pub settled_room : (id : ℕ) (xs : List A) (i m : ℕ) (x d : A) → i < m → i < length xs → x ≡ get_or xs i d →
       length (one (id + i) x) ≡ 1 → length (all id (take i xs)) < length (all id (take m xs))
   settled_room id xs i m x d before inside read single =

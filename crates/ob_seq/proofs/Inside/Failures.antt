@@ -24,7 +24,7 @@ pub failed_by : (cause : Cause) (state : PromiseState) (waits : Bool) → is_wai
     failed cause state ≡ cond waits (Settled (Failed cause)) state
 failed_by cause state waits is = grind arith
 
--- the promises when the first so many from an id on have failed if they waited
+-- the promises when the first `count` from an id on have failed if they waited
 abbrev pub failed_up_to : ℕ → ℕ → Cause → List PromiseState → List PromiseState
 failed_up_to first count cause promises =
     take first promises ++ (map (failed cause) (take count (drop first promises)) ++ drop count (drop first promises))

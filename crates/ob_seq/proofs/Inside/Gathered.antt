@@ -14,11 +14,11 @@ no_room : (blocks : List (List ℕ)) → fitting 0 (with_bytes blocks) ≡ 0
 no_room [] = refl
 no_room (block ∷ blocks) = let none = no_room blocks in grind (arith, nat_tests)
 
--- how many more blocks go along with so many others, where so many fit: the first does in any case
+-- how many more blocks go along with `count` others, if `fits` of them fit: the first does in any case
 abbrev share : ℕ → ℕ → ℕ → ℕ
 share limit count fits = min (limit - count) (max (1 - count) fits)
 
--- what is gathered from blocks, where so many are already, which left this much room
+-- what is gathered from blocks after `count` others, which left this much room
 abbrev pub more_blocks : ℕ → ℕ → ℕ → List (List ℕ) → List (List ℕ)
 more_blocks limit count room blocks = take (share limit count (fitting room (with_bytes blocks))) (with_bytes blocks)
 

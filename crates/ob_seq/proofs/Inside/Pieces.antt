@@ -9,7 +9,7 @@ greatest_step : (passes : Bool) (best other from : ℕ) (behind : List ℕ) → 
     fold max other (cond passes (from ∷ behind) behind) ≡ best
 greatest_step passes best other from behind is low near rest = grind (arith, nat_tests)
 
--- where just the numbers up to one pass a test, that is the greatest of those that pass and of another number
+-- if exactly the numbers up to one pass a test, that is the greatest of those that pass and of another number
 greatest_is : (test : ℕ → Bool) (best end other from count : ℕ) → ((k : ℕ) → k < end → test k ≡ leb k best) →
     best < end → from + count ≡ end → other ≤ best → (other < best → from ≤ best) →
     fold max other (filter test (range_with_len from count)) ≡ best
@@ -49,7 +49,7 @@ within_is_fitting limit pieces =
     (suc (length pieces)) (λ k below. fitting_is limit pieces k (omega arith)) (omega arith) (omega arith) (omega arith)
     (omega arith)
 
--- where a removal of bytes ends, looked for one piece after another from so many whole ones on
+-- where a removal of bytes ends, looked for one piece after another from `whole` of them on
 abbrev pub cut_from : ℕ → ℕ → List (List ℕ) → Option Cut
 cut_from whole rest [] = cond (ltb 0 rest) None (Some (record { whole = whole; rest = rest }))
 cut_from whole rest (piece ∷ pieces) =

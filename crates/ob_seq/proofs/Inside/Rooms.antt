@@ -22,7 +22,7 @@ promises_there gone unsent =
     (map fixed_state unsent.line ++ map waiting_state unsent.unflushed) in
     omega arith
 
--- where a step leaves as many promises, as many messages wait
+-- if a step leaves as many promises, as many messages wait
 pub same_waiting : (old new : Unsent) → length (whole [] new).promises ≡ length (whole [] old).promises →
     waiting_count new ≡ waiting_count old
 same_waiting old new same = omega (arith, promises_there [] old, promises_there [] new)

@@ -1,4 +1,4 @@
--- The outcomes that runs tell of.
+-- The outcomes that runs give.
 use Rattle.ob_seq.proofs.Words.{◌≡◌, ℕ, zero, suc, ◌+◌, ◌<◌, ◌≤◌, ◌-◌, List, [], ◌∷◌, ◌++◌, length, map, get_or, leb, true, false}
 use Rattle.ob_seq.proofs.Words.{refl, sym, ap, ◌∙◌, arith, range_with_len, Outcome, Success, cond, nat_tests}
 use Rattle.std.proofs.lemmas.List.{get_or_default}
@@ -16,7 +16,7 @@ same_before run runs before (suc count) within =
     ap (λ (one : Run). one.outcome) (get_or_default runs count (record { from = 0; outcome = run.outcome })
     (record { from = 0; outcome = before }) (omega arith))
 
--- where the first so many runs begin at or before a place, and no other does, the last of them tells its outcome
+-- if the first `count` runs begin at or before a place, and no other does, the last of them gives its outcome
 pub outcome_since_first : (runs : List Run) (before : Outcome) (place count : ℕ) → count ≤ length runs →
     ((i : ℕ) (other : Run) → i < count → (get_or runs i other).from ≤ place) →
     ((i : ℕ) (other : Run) → count ≤ i → i < length runs → place < (get_or runs i other).from) →
@@ -36,7 +36,7 @@ outcome_since_first (run ∷ runs) before place (suc count) within early late =
     (λ i other from some. late (suc i) other (omega arith) (omega arith))
     ∙ same_before run runs before count (omega arith))
 
--- one more run tells of the places from its first on
+-- one more run gives the places from its first on
 since_more : (runs : List Run) (run : Run) (before : Outcome) (place : ℕ) →
     outcome_since (runs ++ run ∷ []) before place
     ≡ cond (leb run.from place) run.outcome (outcome_since runs before place)
@@ -44,7 +44,7 @@ since_more [] run before place = refl
 since_more (first ∷ runs) run before place =
     since_more runs run (cond (leb first.from place) first.outcome before) place
 
--- one more message that ended as the last run tells
+-- one more message that ended as the last run
 pub told_on : (runs : List Run) (count : ℕ) (outcome : Outcome) →
     ((i : ℕ) (other : Run) → i < length runs → (get_or runs i other).from ≤ count) →
     outcome ≡ outcome_before runs (length runs) Success →
@@ -72,7 +72,7 @@ told_anew runs run count first =
     ∙ ap (λ one. map (outcome_at (runs ++ run ∷ [])) (range_with_len 0 count) ++ one ∷ []) own
     ∙ ap (λ all. all ++ run.outcome ∷ []) before
 
--- a run behind the others that begins with the newest message keeps their order
+-- a run after the others that begins with the newest message keeps their order
 pub rise_more : (runs : List Run) (run : Run) (count : ℕ) → IsNonDecreasingBy (λ run. run.from) runs →
     ((i : ℕ) (other : Run) → i < length runs → (get_or runs i other).from ≤ count) → run.from ≡ count →
     IsNonDecreasingBy (λ run. run.from) (runs ++ run ∷ [])
@@ -80,7 +80,7 @@ rise_more runs run count rise begun first =
     IsNonDecreasingBy-push (λ (run : Run). run.from) runs run rise
     (λ other some. let last = begun (length runs - 1) other (omega arith) in omega arith)
 
--- and none begins behind the messages, of which there is one more
+-- and none begins past the messages, of which there is one more
 pub begun_more : (runs : List Run) (run : Run) (count : ℕ) →
     ((i : ℕ) (other : Run) → i < length runs → (get_or runs i other).from ≤ count) → run.from ≡ count →
     (i : ℕ) (other : Run) → i < length (runs ++ run ∷ []) → (get_or (runs ++ run ∷ []) i other).from ≤ count + 1

@@ -14,12 +14,12 @@ use Rattle.ob_seq.proofs.Rows.Order.{with_front_fresh}
 skipped_entry_is : (n : ℕ) (row : Row) → skipped_entry n (entry_of row) ≡ entry_of (skipped_row n row)
 skipped_entry_is n row = grind (arith, drop-nil, drop-drop)
 
--- the first of some rows, with so many bytes more skipped
+-- the first of some rows, with *n* more bytes skipped
 abbrev first_skipped : ℕ → List Row → List Row
 first_skipped n [] = []
 first_skipped n (row ∷ rows) = skipped_row n row ∷ rows
 
--- some rows when bytes are skipped in the first of them, and the same where that is none
+-- some rows when bytes are skipped in the first of them, and the same if that is none
 abbrev pub rows_skipped : ℕ → List Row → List Row
 rows_skipped n rows = cond (ltb 0 n) (first_skipped n rows) rows
 

@@ -184,7 +184,7 @@ module _ (gone : List Outcome) (settings : Settings) (marks : Marks) (closed : B
       let reached : pending_entry entry ≡ reached_entry entry.taken_back (pending_entry entry) = rw flag refl in
       rw same at (kept_next items n entry entry word word within read reached (rw flag refl))
 
-  -- all entries in line, where none of those that no flush had reached was taken back
+  -- all entries in line, if none of those that no flush had reached was taken back
   pub all_fixed : (line unflushed : List Entry) (word : ℕ) → none_taken_back unflushed ≡ true →
       whole gone (there (line ++ unflushed) [] word)
       ≡ times (length unflushed) next_flushed (whole gone (there line unflushed word))
@@ -218,7 +218,7 @@ module _ (gone : List Outcome) (settings : Settings) (marks : Marks) (closed : B
       rw passed at (get_or-append_right (map Settled gone) states (length gone) (length gone + place) Waiting
       (length-map gone (λ outcome. Settled outcome)) (omega arith))
 
-  -- the state of the promise of an entry that stands at a place among some of which so many are in line
+  -- the state of the promise of an entry that stands at a place among some of which *n* are in line
   module _ (items : List Entry) (n place : ℕ) (entry : Entry) (word : ℕ) (within : place < length items)
       (is : entry ≡ get_or items place entry) where
     abbrev state_there : PromiseState

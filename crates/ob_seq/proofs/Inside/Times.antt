@@ -17,13 +17,13 @@ unflushed_left n old =
     ap length (entries_of_times (λ (held : Pending). held.unflushed) next_flushed (λ before. refl) n old)
     ∙ length-drop n old.unflushed
 
--- the line that is left when so many fronts are taken
+-- the line that is left when *n* fronts are taken
 pub line_of_times : (notice : Bool) (outcome : Outcome) (n : ℕ) (old : Pending) →
     (times n (front_taken notice outcome) old).line ≡ drop n old.line
 line_of_times notice outcome =
     entries_of_times (λ (held : Pending). held.line) (front_taken notice outcome) (λ before. refl)
 
--- the settings stay where a step leaves them
+-- the settings stay if a step leaves them
 pub settings_of_times : (step : Pending → Pending) → ((old : Pending) → (step old).settings ≡ old.settings) →
     (n : ℕ) (old : Pending) → (times n step old).settings ≡ old.settings
 settings_of_times step keeps zero old = refl

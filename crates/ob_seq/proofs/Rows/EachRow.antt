@@ -38,7 +38,7 @@ IsKnown row = IsGone row ⊎ (IsStanding row ⊎ IsFresh row)
 abbrev pub Ends : Row → Type 0
 Ends row = row.place ≡ Gone → is_some (outcome_of row.promise) ≡ true
 
--- what one command may do to one row; where it is accepted, it leaves no promise open of a row that is then gone
+-- what one command may do to one row; if it is accepted, it leaves no promise open of a row that is then gone
 pub record Turns (Accepted : Type 0) (was row : Row) : Type 0 where
   pub message : row.message ≡ was.message
   pub size : row.size ≡ was.size
@@ -188,7 +188,7 @@ effect_stays estimate earlier command =
     stay_settled rows (effect estimate rows command) (effect_shrinks estimate rows command refl)
     (known_of rows (layout_of estimate earlier))
 
--- one more command brings a row where it is a write
+-- one more command brings a row if it is a write
 length_of_effect : (estimate : Estimate) (rows : List Row) (command : Command) →
     length (effect estimate rows command) ≡ length rows + cond (is_write command) 1 0
 length_of_effect estimate rows (Write message) = length-append rows (new_row estimate message ∷ [])

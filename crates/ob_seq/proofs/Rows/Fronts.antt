@@ -65,7 +65,7 @@ is_front : (rows : List Row) → is_some (front rows) ≡ ltb 0 (length (line ro
 is_front [] = refl
 is_front (row ∷ rows) = front_step (is_in_line row) row (front rows) (line rows) (is_front rows)
 
--- there is a front just where something is in line
+-- there is a front exactly if something is in line
 pub some_front : (buffer : Pending) (commands : List Command) → Leaves buffer commands →
     is_some (front (rows_of buffer commands)) ≡ ltb 0 (length buffer.line)
 some_front buffer commands leaves =

@@ -11,7 +11,7 @@ pub rows_after_more : (estimate : Estimate) (commands : List Command) (command :
     rows_after estimate (commands ++ command ∷ []) ≡ effect estimate (rows_after estimate commands) command
 rows_after_more estimate commands command = fold-append (effect estimate) [] commands (command ∷ [])
 
--- a command after a history closes it where it is a close
+-- a command after a history closes it exactly if it is a close
 pub closed_more : (commands : List Command) (command : Command) → is_closed commands ≡ false →
     is_closed (commands ++ command ∷ []) ≡ is_close command
 closed_more commands command unclosed = let more = list_any-append is_close commands (command ∷ []) in grind arith

@@ -29,13 +29,13 @@ module _ (settings : Settings) where
   abbrev estimate : Estimate
   estimate = settings.estimate
 
-  -- a row has the size that its message counts, is known, and its promise is settled where it is gone
+  -- a row has the size that its message counts, is known, and its promise is settled if it is gone
   record IsRight (row : Row) : Type 0 where
     size : row.size ≡ counted_bytes estimate row.message
     known : IsKnown row
     ends : Ends row
 
-  -- rows within the limits, each of them right, and gone where the buffer is closed
+  -- rows within the limits, each of them right, and gone if the buffer is closed
   record AreWithin (most : ℕ) (closed : Bool) (rows : List Row) : Type 0 where
     sum : total rows ≤ greatest_total
     count : length rows ≤ most

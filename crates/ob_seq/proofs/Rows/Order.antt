@@ -135,12 +135,12 @@ skipped_stands n row standing = grind arith
 abbrev pub sent : Row → Row
 sent row = taken_row Success row
 
--- one more row before others counts where it stands in line
+-- one more row before others counts if it stands in line
 line_count : (before : List Row) (row : Row) →
     length (line (before ++ row ∷ [])) ≡ length (line before) + cond (is_in_line row) 1 0
 line_count before row = rw (filter-append is_in_line before (row ∷ []), length-append) (grind arith)
 
--- the rows with so many of the line sent, counted down
+-- the rows with the first `count` of the line sent, counted down
 abbrev send : ℕ → List Row → List Row
 send count [] = []
 send zero (row ∷ rows) = row ∷ rows
@@ -242,7 +242,7 @@ module _ (rows : List Row) (layout : Layout rows) where
     ]
   ]
 
--- so many rows in line sent
+-- the first `count` rows in line sent
 first_layout : (count : ℕ) (rows : List Row) → Layout rows → Layout (with_first count sent rows)
 first_layout zero rows layout = rw (first_none rows) layout
 first_layout (suc count) rows layout =

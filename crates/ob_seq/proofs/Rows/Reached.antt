@@ -23,7 +23,7 @@ promises_by : (row : Row) (before behind : List PromiseState) →
     ≡ before ++ (reached_row row).promise ∷ behind
 promises_by row before behind = rw set-append_seam (grind arith)
 
--- the word after a fall where the row was voided, and else as it was
+-- the word after a fall if the row was voided, and else as it was
 word_by : (row : Row) → IsFresh row → (marks : Marks) (word all sum : ℕ) →
     (is_cancelled row.promise ≡ true → sum ≡ all - counted_size row) →
     cond (is_cancelled row.promise) (word_after_fall marks word (counted_size row) (all - counted_size row)) word

@@ -70,7 +70,7 @@ moments_of_sent (row ∷ first) passed before after none =
     let rest = rw (← append_assoc passed (sent row ∷ []) (map sent first)) at none in
     rw (moments_of_sent first (passed ++ sent row ∷ []) before after rest)
 
--- what they settle, where nothing behind them is settled
+-- what they settle, if nothing behind them is settled
 pub settlements_of_taken : (outcome : Outcome) (id : ℕ) (first before after : List Row) →
     AllByRecursion IsStanding first → settlements_from (id + length first) before after ≡ [] →
     settlements_from id (first ++ before) (map (taken_row outcome) first ++ after)

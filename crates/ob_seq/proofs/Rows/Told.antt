@@ -1,4 +1,4 @@
--- A promise is settled once at most, keeps its outcome, and is told with it.
+-- A promise is settled once at most, keeps its outcome, and is reported with it.
 use Rattle.ob_seq.proofs.Words.{◌≡◌, ℕ, zero, suc, ◌+◌, ◌<◌, ◌≤◌, Bool, true, false, List, [], ◌∷◌, ◌++◌, drop, refl}
 use Rattle.ob_seq.proofs.Words.{ap, get_or, append-nil, length, cond, eqb, filter, filter-append, arith, nat_tests, inl}
 use Rattle.ob_seq.proofs.Words.{inr, ◌↔◌, Option, Some, None, fold, Command, Outcome, PromiseId, PromiseState, Settled}
@@ -123,7 +123,7 @@ module _ (limit : Option ℕ) (settings : Settings) where
       settled_in _ outcome ((all_settle earlier (command ∷ []) id.0).stays outcome (ap outcome_in is))
 
   module _ (id : PromiseId) (outcome : Outcome) (commands : List Command) where
-    -- of a new buffer just those promises are settled that its answers tell
+    -- of a new buffer exactly those promises are settled that its replies report
     pub told_within :
         promise_after settings (accepted_among_within limit settings commands) id ≡ Some (Settled outcome)
         ↔ Contains (settled_along_within limit settings [] commands) (id, outcome)
@@ -143,7 +143,7 @@ module _ (limit : Option ℕ) (settings : Settings) where
         ↔ Contains (settled_along_within limit settings [] commands) (id, outcome)
     accepted_told_within all = rw (all_among_within limit settings commands all) at told_within
 
--- of a buffer just those promises are settled that its answers tell
+-- of a buffer exactly those promises are settled that its replies report
 pub settled_is_told : (settings : Settings) (id : PromiseId) (outcome : Outcome) (commands : List Command) →
     promise_after settings (accepted_among settings commands) id ≡ Some (Settled outcome)
     ↔ Contains (settled_along settings [] commands) (id, outcome)

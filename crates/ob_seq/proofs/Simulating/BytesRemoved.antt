@@ -23,7 +23,7 @@ run_is buffer commands leaves =
     let rows = rows_after buffer.settings.estimate commands in
     ap blocks_in_front (sym (map-map (λ entry. entry.message) entry_of (line rows))) ∙ ap blocks_left (sym leaves.line)
 
--- where a cut is found it is the whole cut
+-- if a cut is found it is the whole cut
 found_by : (few : Bool) (cut found : Cut) → (let one : Option Cut = cond few None (Some cut) in one ≡ Some found) →
     cut ≡ found
 found_by few cut found some = grind arith

@@ -55,7 +55,7 @@ silent_word cause marks past (row ∷ fresh) passed moments =
     ∙ silent_more marks past (counted_size row) sum moments
 
 module _ (cause : Cause) (old : Pending) (commands : List Command) (leaves : Leaves old commands) where
-  -- a close is refused where something is in line
+  -- a close is refused if something is in line
   refusal_is : (closing_step cause old).refusal ≡ refusal_of old.settings.estimate (rows_of old commands) (Close cause)
   refusal_is = rw (some_front old commands leaves)
 

@@ -162,7 +162,7 @@ module _ (limit : Option ℕ) (command : Command) (old : Pending) where
   abbrev step : Step
   step = step_within limit command old
 
-  -- the step answers as the definition says after the commands that left what is held
+  -- the step's answer is the definition's after the commands that left what is held
   pub answer_is : (commands : List Command) → Leaves old commands →
       answer_by old step ≡ answer_within limit old.settings commands command
   answer_is commands leaves =
@@ -171,7 +171,7 @@ module _ (limit : Option ℕ) (command : Command) (old : Pending) where
       let same = (simulated limit command old).reply commands leaves in
       grind arith
 
-  -- where what is held is open and its step is not refused, the step leaves what the commands with this one leave, and
+  -- if what is held is open and its step is not refused, the step leaves what the commands with this one leave, and
   -- they are accepted
   pub goes_on : (commands : List Command) → are_accepted_within limit old.settings [] commands ≡ true →
       Leaves old commands → old.closed ≡ false → step.refusal ≡ None →
@@ -218,7 +218,7 @@ module _ (command : Command) (old : Pending) where
       no_memory_last = λ wants commands stands. rw (← answer_is buffer_limit command old commands stands.leaves, made.no_memory_last wants);
     }
 
-    -- and spares memory, where it wants it only if it settles more promises than want none
+    -- and spares memory, if it is out of it only when it settles more promises than need no allocation
     pub spares : {told : Pending} → old ≡ told →
         (IsErrOf result NoMemory → inline_settlements < length own_step.reply.settled) → SparesMemory told command result
     spares is many = rw (← is) (λ commands stands few wants.

@@ -10,7 +10,7 @@ use Rattle.ob_seq.specs.Word.{user_bits}
 abbrev pub digit : Bool → ℕ
 digit bit = cond bit 1 0
 
--- the number whose digits from the lowest on are so many of these, the first at from
+-- the number whose digits from the lowest on are `count` of these, the first at from
 abbrev pub number : (ℕ → Bool) → ℕ → ℕ → ℕ
 number bit from zero = 0
 number bit from (suc count) = digit (bit from) + 2 * number bit (from + 1) count
@@ -51,7 +51,7 @@ pub digit_of : (bit : ℕ → Bool) (i : ℕ) → bit_at (word_of bit) i ≡ con
 unfolding word_of
 digit_of bit i = digits_are bit 0 32 i i (omega arith)
 
--- numbers of so many digits are below that power
+-- numbers of `count` digits are below that power
 number_small : (bit : ℕ → Bool) (from count : ℕ) → number bit from count < 2 ^ count
 number_small bit from zero = omega arith
 number_small bit from (suc count) =

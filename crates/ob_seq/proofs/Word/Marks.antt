@@ -25,7 +25,7 @@ marks_more settings commands command =
     rw (filter_map-append marks_set_by commands (command ∷ []))
     (marks_by (filter_map marks_set_by commands) (marks_set_by command) settings.marks)
 
--- the moments that decide of one more command, by the marks in force at it, come behind the others
+-- the moments that decide of one more command, by the marks in force at it, come after the others
 deciding_more : (settings : Settings) (earlier : List Command) (rows : List Row) (commands : List Command)
     (command : Command) →
     deciding_from settings earlier rows (commands ++ command ∷ [])

@@ -33,7 +33,7 @@ abbrev pub is_first_voided : List PendingEntry → Bool
 is_first_voided [] = false
 is_first_voided (entry ∷ entries) = entry.voided
 
--- a step taken so many times
+-- a step taken *n* times
 abbrev pub times : ℕ → (Pending → Pending) → Pending → Pending
 times zero step old = old
 times (suc n) step old = step (times n step old)

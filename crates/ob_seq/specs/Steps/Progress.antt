@@ -9,7 +9,7 @@ use Rattle.ob_seq.specs.Pending.{Pending}
 use Rattle.ob_seq.specs.Steps.Step.{Step}
 use Rattle.ob_seq.specs.Steps.Held.{first_progress, front_changed}
 
--- an entry of which so much more progress was told
+-- an entry with *n* more bytes of progress
 abbrev pub progressed_entry : ℕ → PendingEntry → PendingEntry
 progressed_entry n entry = record entry { progress = entry.progress + n }
 

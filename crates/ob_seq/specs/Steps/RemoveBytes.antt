@@ -19,7 +19,7 @@ use Rattle.ob_seq.specs.Steps.Held.{times, front_id, front_changed}
 use Rattle.ob_seq.specs.Steps.Remove.{front_taken}
 use Rattle.ob_seq.specs.declared.contents.cut.Cut.{Cut}
 
--- where a removal of n bytes from these pieces ends, if they hold so many
+-- where a removal of n bytes from these pieces ends, if they hold as many
 abbrev pub whole_cut : ℕ → List (List ℕ) → Cut
 whole_cut n pieces = record {
   whole = pieces_within n pieces;
@@ -35,14 +35,14 @@ abbrev pub first_length : List PendingEntry → ℕ
 first_length [] = 0
 first_length (entry ∷ entries) = length (block_bytes entry.message)
 
--- an entry of which so many more bytes are skipped, which count as progress
+-- an entry of which *n* more bytes are skipped, which count as progress
 abbrev pub skipped_entry : ℕ → PendingEntry → PendingEntry
 skipped_entry n entry = record entry {
   message = without_skipped n entry.message;
   progress = min (entry.progress + n) greatest_progress;
 }
 
--- a buffer with so many bytes skipped in its front, and unchanged if that is none
+-- a buffer with *n* bytes skipped in its front, and unchanged if that is none
 abbrev pub front_skipped : ℕ → Pending → Pending
 front_skipped n old = if nat_lt 0 n then front_changed (skipped_entry n) old else old
 

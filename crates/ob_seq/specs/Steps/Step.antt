@@ -27,14 +27,14 @@ answer_by old step = unless_refused (first_of_step old step) step.reply
 abbrev pub held_by : Pending → Step → Result Reply Refusal → Pending
 held_by old step answer = if is_ok answer then step.after else old
 
--- a step is made if its answer is given, unless memory is wanted, and what it says is held after it; memory is
--- wanted only if nothing else refuses the step
+-- a step is made if its answer is given, unless it is out of memory, and what it says is held after it; it is out of
+-- memory only if nothing else refuses the step
 pub record Makes (old : Pending) (step : Step) (result : Result Reply Refusal) (new : Pending) : Type 0 where
   pub answer : ¬ IsErrOf result NoMemory → result ≡ answer_by old step
   pub after : new ≡ held_by old step result
   pub no_memory_last : IsErrOf result NoMemory → first_of_step old step ≡ None
 
--- memory is wanted only where the step settles more promises than want no memory
+-- it is out of memory only if the step settles more promises than need no allocation
 abbrev pub SparesFew : Step → Result Reply Refusal → Type 0
 SparesFew step result = IsErrOf result NoMemory → inline_settlements < length step.reply.settled
 

@@ -22,7 +22,7 @@ written old message size = record old {
   word = word_after_rise old.marks old.word size (pending_total old + size);
 }
 
--- whether so many bytes more are not too many
+-- whether `size` more bytes are not too many
 abbrev pub has_bytes_left : ℕ → Pending → Bool
 has_bytes_left size old = nat_le (pending_total old + size) greatest_total
 

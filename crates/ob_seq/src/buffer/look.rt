@@ -4,7 +4,7 @@ use crate::buffer::Buffer;
 use crate::look::Look;
 
 impl Buffer {
-    /// What is pending now. It changes nothing, takes the same few steps whatever is pending, and no memory.
+    /// What is pending now. It changes nothing, takes the same few steps whatever is pending, and does not allocate.
     pub fn look(&self) -> Look
         ensures { Shows self.now result }
     {

@@ -9,8 +9,8 @@ use crate::flushed::Flushed;
 use ob_types::{Command, Message, PromiseId, PromiseState};
 
 impl Buffer {
-    /// What has become of a promise, or nothing where no write was accepted under the id. It takes the same few
-    /// steps whatever is pending, at most 20 more where the message is gone, and no memory.
+    /// What has become of a promise, or nothing if no write was accepted under the id. It takes the same few steps
+    /// whatever is pending, at most 20 more if the message is gone, and does not allocate.
     pub fn promise(&self, id: PromiseId) -> Option<PromiseState>
         ensures { Tells self.now id result }
     {
@@ -23,8 +23,8 @@ impl Buffer {
         }
     }
 
-    /// What is left of the first flushed message: the unread part of a block, which is empty where the message was
-    /// voided (Netty's `current`). It takes the same few steps whatever is pending, and no memory.
+    /// What is left of the first flushed message: the unread part of a block, which is empty if the message was voided
+    /// (Netty's `current`). It takes the same few steps whatever is pending, and does not allocate.
     pub fn current(&self) -> Option<&Message>
         ensures { IsCurrent self.now (option_copied result) }
     {
@@ -32,8 +32,8 @@ impl Buffer {
     }
 
     /// The promise of the first flushed message, which is the one that `current` shows; none exactly if `current` is none.
-    /// A removal settles it next, unless the message was voided. Netty keeps it in the entry of `current()`. It takes the
-    /// same few steps whatever is pending, and no memory.
+    /// A removal settles it next, unless the message was voided. Netty keeps it in the entry of `current()`. It takes
+    /// the same few steps whatever is pending, and does not allocate.
     pub fn front(&self) -> Option<PromiseId>
         ensures { IsFrontPromise self.now result }
     {
@@ -45,16 +45,16 @@ impl Buffer {
     }
 
     /// What is left of each flushed message that was not voided, oldest first (Netty's `forEachFlushedMessage`). It
-    /// takes no memory, and the iterator goes over what it gives and over the voided messages that it passes.
+    /// does not allocate, and the iterator goes over what it gives and over the voided messages that it passes.
     pub fn flushed(&self) -> Flushed<'_>
         ensures { AreFlushed self.now result }
     {
         self.contents.to_send()
     }
 
-    /// How many promises a command would settle: the number of settlements in its reply, and 0 where it would be
-    /// refused. It changes nothing, takes no memory, and goes no further than the command would. A command that is no
-    /// write and settles at most four promises takes no memory either. Our own.
+    /// How many promises a command would settle: the number of settlements in its reply, and 0 if it would be refused.
+    /// It changes nothing, does not allocate, and goes no further than the command would. A command that is no write
+    /// and settles at most four promises does not allocate either. Our own.
     pub fn settles(&self, command: &Command) -> u32
         ensures { Settles self.now command.now result }
     {

@@ -14,7 +14,7 @@ use std::alloc::AllocError;
 const MAX_TOTAL: u64 = 4294967295;
 
 impl Contents {
-    /// Whether so many more bytes are not too many.
+    /// Whether `size` more bytes are not too many.
     pub fn has_bytes_left(&self, size: u32) -> bool
         ensures { result ≡ has_bytes_left size (whole [] self.now) }
     {

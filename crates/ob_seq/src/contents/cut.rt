@@ -16,7 +16,7 @@ pub struct Cut {
 }
 
 impl Contents {
-    /// Where the removal of so many bytes ends, or nothing where the blocks in front hold fewer. It goes over the
+    /// Where the removal of *n* bytes ends, or nothing if the blocks in front hold fewer. It goes over the
     /// entries that such a removal takes away, and one more.
     pub fn find_cut(&self, n: u64) -> Option<Cut>
         ensures value { result ≡ cut_of n (blocks_left (pending_entries self.now.line)) }

@@ -37,7 +37,7 @@ impl Contents {
         self.any_taken_back = false;
     }
 
-    /// Puts the first unflushed entry into line: voided where its promise was taken back, and else its promise is fixed
+    /// Puts the first unflushed entry into line: voided if its promise was taken back, and else its promise is fixed
     /// by standing there.
     fn flush_next(&mut self)
         requires { 0 < length self.old.unflushed }
@@ -52,7 +52,7 @@ impl Contents {
     }
 }
 
-/// Makes an entry whose promise was taken back an empty block that counts nothing, and answers what it counted.
+/// Makes an entry whose promise was taken back an empty block that counts nothing, and returns what it counted.
 fn void(entry: &mut Entry) -> u32
     requires { entry.old.taken_back ≡ true }
     ensures size { result ≡ entry.old.size }

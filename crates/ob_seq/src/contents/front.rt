@@ -25,7 +25,7 @@ impl Contents {
         self.entries[0].progress
     }
 
-    /// Whether so many more bytes of progress of the front do not pass the limit.
+    /// Whether *n* more bytes of progress of the front do not pass the limit.
     pub fn has_progress_left(&self, n: u64) -> bool
         ensures { result ≡ nat_le (first_progress (pending_entries self.now.line) + n) greatest_progress }
     {
@@ -34,7 +34,7 @@ impl Contents {
             .is_some_and(|sum| sum <= MAX_PROGRESS)
     }
 
-    /// Tells of so many more bytes of progress of the front.
+    /// Adds *n* bytes to the progress of the front.
     pub fn tell_front(&mut self, n: u64)
         requires some { 0 < length self.old.line }
         requires fits { first_progress (pending_entries self.old.line) + n ≤ greatest_progress }
@@ -44,7 +44,7 @@ impl Contents {
         tell(&mut self.entries[0], n);
     }
 
-    /// Skips so many bytes of the front; 0 of them need no front.
+    /// Skips *n* bytes of the front; 0 of them need no front.
     pub fn skip_in_front(&mut self, n: u64)
         requires { n ≤ first_length (pending_entries self.old.line) }
         ensures { (gone : List Outcome) → whole gone self.new ≡ front_skipped n (whole gone self.old) }
@@ -63,7 +63,7 @@ fn tell(entry: &mut Entry, n: u64)
     entry.progress += n;
 }
 
-/// Skips so many bytes of a block, and adds them to its progress.
+/// Skips *n* bytes of a block, and adds them to its progress.
 fn skip(entry: &mut Entry, n: u64)
     requires { n ≤ length (block_bytes entry.old.message) }
     ensures { pending_entry entry.new ≡ skipped_entry n (pending_entry entry.old) }

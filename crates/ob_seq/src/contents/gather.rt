@@ -12,7 +12,7 @@ use std::alloc::AllocError;
 const FIRST_ROOM: usize = 16;
 
 impl Contents {
-    /// The blocks in front that `Buffer::gather` gives. It takes memory for the list alone.
+    /// The blocks in front that `Buffer::gather` gives. It allocates the list alone.
     pub fn gather(&self, max_count: u32, max_bytes: u32) -> Result<Vec<Bytes>, Refusal>
         ensures blocks { IfOk result (λ blocks. blocks.items
             ≡ first_blocks max_count max_bytes (with_bytes (blocks_left (pending_entries self.now.line)))) }
@@ -51,7 +51,7 @@ fn push_copy(gathered: &mut Vec<Bytes>, bytes: &Bytes) -> Result<(), AllocError>
     Ok(gathered.push(copy)?)
 }
 
-/// Whether one more block goes along with so many others, which left this much room: the first does in any case.
+/// Whether one more block goes along with `count` others, which left this much room: the first does in any case.
 pub(super) fn has_room(count: usize, max_count: usize, length: u64, room: u64) -> bool
     ensures { result ≡ (nat_lt count max_count && (nat_le count 0 || nat_le length room)) }
 {

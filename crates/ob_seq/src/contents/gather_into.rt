@@ -10,9 +10,9 @@ use ob_types::Message;
 use std::io::IoSlice;
 
 impl Contents {
-    /// Puts the blocks in front into these pieces, from the first piece on, and answers how many they are: those that
-    /// `gather` gives for as many as there are pieces. They are borrowed, so it takes no memory, and the other pieces stay
-    /// as they were.
+    /// Puts the blocks in front into these pieces, from the first piece on, and returns how many they are: those that
+    /// `gather` gives for as many as there are pieces. They are borrowed, so it does not allocate, and the other pieces
+    /// stay as they were.
     pub fn gather_into<'a>(&'a self, pieces: &mut [IoSlice<'a>], max_bytes: u32) -> usize
         ensures blocks { map io_slice_bytes (take result pieces.new)
             ≡ first_blocks (length pieces.old) max_bytes (with_bytes (blocks_left (pending_entries self.now.line))) }

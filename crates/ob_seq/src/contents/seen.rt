@@ -22,7 +22,7 @@ impl Contents {
         self.entries[place].taken_back
     }
 
-    /// How many of the first so many in line were not voided.
+    /// How many of the first `count` in line were not voided.
     pub(crate) fn to_send_count(&self, count: usize) -> usize
         requires { count ≤ length self.now.line }
         ensures { result ≡ count_by (λ entry. not entry.voided) (take count (pending_entries self.now.line)) }
@@ -58,7 +58,7 @@ impl Contents {
     }
 }
 
-/// How many of the first so many entries were not voided.
+/// How many of the first `count` entries were not voided.
 fn first_to_send(entries: &VecDeque<Entry>, count: usize) -> usize
     requires { count ≤ deque_len entries.now }
     ensures { result ≡ count_by (λ entry. not entry.taken_back) (take count entries.now.items) }

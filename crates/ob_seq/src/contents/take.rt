@@ -8,7 +8,7 @@ ghost use Rattle.ob_seq.specs.Unsent.{pending_entries, whole};
 use crate::contents::{Contents, word};
 
 impl Contents {
-    /// Takes the front away, and answers whether its promise is settled by that: it is unless the entry was voided, and
+    /// Takes the front away, and returns whether its promise is settled by that: it is unless the entry was voided, and
     /// else it ended as cancelled. Without notice the word stays.
     pub fn take_front(&mut self, notice: bool) -> bool
         requires { 0 < length self.old.line }

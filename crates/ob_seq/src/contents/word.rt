@@ -49,7 +49,7 @@ pub fn has_bit(word: u32, index: u32) -> bool
     word & (1 << index) != 0
 }
 
-/// The word with the user bit of this index set, or cleared where it is to be writable.
+/// The word with the user bit of this index set, or cleared if it is to be writable.
 pub fn with_user_bit(word: u32, index: u32, writable: bool) -> u32
     requires { index ≤ 31 }
     ensures { result ≡ with_user_bit index writable word }

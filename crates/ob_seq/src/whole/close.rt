@@ -30,7 +30,7 @@ impl Whole {
         Ok(self.reply(Answer::Count(count as u32), settled, self.word()))
     }
 
-    /// Fails the unflushed promises that still wait, takes all entries away, and closes, where nothing is in line.
+    /// Fails the unflushed promises that still wait, takes all entries away, and closes, if nothing is in line.
     fn close_with(&mut self, cause: Cause)
         requires { length self.old.line ≡ 0 }
         ensures { self.new ≡ closed_pending cause self.old }
@@ -39,7 +39,7 @@ impl Whole {
         self.contents.shut();
     }
 
-    /// What the unflushed promises settle when they fail. The first four need no memory.
+    /// What the unflushed promises settle when they fail. The first four need no allocation.
     fn failures(&self, cause: Cause) -> Result<Settlements, AllocError>
         ensures value { IfOk result
             (λ settled. settled ≡ failures cause (unflushed_id self.now) (drop (unflushed_id self.now) self.now.promises)) }

@@ -36,7 +36,7 @@ impl Whole {
         }
     }
 
-    /// How many promises a removal of the front would settle: none where it was voided, or where nothing is in line.
+    /// How many promises a removal of the front would settle: none if it was voided, or if nothing is in line.
     fn removal_settles(&self) -> u32
         ensures { (outcome : Outcome) → result ≡ settled_open (removal_step outcome self.now) }
     {
@@ -54,7 +54,7 @@ impl Whole {
         self.contents.is_taken_back(0)
     }
 
-    /// How many promises a cancellation would settle: none where the promise does not wait, or is unknown.
+    /// How many promises a cancellation would settle: none if the promise does not wait, or is unknown.
     fn cancel_settles(&self, id: PromiseId) -> u32
         ensures { result ≡ settled_open (cancel_step id.0 self.now) }
     {
@@ -65,7 +65,7 @@ impl Whole {
         0
     }
 
-    /// How many promises a removal of so many bytes would settle: none where the blocks in front hold fewer.
+    /// How many promises a removal of *n* bytes would settle: none if the blocks in front hold fewer.
     fn bytes_settle(&self, n: u64) -> u32
         ensures { result ≡ settled_open (bytes_step n self.now) }
     {
@@ -75,7 +75,7 @@ impl Whole {
         }
     }
 
-    /// How many promises a close would settle: none where a flushed message is left.
+    /// How many promises a close would settle: none if a flushed message is left.
     fn closing_settles(&self) -> u32
         ensures { (cause : Cause) → result ≡ settled_open (closing_step cause self.now) }
     {
@@ -92,7 +92,7 @@ impl Whole {
         self.contents.waiting_count() as u32
     }
 
-    /// How many of the first so many in line were not voided.
+    /// How many of the first `count` in line were not voided.
     pub(crate) fn unvoided(&self, count: usize) -> u32
         requires { count ≤ length self.now.line }
         ensures { result ≡ count_by (λ entry. not entry.voided) (take count self.now.line) }

@@ -12,8 +12,8 @@ use ob_types::{Outcome, PromiseId, Settlements};
 use std::alloc::AllocError;
 
 impl Whole {
-    /// What the first so many in line settle when they are taken away with this outcome. The first four need no
-    /// memory.
+    /// What the first `count` in line settle when they are taken away with this outcome. The first four need no
+    /// allocation.
     pub(crate) fn settlements(
         &self,
         count: usize,
@@ -44,7 +44,7 @@ impl Whole {
         self.contents.is_taken_back(place)
     }
 
-    /// Takes the first so many in line away, as `take_front`.
+    /// Takes the first `count` in line away, as `take_front`.
     pub(crate) fn take_first(&mut self, count: usize, outcome: Outcome, notice: bool)
         requires { count ≤ length self.old.line }
         ensures { self.new ≡ times count (front_taken notice outcome) self.old }
@@ -54,7 +54,7 @@ impl Whole {
         }
     }
 
-    /// Takes the front away, settles its promise unless it was voided, and answers which one it settled. Without
+    /// Takes the front away, settles its promise unless it was voided, and returns which one it settled. Without
     /// notice the word stays.
     pub(crate) fn take_front(&mut self, outcome: Outcome, notice: bool) -> Option<PromiseId>
         requires { 0 < length self.old.line }

@@ -29,7 +29,7 @@ impl Whole {
         Ok(self.reply(Answer::Id(id), self.no_settlements(), before))
     }
 
-    /// Whether one more message that counts so many bytes is not too much.
+    /// Whether one more message that counts `size` bytes is not too much.
     fn has_room_for(&self, size: u32) -> bool
         ensures { result ≡ has_room size self.now }
     {

@@ -25,7 +25,7 @@ impl Model for Spare {
 }
 
 impl Spare {
-    /// Memory for so many settlements. It fails for want of memory alone, and not for up to four.
+    /// Memory for `count` settlements. It fails only if it is out of memory, and never for up to four.
     pub fn new(alloc: Global, count: u32) -> Result<Spare, AllocError>
         ensures ok { IfOk result (λ spare. count ≤ spare) }
         ensures succeeds { count ≤ inline_settlements → IsOk result }
@@ -35,7 +35,7 @@ impl Spare {
         })
     }
 
-    /// A copy of settlements for which there is room. It takes no further memory.
+    /// A copy of settlements for which there is room. It does not allocate.
     pub fn copy_of(self, settled: &Settlements) -> Settlements
         requires { length settled.now ≤ self }
         ensures { result ≡ settled.now }

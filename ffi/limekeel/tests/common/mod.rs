@@ -3,7 +3,7 @@
 use limekeel::{Change, Connection, Estimate, Marks, Outcome, Refusal, Removed, Taken, Written};
 use std::fmt::Write;
 
-/// What a line answers: its answer, the change, and the settlements.
+/// What a line returns: its answer, the change, and the settlements.
 type Answer = Result<(String, Option<Change>, Vec<(u64, Outcome)>), Refusal>;
 
 /// A connection, and how many writes it accepted.

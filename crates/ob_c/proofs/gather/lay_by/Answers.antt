@@ -5,7 +5,7 @@ use Rattle.std.proofs.lemmas.List.{length-map, length-take}
 use Rattle.ob_c.specs.Gathering.{piece_length}
 use Rattle.ob_c.proofs.gather.lay_by.Goals as goal
 
--- so many of at least as many are as many
+-- `count` of at least as many are `count`
 taken : (count : ℕ) (slices : List IoSlice) → count ≤ length slices → length (take count slices) ≡ count
 taken count slices within = rw length-take (omega (arith, within))
 

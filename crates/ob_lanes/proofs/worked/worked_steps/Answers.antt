@@ -34,7 +34,7 @@ returns-clause-sets_bit_2 c id = (
   (λ bit. let wrong : ◌≡◌ {A = ℕ} 4 2 = ap (λ l. l.raised) bit.lane in absurd (omega (arith, wrong))),
 )
 
--- the run behind the last move of the first of some runs
+-- the run before the last move of the first of some runs
 abbrev rest_of : List (List Move) → List Move
 rest_of [] = []
 rest_of ([] ∷ runs) = []

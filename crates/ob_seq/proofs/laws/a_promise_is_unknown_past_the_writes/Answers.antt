@@ -3,7 +3,7 @@ use Rattle.ob_seq.proofs.Words.{rows_after, Row}
 use Rattle.ob_seq.proofs.Rows.EachRow.{row_for_each_write}
 use Rattle.ob_seq.proofs.laws.a_promise_is_unknown_past_the_writes.Goals as goal
 
--- where there is no promise there is no row
+-- if there is no promise there is no row
 no_row : (rows : List Row) (id : ℕ) → promise_at rows id ≡ None → length rows ≤ id
 no_row [] id none = omega arith
 no_row (row ∷ rows) zero none = absurd (cc)

@@ -15,7 +15,7 @@ use Rattle.ob_connection.specs.declared.status.Status.TheVariants.{SettledBefore
 use Rattle.ob_connection.proofs.Kept.{ids_are}
 use Rattle.ob_connection.proofs.connection.Connection.promise.Goals as goal
 
--- what is told of a promise goes by its state in what is held
+-- what is reported of a promise goes by its state in what is held
 told : (gone id : ℕ) (now : Pending) (commands : List Command) → Leaves now commands → id < length now.promises →
     status_of gone id (promise_after now.settings commands (record { 0 = id }))
     ≡ status_of gone id (Some (state_at now id))
@@ -36,7 +36,7 @@ before gone id state outcome is early =
     let test : ltb id gone ≡ true = grind (arith, nat_tests) in
     rw (is, test) refl
 
--- one that is not is told by its state
+-- one that is not is reported by its state
 abbrev late_status : PromiseState → Status
 late_status Waiting = Rattle.ob_connection.specs.declared.status.Status.TheVariants.Waiting
 late_status Fixed = Rattle.ob_connection.specs.declared.status.Status.TheVariants.Fixed

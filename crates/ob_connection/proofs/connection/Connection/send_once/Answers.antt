@@ -29,7 +29,7 @@ module _ {inside now : Connected} (view : inside ≡ now) where
       after ≡ with_more before (take bytes (concat (offered (min most_pieces max_count) max_bytes one.unsent))))
       view (rw same is)
 
--- a fault that is passed on is told
+-- a fault that is passed on is reported
 fault_kept : (result : Result Sent SendFault) (fault : SendFault) → IsErrAnd result (λ told. told ≡ fault) →
     bytes_or_fault result ≡ Err fault
 fault_kept (Ok done) fault same = elim same [ ]

@@ -9,7 +9,7 @@ use Rattle.ob_connection.specs.declared.inner.offer.Offer.TheVariants.{Took}
 use Rattle.ob_connection.proofs.Answered.{none_took, one_took, stopped_at_once}
 use Rattle.ob_connection.proofs.inner.Inner.ending_after.Goals as goal
 
--- an ending by the offer that it is told of
+-- an ending by the offer that it is given
 by_offer : {told offer : Offer} (ending : Ending) → told ≡ offer → EndsWithin 1 (answers_in (answer_of offer)) ending →
     EndsWithin 1 (answers_in (answer_of told)) ending
 by_offer ending same ends = subst (λ one. EndsWithin 1 (answers_in (answer_of one)) ending) (sym same) ends

@@ -4,7 +4,7 @@ use Rattle.ob_types.specs.declared.promise.Outcome.{Outcome}
 use Rattle.ob_connection.specs.declared.replies.Taken.{Taken}
 use Rattle.ob_connection.proofs.inner.Inner.give_up.Goals as goal
 
--- a call that answers is not refused
+-- a call that replies is not refused
 never_refused : (result : Result Taken Refusal) (refusal : Refusal) → result ≡ Err refusal → IsOk result → ⊥
 never_refused (Ok taken) refusal is answers = absurd (cc)
 never_refused (Err other) refusal is answers = absurd (cc)

@@ -63,7 +63,7 @@ pushed c =
 placed : (c : goal.After-self-1) → c.len-place.result ≡ length c.self.inside.records.items
 placed c = c.len-place.ensures ∙ c.reserve.ensures.len ∙ c.self.inside.records.ok.0
 
--- which is no want of memory
+-- which is not NoMemory
 told : (c : goal.After-self-1) → ¬ IsErrOf c.apply-reply.result NoMemory
 told c wanted = absurd (let both : false ≡ true = sym c.if-wants_memory.false ∙ c.wants_memory.ensures.1 wanted in cc)
 

@@ -4,7 +4,7 @@ use Rattle.std.proofs.lemmas.Nat.{pow_pos}
 use Rattle.std.proofs.lemmas.Nat.Bits.{and_pow, bit_at-lt}
 use Rattle.ob_seq.proofs.contents.word.has_bit.Goals as goal
 
--- a bit times a power is 0 only where the bit is
+-- a bit times a power is 0 only if the bit is
 bit_by : (bit power : ℕ) → bit < 2 → 0 < power → not (eqb (bit * power) 0) ≡ eqb bit 1
 bit_by bit power small some = grind (arith, nat_tests, zero-mul power, one-mul power)
 

@@ -6,7 +6,7 @@ use Rattle.ob_seq.proofs.whole.close.push_ended.Goals as goal
 none : Entry
 none = record { message = Block []; progress = 0; size = 0; taken_back = false }
 
--- whether an entry was taken back, where nothing is in line
+-- whether an entry was taken back, if nothing is in line
 back : (line unflushed : List Entry) (place : ℕ) → length line ≡ 0 → place < length unflushed →
     get_or (map (λ entry. entry.taken_back) (line ++ unflushed)) place false
     ≡ (get_or unflushed place none).taken_back

@@ -15,7 +15,7 @@ use Rattle.ob_shared.specs.Told.{IsUnknown, IsUnsettled}
 use Rattle.ob_shared.proofs.Promises.{copied_freely}
 use Rattle.ob_shared.proofs.locked.Locked.told.Goals as goal
 
--- of a promise whose state is no settlement nothing is told, and it is known and not settled
+-- of a promise whose state is no settlement nothing is reported, and it is known and not settled
 is_open : (records : List Record) (id : PromiseId) (state : PromiseState)
     → (IsNone (Some state) ↔ IsUnknown records id)
     → ((outcome : Outcome) → (Some state ≡ Some (Settled outcome)) ↔ Contains (settlements_in records) (id, outcome))

@@ -51,7 +51,7 @@ returns-clause-once g c = λ id.
     (sym c.into_recorded.ensures.recorded)
     (c.a_history_settles_each_promise_once.ensures.once stored.settings stored.records id c.is_as_opened.ensures.legal)
 
--- `search` finds these three by itself, but needs seconds to give each up where a must-fail edit makes it false.
+-- `search` finds these three by itself, but needs seconds to give each up if a must-fail edit makes it false.
 pub returns-clause-opened : goal.returns-clause-opened
 returns-clause-opened g c = rw c.into_recorded.ensures.recorded c.is_as_opened.ensures
 
