@@ -219,6 +219,32 @@ struct limekeel_gathered {
     size_t count; /* how many pieces were filled */
 };
 
+/* The layout that the archive was compiled with. */
+#if defined(__cplusplus)
+#define LIMEKEEL_LAYOUT(type, size, last, offset)                                                         \
+    static_assert(sizeof(struct type) == (size) && offsetof(struct type, last) == (offset), "the layout of " #type)
+#else
+#define LIMEKEEL_LAYOUT(type, size, last, offset)                                                         \
+    _Static_assert(sizeof(struct type) == (size) && offsetof(struct type, last) == (offset), "the layout of " #type)
+#endif
+LIMEKEEL_LAYOUT(limekeel_connection, 8, at, 0);
+LIMEKEEL_LAYOUT(limekeel_block, 8, at, 0);
+LIMEKEEL_LAYOUT(limekeel_piece, 16, length, 8);
+LIMEKEEL_LAYOUT(limekeel_written, 16, id, 8);
+LIMEKEEL_LAYOUT(limekeel_flushed, 16, count, 8);
+LIMEKEEL_LAYOUT(limekeel_removed, 32, id, 24);
+LIMEKEEL_LAYOUT(limekeel_removed, 32, settled, 9);
+LIMEKEEL_LAYOUT(limekeel_taken, 40, to, 32);
+LIMEKEEL_LAYOUT(limekeel_cancelled, 8, in_time, 4);
+LIMEKEEL_LAYOUT(limekeel_changed, 8, change, 4);
+LIMEKEEL_LAYOUT(limekeel_look, 40, current_progress, 32);
+LIMEKEEL_LAYOUT(limekeel_truth, 8, holds, 4);
+LIMEKEEL_LAYOUT(limekeel_promise, 16, cause, 12);
+LIMEKEEL_LAYOUT(limekeel_front, 16, id, 8);
+LIMEKEEL_LAYOUT(limekeel_current, 16, number, 8);
+LIMEKEEL_LAYOUT(limekeel_gathered, 16, count, 8);
+#undef LIMEKEEL_LAYOUT
+
 /* Opens a connection with nothing written. It is to stop above `high` pending bytes and to go on
  * below `low`; each message counts `overhead` bytes beside its own, and one that is neither a block
  * nor a region `unknown`. Netty's are 32768, 65536, 96 and 8. */

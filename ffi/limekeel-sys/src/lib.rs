@@ -5,18 +5,44 @@
 
 #![no_std]
 
+use core::mem::offset_of;
+
+#[cfg(not(all(target_os = "linux", target_arch = "x86_64")))]
+compile_error!("the archive of limekeel is built for x86-64 Linux alone");
+
 mod heap;
 
 /// The most pieces that one `limekeel_gather_pieces` fills.
 pub const PIECES: usize = 64;
 
+macro_rules! numbers {
+    ($($name:ident = $number:literal),* $(,)?) => {
+        $(#[allow(missing_docs)] pub const $name: u32 = $number;)*
+    };
+}
+
+// The numbers of the header, by its names without `LIMEKEEL_`.
+numbers! {
+    OK = 0, OVERSIZE = 1, BAD_MARKS = 2, TOO_MUCH = 3, CLOSED = 4, NOTHING_FLUSHED = 5, TOO_FAR = 6, TOO_MANY_BYTES = 7,
+    BAD_INDEX = 8, FLUSHED_LEFT = 9, UNKNOWN_PROMISE = 10, NO_MEMORY = 12, NOT_OPEN = 13, ALREADY_OPEN = 14,
+    BAD_ESTIMATE = 15, NO_BLOCK = 16,
+    UNCHANGED = 0, UNWRITABLE = 1, WRITABLE = 2,
+    NO_OUTCOME = 0, SUCCESS = 1, FAILED = 2, CANCELLED = 3,
+    UNKNOWN = 0, WAITING = 1, FIXED = 2, SETTLED = 3, SETTLED_BEFORE = 4,
+    FRONT_NOTHING = 0, FRONT_BLOCKS = 1, FRONT_EMPTY_BLOCKS = 2, FRONT_REGION = 3, FRONT_OTHER = 4,
+    CURRENT_NOTHING = 0, CURRENT_BLOCK = 1, CURRENT_REGION = 2, CURRENT_OTHER = 3,
+}
+
 macro_rules! plain {
-    ($($(#[$note:meta])* $name:ident { $($field:ident: $kind:ty),* $(,)? })*) => {
+    ($($(#[$note:meta])* $name:ident $size:literal { $($field:ident at $offset:literal: $kind:ty),* $(,)? })*) => {
         $(
             $(#[$note])*
             #[repr(C)]
             #[derive(Clone, Copy, Debug)]
             pub struct $name { $(#[allow(missing_docs)] pub $field: $kind),* }
+
+            // as the header asserts of its structs
+            const _: () = assert!(size_of::<$name>() == $size $(&& offset_of!($name, $field) == $offset)*);
         )*
     };
 }
@@ -37,36 +63,46 @@ pub struct Block {
     pub at: *mut u8,
 }
 
+// Each struct with its size, and each field with its offset.
 plain! {
     /// `struct limekeel_piece`.
-    Piece { at: *const u8, length: usize }
+    Piece 16 { at at 0: *const u8, length at 8: usize }
     /// `struct limekeel_written`.
-    Written { status: u32, change: u32, id: u64 }
+    Written 16 { status at 0: u32, change at 4: u32, id at 8: u64 }
     /// `struct limekeel_flushed`.
-    Flushed { status: u32, change: u32, count: u64 }
+    Flushed 16 { status at 0: u32, change at 4: u32, count at 8: u64 }
     /// `struct limekeel_removed`.
-    Removed { status: u32, change: u32, any: bool, settled: bool, outcome: u32, cause: u32, id: u64 }
+    Removed 32 {
+        status at 0: u32, change at 4: u32, any at 8: bool, settled at 9: bool, outcome at 12: u32, cause at 16: u32,
+        id at 24: u64,
+    }
     /// `struct limekeel_taken`.
-    Taken { status: u32, change: u32, outcome: u32, cause: u32, count: u64, from: u64, to: u64 }
+    Taken 40 {
+        status at 0: u32, change at 4: u32, outcome at 8: u32, cause at 12: u32, count at 16: u64, from at 24: u64,
+        to at 32: u64,
+    }
     /// `struct limekeel_cancelled`.
-    Cancelled { status: u32, in_time: bool }
+    Cancelled 8 { status at 0: u32, in_time at 4: bool }
     /// `struct limekeel_changed`.
-    Changed { status: u32, change: u32 }
+    Changed 8 { status at 0: u32, change at 4: u32 }
     /// `struct limekeel_look`.
-    Look {
-        status: u32, total: u32, word: u32, before_unwritable: u32, before_writable: u32, size: u64, current_progress: u64,
+    Look 40 {
+        status at 0: u32, total at 4: u32, word at 8: u32, before_unwritable at 12: u32, before_writable at 16: u32,
+        size at 24: u64, current_progress at 32: u64,
     }
     /// `struct limekeel_truth`.
-    Truth { status: u32, holds: bool }
+    Truth 8 { status at 0: u32, holds at 4: bool }
     /// `struct limekeel_promise`.
-    Promise { status: u32, state: u32, outcome: u32, cause: u32 }
+    Promise 16 { status at 0: u32, state at 4: u32, outcome at 8: u32, cause at 12: u32 }
     /// `struct limekeel_front`.
-    Front { status: u32, any: bool, id: u64 }
+    Front 16 { status at 0: u32, any at 4: bool, id at 8: u64 }
     /// `struct limekeel_current`.
-    Current { status: u32, kind: u32, number: u64 }
+    Current 16 { status at 0: u32, kind at 4: u32, number at 8: u64 }
     /// `struct limekeel_gathered`.
-    Gathered { status: u32, front: u32, count: usize }
+    Gathered 16 { status at 0: u32, front at 4: u32, count at 8: usize }
 }
+
+const _: () = assert!(size_of::<Connection>() == 8 && size_of::<Block>() == 8);
 
 #[allow(missing_docs)]
 unsafe extern "C" {

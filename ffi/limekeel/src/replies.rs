@@ -42,18 +42,18 @@ impl Refusal {
     #[must_use]
     pub fn number(self) -> u32 {
         match self {
-            Refusal::Oversize => 1,
-            Refusal::BadMarks => 2,
-            Refusal::TooMuch => 3,
-            Refusal::Closed => 4,
-            Refusal::NothingFlushed => 5,
-            Refusal::TooFar => 6,
-            Refusal::TooManyBytes => 7,
-            Refusal::BadIndex => 8,
-            Refusal::FlushedLeft => 9,
-            Refusal::UnknownPromise => 10,
-            Refusal::NoMemory => 12,
-            Refusal::BadEstimate => 15,
+            Refusal::Oversize => sys::OVERSIZE,
+            Refusal::BadMarks => sys::BAD_MARKS,
+            Refusal::TooMuch => sys::TOO_MUCH,
+            Refusal::Closed => sys::CLOSED,
+            Refusal::NothingFlushed => sys::NOTHING_FLUSHED,
+            Refusal::TooFar => sys::TOO_FAR,
+            Refusal::TooManyBytes => sys::TOO_MANY_BYTES,
+            Refusal::BadIndex => sys::BAD_INDEX,
+            Refusal::FlushedLeft => sys::FLUSHED_LEFT,
+            Refusal::UnknownPromise => sys::UNKNOWN_PROMISE,
+            Refusal::NoMemory => sys::NO_MEMORY,
+            Refusal::BadEstimate => sys::BAD_ESTIMATE,
             Refusal::Unknown(status) => status,
         }
     }
@@ -61,18 +61,18 @@ impl Refusal {
     #[cold]
     fn of(status: u32) -> Refusal {
         match status {
-            1 => Refusal::Oversize,
-            2 => Refusal::BadMarks,
-            3 => Refusal::TooMuch,
-            4 => Refusal::Closed,
-            5 => Refusal::NothingFlushed,
-            6 => Refusal::TooFar,
-            7 => Refusal::TooManyBytes,
-            8 => Refusal::BadIndex,
-            9 => Refusal::FlushedLeft,
-            10 => Refusal::UnknownPromise,
-            12 => Refusal::NoMemory,
-            15 => Refusal::BadEstimate,
+            sys::OVERSIZE => Refusal::Oversize,
+            sys::BAD_MARKS => Refusal::BadMarks,
+            sys::TOO_MUCH => Refusal::TooMuch,
+            sys::CLOSED => Refusal::Closed,
+            sys::NOTHING_FLUSHED => Refusal::NothingFlushed,
+            sys::TOO_FAR => Refusal::TooFar,
+            sys::TOO_MANY_BYTES => Refusal::TooManyBytes,
+            sys::BAD_INDEX => Refusal::BadIndex,
+            sys::FLUSHED_LEFT => Refusal::FlushedLeft,
+            sys::UNKNOWN_PROMISE => Refusal::UnknownPromise,
+            sys::NO_MEMORY => Refusal::NoMemory,
+            sys::BAD_ESTIMATE => Refusal::BadEstimate,
             other => Refusal::Unknown(other),
         }
     }
@@ -103,7 +103,7 @@ impl Error for Refusal {}
 /// Whether a status says that the call was accepted.
 #[inline]
 pub(crate) fn done(status: u32) -> Result<(), Refusal> {
-    if status == 0 { Ok(()) } else { Err(Refusal::of(status)) }
+    if status == sys::OK { Ok(()) } else { Err(Refusal::of(status)) }
 }
 
 /// How a call turned writability. Each change is reported once.
@@ -119,8 +119,8 @@ impl Change {
     #[inline]
     pub(crate) fn of(number: u32) -> Option<Change> {
         match number {
-            1 => Some(Change::Unwritable),
-            2 => Some(Change::Writable),
+            sys::UNWRITABLE => Some(Change::Unwritable),
+            sys::WRITABLE => Some(Change::Writable),
             _ => None,
         }
     }
@@ -141,8 +141,8 @@ impl Outcome {
     #[inline]
     pub(crate) fn of(number: u32, cause: u32) -> Outcome {
         match number {
-            2 => Outcome::Failed(cause),
-            3 => Outcome::Cancelled,
+            sys::FAILED => Outcome::Failed(cause),
+            sys::CANCELLED => Outcome::Cancelled,
             _ => Outcome::Success,
         }
     }

@@ -50,10 +50,10 @@ pub enum Promise {
 impl Promise {
     pub(crate) fn of(told: sys::Promise) -> Option<Promise> {
         match told.state {
-            1 => Some(Promise::Waiting),
-            2 => Some(Promise::Fixed),
-            3 => Some(Promise::Settled(Outcome::of(told.outcome, told.cause))),
-            4 => Some(Promise::SettledBefore),
+            sys::WAITING => Some(Promise::Waiting),
+            sys::FIXED => Some(Promise::Fixed),
+            sys::SETTLED => Some(Promise::Settled(Outcome::of(told.outcome, told.cause))),
+            sys::SETTLED_BEFORE => Some(Promise::SettledBefore),
             _ => None,
         }
     }
@@ -77,10 +77,10 @@ pub enum Front {
 impl Front {
     pub(crate) fn of(number: u32) -> Front {
         match number {
-            1 => Front::Blocks,
-            2 => Front::EmptyBlocks,
-            3 => Front::Region,
-            4 => Front::Other,
+            sys::FRONT_BLOCKS => Front::Blocks,
+            sys::FRONT_EMPTY_BLOCKS => Front::EmptyBlocks,
+            sys::FRONT_REGION => Front::Region,
+            sys::FRONT_OTHER => Front::Other,
             _ => Front::Nothing,
         }
     }
@@ -100,10 +100,10 @@ pub enum Current {
 impl Current {
     pub(crate) fn of(told: sys::Current) -> Option<Current> {
         match told.kind {
-            1 => Some(Current::Block(told.number)),
-            2 => Some(Current::Region(told.number)),
+            sys::CURRENT_BLOCK => Some(Current::Block(told.number)),
+            sys::CURRENT_REGION => Some(Current::Region(told.number)),
             // the archive widens a number of 32 bits
-            3 => Some(Current::Other(told.number as u32)),
+            sys::CURRENT_OTHER => Some(Current::Other(told.number as u32)),
             _ => None,
         }
     }
