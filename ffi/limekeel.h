@@ -12,7 +12,7 @@
  *     limekeel_flush(&connection);
  *     struct limekeel_piece pieces[LIMEKEEL_PIECES];
  *     struct limekeel_gathered front = limekeel_gather(&connection, pieces, LIMEKEEL_PIECES, UINT32_MAX);
- *     ssize_t sent = writev(socket, (struct iovec *)pieces, (int)front.count);
+ *     ssize_t sent = writev(socket, (struct iovec *)pieces, (int)front.count); // again at EINTR; ignore SIGPIPE
  *     if (sent >= 0)
  *         limekeel_take_sent(&connection, (uint64_t)sent);
  *     limekeel_free(&connection);
@@ -39,7 +39,7 @@
  * Errors. Each call returns a status, alone or as the first member of a struct: LIMEKEEL_OK, or
  * why the call did nothing. A call that did not return LIMEKEEL_OK left everything as it was, and
  * all else in its struct is 0. A handle that owns nothing is LIMEKEEL_NOT_OPEN and no crash. No
- * call sets errno, aborts, or calls back. Pointers may not be NULL, but for the bytes and
+ * call reads errno, aborts, or calls back; LIMEKEEL_NO_MEMORY leaves in errno what malloc did. Pointers may not be NULL, but for the bytes and
  * pieces of limekeel_write, limekeel_block_new and limekeel_gather if there are none.
  */
 #ifndef LIMEKEEL_H
@@ -247,7 +247,8 @@ LIMEKEEL_LAYOUT(limekeel_gathered, 16, count, 8);
 
 /* Opens a connection with nothing written. It is to stop above `high` pending bytes and to go on
  * below `low`; each message counts `overhead` bytes beside its own, and one that is neither a block
- * nor a region `unknown`. Netty's are 32768, 65536, 96 and 8. */
+ * nor a region `unknown`. Netty's are 32768, 65536, 96 and 8. With a `low` of 0 a connection that was
+ * once unwritable stays so for good, since no total is below 0. */
 uint32_t limekeel_open(struct limekeel_connection *connection, uint32_t low, uint32_t high, uint32_t overhead,
                        uint32_t unknown);
 

@@ -1,5 +1,5 @@
 /*
- * A sender and a reader over a pair of sockets, in one thread: writev and poll.
+ * A sender and a reader over a pair of sockets, in one thread: sendmsg and poll.
  *
  * The sender writes messages as fast as the connection lets it, stops when it is told to, and goes on
  * when it is told to. The reader reads slowly. At the end each byte has come, in order, and each
@@ -97,6 +97,18 @@ static void write_some(struct sender *sender)
     note_change(sender, flushed.change);
 }
 
+/* What the socket takes of the pieces, or -1: with EAGAIN if it has no room. A signal in the midst is no answer, so the
+ * call is made again; and a peer that is gone is an error here, and no SIGPIPE. */
+static ssize_t send_pieces(int socket, struct limekeel_piece *pieces, size_t count)
+{
+    struct msghdr message = {.msg_iov = (struct iovec *)(void *)pieces, .msg_iovlen = count};
+    ssize_t sent;
+    do
+        sent = sendmsg(socket, &message, MSG_NOSIGNAL);
+    while (sent < 0 && errno == EINTR);
+    return sent;
+}
+
 /* Sends what the socket takes. */
 static void send_some(struct sender *sender, int socket)
 {
@@ -108,11 +120,11 @@ static void send_some(struct sender *sender, int socket)
             return;
         ssize_t sent = 0;
         if (front.count > 0) {
-            sent = writev(socket, (const struct iovec *)(const void *)pieces, (int)front.count);
+            sent = send_pieces(socket, pieces, front.count);
             if (sent < 0 && errno == EAGAIN)
                 return;
             if (sent < 0)
-                fail("writev", (uint32_t)errno);
+                fail("sendmsg", (uint32_t)errno);
         }
         struct limekeel_taken taken = limekeel_take_sent(&sender->connection, (uint64_t)sent);
         if (taken.status != LIMEKEEL_OK)
@@ -128,7 +140,7 @@ static bool read_some(int socket, uint32_t *message, size_t *at)
 {
     uint8_t bytes[16384];
     ssize_t count = read(socket, bytes, sizeof bytes);
-    if (count < 0 && errno == EAGAIN)
+    if (count < 0 && (errno == EAGAIN || errno == EINTR))
         return true;
     if (count <= 0)
         return false;

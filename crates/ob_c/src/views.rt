@@ -165,7 +165,7 @@ pub struct Current {
     pub status: u32,
     /// 0: nothing is flushed. 1: a block. 2: a region. 3: another message.
     pub kind: u32,
-    /// The bytes that are left of a block or a region, or the number of another message.
+    /// The bytes that are left of a block, the length of a region, or the number of another message.
     pub number: u64,
 }
 

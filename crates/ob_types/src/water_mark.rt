@@ -12,7 +12,8 @@ const MAX_MARK: u32 = 2147483647;
 ///
 /// The mark of a buffer is set by a rise that leaves more bytes pending than the high mark, and cleared by a fall with
 /// notice that leaves fewer than the low mark; nothing else decides it. The buffer is writable while neither the mark
-/// nor a user bit is set. The low mark is at most the high mark, and both are at most 2147483647.
+/// nor a user bit is set. The low mark is at most the high mark, and both are at most 2147483647. Under a low mark of 0
+/// a mark that was set stays set, since no total is below it.
 #[derive(Clone, Copy, Debug, PartialEq, Eq)]
 pub struct WaterMark {
     low: u32,

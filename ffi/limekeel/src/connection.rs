@@ -8,7 +8,7 @@ use std::ops::Range;
 /// The two marks, in bytes: writers stop above the high one, and go on below the low one. The default is Netty's.
 #[derive(Clone, Copy, Debug, PartialEq, Eq)]
 pub struct Marks {
-    /// At most the high mark.
+    /// At most the high mark. Under a low mark of 0 a connection that was once unwritable stays so for good.
     pub low: u32,
     /// At most 2147483647.
     pub high: u32,

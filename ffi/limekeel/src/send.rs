@@ -1,9 +1,12 @@
 use crate::connection::Connection;
 use crate::replies::Taken;
-use std::io::{self, ErrorKind, Write};
+use std::io::{self, ErrorKind, IoSlice, Write};
 
-/// How many pieces one vectored write is given.
+/// How many pieces one vectored write is given at most.
 const PIECES: usize = 64;
+
+/// How many it is given if no more messages are flushed: a quarter of the array is made in a quarter of the time.
+const FEW_PIECES: usize = 16;
 
 /// What a connection sent at once.
 #[must_use = "nothing tells the change of writability or the settlements again"]
@@ -13,7 +16,8 @@ pub struct Sent {
     pub bytes: usize,
     /// Which messages are gone by that, and how it changed writability.
     pub taken: Taken,
-    /// Whether the writer had no room: it is to be written to again when it is ready.
+    /// Whether the writer had no room: it is to be written to again when it is ready. A reactor that clears readiness at
+    /// the error [`ErrorKind::WouldBlock`] (tokio's `try_io`) does not see that error, and has to be told by this.
     pub blocked: bool,
     /// Whether a flushed message is left. If the writer was not blocked and took nothing, that in front is no block:
     /// [`Connection::current`] says what it is, and it is the caller's to send.
@@ -23,28 +27,49 @@ pub struct Sent {
 impl Connection {
     /// Lets a writer take once of the flushed blocks in front, and takes away what it took.
     ///
-    /// A writer that would block takes nothing, and that is no error. With no block in front that holds a byte the writer
-    /// is not asked, and the empty messages in front are taken away all the same.
+    /// A writer that would block takes nothing, and that is no error. One that is interrupted is asked again. With no
+    /// block in front that holds a byte the writer is not asked, and the empty messages in front are taken away all the
+    /// same.
     ///
     /// An error of the writer leaves the connection as it was, and so does [`crate::Refusal::Closed`], which comes as
-    /// [`ErrorKind::BrokenPipe`]. A writer that says it took more than it was given is [`ErrorKind::InvalidData`].
-    pub fn send_to(&mut self, writer: &mut impl Write) -> io::Result<Sent> {
-        let (bytes, blocked) = self.write_once(writer)?;
-        let taken = self.take_sent(bytes as u64).map_err(|refusal| {
-            let kind = if self.is_closed() { ErrorKind::BrokenPipe } else { ErrorKind::InvalidData };
-            io::Error::new(kind, refusal)
-        })?;
+    /// [`ErrorKind::BrokenPipe`]. A writer that takes nothing, and would not block either, is [`ErrorKind::WriteZero`],
+    /// and one that says it took more than it was given is [`ErrorKind::InvalidData`]; both leave the connection as it
+    /// was.
+    pub fn send_to<W: Write + ?Sized>(&mut self, writer: &mut W) -> io::Result<Sent> {
+        self.send_with(|pieces| writer.write_vectored(pieces))
+    }
+
+    /// The same for what is no [`Write`]: `write` is given the pieces, at most 64, and returns how many of their bytes it
+    /// took, as a vectored write does.
+    pub fn send_with(&mut self, write: impl FnMut(&[IoSlice<'_>]) -> io::Result<usize>) -> io::Result<Sent> {
+        if self.is_closed() {
+            return Err(io::Error::new(ErrorKind::BrokenPipe, crate::Refusal::Closed));
+        }
+        let (bytes, blocked) = if self.look().size <= FEW_PIECES as u64 {
+            self.write_once::<FEW_PIECES>(write)?
+        } else {
+            self.write_once::<PIECES>(write)?
+        };
+        // no refusal is left that could come
+        let taken = self.take_sent(bytes as u64).map_err(io::Error::other)?;
         Ok(Sent { bytes, taken, blocked, more: self.look().size > 0 })
     }
 
     /// How many bytes a writer took, and whether it would block.
-    fn write_once(&self, writer: &mut impl Write) -> io::Result<(usize, bool)> {
-        let pieces = self.pieces::<PIECES>(u32::MAX);
+    fn write_once<const N: usize>(
+        &self,
+        mut write: impl FnMut(&[IoSlice<'_>]) -> io::Result<usize>,
+    ) -> io::Result<(usize, bool)> {
+        let pieces = self.pieces::<N>(u32::MAX);
         if pieces.is_empty() {
             return Ok((0, false));
         }
         loop {
-            match writer.write_vectored(&pieces) {
+            match write(&pieces) {
+                Ok(0) => return Err(ErrorKind::WriteZero.into()),
+                Ok(bytes) if bytes > pieces.iter().map(|piece| piece.len()).sum() => {
+                    return Err(io::Error::new(ErrorKind::InvalidData, "a writer took more than it was given"));
+                }
                 Ok(bytes) => return Ok((bytes, false)),
                 Err(error) if error.kind() == ErrorKind::WouldBlock => return Ok((0, true)),
                 Err(error) if error.kind() == ErrorKind::Interrupted => {}

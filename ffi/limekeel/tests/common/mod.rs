@@ -1,20 +1,25 @@
 //! Scripts of `ob_tool run`, carried out through this crate. docs/formats.md has their lines and their traces.
 
-use limekeel::{Change, Connection, Estimate, Marks, Outcome, Refusal, Removed, Taken, Written};
+mod shadow;
+
+use limekeel::{Change, Connection, Current, Estimate, Marks, Outcome, Refusal, Removed, Taken, Written};
+use shadow::Shadow;
 use std::fmt::Write;
 
 /// What a line returns: its answer, the change, and the settlements.
 type Answer = Result<(String, Option<Change>, Vec<(u64, Outcome)>), Refusal>;
 
-/// A connection, and how many writes it accepted.
+/// A connection, how many writes it accepted, and what it is to show.
 pub struct Player {
     connection: Connection,
     accepted: u64,
+    shadow: Shadow,
 }
 
 impl Player {
     pub fn new(marks: Marks, estimate: Estimate) -> Player {
-        Player { connection: Connection::open(marks, estimate).expect("the marks are good"), accepted: 0 }
+        let connection = Connection::open(marks, estimate).expect("the marks are good");
+        Player { connection, accepted: 0, shadow: Shadow::default() }
     }
 
     /// The trace of a script.
@@ -30,6 +35,7 @@ impl Player {
             "g" => self.gather(numbers[0], numbers[1] as u32),
             word => {
                 let answer = self.command(word, &numbers);
+                self.shadow.check(&self.connection);
                 self.told(answer)
             }
         }
@@ -41,27 +47,36 @@ impl Player {
             "b" => {
                 let bytes: Vec<u8> = (0..numbers[0]).map(|place| (self.accepted + place) as u8).collect();
                 let written = connection.write(&bytes);
-                self.wrote(written)
+                self.wrote(written, Current::Block(numbers[0]))
             }
             "r" => {
                 let written = connection.write_region(numbers[0]);
-                self.wrote(written)
+                self.wrote(written, Current::Region(numbers[0]))
             }
             "o" => {
                 let written = connection.write_other(numbers[0] as u32);
-                self.wrote(written)
+                self.wrote(written, Current::Other(numbers[0] as u32))
             }
-            "f" => connection.flush().map(|flushed| (format!("n {}", flushed.count), flushed.change, Vec::new())),
-            "rm" => connection.remove().map(removed),
-            "rc" => connection.remove_with(numbers[0] as u32).map(removed),
-            "rb" => connection.take_sent(numbers[0]).map(taken),
+            "f" => connection.flush().map(|flushed| {
+                self.shadow.flush();
+                (format!("n {}", flushed.count), flushed.change, Vec::new())
+            }),
+            "rm" => connection.remove().map(|reply| removed(reply, &mut self.shadow)),
+            "rc" => connection.remove_with(numbers[0] as u32).map(|reply| removed(reply, &mut self.shadow)),
+            "rb" => connection.take_sent(numbers[0]).map(|reply| {
+                self.shadow.take(reply.count, numbers[0]);
+                taken(reply)
+            }),
             "p" => connection.progress(numbers[0]).map(|()| ("ok".to_owned(), None, Vec::new())),
             "x" => connection.cancel(numbers[0]).map(|in_time| {
+                if in_time {
+                    self.shadow.cancel(numbers[0]);
+                }
                 let settled = if in_time { vec![(numbers[0], Outcome::Cancelled)] } else { Vec::new() };
                 (if in_time { "yes" } else { "no" }.to_owned(), None, settled)
             }),
-            "fl" => connection.fail_flushed(numbers[0] as u32, numbers[1] == 1).map(taken),
-            "cl" => connection.close(numbers[0] as u32).map(taken),
+            "fl" => connection.fail_flushed(numbers[0] as u32, numbers[1] == 1).map(|reply| gone(reply, &mut self.shadow)),
+            "cl" => connection.close(numbers[0] as u32).map(|reply| gone(reply, &mut self.shadow)),
             "u" => connection.user_bit(numbers[0] as u32, numbers[1] == 1).map(|change| ("ok".to_owned(), change, Vec::new())),
             "m" => {
                 let marks = Marks { low: numbers[0] as u32, high: numbers[1] as u32 };
@@ -71,8 +86,9 @@ impl Player {
         }
     }
 
-    fn wrote(&mut self, written: Result<Written, Refusal>) -> Answer {
+    fn wrote(&mut self, written: Result<Written, Refusal>, left: Current) -> Answer {
         let written = written?;
+        self.shadow.write(left);
         self.accepted += 1;
         Ok((format!("id {}", written.id), written.change, Vec::new()))
     }
@@ -129,9 +145,15 @@ impl Player {
     }
 }
 
-fn removed(removed: Removed) -> (String, Option<Change>, Vec<(u64, Outcome)>) {
+fn removed(removed: Removed, shadow: &mut Shadow) -> (String, Option<Change>, Vec<(u64, Outcome)>) {
+    shadow.remove(u64::from(removed.any));
     let text = if removed.any { "yes" } else { "no" };
     (text.to_owned(), removed.change, removed.settled.into_iter().collect())
+}
+
+fn gone(reply: Taken, shadow: &mut Shadow) -> (String, Option<Change>, Vec<(u64, Outcome)>) {
+    shadow.remove(reply.count);
+    taken(reply)
 }
 
 fn taken(taken: Taken) -> (String, Option<Change>, Vec<(u64, Outcome)>) {

@@ -1,0 +1,126 @@
+//! What `send_to` makes of writers: of those that take a part, and of those that break the rules of a writer.
+
+use limekeel::{Connection, Estimate, Marks, Outcome};
+use std::collections::VecDeque;
+use std::io::{self, ErrorKind, Write};
+
+/// A writer that does the next of its steps at each write, and keeps what it took.
+#[derive(Default)]
+struct Scripted {
+    steps: VecDeque<Step>,
+    offered: Vec<usize>,
+    took: Vec<u8>,
+}
+
+enum Step {
+    /// Takes at most so many of the bytes it is given.
+    Takes(usize),
+    /// Says that it took this many, and takes nothing.
+    Claims(usize),
+    Fails(ErrorKind),
+}
+
+impl Write for Scripted {
+    fn write(&mut self, _: &[u8]) -> io::Result<usize> {
+        unreachable!("a vectored write is asked for")
+    }
+
+    fn write_vectored(&mut self, pieces: &[io::IoSlice<'_>]) -> io::Result<usize> {
+        let given: Vec<u8> = pieces.iter().flat_map(|piece| piece.iter().copied()).collect();
+        self.offered.push(given.len());
+        match self.steps.pop_front().expect("a step for each write") {
+            Step::Takes(most) => {
+                let count = most.min(given.len());
+                self.took.extend(&given[..count]);
+                Ok(count)
+            }
+            Step::Claims(count) => Ok(count),
+            Step::Fails(kind) => Err(kind.into()),
+        }
+    }
+
+    fn flush(&mut self) -> io::Result<()> {
+        Ok(())
+    }
+}
+
+fn writer(steps: impl IntoIterator<Item = Step>) -> Scripted {
+    Scripted { steps: steps.into_iter().collect(), ..Scripted::default() }
+}
+
+/// A connection in which `count` messages of one byte are flushed, which count up from 0.
+fn with_bytes(count: u8) -> Connection {
+    let mut connection = Connection::open(Marks::default(), Estimate::default()).expect("there is memory");
+    for byte in 0..count {
+        let _ = connection.write(&[byte]).expect("it is accepted");
+    }
+    let _ = connection.flush().expect("it is open");
+    connection
+}
+
+/// Whether nothing of the messages was taken away.
+fn is_as_it_was(connection: &Connection, count: u64) -> bool {
+    let look = connection.look();
+    look.size == count && look.total == 97 * count as u32 && connection.front() == (count > 0).then_some(0)
+}
+
+#[test]
+fn what_a_writer_took_is_gone_and_no_more() {
+    let mut connection = with_bytes(100);
+    let mut socket = writer([Step::Takes(7), Step::Takes(1000), Step::Takes(1000)]);
+    let sent = connection.send_to(&mut socket).expect("it takes");
+    assert_eq!((sent.bytes, sent.blocked, sent.more), (7, false, true));
+    assert_eq!(sent.taken.settled().collect::<Vec<_>>(), (0..7).map(|id| (id, Outcome::Success)).collect::<Vec<_>>());
+    // 93 are left, and 64 pieces are offered at once
+    assert_eq!(connection.send_to(&mut socket).expect("it takes").bytes, 64);
+    assert_eq!(connection.send_to(&mut socket).expect("it takes").bytes, 29);
+    assert_eq!(socket.offered, [64, 64, 29]);
+    assert_eq!(socket.took, (0..100).collect::<Vec<u8>>());
+    assert!(is_as_it_was(&connection, 0));
+}
+
+#[test]
+fn a_writer_is_not_believed_past_what_it_was_offered() {
+    let mut connection = with_bytes(100);
+    let error = connection.send_to(&mut writer([Step::Claims(65)])).expect_err("64 were offered");
+    assert_eq!(error.kind(), ErrorKind::InvalidData);
+    assert!(is_as_it_was(&connection, 100));
+}
+
+#[test]
+fn a_writer_that_takes_nothing_is_an_error() {
+    let mut connection = with_bytes(3);
+    let error = connection.send_to(&mut &mut [0u8; 0][..]).expect_err("a full slice takes nothing");
+    assert_eq!(error.kind(), ErrorKind::WriteZero);
+    assert!(is_as_it_was(&connection, 3));
+}
+
+#[test]
+fn a_writer_without_room_is_no_error_and_one_interrupted_is_asked_again() {
+    let mut connection = with_bytes(3);
+    let sent = connection.send_to(&mut writer([Step::Fails(ErrorKind::WouldBlock)])).expect("no error");
+    assert_eq!((sent.bytes, sent.blocked, sent.more), (0, true, true));
+    let steps = [Step::Fails(ErrorKind::Interrupted), Step::Takes(2)];
+    assert_eq!(connection.send_to(&mut writer(steps)).expect("it takes").bytes, 2);
+    let error = connection.send_to(&mut writer([Step::Fails(ErrorKind::ConnectionReset)])).expect_err("it is broken");
+    assert_eq!(error.kind(), ErrorKind::ConnectionReset);
+    assert_eq!(connection.look().size, 1);
+}
+
+#[test]
+fn nothing_to_offer_asks_nobody_and_takes_empty_messages_away() {
+    let mut connection = with_bytes(0);
+    let _ = connection.write(&[]).expect("it is accepted");
+    let _ = connection.flush().expect("it is open");
+    let writer: &mut dyn Write = &mut writer([]);
+    let sent = connection.send_to(writer).expect("nobody was asked");
+    assert_eq!((sent.bytes, sent.taken.count, sent.more), (0, 1, false));
+}
+
+#[test]
+fn a_closed_connection_sends_nothing() {
+    let mut connection = with_bytes(0);
+    let _ = connection.close(1).expect("nothing is flushed");
+    let error = connection.send_to(&mut writer([])).expect_err("it is closed");
+    assert_eq!(error.kind(), ErrorKind::BrokenPipe);
+}
