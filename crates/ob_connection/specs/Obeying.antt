@@ -18,8 +18,7 @@ use Rattle.ob_connection.specs.declared.replies.Taken.{Taken}
 abbrev pub promises_after : Settings → List Command → List PromiseState
 promises_after settings commands = map (λ row. row.promise) (rows_after settings.estimate commands)
 
--- whatever history the old connection stands for, the result says what the model's answer to one more command after it
--- is
+-- whatever history the old connection stands for, the result says the model's answer to one more command after it
 abbrev pub Answers : {A : Type 0} → Connected → Command → (List PromiseState → A → Reply) → Result A Refusal → Type 0
 Answers old command tell result =
     (commands : List Command) → StandsFor old commands →

@@ -43,7 +43,7 @@ impl Model for Connection {
 }
 
 impl Connection {
-    /// A connection with nothing written. To make one does not allocate. The overhead and the size of unknown messages
+    /// A connection with nothing written. It does not allocate. The overhead and the size of unknown messages
     /// are at most 65535 bytes.
     pub fn new(alloc: Global, marks: WaterMark, estimate: Estimate) -> Connection
         requires overhead { estimate.overhead ≤ greatest_overhead }

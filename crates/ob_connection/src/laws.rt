@@ -1,5 +1,5 @@
-//! What holds of the answers to every list of commands. The calls of a connection return what the definitions give that
-//! these laws speak of.
+//! What holds of the answers to every list of commands. These laws speak of definitions, and the calls of a connection
+//! return what those give.
 
 ghost use Rattle.std.specs.List.{Contains};
 ghost use Rattle.std.specs.Prelude.{◌≡◌, ◌<◌, ◌≤◌, ◌↔◌, List, Some};

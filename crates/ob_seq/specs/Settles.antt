@@ -24,8 +24,8 @@ settled_after settings commands command = length (settled_by (answer_to settings
 abbrev pub Settles : Pending → Command → ℕ → Type 0
 Settles buffer command count = Gives buffer (λ settings commands. settled_after settings commands command) count
 
--- whatever history the old buffer stands for, if the command settles no more promises after it than need no allocation,
--- its result is not NoMemory
+-- whatever history the old buffer stands for, if the command settles no more promises after it than fit without an
+-- allocation, its result is not NoMemory
 abbrev pub SparesMemory : Pending → Command → Result Reply Refusal → Type 0
 SparesMemory old command result =
     (commands : List Command) → StandsFor old commands

@@ -33,7 +33,7 @@ impl Model for Buffer {
 }
 
 impl Buffer {
-    /// An empty buffer. To make one does not allocate. The overhead and the size of unknown messages are at most 65535
+    /// An empty buffer. It does not allocate. The overhead and the size of unknown messages are at most 65535
     /// bytes.
     pub fn new(alloc: Global, marks: WaterMark, estimate: Estimate) -> Buffer
         requires overhead { estimate.overhead ≤ greatest_overhead }

@@ -60,7 +60,7 @@ impl Model for Contents {
 }
 
 impl Contents {
-    /// Nothing. To make it does not allocate.
+    /// Nothing yet. It does not allocate.
     pub fn new(alloc: Global, marks: WaterMark, estimate: Estimate) -> Contents
         requires overhead { estimate.overhead ≤ greatest_overhead }
         requires unknown { estimate.unknown ≤ greatest_unknown }

@@ -44,7 +44,7 @@ impl Model for Outcomes {
 }
 
 impl Outcomes {
-    /// None. To make it does not allocate.
+    /// None yet. It does not allocate.
     pub fn new(alloc: Global) -> Outcomes
         ensures { result.list ≡ [] }
     {

@@ -218,7 +218,7 @@ module _ (command : Command) (old : Pending) where
       no_memory_last = λ wants commands stands. rw (← answer_is buffer_limit command old commands stands.leaves, made.no_memory_last wants);
     }
 
-    -- and spares memory, if it is out of it only when it settles more promises than need no allocation
+    -- and spares memory, if it runs out only when it settles more promises than fit without an allocation
     pub spares : {told : Pending} → old ≡ told →
         (IsErrOf result NoMemory → inline_settlements < length own_step.reply.settled) → SparesMemory told command result
     spares is many = rw (← is) (λ commands stands few wants.

@@ -34,7 +34,7 @@ pub record Makes (old : Pending) (step : Step) (result : Result Reply Refusal) (
   pub after : new ≡ held_by old step result
   pub no_memory_last : IsErrOf result NoMemory → first_of_step old step ≡ None
 
--- it is out of memory only if the step settles more promises than need no allocation
+-- it is out of memory only if the step settles more promises than fit without an allocation
 abbrev pub SparesFew : Step → Result Reply Refusal → Type 0
 SparesFew step result = IsErrOf result NoMemory → inline_settlements < length step.reply.settled
 

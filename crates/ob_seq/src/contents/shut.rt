@@ -8,7 +8,7 @@ ghost use Rattle.ob_seq.specs.Unsent.{ended, whole, waiting_count};
 use crate::contents::Contents;
 
 impl Contents {
-    /// Takes all entries away, and closes, if nothing is in line.
+    /// Takes all entries away, and closes; nothing stands in line.
     pub fn shut(&mut self)
         requires { length self.old.line ≡ 0 }
         ensures none { waiting_count self.new ≡ 0 }

@@ -30,7 +30,7 @@ impl Whole {
         Ok(self.reply(Answer::Count(count as u32), settled, self.word()))
     }
 
-    /// Fails the unflushed promises that still wait, takes all entries away, and closes, if nothing is in line.
+    /// Fails the unflushed promises that still wait, takes all entries away, and closes; nothing stands in line.
     fn close_with(&mut self, cause: Cause)
         requires { length self.old.line ≡ 0 }
         ensures { self.new ≡ closed_pending cause self.old }
