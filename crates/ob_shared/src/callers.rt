@@ -13,7 +13,7 @@ pub struct Callers<L: Named> {
 }
 
 impl<L: Named> Callers<L> {
-    /// So many callers, as were opened.
+    /// As many callers as were opened.
     pub fn new(count: u32) -> Callers<L>
         requires opened { count ≡ L.opened.callers }
         requires parts { count ≡ L.parts }

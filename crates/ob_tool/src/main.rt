@@ -24,13 +24,13 @@ fn main(rt: HostRuntime) -> ExitCode {
     ExitCode::from(status)
 }
 
-/// The words of the command line. It fails for want of memory, or if one of them is not UTF-8.
+/// The words of the command line. It fails if memory ran out, or if one of them is not UTF-8.
 fn words(rt: &HostRuntime) -> io::Result<Vec<String>> {
     Ok(env::args(rt)?.collect(rt.alloc())?)
 }
 
-/// Tells why the words could not be had, and answers the status with which the program ends: 4 for want of memory, and
-/// else 1. Where that cannot be told there is nobody left to tell.
+/// Reports why the words could not be had, and returns the status with which the program ends: 4 if memory ran out, and
+/// else 1. If it cannot be reported there is nobody left to tell.
 fn refused_words<E: Write>(error: &Error, errors: &mut E) -> u8
     ensures no_memory { error_kind error.now ≡ ErrorKind.OutOfMemory → result ≡ 4 }
     ensures other { ¬ (error_kind error.now ≡ ErrorKind.OutOfMemory) → result ≡ 1 }
