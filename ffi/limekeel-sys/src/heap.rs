@@ -20,7 +20,7 @@ struct Tried {
 }
 
 fn block_or_none(at: *mut c_void) -> Tried {
-    if at == null_mut() {
+    if at.is_null() {
         return Tried { ok: false, at: addr_of_mut!(NOWHERE) };
     }
     Tried { ok: true, at: at.cast() }
