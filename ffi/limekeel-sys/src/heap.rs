@@ -1,7 +1,7 @@
 //! What `ffi/heap.c` is for C: the archive's memory is that of the C library.
 
 use core::ffi::c_void;
-use core::ptr::{addr_of_mut, null_mut};
+use core::ptr::addr_of_mut;
 
 unsafe extern "C" {
     fn malloc(size: usize) -> *mut c_void;
