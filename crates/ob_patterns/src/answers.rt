@@ -1,17 +1,33 @@
-use bytes::Bytes;
-use ob_connection::{Connection, Ending, Socket};
-use ob_types::{Cause, Message, Refusal};
+ghost use Rattle.std.specs.Prelude.{◌≡◌, IfOk, OnErr};
+ghost use Rattle.ob_types.specs.declared.message.Message.TheVariants.{Block};
+ghost use Rattle.ob_connection.specs.Connected.{Connected};
+ghost use Rattle.ob_patterns.specs.Adding.{Adds, IsAsItWas, written_and_flushed};
+ghost use Rattle.ob_patterns.specs.Saying.{Says};
+ghost use Rattle.ob_patterns.specs.Sending.{Spins};
 
-/// Writes an answer, sends what the socket takes, and tells whether to read from this peer further.
+use crate::next::Next;
+use crate::turns::spin;
+use bytes::Bytes;
+use ob_connection::{Connection, Socket};
+use ob_types::{Message, Refusal};
+
+/// Writes an answer, sends what the socket takes, and returns what to do next.
+///
+/// The refusals are those of `write`; each leaves the connection as it was, and nothing is sent.
 pub fn respond<S: Socket>(
     connection: &mut Connection,
     socket: &mut S,
     answer: Bytes,
-) -> Result<bool, Refusal> {
+) -> Result<Next, Refusal>
+    ensures responds { IfOk result (λ next. (ready : Connected)
+        × Adds connection.old (written_and_flushed (Block answer)) ready
+        × Spins 16 ready (S.sent socket.old) (S.calls socket.old) next connection.new (S.sent socket.new)
+        (S.calls socket.new)) }
+    ensures says { IfOk result (λ next. Says connection.new next) }
+    ensures refused { OnErr result (IsAsItWas connection.old connection.new) }
+    ensures unsent { OnErr result (S.sent socket.new ≡ S.sent socket.old) }
+{
     let _written = connection.write(Message::Block(answer))?;
     let _flushed = connection.flush()?;
-    match connection.send_until_blocked(socket, 16, 65536) {
-        Ok(sent) if sent.ending != Ending::Broken => Ok(connection.is_writable()),
-        _ => connection.give_up(Cause(1)).map(|_| false),
-    }
+    Ok(spin(connection, socket, 16))
 }

@@ -1,31 +1,52 @@
-ghost use Rattle.std.specs.Prelude.{IfOk, false};
-ghost use Rattle.ob_connection.specs.Standing.{Gives};
-ghost use Rattle.ob_seq.specs.State.{writable_after};
+ghost use Rattle.std.specs.Prelude.{◌≡◌, ℕ, List, Option, IfOk};
+ghost use Rattle.ob_connection.specs.Telling.{with_more};
+ghost use Rattle.ob_patterns.specs.Chunking.{IsPaused, WritesGiven, given};
 
+use crate::returned::{Returned, write_or_return};
 use bytes::Bytes;
 use ob_connection::Connection;
-use ob_types::{Message, Refusal};
 
-/// What a long response is made of, piece by piece, as a file.
+/// What a long response is made of, piece by piece, such as a file.
 pub trait Chunks {
+    /// The pieces that it gave so far, of a source that tells them: for contracts alone, as those of a socket.
+    ghost pieces: { Self → Option (List (List ℕ)) };
+
     /// The next piece, or none at the end.
-    fn next(&mut self) -> Option<Bytes>;
+    fn next(&mut self) -> Option<Bytes>
+        ensures { pieces self.new ≡ with_more (pieces self.old) (given result) };
 }
 
-/// Writes pieces while the connection is writable, and answers whether that was the last: else call it again when the
-/// connection is writable. It is to be flushed behind.
+/// How far a long response is written.
+#[derive(Clone, Copy, Debug, PartialEq, Eq)]
+pub enum Progress {
+    /// All of it is written.
+    Finished,
+    /// The connection is not writable: go on when a send reports `Writable`.
+    Paused,
+    /// As many pieces are written as one call may write: go on after the other connections had their turn.
+    ComeAgain,
+}
+
+/// Writes at most `most` pieces, while the connection is writable. Flush and send after it.
+///
+/// A piece that is refused comes back in the error, and the pieces before it stay written. Write that piece first if you
+/// go on.
 pub fn write_chunks<C: Chunks>(
     connection: &mut Connection,
     chunks: &mut C,
-) -> Result<bool, Refusal> {
-    for _ in 0..u64::MAX {
+    most: u32,
+) -> Result<Progress, Returned>
+    ensures writes { WritesGiven connection.old (C.pieces chunks.old) result connection.new (C.pieces chunks.new) }
+    ensures paused { IfOk result (λ progress. IsPaused connection.new progress) }
+{
+    for _ in 0..most {
         if !connection.is_writable() {
-            break;
+            return Ok(Progress::Paused);
         }
         let Some(bytes) = chunks.next() else {
-            return Ok(true);
+            return Ok(Progress::Finished);
         };
-        let _written = connection.write(Message::Block(bytes))?;
+        let _written = write_or_return(connection, bytes)?;
     }
-    Ok(false)
+    Ok(Progress::ComeAgain)
 }

@@ -1,30 +1,77 @@
+ghost use Rattle.std.specs.Prelude.{◌≡◌, ◌<◌, ◌≤◌, ◌⊎◌, true, false, IfSome, IfNone};
+ghost use Rattle.ob_seq.specs.State.{closed_after, writable_after};
+ghost use Rattle.ob_connection.specs.GivingUp.{GivesUp};
+ghost use Rattle.ob_connection.specs.Standing.{Gives};
+ghost use Rattle.ob_patterns.specs.Broadcasting.{Broadcasts, IsHanded};
+ghost use Rattle.ob_patterns.specs.Sending.{too_slow};
+
 use bytes::Bytes;
 use ob_connection::{Connection, Taken};
-use ob_types::{Cause, Message, Refusal};
+use ob_types::{Cause, Message};
 
-/// Sends the same bytes to all whose connection is writable, without a copy, and answers how many were left out: whoever
-/// reads slowly misses some, and no one waits for it.
-pub fn broadcast(connections: &mut [Connection], bytes: &Bytes) -> Result<u64, Refusal> {
-    let mut left_out = 0u64;
-    for connection in connections {
-        if connection.is_writable() {
-            let _written = connection.write(Message::Block(bytes.clone()?))?;
-            let _flushed = connection.flush()?;
-        } else {
-            left_out = left_out.saturating_add(1);
-        }
-    }
-    Ok(left_out)
+/// Why messages failed whose peer was unwritable for too long.
+pub const TOO_SLOW: Cause = Cause(2);
+
+/// Whom a broadcast reached.
+#[derive(Clone, Copy, Debug, PartialEq, Eq)]
+pub struct Reached {
+    /// How many connections got the message.
+    pub got: u64,
+    /// How many were left out: they were not writable, were closed, or refused it.
+    pub left_out: u64,
 }
 
-/// Gives a connection up that has been unwritable for longer than a peer may take, and tells which messages failed.
-pub fn give_up_if_slow(
-    connection: &mut Connection,
-    stopped_for: u64,
-    most: u64,
-) -> Option<Result<Taken, Refusal>> {
+/// Hands the same bytes to each connection that is writable, without a copy. A connection that refuses them, or is closed,
+/// is left out as one that reads slowly: it stays as it was, and the others get the message all the same.
+pub fn broadcast(connections: &mut [Connection], bytes: &Bytes) -> Reached
+    ensures { Broadcasts connections.old bytes.now result.got result.left_out connections.new }
+{
+    let mut reached = Reached {
+        got: 0,
+        left_out: 0,
+    };
+    for connection in connections.iter_mut() {
+        if hand(connection, bytes) {
+            reached.got += 1;
+        } else {
+            reached.left_out += 1;
+        }
+    }
+    reached
+}
+
+/// Writes and flushes bytes if the connection is writable and open, and returns whether it took them. If not, it is as it
+/// was.
+pub fn hand(connection: &mut Connection, bytes: &Bytes) -> bool
+    ensures { IsHanded connection.old bytes.now result connection.new }
+{
+    if !connection.is_writable() {
+        return false;
+    }
+    let Ok(handle) = bytes.clone() else {
+        return false;
+    };
+    let Ok(_written) = connection.write(Message::Block(handle)) else {
+        return false;
+    };
+    // what accepted a write accepts a flush
+    let _flushed = connection.flush();
+    true
+}
+
+/// Gives a connection up that is unwritable for longer than a peer may take, and returns which messages failed, for
+/// `TOO_SLOW`. Both times are in one unit, as milliseconds. It returns nothing, and leaves the connection as it was, if
+/// that is writable, was not stopped for longer than `most`, or is closed.
+pub fn give_up_if_slow(connection: &mut Connection, stopped_for: u64, most: u64) -> Option<Taken>
+    ensures given_up { IfSome result (λ taken. GivesUp connection.old too_slow taken connection.new) }
+    ensures only_slow { IfSome result (λ _. Gives connection.old writable_after false) }
+    ensures only_late { IfSome result (λ _. most < stopped_for) }
+    ensures kept { IfNone result (connection.new ≡ connection.old) }
+    ensures why { IfNone result ((Gives connection.old writable_after true ⊎ (stopped_for ≤ most))
+        ⊎ Gives connection.old closed_after true) }
+{
     if connection.is_writable() || stopped_for <= most {
         return None;
     }
-    Some(connection.give_up(Cause(1)))
+    connection.give_up(TOO_SLOW).ok()
 }

@@ -1,21 +1,35 @@
-ghost use Rattle.std.specs.Prelude.{IfOk};
+ghost use Rattle.std.specs.Prelude.{◌≡◌, ◌↔◌, IfErr, IfOk, IsTrue, OnErr, OnOk, Some};
+ghost use Rattle.ob_types.specs.declared.message.Message.TheVariants.{Block};
+ghost use Rattle.ob_types.specs.declared.reply.Change.TheVariants.{Writable};
 ghost use Rattle.ob_connection.specs.Standing.{Gives};
 ghost use Rattle.ob_seq.specs.State.{writable_after};
+ghost use Rattle.ob_patterns.specs.Adding.{Adds, RefusesWrite, written_and_flushed};
 
+use crate::returned::{Returned, write_or_return};
 use bytes::Bytes;
 use ob_connection::{Connection, Sent};
-use ob_types::{Change, Message, Refusal};
+use ob_types::Change;
 
-/// Hands what came from one side to the other, and answers whether to read from the first side further.
-pub fn forward(to: &mut Connection, bytes: Bytes) -> Result<bool, Refusal>
-    ensures { IfOk result (λ reads. Gives to.new writable_after reads) }
+/// Hands what came from one side to the other, and returns whether to read from the first side further.
+///
+/// If the other side refuses the bytes, they come back in the error, and that side is as it was.
+pub fn forward(to: &mut Connection, bytes: Bytes) -> Result<bool, Returned>
+    ensures reads { IfOk result (λ reads. Gives to.new writable_after reads) }
+    ensures handed { OnOk result (Adds to.old (written_and_flushed (Block bytes)) to.new) }
+    ensures refused { OnErr result (to.new ≡ to.old) }
+    ensures returned { IfErr result (λ returned. returned.bytes ≡ bytes) }
+    ensures refusal { IfErr result (λ returned. RefusesWrite to.old (Block bytes) returned.refusal) }
 {
-    let _written = to.write(Message::Block(bytes))?;
-    let _flushed = to.flush()?;
+    let _written = write_or_return(to, bytes)?;
+    // what accepted a write accepts a flush
+    let _flushed = to.flush();
     Ok(to.is_writable())
 }
 
-/// Whether the other side sent enough that the first side is to be read again: at once, if readiness is told by its edges.
-pub fn forwarded(sent: &Sent) -> bool {
+/// Whether the other side sent enough that the first side is to be read again: at once, if readiness is reported by its
+/// edges.
+pub fn forwarded(sent: &Sent) -> bool
+    ensures { IsTrue result ↔ (sent.now.taken.change ≡ Some Writable) }
+{
     sent.taken.change == Some(Change::Writable)
 }

@@ -3,7 +3,11 @@ use ob_connection::{Connection, SendFault, Sent, Socket, Written};
 use ob_types::{Message, Refusal};
 use std::sync::{Mutex, Wait};
 
-/// Writes from whichever thread, under a lock. Whoever is told that the connection is unwritable stops its own work.
+/// Writes and flushes from whichever thread, under a lock. Wake the thread that has the socket after it; whoever reads
+/// `Unwritable` in the result stops its own work.
+///
+/// The refusals are those of `write`; each leaves the connection as it was. No clause can name what is behind a lock, so
+/// this is tested and not proved.
 pub fn respond_from_any_thread<R: Wait>(
     rt: &R,
     connection: &Mutex<Connection>,
@@ -15,7 +19,10 @@ pub fn respond_from_any_thread<R: Wait>(
     Ok(written)
 }
 
-/// Sends from the one thread that has the socket. The lock is held while the socket takes: it does not block.
+/// Sends once from the one thread that has the socket, at most 64 blocks and 65536 bytes. The lock is held while the
+/// socket takes, which does not block. `Closed` and `Broken` are those of `send_once`.
+///
+/// No clause can name what is behind a lock, so this is tested and not proved.
 pub fn send_from_one_thread<R: Wait, S: Socket>(
     rt: &R,
     connection: &Mutex<Connection>,

@@ -1,0 +1,127 @@
+-- One connection after another is handed a message.
+use Rattle.std.proofs.Common.{◌≡◌, ◌≢◌, refl, sym, ap, ◌∙◌, subst, arith, ℕ, ◌+◌, ◌<◌, ◌≤◌, List, [], ◌∷◌, ◌++◌, length, below_more}
+use Rattle.std.proofs.Common.{Bool, true, false, not, cond, set, get_or, length-append, zero, suc}
+use Rattle.std.specs.Prelude.{Some, None, slice_get, count_by}
+use Rattle.std.proofs.lemmas.List.Sums.{sum_by-append}
+use Rattle.std.proofs.lemmas.Option.{same_Some, slice_get-get_or, slice_get_within}
+use Rattle.ob_connection.specs.Connected.{Connected}
+use Rattle.ob_patterns.specs.Broadcasting.{AreHanded, Broadcasts, IsHanded}
+
+-- what a list has at a place that was set
+get-set_same : {X : Type 0} (xs : List X) (i : ℕ) (x : X) → i < length xs → slice_get (set xs i x) i ≡ Some x
+get-set_same [] i x within = absurd (omega arith)
+get-set_same (y ∷ ys) zero x within = refl
+get-set_same (y ∷ ys) (suc i) x within = get-set_same ys i x (omega arith)
+
+-- and at another
+get-set_other : {X : Type 0} (xs : List X) (i k : ℕ) (x : X) → k ≢ i → slice_get (set xs i x) k ≡ slice_get xs k
+get-set_other [] i k x other = refl
+get-set_other (y ∷ ys) zero zero x other = absurd (other refl)
+get-set_other (y ∷ ys) zero (suc k) x other = refl
+get-set_other (y ∷ ys) (suc i) zero x other = refl
+get-set_other (y ∷ ys) (suc i) (suc k) x other = get-set_other ys i k x (λ same. other (ap suc same))
+
+-- what a list has with one element more
+get-first : {X : Type 0} (xs : List X) (x : X) (k : ℕ) → k < length xs → slice_get (xs ++ x ∷ []) k ≡ slice_get xs k
+get-first [] x k within = absurd (omega arith)
+get-first (y ∷ ys) x zero within = refl
+get-first (y ∷ ys) x (suc k) within = get-first ys x k (omega arith)
+
+get-last : {X : Type 0} (xs : List X) (x : X) → slice_get (xs ++ x ∷ []) (length xs) ≡ Some x
+get-last [] x = refl
+get-last (y ∷ ys) x = get-last ys x
+
+-- the connections so far: each before this place was handed the bytes or left out, and the rest are as they were
+pub record HandsOn (old : List Connected) (bytes : List ℕ) (got left_out place : ℕ) (now : List Connected) : Type 0 where
+  pub handed : List Bool
+  pub so_far : length handed ≡ place
+  pub each : AreHanded old bytes handed now
+  pub rest : (k : ℕ) → place ≤ k → slice_get now k ≡ slice_get old k
+  pub counts_got : got ≡ count_by (λ one. one) handed
+  pub counts_left_out : left_out ≡ count_by not handed
+
+-- none at first
+pub none_handed : (old : List Connected) (bytes : List ℕ) → HandsOn old bytes 0 0 0 old
+none_handed old bytes = record {
+  handed = [];
+  so_far = refl;
+  each = λ place before after got was is new. absurd (cc);
+  rest = λ k within. refl;
+  counts_got = refl;
+  counts_left_out = refl;
+}
+
+-- a count of one, turned round
+turned : (said : Bool) → ◌≡◌ {A = ℕ} (cond (not said) 1 0) (cond said 0 1)
+turned true = refl
+turned false = refl
+
+module _ {old now : List Connected} {bytes : List ℕ} {got left_out place : ℕ} (item new : Connected) (is_handed : Bool)
+    (on : HandsOn old bytes got left_out place now) (found : slice_get now place ≡ Some item)
+    (one : IsHanded item bytes is_handed new) where
+  abbrev handed : List Bool
+  handed = on.handed ++ is_handed ∷ []
+
+  -- what is said of one place
+  abbrev SaysAt : ℕ → Type 0
+  SaysAt k =
+      (before after : Connected) (said : Bool) → slice_get old k ≡ Some before → slice_get handed k ≡ Some said →
+      slice_get (set now place new) k ≡ Some after → IsHanded before bytes said after
+
+  earlier : (k : ℕ) → k < place → SaysAt k
+  earlier k within before after said was is then =
+      let other : k ≢ place = omega arith in
+      on.each k before after said was
+      (sym (get-first on.handed is_handed k (omega (arith, on.so_far, within))) ∙ is)
+      (sym (get-set_other now place k new other) ∙ then)
+
+  here : SaysAt place
+  here before after said was is then =
+      let same_before = same_Some _ _ (sym found ∙ on.rest place (omega arith) ∙ was) in
+      let last = get-last on.handed is_handed in
+      let same_said = same_Some _ _ (sym (rw on.so_far at last) ∙ is) in
+      let same_after = same_Some _ _ (sym (get-set_same now place new (slice_get_within now place item found)) ∙ then) in
+      rw (← same_before, ← same_said, ← same_after) one
+
+  each_more : AreHanded old bytes handed (set now place new)
+  each_more k before after said was is then =
+      let within = slice_get_within handed k said is in
+      below_more SaysAt place earlier here k
+      (omega (arith, within, length-append on.handed (is_handed ∷ []), on.so_far)) before after said was is then
+
+  -- one more
+  pub one_handed : {more_got more_left_out : ℕ} → more_got ≡ got + cond is_handed 1 0 →
+      more_left_out ≡ left_out + cond is_handed 0 1 →
+      HandsOn old bytes more_got more_left_out (place + 1) (set now place new)
+  one_handed gets leaves = record {
+    handed = handed;
+    so_far = omega (arith, length-append on.handed (is_handed ∷ []), on.so_far);
+    each = each_more;
+    rest = λ k within.
+        (let other : k ≢ place = omega arith in get-set_other now place k new other) ∙ on.rest k (omega arith);
+    counts_got = omega (
+      arith,
+      gets,
+      on.counts_got,
+      sum_by-append (λ (said : Bool). cond said 1 0) on.handed (is_handed ∷ []),
+    );
+    counts_left_out = omega (
+      arith,
+      leaves,
+      on.counts_left_out,
+      sum_by-append (λ (said : Bool). cond (not said) 1 0) on.handed (is_handed ∷ []),
+      turned is_handed,
+    );
+  }
+
+-- all of them
+pub all_handed : {old new : List Connected} {bytes : List ℕ} {got left_out place : ℕ} → length new ≡ length old →
+    length old ≤ place → place ≤ length old →
+    HandsOn old bytes got left_out place new → Broadcasts old bytes got left_out new
+all_handed same least most on = record {
+  handed = on.handed;
+  one_each = omega (arith, on.so_far);
+  each = on.each;
+  counts_got = on.counts_got;
+  counts_left_out = on.counts_left_out;
+}

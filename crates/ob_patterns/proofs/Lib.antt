@@ -1,0 +1,4 @@
+pub mod Flushing
+pub mod GivenUp
+pub mod Pieces
+pub mod Handing

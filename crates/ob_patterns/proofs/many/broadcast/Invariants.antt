@@ -1,0 +1,6 @@
+use Rattle.ob_patterns.proofs.Handing.{HandsOn}
+use Rattle.ob_patterns.proofs.many.broadcast.Given as goal
+
+abbrev pub invariant-loop-connection : goal.invariant-loop-connection
+invariant-loop-connection l =
+    HandsOn l.fn.connections l.fn.bytes l.reached.got l.reached.left_out l.connection-index l.connections

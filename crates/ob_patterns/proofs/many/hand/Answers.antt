@@ -1,0 +1,13 @@
+use Rattle.std.proofs.Common.{rules, subst}
+use Rattle.ob_types.specs.declared.message.Message.TheVariants.{Block}
+use Rattle.ob_patterns.specs.Adding.{Adds, written_and_flushed}
+use Rattle.ob_patterns.proofs.Flushing.{both_added}
+use Rattle.ob_patterns.proofs.many.hand.Goals as goal
+
+pub returns : goal.returns
+returns c =
+    let flushed = c.flush-flushed in (
+      search rules,
+      subst (λ bytes. Adds c.args.connection.now (written_and_flushed (Block bytes)) flushed.new.self) c.in-Ok.ensures.cases
+          (both_added c.in-Ok-write.ensures flushed.result flushed.ensures.obeys flushed.ensures.frugal),
+    )

@@ -1,0 +1,5 @@
+pub mod Adding
+pub mod Broadcasting
+pub mod Chunking
+pub mod Saying
+pub mod Sending

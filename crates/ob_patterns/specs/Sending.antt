@@ -1,0 +1,73 @@
+-- How a pattern sends.
+use Rattle.std.specs.Prelude.{◌≡◌, ◌⊎◌, ℕ, List, Option, true}
+use Rattle.ob_types.specs.declared.promise.Cause.{Cause}
+use Rattle.ob_seq.specs.State.{closed_after}
+use Rattle.ob_connection.specs.Calls.{Call}
+use Rattle.ob_connection.specs.Connected.{Connected}
+use Rattle.ob_connection.specs.GivingUp.{GivesUp}
+use Rattle.ob_connection.specs.Sending.{SendsInTurns}
+use Rattle.ob_connection.specs.Standing.{Gives}
+use Rattle.ob_connection.specs.declared.ending.Ending.{Ending}
+use Rattle.ob_connection.specs.declared.ending.Ending.TheVariants.{Drained, Blocked, OtherInFront, TurnsUsed, Broken}
+use Rattle.ob_connection.specs.declared.replies.SentTurns.{SentTurns}
+use Rattle.ob_connection.specs.declared.replies.Taken.{Taken}
+use Rattle.ob_patterns.specs.declared.next.Next.{Next}
+use Rattle.ob_patterns.specs.declared.next.Next.TheVariants.{Rest, WaitForRoom, ComeAgain, SendFront, Closed}
+
+-- the cause for which a connection is given up whose socket is broken
+abbrev pub broken : Cause
+broken = record { 0 = 1 }
+
+-- the cause for which a connection is given up whose peer is too slow
+abbrev pub too_slow : Cause
+too_slow = record { 0 = 2 }
+
+-- the most bytes that a turn offers
+abbrev pub most_bytes : ℕ
+most_bytes = 65536
+
+-- what is next after a sending that ended so
+abbrev pub next_after : Ending → Next
+next_after Drained = Rest
+next_after Blocked = WaitForRoom
+next_after OtherInFront = SendFront
+next_after TurnsUsed = ComeAgain
+next_after Broken = Closed
+
+-- a connection is given up for this cause; one that was closed stays as it was
+abbrev pub IsGivenUp : Connected → Cause → Connected → Type 0
+IsGivenUp old cause new =
+    ((taken : Taken) × GivesUp old cause taken new) ⊎ (Gives old closed_after true × (new ≡ old))
+
+-- what a sending that ended so makes of the connection that it left: if the socket is broken, that is given up
+abbrev pub Leaves : Ending → Connected → Connected → Type 0
+Leaves Drained left new = new ≡ left
+Leaves Blocked left new = new ≡ left
+Leaves OtherInFront left new = new ≡ left
+Leaves TurnsUsed left new = new ≡ left
+Leaves Broken left new = IsGivenUp left broken new
+
+-- a connection sent in turns, it is said what is next by how that ended, and it was given up if the socket is broken
+pub record SendsOpen (turns : ℕ) (old : Connected) (sent_before : Option (List ℕ)) (calls_before : Option (List Call))
+    (next : Next) (new : Connected) (sent_after : Option (List ℕ)) (calls_after : Option (List Call)) : Type 0 where
+  pub done : SentTurns
+  pub left : Connected
+  pub sends : SendsInTurns turns most_bytes old sent_before calls_before done left sent_after calls_after
+  pub says : next ≡ next_after done.ending
+  pub leaves : Leaves done.ending left new
+
+-- a closed connection stays as it is, and its socket is not asked
+pub record SendsNothing (old : Connected) (sent_before : Option (List ℕ)) (calls_before : Option (List Call))
+    (next : Next) (new : Connected) (sent_after : Option (List ℕ)) (calls_after : Option (List Call)) : Type 0 where
+  pub closed : Gives old closed_after true
+  pub says : next ≡ Closed
+  pub kept : new ≡ old
+  pub unsent : sent_after ≡ sent_before
+  pub unasked : calls_after ≡ calls_before
+
+-- a connection sends in at most so many turns, unless it is closed
+abbrev pub Spins : ℕ → Connected → Option (List ℕ) → Option (List Call) → Next → Connected → Option (List ℕ) →
+    Option (List Call) → Type 0
+Spins turns old sent_before calls_before next new sent_after calls_after =
+    SendsOpen turns old sent_before calls_before next new sent_after calls_after
+    ⊎ SendsNothing old sent_before calls_before next new sent_after calls_after

@@ -1,0 +1,15 @@
+/// What to do for a connection next. All patterns that send answer with it. Whether to read from the peer is another
+/// question, which `is_writable` answers at any time.
+#[derive(Clone, Copy, Debug, PartialEq, Eq)]
+pub enum Next {
+    /// All that is flushed is sent: ask for readiness to write no more.
+    Rest,
+    /// The socket has no room: ask for readiness to write, and send again when it comes.
+    WaitForRoom,
+    /// There may be more to do at once: come again after the other connections had their turn. No event will say so.
+    ComeAgain,
+    /// A region or another message is in front: look at `current`, send it by your own means, and `remove` it.
+    SendFront,
+    /// The connection is closed, since its socket is broken or since you closed it: drop both.
+    Closed,
+}
