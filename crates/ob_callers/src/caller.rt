@@ -91,7 +91,7 @@ pub fn renew<P: Peer>(buffer: &mut Buffer, peer: &mut P, alloc: Global) -> Resul
     Ok(())
 }
 
-/// Whether more may be written: whatever commands the buffer was given, just where the word after them is 0.
+/// Whether more may be written: whatever commands the buffer was given, exactly if the word after them is 0.
 pub fn may_write(buffer: &Buffer) -> bool
     ensures { (commands : List Command) → StandsFor buffer.now commands
         → IsTrue result ↔ (word_after buffer.now.settings commands ≡ 0) }

@@ -64,9 +64,9 @@ pub struct Driven {
 /// transport beside them, and writes the lines of the report. All lines are read before a thread starts. What the drive came
 /// to is answered.
 ///
-/// `Line` comes where a line is faulty, `Read` where the reader fails or 33554432 reads do not bring the script to its
-/// end, `TooLong` where it has more than 16777216 bytes, `Drive` where the drive comes to no report, `Write` where the
-/// writer fails, and `NoMemory` where the allocator refuses before the drive or behind it.
+/// `Line` comes if a line is faulty, `Read` if the reader fails or 33554432 reads do not bring the script to its
+/// end, `TooLong` if it has more than 16777216 bytes, `Drive` if the drive comes to no report, `Write` if the
+/// writer fails, and `NoMemory` if the allocator refuses before the drive or behind it.
 pub fn drive_script<H: AllocGlobal + Threads + Wait + Clock + Sync, R: Read, W: Write>(
     rt: &H,
     reader: &mut R,

@@ -21,8 +21,8 @@ use std::io::{Read, Write};
 /// trace for each. A command that finds as many records as the limit of the options is refused, and traced as refused.
 /// The first faulty line ends the script; the lines before it are carried out and traced.
 ///
-/// `Line` comes where a line is faulty, `Read` where the reader fails or 33554432 reads do not bring the script to its
-/// end, `TooLong` where it has more than 16777216 bytes, `Write` where the writer fails, and `NoMemory` where the
+/// `Line` comes if a line is faulty, `Read` if the reader fails or 33554432 reads do not bring the script to its
+/// end, `TooLong` if it has more than 16777216 bytes, `Write` if the writer fails, and `NoMemory` if the
 /// allocator refuses.
 pub fn run<R: Read, W: Write>(
     alloc: Global,

@@ -18,8 +18,8 @@ use std::io::{Read, Write};
 /// Reads a core script to its end, gives the turns of its lines to a world with its lanes, and writes a line of trace
 /// for each line and a last one. The first faulty line ends the script; the lines before it are carried out and traced.
 ///
-/// `Line` comes where a line is faulty, `Read` where the reader fails or 33554432 reads do not bring the script to its
-/// end, `TooLong` where it has more than 16777216 bytes, `Write` where the writer fails, and `NoMemory` where the
+/// `Line` comes if a line is faulty, `Read` if the reader fails or 33554432 reads do not bring the script to its
+/// end, `TooLong` if it has more than 16777216 bytes, `Write` if the writer fails, and `NoMemory` if the
 /// allocator refuses.
 pub fn core<R: Read, W: Write>(
     alloc: Global,

@@ -55,7 +55,7 @@ fn marks(low: Result<u32, NoAnswer>, high: Result<u32, NoAnswer>) -> Result<Wate
     Ok(WaterMark::new(low?, high?)?)
 }
 
-/// A block of so many bytes, which count up from this one.
+/// A block of *n* bytes, which count up from this one.
 pub fn block(alloc: Global, first: u8, length: u64) -> Result<Message, AllocError> {
     let mut bytes = Vec::new(alloc);
     for k in 0..length {

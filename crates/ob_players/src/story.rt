@@ -55,7 +55,7 @@ impl<P: Player> Player for Again<P> {
     }
 }
 
-/// A line that was answered otherwise than its story says.
+/// A line whose answer is another than its story says.
 #[derive(Debug, Drop)]
 pub struct Otherwise<'a> {
     /// What the story says is so.
@@ -88,9 +88,9 @@ impl<'a> Story<'a> {
         }
     }
 
-    /// Asks a player all lines: the first one that is answered otherwise is told.
+    /// Asks a player all lines, and returns the first mismatch.
     pub fn play<P: Player>(self, alloc: Global, player: &mut P) -> Result<(), Otherwise<'a>> {
-        // an answer takes no memory, so that it is not asked again for its text
+        // an answer does not allocate, so that it is not asked again for its text
         let asked = String::with_capacity(alloc, LONGEST);
         let Ok(mut text) = asked.or_else(|_| String::with_capacity(alloc, LONGEST)) else {
             let told = Err(NoAnswer::NoMemory);
@@ -118,7 +118,7 @@ impl<'a> Story<'a> {
     }
 }
 
-/// What the first line asks and wants that is answered otherwise, and why it has no answer if it has none. The text is
+/// What the first line asks and wants at a mismatch, and why it has no answer if it has none. The text is
 /// what was answered last.
 fn first_otherwise<'a, P: Player>(
     player: &mut P,
@@ -139,7 +139,7 @@ fn first_otherwise<'a, P: Player>(
     None
 }
 
-/// Asks a line so many times: what is told the last time.
+/// Asks a line *n* times: what is told the last time.
 fn ask<P: Player>(
     player: &mut P,
     asked: &str,

@@ -36,7 +36,7 @@ use std::time::Clock;
 ///
 /// Writer w is caller w of one shared buffer, and the transport is the last caller. A write charges its writer's lane
 /// with the estimate of the message and the bytes of a hand-off, calls the buffer, and discharges. A command that the
-/// buffer refuses is recorded, and no fault. The transport makes one pass at a desk. Where the sink fails, it fails all
+/// buffer refuses is recorded, and no fault. The transport makes one pass at a desk. If the sink fails, it fails all
 /// that is flushed, for the fault's number, and goes on. It ends when all writers have ended and nothing is flushed or
 /// the sink takes nothing, or after `turns` passes. With nothing to do while a writer runs it sleeps a millisecond.
 ///

@@ -119,7 +119,7 @@ impl Model for CheckedPlans {
     } };
 }
 
-/// Plans with the room that they need, or their first fault. It takes no memory.
+/// Plans with the room that they need, or their first fault. It does not allocate.
 pub fn check(estimate: Estimate, task: u32, plans: Vec<Plan>) -> Result<CheckedPlans, DriveFault>
     ensures fault { IfErr result (λ fault. plans_fault estimate task plans.items ≡ Some fault) }
     ensures early { IfErr result (λ fault. number_of fault ≤ 3) }
@@ -141,7 +141,7 @@ pub fn check(estimate: Estimate, task: u32, plans: Vec<Plan>) -> Result<CheckedP
     }
 }
 
-/// Plans with the room that they need, or nothing where that is more than a word of 32 bits counts.
+/// Plans with the room that they need, or nothing if that is more than a word of 32 bits counts.
 fn with_rooms(estimate: Estimate, task: u32, plans: Vec<Plan>) -> Option<CheckedPlans>
     requires { length plans.items ≤ most_lanes }
     ensures estimate { IfSome result (λ checked. checked.estimate ≡ estimate) }

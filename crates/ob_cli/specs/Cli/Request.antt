@@ -25,12 +25,12 @@ requested_fault (Drive options) script = script_fault drive_grammar script
 requested_fault Summary script = script_fault trace_grammar script
 requested_fault (Draw marks) script = script_fault trace_grammar script
 
--- a drive writes its report and nothing else, and where a line is faulty it writes nothing
+-- a drive writes its report and nothing else, and if a line is faulty it writes nothing
 abbrev pub WritesDrive : Options → List ℕ → Option (ℕ × LineFault) → Option (List ℕ) → Option (List ℕ) → Type 0
 WritesDrive options script None old new = WritesReport options (plans_of (script_lines drive_grammar script)) old new
 WritesDrive options script (Some fault) old new = Keeps old new
 
--- what is asked for is written and nothing else, where this fault, if any, ends the script: the trace, what a drive
+-- what is asked for is written and nothing else, if this fault, if any, ends the script: the trace, what a drive
 -- writes, or what is told of a trace
 abbrev pub WritesRequested : Request → List ℕ → Option (ℕ × LineFault) → Option (List ℕ) → Option (List ℕ) → Type 0
 WritesRequested (Run options) script fault old new =

@@ -15,6 +15,6 @@ scale_of shown high = record {
 abbrev pub x_of : Scale → ℕ → ℕ
 x_of scale place = 1120 + nearest (7520 * place) (greater scale.lines 1)
 
--- where so many bytes stand, from the top
+-- where *n* bytes stand, from the top
 abbrev pub y_of : Scale → ℕ → ℕ
 y_of scale total = 3500 - nearest (306000 * total) (108 * greater scale.most 1)

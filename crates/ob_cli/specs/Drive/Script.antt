@@ -16,7 +16,7 @@ use Rattle.ob_cli.specs.declared.drive.line.WriterAction.{WriterAction}
 use Rattle.ob_cli.specs.declared.drive.line.WriterAction.TheVariants as action
 use Rattle.ob_cli.specs.declared.drive.line.WriterLine.{WriterLine}
 
--- the write of a writer's block: so many bytes, each of them the number of the writer
+-- the write of a writer's block: *n* bytes, each of them the number of the writer
 abbrev pub writer_block : ℕ → ℕ → Command
 writer_block writer size = command.Write (message.Block (replicate size writer))
 
@@ -25,7 +25,7 @@ abbrev pub commands_of_action : ℕ → WriterAction → List Command
 commands_of_action writer (action.Blocks size count) = replicate count (writer_block writer size)
 commands_of_action writer (action.Command given) = given ∷ []
 
--- the commands that a line has for this writer: none where it is a line of another
+-- the commands that a line has for this writer: none if it is a line of another
 abbrev pub commands_for : ℕ → WriterLine → List Command
 commands_for writer own = if own.writer == writer then commands_of_action writer own.action else []
 
@@ -44,7 +44,7 @@ writer_lines lines = filter_map writer_line_of lines
 abbrev pub plan_of : List WriterLine → ℕ → List Command
 plan_of lines writer = flat_map (commands_for writer) lines
 
--- how many writers there are: one more than the greatest, and none where no line is a writer's
+-- how many writers there are: one more than the greatest, and none if no line is a writer's
 abbrev pub writers_in : List WriterLine → ℕ
 writers_in lines = greatest (map (λ own. suc own.writer) lines)
 
@@ -84,11 +84,11 @@ passes_of (line.Turns count) = Some count
 abbrev pub first_told : (DriveLine → Option ℕ) → List DriveLine → Option ℕ
 first_told told lines = slice_get (filter_map told lines) 0
 
--- how much a call of the sink takes at most once its steps are used: all that can be offered where no line tells it
+-- how much a call of the sink takes at most once its steps are used: all that can be offered if no line tells it
 abbrev pub most_after : List DriveLine → ℕ
 most_after lines = unwrap_or (first_told after_of lines) 18446744073709551615
 
--- how many passes the transport makes at most: a million where no line tells it
+-- how many passes the transport makes at most: a million if no line tells it
 abbrev pub most_passes : List DriveLine → ℕ
 most_passes lines = unwrap_or (first_told passes_of lines) 1000000
 

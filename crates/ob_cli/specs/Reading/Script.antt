@@ -32,7 +32,7 @@ all_placed grammar before (Ok line ∷ readings) =
     placed grammar before line ∷ all_placed grammar (before ++ line ∷ []) readings
 all_placed grammar before (Err fault ∷ readings) = Err fault ∷ []
 
--- what each line of a script says, where these lines stand before it
+-- what each line of a script says, if these lines stand before it
 abbrev pub readings_behind : {L : Type 0} → Grammar L → List L → List ℕ → List (Result L LineFault)
 readings_behind grammar before script = all_placed grammar before (map grammar.reading (lines_of script))
 

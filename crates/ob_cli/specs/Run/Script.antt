@@ -19,7 +19,7 @@ use Rattle.ob_cli.specs.Run.Text.{command_text, gathered_text, look_text}
 use Rattle.ob_cli.specs.declared.run.line.RunLine.{RunLine}
 use Rattle.ob_cli.specs.declared.run.line.RunLine.TheVariants as line
 
--- the bytes of a script's block: byte k is (a + k) mod 256, where a writes were accepted before it
+-- the bytes of a script's block: byte k is (a + k) mod 256, if a writes were accepted before it
 abbrev pub block_bytes : ℕ → ℕ → List ℕ
 block_bytes accepted size = map (λ k. (accepted + k) % 256) (range_with_len 0 size)
 

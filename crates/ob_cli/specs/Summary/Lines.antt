@@ -63,7 +63,7 @@ abbrev pub tells_of : Change → TraceLine → Bool
 tells_of Unwritable = is_stop
 tells_of Writable = is_go
 
--- the pending bytes behind the last line that shows them; 0 where none does
+-- the pending bytes behind the last line that shows them; 0 if none does
 abbrev pub pending_behind : List TraceLine → ℕ
 pending_behind lines = option_map_or (λ line. line.total) (find shows_bytes (reverse lines)) 0
 

@@ -9,7 +9,7 @@ use Rattle.ob_cli.specs.declared.summary.settlements.Settlements.{Settlements}
 use Rattle.ob_cli.specs.declared.summary.top.Top.{Top}
 use Rattle.ob_cli.specs.declared.traces.line.TraceLine.{TraceLine}
 
--- how often a refusal stands there, where it does
+-- how often a refusal stands there, if it does
 abbrev pub refusal_text : (ℕ × ℕ) → List ℕ
 refusal_text refusal =
     if refusal.1 == 0 then [] else codes " !" ++ decimal refusal.0 ++ codes ":" ++ decimal refusal.1

@@ -10,7 +10,7 @@ use Rattle.ob_cli.specs.declared.reading.range.Range.{Range}
 use Rattle.ob_cli.specs.declared.traces.words.FirstOfTrace.{FirstOfTrace}
 use Rattle.ob_cli.specs.declared.traces.words.FirstOfTrace.TheVariants as first
 
--- the first words that there are, where they are no labels
+-- the first words that there are, unless they are labels
 abbrev pub first_words : List FirstOfTrace
 first_words =
     first.Id ∷ first.Count ∷ first.Yes ∷ first.No ∷ first.Done ∷ first.Gathered ∷ first.Added ∷ first.Subtracted

@@ -8,7 +8,7 @@ use Rattle.ob_cli.specs.declared.reading.fault.LineFault.{LineFault}
 use Rattle.ob_cli.specs.declared.script_fault.ScriptFault.{ScriptFault}
 use Rattle.ob_cli.specs.declared.script_fault.ScriptFault.TheVariants.{Line, Read, TooLong, Write, NoMemory, Drive}
 
--- the work on a script, where Shows says of a text that it came out: the whole trace and the script's fault, or, where
+-- the work on a script, if Shows says of a text that it came out: the whole trace and the script's fault, or, if
 -- memory ran out, the trace of some first lines; after a failed write nothing is said, and reading is over
 abbrev pub EndsWith :
     {T : Type 0} → List ℕ → (ℕ → List ℕ) → Option (ℕ × LineFault) → (List ℕ → Type 0) → Result T ScriptFault → Type 0

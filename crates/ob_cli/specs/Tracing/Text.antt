@@ -20,7 +20,7 @@ word_text word = codes " w=" ++ eight_hex word
 abbrev pub words_text : ℕ → ℕ → List ℕ
 words_text total word = codes " t=" ++ decimal total ++ word_text word
 
--- a change of writability, or nothing where there is none
+-- a change of writability, or nothing if there is none
 abbrev pub change_text : Option Change → List ℕ
 change_text None = []
 change_text (Some Unwritable) = codes " -"

@@ -10,7 +10,7 @@ trace_behind texts before [] = []
 trace_behind texts before (line ∷ lines) = texts.line_text before line
     ++ trace_behind texts (before ++ line ∷ []) lines
 
--- the text behind the lines of a script, by its fault: nothing where there is one
+-- the text behind the lines of a script, by its fault: nothing if there is one
 abbrev pub text_unless : Option (ℕ × LineFault) → List ℕ → List ℕ
 text_unless None text = text
 text_unless (Some fault) text = []

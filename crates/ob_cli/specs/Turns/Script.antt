@@ -59,7 +59,7 @@ abbrev pub core_line_text : Marks → List CoreLine → CoreLine → List ℕ
 core_line_text marks before (line.Lane start) = lane_text (length (lanes_of before))
 core_line_text marks before (line.Turn turn) = turn_trace (core_behind marks before) turn
 
--- the last line of a trace, none where there is no lane
+-- the last line of a trace, none if there is no lane
 abbrev pub core_last_text : Marks → List CoreLine → List ℕ
 core_last_text marks lines =
     let core = core_behind marks lines in if has_lane lines then end_text (sum_owed core.lanes) else []

@@ -12,25 +12,25 @@ use ob_types::{Estimate, Refusal, WaterMark};
 use std::alloc::Global;
 use std::convert::AsStr;
 
-/// The low mark where none is given, in bytes.
+/// The low mark if none is given, in bytes.
 const LOW: u32 = 32768;
 
-/// The high mark where none is given, in bytes.
+/// The high mark if none is given, in bytes.
 const HIGH: u32 = 65536;
 
-/// The bytes added for each message where no number is given.
+/// The bytes added for each message if no number is given.
 const OVERHEAD: u16 = 96;
 
-/// The bytes of a message of unknown size where no number is given.
+/// The bytes of a message of unknown size if no number is given.
 const UNKNOWN: u16 = 8;
 
-/// The bytes that a hand-off adds to a message where no number is given.
+/// The bytes that a hand-off adds to a message if no number is given.
 const TASK: u16 = 32;
 
 /// What the program's words ask for: its name, a subcommand, and the options of that.
 ///
-/// `CommandLine` comes where `clap` refuses the words, or is asked for help or the version, `NoSubcommand` where they
-/// name none, `BadMarks` where the low mark is above the high one, and `NoMemory` where the allocator refuses.
+/// `CommandLine` comes if `clap` refuses the words, or is asked for help or the version, `NoSubcommand` if they
+/// name none, `BadMarks` if the low mark is above the high one, and `NoMemory` if the allocator refuses.
 pub fn request_of<'a, S: AsStr>(alloc: Global, words: &'a [S]) -> Result<Request, EntryFault>
     ensures { IfErr result (λ fault. (exit_status_of fault ≡ 1) ⊎ (exit_status_of fault ≡ 4)) }
 {
@@ -53,7 +53,7 @@ fn request(matches: &ArgMatches<'_>) -> Result<Request, EntryFault>
     }
 }
 
-/// What the options of this subcommand ask for, or nothing where no subcommand has the name. It is refused where the
+/// What the options of this subcommand ask for, or nothing if no subcommand has the name. It is refused if the
 /// low mark is above the high one.
 fn request_of_subcommand(name: &str, given: &ArgMatches<'_>) -> Result<Option<Request>, Refusal> {
     match name {

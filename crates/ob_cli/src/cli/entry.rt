@@ -159,7 +159,7 @@ fn tell_more<E: Write>(alloc: Global, options: &Options, driven: &Driven, errors
     }
 }
 
-/// Tells a fault in its text and one byte 10. Where that fails there is nobody left to tell.
+/// Tells a fault in its text and one byte 10. If that fails there is nobody left to tell.
 fn print_fault<E: Write>(fault: &EntryFault, errors: &mut E) {
     let _ = match fault {
         EntryFault::CommandLine(error) => write!(errors, "{error}"),

@@ -11,7 +11,7 @@ const VERSION: &str = "0.1.0";
 /// The greatest mark, in bytes.
 const MAX_MARK: i64 = 2147483647;
 
-/// The most records of a history, which is also its limit where none is given.
+/// The most records of a history, which is also its limit if none is given.
 pub const MAX_RECORDS: u32 = 1048576;
 
 /// A subcommand. Its help ends with `help`.

@@ -65,7 +65,7 @@ fn line_at(shown: &[TraceLine], place: u32) -> TraceLine
     }
 }
 
-/// How many lines from this place on show no writable buffer, where the one before shows one.
+/// How many lines from this place on show no writable buffer, if the one before shows one.
 fn stretch_at(shown: &[TraceLine], place: u32) -> u32
     requires few { length shown.now ≤ greatest_script }
     ensures { result ≡ stretch_at shown.now place }

@@ -38,7 +38,7 @@ impl Scale {
         1120 + nearest(7520 * place, u64::from(greater(self.lines, 1)))
     }
 
-    /// Where so many bytes stand, in tenths of a pixel from the top.
+    /// Where `bytes` stand, in tenths of a pixel from the top.
     pub fn y(self, total: u32) -> u64
         ensures { result ≡ y_of self total }
     {

@@ -56,7 +56,7 @@ fn push_action(alloc: Global, plan: &mut Vec<Command>, line: &WriterLine) -> Res
     }
 }
 
-/// The write of a writer's block of so many bytes.
+/// The write of a writer's block of *n* bytes.
 fn block_write(alloc: Global, writer: u8, size: u64) -> Result<Command, AllocError>
     ensures { IfOk result (λ command. command ≡ writer_block writer size) }
 {
@@ -64,7 +64,7 @@ fn block_write(alloc: Global, writer: u8, size: u64) -> Result<Command, AllocErr
     Ok(Command::Write(Message::Block(Bytes::from_vec(bytes)?)))
 }
 
-/// Adds so many copies of a command.
+/// Adds `count` copies of a command.
 fn push_copies(plan: &mut Vec<Command>, command: &Command, count: u32) -> Result<(), AllocError>
     ensures { OnOk result (plan.new.items ≡ plan.old.items ++ replicate count command.now) }
 {

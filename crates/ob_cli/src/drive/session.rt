@@ -12,10 +12,10 @@ use crate::reading::line::read_line;
 use ob_transport::{ScriptSink, SinkStep};
 use std::alloc::{AllocError, Global};
 
-/// How much a call of the sink takes where no line tells it: all that can be offered.
+/// How much a call of the sink takes if no line tells it: all that can be offered.
 const ALL: u64 = u64::MAX;
 
-/// How many passes the transport makes at most where no line tells it.
+/// How many passes the transport makes at most if no line tells it.
 const MOST_PASSES: u32 = 1000000;
 
 /// What is kept of the lines of a drive script, while they are read.
@@ -25,9 +25,9 @@ pub struct DriveSession {
     pub writers: Vec<WriterLine>,
     /// What the sink does in its first calls.
     pub steps: Vec<SinkStep>,
-    /// How much each later call of the sink takes at most, where a line tells it.
+    /// How much each later call of the sink takes at most, if a line tells it.
     pub after: Option<u64>,
-    /// How many passes the transport makes at most, where a line tells it.
+    /// How many passes the transport makes at most, if a line tells it.
     pub turns: Option<u32>,
 }
 
@@ -59,7 +59,7 @@ impl DriveSession {
         ScriptSink::new(self.steps, self.after.unwrap_or(ALL))
     }
 
-    /// Keeps what a line tells, or answers `false` where the line is misplaced. It fails for want of memory alone. Of
+    /// Keeps what a line tells, or returns `false` if the line is misplaced. It fails only out of memory. Of
     /// itself nothing is said then, nor after a misplaced line.
     pub fn keep(&mut self, line: DriveLine) -> Result<bool, AllocError>
         ensures fits { IfOk result (λ fits. (before : List DriveLine) → HasKept self.old before

@@ -20,7 +20,7 @@ pub enum DriveWord {
     Flush,
     /// `x W ID`: writer W cancels the promise ID.
     Cancel,
-    /// `u W I V`: writer W sets the user bit I, or clears it where V is 1.
+    /// `u W I V`: writer W sets the user bit I, or clears it if V is 1.
     UserBit,
     /// `m W LOW HIGH`: writer W sets the marks of the buffer to LOW and HIGH.
     SetMarks,

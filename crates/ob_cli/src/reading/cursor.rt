@@ -125,7 +125,7 @@ impl Cursor {
     }
 }
 
-/// What stands behind so many bytes.
+/// What stands behind *n* bytes.
 fn behind(script: &[u8], read: usize) -> &[u8]
     requires { read ≤ length script.now }
     ensures { result.now ≡ drop read script.now }
@@ -133,7 +133,7 @@ fn behind(script: &[u8], read: usize) -> &[u8]
     &script[read..]
 }
 
-/// How many bytes of so many are to be read before their memory is given back: seven eighths, and a piece at least.
+/// How many bytes of *n* are to be read before their memory is given back: seven eighths, and a piece at least.
 fn enough_of(bytes: usize) -> usize {
     PIECE.max(bytes - bytes / 8)
 }

@@ -17,7 +17,7 @@ pub enum LineFault {
     OutOfRange = 3,
     /// It stands where it may not, or does not go with the lines before it, or its numbers do not fit one another.
     Misplaced = 7,
-    /// It is a line of no trace, where a trace is read.
+    /// It is a line of no trace, when a trace is read.
     OfNoTrace = 8,
 }
 

@@ -25,7 +25,7 @@ pub trait FirstWord: Copy + 'static {
         ensures value { result.now ≡ (table.kind_of self).ranges }
         ensures few { length result.now ≤ 3 };
 
-    /// What a line with this first word asks, by its numbers, or nothing where they do not fit one another.
+    /// What a line with this first word asks, by its numbers, or nothing if they do not fit one another.
     fn line(self, numbers: [u64; 3]) -> Option<Self::Line>
         requires { AreWithin (table.kind_of self).ranges numbers }
         ensures { result ≡ (table.kind_of self).asked (λ place. slice_index numbers place) };

@@ -27,7 +27,7 @@ pub fn first_word(piece: &[u8]) -> (&[u8], &[u8])
     piece.split_at(end)
 }
 
-/// The place of the first such byte, or the number of bytes where there is none.
+/// The place of the first such byte, or the number of bytes if there is none.
 pub fn index_or_len(bytes: &[u8], byte: u8) -> usize
     ensures place { result ≡ position_or_len (λ b. b == byte) bytes.now }
     ensures within { result ≤ length bytes.now }

@@ -35,7 +35,7 @@ pub fn read_all_numbers(ranges: &[Range], after: &[u8]) -> Result<[u64; MAX_NUMB
     read_numbers(ranges, after)
 }
 
-/// The number behind a space where one is asked for, or its fault. Where anything but one to nineteen digits is there,
+/// The number behind a space if one is asked for, or its fault. If anything but one to nineteen digits is there,
 /// nothing is said.
 fn one_number(ranges: &[Range], after: &[u8]) -> Option<Result<u64, LineFault>>
     requires space { 0 < length after.now → slice_index after.now 0 ≡ 32 }

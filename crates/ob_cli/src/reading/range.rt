@@ -47,9 +47,9 @@ pub const MARK: Range = up_to!(2147483647);
 pub const FLAG: Range = up_to!(1);
 
 impl Range {
-    /// The number that the word writes in decimal digits, where zeros may lead.
+    /// The number that the word writes in decimal digits, with leading zeros allowed.
     ///
-    /// `NotANumber` comes where the word is empty or has another byte than a digit, and then `OutOfRange` where
+    /// `NotANumber` comes if the word is empty or has another byte than a digit, and then `OutOfRange` if
     /// the number is outside the range.
     pub fn read(self, word: &[u8]) -> Result<u64, LineFault>
         ensures { result ≡ number_in self word.now }
@@ -112,7 +112,7 @@ pub fn short_number(word: &[u8]) -> Option<u64>
     Some(value)
 }
 
-/// The number that any digits write, or nothing where it is 2^64 or more.
+/// The number that any digits write, or nothing if it is 2^64 or more.
 fn long_value(word: &[u8]) -> Option<u64>
     requires { IsTrue (list_all is_ascii_digit word.now) }
     ensures { result ≡ (if nat_lt (digits_value 10 word.now) (2 ^ 64) then Some (digits_value 10 word.now) else None) }
@@ -127,7 +127,7 @@ fn long_value(word: &[u8]) -> Option<u64>
     Some(value)
 }
 
-/// The number with one more digit behind it, or nothing where that is 2^64 or more.
+/// The number with one more digit behind it, or nothing if that is 2^64 or more.
 fn with_digit(value: u64, digit: u8) -> Option<u64>
     requires { IsTrue (is_ascii_digit digit) }
     ensures { SomeIff result (value * 10 + (digit - 48) < 2 ^ 64) (value * 10 + (digit - 48)) }

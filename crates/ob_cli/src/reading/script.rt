@@ -13,10 +13,10 @@ const MAX_SCRIPT: usize = 16777216;
 /// How many bytes a read asks for.
 const PIECE: usize = 65536;
 
-/// Reads a script to its end, in so many reads at most.
+/// Reads a script to its end, in *n* reads at most.
 ///
-/// `TooLong` comes where it has more than 16777216 bytes, `Read` where the reader fails or where the reads did not
-/// reach the end (a read that was interrupted counts, and is tried again), `NoMemory` where the allocator refuses.
+/// `TooLong` comes if it has more than 16777216 bytes, `Read` if the reader fails or if the reads did not
+/// reach the end (a read that was interrupted counts, and is tried again), `NoMemory` if the allocator refuses.
 pub fn read_script<R: Read>(
     alloc: Global,
     reader: &mut R,
@@ -74,7 +74,7 @@ fn read_piece<R: Read>(
     }
 }
 
-/// So many zero bytes.
+/// *n* zero bytes.
 fn zeros(alloc: Global, count: usize) -> Result<Vec<u8>, AllocError>
     ensures { IfOk result (λ bytes. length bytes.items ≡ count) }
 {

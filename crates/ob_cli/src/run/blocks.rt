@@ -27,7 +27,7 @@ impl Blocks {
         Blocks { counting: None }
     }
 
-    /// A script's block of so many bytes, which count up from the first one, and from 255 on to 0.
+    /// A script's block of *n* bytes, which count up from the first one, and from 255 on to 0.
     pub fn block(&mut self, alloc: Global, first: u8, size: u64) -> Result<Bytes, AllocError>
         ensures { IfOk result (λ bytes. bytes ≡ block_bytes first size) }
     {
@@ -38,7 +38,7 @@ impl Blocks {
         self.shared(alloc)?.slice(start..start + size as usize)
     }
 
-    /// The bytes that count up from 0, made where there are none yet.
+    /// The bytes that count up from 0, made if there are none yet.
     fn shared(&mut self, alloc: Global) -> Result<&Bytes, AllocError>
         ensures { IfOk result (λ bytes. bytes.now ≡ block_bytes 0 4351) }
     {
@@ -61,7 +61,7 @@ fn block(alloc: Global, first: u8, size: u64) -> Result<Bytes, AllocError>
     Ok(Bytes::from_vec(bytes)?)
 }
 
-/// So many bytes, counted up from the first one.
+/// *n* bytes, counted up from the first one.
 fn counted_up(alloc: Global, first: u8, size: u64) -> Result<Vec<u8>, AllocError>
     ensures { IfOk result (λ bytes. bytes.items ≡ map (λ k. (first + k % 256) % 256) (range_with_len 0 size)) }
 {

@@ -47,7 +47,7 @@ impl RunSession {
         }
     }
 
-    /// Carries out a line and adds its trace to the text. It fails for want of memory alone.
+    /// Carries out a line and adds its trace to the text. It fails only out of memory.
     fn carry_out_line(
         &mut self,
         alloc: Global,
@@ -70,7 +70,7 @@ impl RunSession {
         }
     }
 
-    /// The write of a script's block of so many bytes.
+    /// The write of a script's block of *n* bytes.
     fn block_write(&mut self, alloc: Global, size: u64) -> Result<Command, AllocError>
         ensures options { self.new.options ≡ self.old.options }
         ensures same { self.new.recorded ≡ self.old.recorded }
@@ -118,8 +118,8 @@ impl RunSession {
         }
     }
 
-    /// Gives a command to the buffer and records the call, or answers `false` where the history is full. It fails for
-    /// want of memory alone, and so never where the history is full.
+    /// Gives a command to the buffer and records the call, or returns `false` if the history is full. It fails for
+    /// lack of memory alone, and so never if the history is full.
     fn call(&mut self, command: Command) -> Result<bool, AllocError>
         ensures options { self.new.options ≡ self.old.options }
         ensures after { OnOk result (self.new.recorded ≡ history_after self.old.recorded 0 command) }

@@ -26,11 +26,11 @@ pub enum RunWord {
     Progress,
     /// `x ID`: cancel the promise ID.
     Cancel,
-    /// `fl C V`: fail all flushed messages with the cause C, with notice of the fall where V is 1.
+    /// `fl C V`: fail all flushed messages with the cause C, with notice of the fall if V is 1.
     FailFlushed,
     /// `cl C`: close with the cause C.
     Close,
-    /// `u I V`: set the user bit I, or clear it where V is 1.
+    /// `u I V`: set the user bit I, or clear it if V is 1.
     UserBit,
     /// `m LOW HIGH`: set the marks to LOW and HIGH.
     SetMarks,

@@ -59,7 +59,7 @@ pub fn count_changes(lines: &[TraceLine], change: Change) -> usize
         .count()
 }
 
-/// The pending bytes behind the last line that shows them; 0 where none does.
+/// The pending bytes behind the last line that shows them; 0 if none does.
 pub fn pending(lines: &[TraceLine]) -> u32
     ensures { result ≡ pending_behind lines.now }
 {

@@ -70,7 +70,7 @@ fn push_refusals(text: &mut String, refusals: &[(u8, usize)]) -> Result<(), Allo
     Ok(())
 }
 
-/// Adds how often a refusal stands there, where it does.
+/// Adds how often a refusal stands there, if it does.
 fn push_refusal(text: &mut String, refusal: (u8, usize)) -> Result<(), AllocError>
     ensures { OnOk result (string_bytes text.new ≡ string_bytes text.old ++ refusal_text refusal) }
 {
@@ -104,7 +104,7 @@ fn push_longest(text: &mut String, longest: Option<Top>) -> Result<(), AllocErro
     }
 }
 
-/// Adds the line of a stretch of so many lines.
+/// Adds the line of a stretch of *n* lines.
 fn push_stretch(text: &mut String, lines: u32, first: u64) -> Result<(), AllocError>
     ensures { OnOk result (string_bytes text.new ≡ string_bytes text.old ++ stretch_text lines first) }
 {

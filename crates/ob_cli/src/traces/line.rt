@@ -4,11 +4,11 @@ use ob_types::Change;
 #[derive(Clone, Copy)]
 pub struct TraceLine {
     pub told: Told,
-    /// The pending bytes; 0 where it shows none.
+    /// The pending bytes; 0 if it shows none.
     pub total: u32,
-    /// Whether the word is 0, and also where it shows none.
+    /// Whether the word is 0, and also if it shows none.
     pub is_writable: bool,
-    /// The change of writability, where there is one.
+    /// The change of writability, if there is one.
     pub change: Option<Change>,
     pub settled: Settled,
 }

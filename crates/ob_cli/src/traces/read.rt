@@ -33,7 +33,7 @@ pub fn read_trace_line(line: &[u8]) -> Result<TraceLine, LineFault>
     line_of(line).ok_or(LineFault::OfNoTrace)
 }
 
-/// What a line of a trace shows, or nothing where it is of no trace.
+/// What a line of a trace shows, or nothing if it is of no trace.
 fn line_of(line: &[u8]) -> Option<TraceLine>
     requires small { length line.now ≤ greatest_script }
     ensures { result ≡ line_shown line.now }

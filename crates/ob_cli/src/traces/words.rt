@@ -5,7 +5,7 @@ ghost use Rattle.ob_cli.specs.Traces.Words.{first_text, labelled, word_of_first}
 use crate::reading::lines::first_word;
 use crate::reading::range::Range;
 
-/// The first word of a line that tells of a command, of a turn or of a gathering, where it is no label.
+/// The first word of a line that tells of a command, of a turn or of a gathering, unless it is a label.
 #[derive(Clone, Copy)]
 pub enum FirstOfTrace {
     Id,

@@ -12,8 +12,8 @@ pub trait Interpreter: Grammar + Drop {
     /// It has carried out these lines.
     ghost HasDone: { Self → List Self.Line → Type 0 };
 
-    /// Carries out a line and adds its trace to the text, or answers `false` where the line is misplaced. It fails
-    /// for want of memory alone. Of itself and the text nothing is said then, nor after a misplaced line.
+    /// Carries out a line and adds its trace to the text, or returns `false` if the line is misplaced. It fails
+    /// only out of memory. Of itself and the text nothing is said then, nor after a misplaced line.
     fn carry_out(
         &mut self,
         alloc: Global,

@@ -66,7 +66,7 @@ pub fn trace_lines<I: Interpreter, W: io::Write>(
     Ok(())
 }
 
-/// Carries out one line, and adds its trace to what waits, or answers `false` where the line is misplaced.
+/// Carries out one line, and adds its trace to what waits, or returns `false` if the line is misplaced.
 fn trace_line<I: Interpreter>(
     alloc: Global,
     interpreter: &mut I,

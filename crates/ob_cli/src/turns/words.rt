@@ -16,7 +16,7 @@ pub enum CoreWord {
     Charge,
     /// `d L`: lane L discharges.
     Discharge,
-    /// `u L I V`: lane L sets the user bit I, or clears it where V is 1.
+    /// `u L I V`: lane L sets the user bit I, or clears it if V is 1.
     Bit,
     /// `w L`: lane L reads the word.
     Word,

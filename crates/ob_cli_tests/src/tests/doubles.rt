@@ -14,7 +14,7 @@ pub struct Failing<T> {
 }
 
 impl<T> Failing<T> {
-    /// Behind so many calls the pipe is broken for one call.
+    /// After *n* calls the pipe is broken for one call.
     pub fn new(inner: T, calls: u32) -> Failing<T> {
         Failing {
             inner,

@@ -1,4 +1,4 @@
-//! A reader and a writer that fail, a script that is too long, and want of memory.
+//! A reader and a writer that fail, a script that is too long, and lack of memory.
 
 use crate::tests::doubles::Failing;
 use crate::tests::play::{Host, ended, leaves_of};
@@ -18,7 +18,7 @@ n 1 t=100 w=00000001 0:f7\nn 1 t=0 w=00000001 1:f7\n!4 t=0 w=00000001\n";
 /// More calls than any of these runs makes.
 const MANY: u32 = 1000;
 
-/// Runs the program while one byte comes or goes a call, and the one behind so many writes fails.
+/// Runs the program while one byte comes or goes a call, and the one after *n* writes fails.
 fn breaks<H: Host>(
     rt: &H,
     reader: Failing<&[u8]>,
@@ -38,7 +38,7 @@ fn breaks<H: Host>(
     Ok(())
 }
 
-/// The script, whose pipe is broken for the call behind so many.
+/// The script, whose pipe is broken for the call after *n*.
 fn script(calls: u32) -> Failing<&'static [u8]> {
     Failing::new(SCRIPT.as_bytes(), calls)
 }
@@ -102,7 +102,7 @@ fn reads_again_what_was_interrupted(rt: HostRuntime) -> Result<(), Fail> {
 }
 
 /// With ample memory the whole trace is written. If an allocation fails, as `rt try --test --fail-alloc` has it,
-/// the trace of the lines before is written, and want of memory is told.
+/// the trace of the lines before is written, and lack of memory is reported.
 #[test]
 fn writes_whole_lines_when_memory_runs_out(rt: HostRuntime) {
     // both have their room beforehand, so that the program alone may want memory

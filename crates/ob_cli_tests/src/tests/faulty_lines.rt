@@ -101,7 +101,7 @@ fn counts_the_bytes_of_a_line(rt: HostRuntime) -> Result<(), Fail> {
     Ok(())
 }
 
-/// A line that writes one byte, behind so many bytes of its number.
+/// A line that writes one byte, behind *n* bytes of its number.
 fn padded(alloc: Global, width: usize) -> Result<String, AllocError> {
     format!(in alloc; "b {:0>1$}\n", 1, width)
 }

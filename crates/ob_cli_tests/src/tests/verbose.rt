@@ -1,4 +1,4 @@
-//! What `drive --verbose` tells beside its report, where threads leave nothing open but the time.
+//! What `drive --verbose` tells beside its report, when threads leave nothing open but the time.
 
 use crate::tests::play::{Host, left};
 use std::test::Fail;

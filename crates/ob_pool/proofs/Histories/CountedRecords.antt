@@ -70,7 +70,7 @@ part_fits counts more rest fits = record {
   cancelled = omega arith;
 }
 
--- where the counts of all records fit, those so far do with the next record
+-- if the counts of all records fit, those so far do with the next record
 pub counts_fit : (writers : ℕ) (records : List Record) (index : ℕ) (one : Record) → index < length records →
     one ≡ slice_index_or records index one → DoFit (counts_of writers records) →
     DoFit (plus (counts_of writers (take index records)) (counts_of writers (one ∷ [])))

@@ -100,7 +100,7 @@ none_below kind (one ∷ records) =
     no_caller true = grind (arith, nat_tests)
     no_caller false = refl
 
--- the commands of a kind among those of callers from one on, where their work stand
+-- the commands of a kind among those of callers from one on, if their work stand
 below_all : (kind : Command → Bool) (records : List Record) (caller : ℕ) (plans : List (List Command)) →
     All (Stands records) (work_from caller plans) →
     below kind (caller + length plans) records ≡ below kind caller records + sum_by (count_by kind) plans
@@ -135,7 +135,7 @@ all_counted : {X : Type 0} (xs : List X) → count_by (λ x. true) xs ≡ length
 all_counted [] = refl
 all_counted (x ∷ xs) = omega (arith, sum_by-cons (λ x. 1) x xs, all_counted xs)
 
--- where as many records as there are have callers below one, all of them do
+-- if as many records as there are have callers below one, all of them do
 all_below : (caller : ℕ) (records : List Record) → length records ≤ below any_kind caller records →
     All (λ one. one.caller < caller) records
 all_below caller [] full = All-nil (λ (one : Record). one.caller < caller)
@@ -183,7 +183,7 @@ lengths (plan ∷ plans) =
       lengths plans,
     )
 
--- all records are of writers and of the caller behind them, where these made as many as there are
+-- all records are of writers and of the caller behind them, if these made as many as there are
 callers_within : (records : List Record) (plans : List (List Command)) (mine : List Command) →
     All (Stands records) (work_from 0 plans) → commands_of (length plans) records ≡ mine →
     sum_by length plans + length mine ≡ length records →

@@ -23,7 +23,7 @@ command_of one = one.command
 abbrev IfWriter : ℕ → Record → Type 0
 IfWriter writers one = one.caller < writers → IsPlanned one.command
 
--- where all that each writer recorded is planned, so is each of their records
+-- if all that each writer recorded is planned, so is each of their records
 planned_by : (writers : ℕ) (records : List Record) →
     ((writer : ℕ) → writer < writers → All IsPlanned (commands_of writer records)) → All (IfWriter writers) records
 planned_by writers [] planned = All-nil (IfWriter writers)
@@ -50,7 +50,7 @@ plan_at [] writer within = absurd (omega (arith, within))
 plan_at (plan ∷ plans) zero within = refl
 plan_at (plan ∷ plans) (suc writer) within = plan_at plans writer (omega (arith, within))
 
--- where plans of steps that may stand there are carried out, each record that is not of the caller behind the writers
+-- if plans of steps that may stand there are carried out, each record that is not of the caller behind the writers
 -- sends nothing
 pub others_send_nothing : (settings : Settings) (records : List Record) (plans : List (List Command)) →
     AreCarriedOut records plans → All (All IsPlanned) plans → All (λ one. one.caller ≤ length plans) records →

@@ -90,7 +90,7 @@ open_or_settled (suc id) settlements once =
       once_or_never (times_settled (record { 0 = id }) settlements) (once (record { 0 = id })),
     )
 
--- where all settlements are of promises below an id, all count
+-- if all settlements are of promises below an id, all count
 pub all_below : (id : ℕ) (settlements : List (PromiseId × Outcome)) → All (λ one. one.0.0 < id) settlements →
     below id settlements ≡ length settlements
 all_below id [] each = refl
@@ -134,7 +134,7 @@ pub settlements_of_both : (records more : List Record) →
     settlements_in (records ++ more) ≡ settlements_in records ++ settlements_in more
 settlements_of_both records more = flat_map-append (λ (one : Record). settled_by one.reply) records more
 
--- where promises are unknown from the writes on, and only known ones are settled, all settlements are of earlier ones
+-- if promises are unknown from the writes on, and only known ones are settled, all settlements are of earlier ones
 pub settled_within : (settings : Settings) (records : List Record) →
     ((id : PromiseId) (outcome : Outcome) →
     promise_after settings (accepted_commands records) id ≡ Some (Settled outcome)

@@ -14,7 +14,7 @@ pub last_holds : (Holds : Job → Type 0) (jobs others : List Job) (job : Job) �
 last_holds Holds jobs others job split all =
     All-contains Holds (others ++ job ∷ []) job (subst (All Holds) split all) (Contains-push others job)
 
--- and where there is room for all, there is room for it
+-- and if there is room for all, there is room for it
 pub last_room : (jobs others : List Job) (job : Job) (most : ℕ) → jobs ≡ others ++ job ∷ [] → room_for jobs ≤ most →
     job.room ≤ most
 last_room jobs others job most split within =
@@ -25,11 +25,11 @@ only_one : (jobs others : List Job) (job : Job) → length jobs < 2 → jobs ≡
 only_one jobs [] job few split = split
 only_one jobs (other ∷ others) job few split = absurd (omega (arith, few, ap length split, length_push others job))
 
--- a list as long as it says has fewer than two jobs where it says so
+-- a list as long as it says has fewer than two jobs if it says so
 few_items : {Z : Type 0} (jobs : Vec Job Z) → vec_len jobs < 2 → length jobs.items < 2
 few_items jobs few = omega (arith, few, jobs.ok)
 
--- so they are done where it is
+-- so they are done if it is
 pub one_done : {Z : Type 0} (jobs : Vec Job Z) (others : List Job) (job : Job) (before dones : List Handed) (done : Handed) →
     vec_len jobs < 2 → jobs.items ≡ others ++ job ∷ [] → before ≡ [] → dones ≡ before ++ done ∷ [] →
     done_by done ≡ asked job → AreDone jobs.items dones

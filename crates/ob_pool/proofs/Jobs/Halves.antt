@@ -19,7 +19,7 @@ pub both_done : (jobs others : List Job) (dones more all : List Handed) → AreD
 both_done jobs others dones more all done too is =
     ap (map done_by) is ∙ map-append done_by dones more ∙ ap₂ ◌++◌ done too ∙ sym (map-append asked jobs others)
 
--- and where both lists are handed in, as one
+-- and if both lists are handed in, as one
 pub both_handed_done : {Dones Fault : Type 0} (first second : Result Dones Fault) (items : Dones → List Handed)
     (jobs others : List Job) (all : List Handed) →
     IsOkAnd first (λ dones. IsOkAnd second (λ more. all ≡ items dones ++ items more)) →

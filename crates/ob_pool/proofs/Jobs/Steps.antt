@@ -6,7 +6,7 @@ use Rattle.ob_history.specs.declared.receipt.Receipt.{Receipt}
 use Rattle.ob_pool.specs.Planning.HandOff.{charge_for, room_of}
 use Rattle.ob_pool.specs.Threads.Job.{commands_in}
 
--- where there is room for what is left of a plan, there is room for all but its next command
+-- if there is room for what is left of a plan, there is room for all but its next command
 pub room_rest : (estimate : Estimate) (task : ℕ) (command : Command) (plan rest : List Command) (room : ℕ) →
     room_of estimate task plan ≤ room → plan ≡ command ∷ rest → room_of estimate task rest ≤ room
 room_rest estimate task command plan rest room within begin =
@@ -17,7 +17,7 @@ room_rest estimate task command plan rest room within begin =
     others_within : (one others all room : ℕ) → all ≡ max one others → all ≤ room → others ≤ room
     others_within one others all room both within = omega arith
 
--- where there is a place for each that is left, there is one for the next
+-- if there is a place for each that is left, there is one for the next
 pub place_next : {A : Type 0} (count places : ℕ) (one : A) (all rest : List A) → count + length all ≤ places →
     all ≡ one ∷ rest → count < places
 place_next count places one all rest within begin = omega (arith, within, ap length begin)

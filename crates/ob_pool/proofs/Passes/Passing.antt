@@ -120,7 +120,7 @@ module _ (caller : ℕ) (before : Standing) where
       by_front (Some (Region length)) is = by_rest length is (cases_lt (progress_in before.history) length)
       by_front (Some (Other value)) is = clears (RemoveWith (record { 0 = 1 })) refl result after (pass.other value is)
 
--- where a pass counts its failures, what fails more is not more than these
+-- if a pass counts its failures, what fails more is not more than these
 pub passed : (limits : Limits) (caller : ℕ) (before after : History) (sink now : Content)
     (result : Result Pass PassFault) →
     IsPass limits caller (standing before sink) result (standing after now) →

@@ -139,7 +139,7 @@ module _ (settings : Settings) where
         ∙ ap (λ units. units + sum_by (λ (one : Record). (sends one).units) more)
         (units_agree sends (sent_in settings before) before as_before ∙ sym (units_by_records settings before was))
 
-    -- where a sink takes just what is sent more, it has taken what the receipts behind the others send
+    -- if a sink takes just what is sent more, it has taken what the receipts behind the others send
     pub taken_more : (receipts : List Receipt) (start old new : Content) (bytes : List ℕ) (units : ℕ) →
         new.bytes ≡ old.bytes ++ bytes → sent_bytes settings (before ++ more) ≡ sent_bytes settings before ++ bytes →
         new.units ≡ old.units + units → sent_units settings (before ++ more) ≡ sent_units settings before + units →
@@ -212,7 +212,7 @@ module _ (settings : Settings) where
       (λ one quiet other rest. let none_sent = ap (λ (sent : Sent). sent.units) (quiet other) in omega (arith, none_sent))
       records none)
 
-  -- where a caller has the receipts of all its records, and all others send nothing, what is taken of its receipts is
+  -- if a caller has the receipts of all its records, and all others send nothing, what is taken of its receipts is
   -- what the history sends
   pub taken_whole : (records : List Record) (receipts : List Receipt) (caller : ℕ) (before after : Content) →
       IsLegal settings records → HasTakenOf settings records receipts before after →

@@ -8,7 +8,7 @@ use Rattle.ob_history.specs.declared.record.Record.{Record}
 abbrev pub commands_of : ℕ → List Record → List Command
 commands_of caller records = map (λ one. one.command) (records_of caller records)
 
--- plans are carried out in a history where the records of each writer carry the commands of its plan, in order
+-- plans are carried out in a history if the records of each writer carry the commands of its plan, in order
 abbrev pub AreCarriedOut : List Record → List (List Command) → Type 0
 AreCarriedOut records plans =
     (writer : ℕ) (plan : List Command) → slice_get plans writer ≡ Some plan → commands_of writer records ≡ plan

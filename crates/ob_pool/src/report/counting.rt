@@ -11,7 +11,7 @@ use ob_history::{
     a_history_tells_each_settled_promise,
 };
 
-/// The report of a finished history of so many writers, with what is left of the words of the hand-off.
+/// The report of a finished history of *n* writers, with what is left of the words of the hand-off.
 pub fn report_of(recorded: Recorded, writers: u32, hand: (u64, u32)) -> Report
     ensures recorded { result.recorded ≡ recorded }
     ensures counted { IsCounted writers result }
@@ -37,7 +37,7 @@ pub fn report_of(recorded: Recorded, writers: u32, hand: (u64, u32)) -> Report
     }
 }
 
-/// The counts of records, of which so many callers are writers.
+/// The counts of records, of which *n* callers are writers.
 fn counts_in(records: &[Record], writers: u32) -> Counts
     requires { DoFit (counts_of writers records.now) }
     ensures { result ≡ counts_of writers records.now }

@@ -47,7 +47,7 @@ impl Counts {
         }
     }
 
-    /// Counts one record more, of a history of so many writers.
+    /// Counts one record more, of a history of *n* writers.
     pub fn add(&mut self, one: &Record, writers: u32)
         requires { DoFit (plus self.old (counts_of writers (one.now ∷ []))) }
         ensures { self.new ≡ plus self.old (counts_of writers (one.now ∷ [])) }

@@ -19,7 +19,7 @@ use std::time::Clock;
 /// What writers come to: their lane, with all its room, and what they hand in, or the fault of the first of them.
 pub type JobsEnd<L> = (Lane, Result<Vec<Done<L>>, DriveFault>);
 
-/// Lets writers work, each in a thread of its own where one can be made. The list is halved down to one writer, with
+/// Lets writers work, each in a thread of its own if one can be made. The list is halved down to one writer, with
 /// the lane split before and joined after.
 #[cycle(run)]
 pub fn run_all<L: Named + Send + Sync, R: Threads + Wait + Clock + Sync, G: Gate + Sync>(

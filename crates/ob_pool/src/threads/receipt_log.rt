@@ -75,7 +75,7 @@ impl<'b, L: Named, K: Started> ReceiptLog<'b, L, K> {
         }
     }
 
-    /// Leaves the desk, and gives the receipts back, or nothing where one was lost.
+    /// Leaves the desk, and gives the receipts back, or nothing if one was lost.
     pub fn leave(self) -> (Share<L>, Option<Vec<Receipt>>)
         ensures share { result.0 ≡ share_after self.entry.held.maker self.entry.held.history.records }
         ensures opened { IsAsOpened L.opened self.entry.held.history }

@@ -26,7 +26,7 @@ use std::sync::atomic::{AtomicBool, Ordering};
 use std::thread::sleep;
 use std::time::{Clock, Duration};
 
-/// How many milliseconds the transport sleeps where there is nothing to do and a writer still runs.
+/// How many milliseconds the transport sleeps if there is nothing to do and a writer still runs.
 const NAP: u64 = 1;
 
 /// What comes after a pass.
@@ -87,7 +87,7 @@ pub fn transport<L: Named, S: Sink, R: Wait + Clock>(
     })
 }
 
-/// One pass at a desk. It gives back the share and the receipts, with those of its own calls, or no receipts where one
+/// One pass at a desk. It gives back the share and the receipts, with those of its own calls, or no receipts if one
 /// was lost.
 fn one_pass<L: Named, K: Started, S: Sink>(
     desk: Desk<'_, L>,
@@ -120,7 +120,7 @@ fn one_pass<L: Named, K: Started, S: Sink>(
     (share, receipts, end)
 }
 
-/// One pass. Where the sink fails, all that is flushed fails with its number as the cause, and with notice.
+/// One pass. If the sink fails, all that is flushed fails with its number as the cause, and with notice.
 fn pass_or_fail<B: Booked, S: Sink>(
     booked: &mut B,
     sink: &mut S,

@@ -86,7 +86,7 @@ fn calls(booked: &mut As, command: Command) -> Result<(), Refusal> {
     Ok(())
 }
 
-/// A sink that takes all it is offered in so many calls, and then fails once.
+/// A sink that takes all it is offered in *n* calls, and then fails once.
 fn steps(alloc: Global, before: u64) -> Result<Vec<SinkStep>, AllocError> {
     let mut steps = Vec::new(alloc);
     for _ in 0..before {

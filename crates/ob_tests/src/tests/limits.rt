@@ -29,7 +29,7 @@ fn push_in_turn(text: &mut String, count: Result<u32, Refusal>) -> Result<(), No
     Ok(write!(text, "{count} in turn")?)
 }
 
-/// Writes so many empty regions to a new buffer: how many answered the promises from the first on.
+/// Writes *n* empty regions to a new buffer: how many answered the promises from the first on.
 fn regions(buffer: &mut Buffer, count: u32) -> Result<u32, Refusal> {
     for id in 0..count {
         if buffer.write(Message::Region(0))?.answer != Answer::Id(PromiseId(id)) {
@@ -39,7 +39,7 @@ fn regions(buffer: &mut Buffer, count: u32) -> Result<u32, Refusal> {
     Ok(count)
 }
 
-/// Gives a new buffer so many cycles, of which each but the first one removes the message of the one before: how many
+/// Gives a new buffer *n* cycles, of which each but the first one removes the message of the one before: how many
 /// went so.
 pub fn cycles(buffer: &mut Buffer, count: u32) -> Result<u32, Refusal> {
     for id in 0..count {

@@ -39,7 +39,7 @@ impl Player for Schedule {
             "" => self.end(&world, text),
             _ => self.turn(&mut world, word, &mut words, text),
         };
-        // one call, where an assignment follows the fields of what it drops
+        // one call; an assignment follows the fields of what it drops
         drop(self.world.replace(world));
         told
     }

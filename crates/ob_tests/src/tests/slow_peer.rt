@@ -13,7 +13,7 @@ use ob_types::{Cause, Message, Outcome, PromiseId, Refusal};
 use std::alloc::{AllocError, Global};
 use std::test::Fail;
 
-/// The other end of a connection whose socket takes at most so many bytes at a time.
+/// The other end of a connection whose socket takes at most *n* bytes at a time.
 #[derive(Drop)]
 struct SlowPeer {
     takes: usize,
@@ -120,7 +120,7 @@ impl Connection {
     }
 }
 
-/// So many bytes of one value.
+/// *n* bytes of one value.
 fn response(alloc: Global, value: u32, length: u32) -> Result<Bytes, AllocError> {
     let value = value.min(255) as u8;
     Ok(Bytes::from_vec(vec![in alloc; value; length as usize]?)?)
@@ -133,7 +133,7 @@ fn write(buffer: &mut Buffer, peer: &mut SlowPeer, value: u32) -> Result<(), Ref
     Ok(())
 }
 
-/// Writes, flushes and removes so many messages.
+/// Writes, flushes and removes *n* messages.
 fn spend(buffer: &mut Buffer, writes: u32) -> Result<(), Refusal> {
     let _ = cycles(buffer, writes)?;
     let _ = buffer.remove()?;

@@ -73,7 +73,7 @@ fn is_copied(command: &Command) -> Result<bool, AllocError> {
     Ok(is_same)
 }
 
-/// The copy of a block wants memory, and has it here.
+/// The copy of a block may allocate, and has the memory here.
 #[test]
 fn each_command_is_copied(rt: HostRuntime) -> Result<(), Fail> {
     for command in &commands(rt.alloc())? {

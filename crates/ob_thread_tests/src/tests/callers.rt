@@ -50,13 +50,13 @@ impl<'b, L: Named, R: AllocGlobal + Wait + Clock> Player for Caller<'b, L, R> {
             "calls" => calls_by(hosted, done, asked, text),
             _ => in_turn(hosted, done, asked, text),
         };
-        // one call, where an assignment follows the fields of what it drops
+        // one call; an assignment follows the fields of what it drops
         drop(std::mem::replace(&mut self.done, done));
         told
     }
 }
 
-/// Says that it comes, waits until so many have come, or pauses for milliseconds.
+/// Says that it comes, waits until *n* have come, or pauses for milliseconds.
 fn meets<R: Clock>(
     rt: &R,
     come: &AtomicU64,
@@ -97,7 +97,7 @@ fn in_turn<L: Named, R: AllocGlobal + Wait>(
     }
 }
 
-/// `waits` for so many promises, one after another, which another caller `settles`; or `desk`, which sends what is
+/// `waits` for *n* promises, one after another, which another caller `settles`; or `desk`, which sends what is
 /// written at one desk.
 fn crosses<L: Named, R: Wait>(
     hosted: &Hosted<L, R>,

@@ -1,4 +1,4 @@
-//! Callers that make many calls, in turn or by chance.
+//! Callers that make many calls, in turn or at random.
 
 use crate::tests::callers::Told;
 use crate::tests::dice::Dice;
@@ -10,8 +10,8 @@ use ob_types::Command;
 use std::alloc::Global;
 use std::sync::Wait;
 
-/// Makes so many calls, each from a desk of its own, stops where one is not made, and adds how many were. They are the
-/// commands between the commas behind an `of` in turn, or by chance if there is none.
+/// Makes *n* calls, each from a desk of its own, stops if one is not made, and adds how many were. They are the
+/// commands between the commas behind an `of` in turn, or random ones if there is none.
 pub fn calls_by<L: Named, R: AllocGlobal + Wait>(
     hosted: &Hosted<L, R>,
     done: Done<L>,

@@ -130,7 +130,7 @@ fn plays<L: Named, R: AllocGlobal + Wait + Clock>(
     }
 }
 
-/// The numbers of two members. A word that is no number names none, and where there is no second word, it is the first
+/// The numbers of two members. A word that is no number names none, and if there is no second word, it is the first
 /// member.
 fn two_members(line: &str) -> (usize, usize) {
     let mut words = Words::of(line);

@@ -1,4 +1,4 @@
-//! Commands by chance, the same at each run.
+//! Random commands, the same at each run.
 
 ghost use Rattle.std.specs.Prelude.{◌<◌};
 
@@ -51,7 +51,7 @@ impl Dice {
         })
     }
 
-    /// Marks that are set, equal ones now and then; a flush where the low one would be above the high one.
+    /// Marks that are set, equal ones now and then; a flush if the low one would be above the high one.
     fn marks(&mut self) -> Command {
         match WaterMark::new(self.roll(20) * 100, self.roll(20) * 100) {
             Ok(marks) => Command::SetMarks(marks),

@@ -20,7 +20,7 @@ use std::test::Fail;
 use std::thread::Threads;
 use std::time::Clock;
 
-/// What a drive is given with these options: at most so many passes of at most 16 blocks and 65536 bytes.
+/// What a drive is given with these options: at most *n* passes of at most 16 blocks and 65536 bytes.
 fn config(options: Options, turns: u64) -> Result<Config, Refusal>
     ensures { IfOk result (λ config. AreWithin config) }
 {
@@ -63,7 +63,7 @@ impl Given {
     }
 }
 
-/// Gives a command to a writer, or to `each` of the first so many, a block as often as the last word says.
+/// Gives a command to a writer, or to `each` of the first *n*, a block as often as the last word says.
 fn give(
     alloc: Global,
     plans: &mut Vec<Plan>,
@@ -82,7 +82,7 @@ fn give(
     push_to_each(plans, (from, to), command, count)
 }
 
-/// Makes plans until there are so many.
+/// Makes plans until there are *n*.
 fn widen(alloc: Global, plans: &mut Vec<Plan>, count: usize) -> Result<(), NoAnswer> {
     for _ in plans.len()..count {
         plans.push(Plan {
@@ -92,7 +92,7 @@ fn widen(alloc: Global, plans: &mut Vec<Plan>, count: usize) -> Result<(), NoAns
     Ok(())
 }
 
-/// Gives a command so many times to the writers from one number to before another.
+/// Gives a command *n* times to the writers from one number to before another.
 fn push_to_each(
     plans: &mut [Plan],
     (from, to): (u32, u32),
@@ -255,7 +255,7 @@ fn push_report(text: &mut String, report: &Report) -> Result<(), AllocError> {
     write!(text, "hand {total} {word:08x}")
 }
 
-/// Adds to the answer of a drive how many callers made the first so many records.
+/// Adds to the answer of a drive how many callers made the first *n* records.
 fn push_callers(text: &mut String, report: &Report, count: usize) -> Result<(), NoAnswer> {
     let mut callers = 0u64;
     for one in report.recorded.records().iter().take(count) {

@@ -57,7 +57,7 @@ fn keep(receipts: &mut Vec<Receipt>, receipt: &Receipt) {
     }
 }
 
-/// A booked buffer that wants memory for the first call behind a reserve, if that settles more than four promises.
+/// A booked buffer that allocates for the first call after a reserve, if that settles more than four promises.
 #[derive(Drop)]
 pub struct Scarce {
     pub booked: As,

@@ -17,7 +17,7 @@ use std::alloc::Global;
 use std::marker::Brand;
 use std::test::Fail;
 
-/// A shared buffer of so many callers is to be opened with these options.
+/// A shared buffer of *n* callers is to be opened with these options.
 pub fn opening(alloc: Global, options: Options, callers: u32) -> Result<Opening, Refusal> {
     let limit = options.limit.clamp(1, 1048576);
     let callers = callers.clamp(1, 65);
@@ -59,7 +59,7 @@ fn plays<L: Named + Send + Sync>(
 {
     let mut crew = Again(crew::<L, _>(rt, options, opening)?);
     let played = plays_all(rt, &mut crew, scene);
-    // one call, where the end of the scope is followed field by field
+    // one call; the end of the scope is followed field by field
     drop(crew);
     played
 }

@@ -116,7 +116,7 @@ fn played<L: Named, R: AllocGlobal + Wait + Clock + Abort>(
     caller.into_inner().done
 }
 
-/// The most glances that a reader takes, so that it ends also where no second thread could be had.
+/// The most glances that a reader takes, so that it ends also if no second thread could be had.
 const MOST_READS: u32 = 20_000_000;
 
 /// Reads without a pause until two callers have come: what is seen, each glance once that differs from the one before.

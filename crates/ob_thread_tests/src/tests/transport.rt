@@ -40,7 +40,7 @@ struct Transport<B> {
 type Given = (ScriptSink, u32, Vec<Receipt>);
 
 /// The sink of a story and how many blocks it is offered at once, both by the command line, and room for receipts, so
-/// that none is lost for want of memory.
+/// that none is lost for lack of memory.
 fn given(alloc: Global, story: Story) -> Result<Given, NoAnswer> {
     let receipts = Vec::with_capacity(alloc, MOST as usize)?;
     let mut sink = SinkWords::new(alloc, 0);
@@ -98,7 +98,7 @@ impl<B: Booked> Player for Transport<B> {
 }
 
 impl<B: Booked> Transport<B> {
-    /// A pass, a drain of so many turns, or a booking of so many bytes.
+    /// A pass, a drain of *n* turns, or a booking of *n* bytes.
     fn moves(&mut self, words: &mut Words, asked: &str, text: &mut String) -> Result<(), NoAnswer> {
         if asked == "pass" {
             return self.pass(text);
@@ -330,7 +330,7 @@ fn passes_of_a_transport(rt: HostRuntime) -> Result<(), Fail> {
     Ok(())
 }
 
-/// Plays a story over a buffer that wants memory at times.
+/// Plays a story over a buffer that is out of memory at times.
 fn plays_scarce(alloc: Global, story: Story) -> Result<(), Fail> {
     let scarce = Scarce {
         booked: booked(alloc, story)?,

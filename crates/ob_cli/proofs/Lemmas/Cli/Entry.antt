@@ -1,4 +1,4 @@
--- What the program leaves where a line is faulty, and where memory runs out.
+-- What the program leaves if a line is faulty, and if memory runs out.
 use Rattle.std.proofs.Common.{◌≡◌, ◌≤◌, ℕ, arith, List, Option, None, Some, Err, IfSome, append-nil, refl, sym}
 use Rattle.std.specs.Prelude.{IsErrOf}
 use Rattle.std.specs.Io.KnownBytes.{Appends}
@@ -43,7 +43,7 @@ cut_short_at request Write script old new status written told = absurd cc
 cut_short_at request NoMemory script old new status written told = absurd cc
 cut_short_at request (Drive fault) script old new status written told = absurd cc
 
--- and so where the script is known
+-- and so if the script is known
 pub cut_short : (request : Request) (fault : ScriptFault) (read : Option (List ℕ)) (old new : Option (List ℕ))
     → status_of fault ≡ 2
     → (WentThrough {T = Unit {0}} (Err fault)
@@ -55,7 +55,7 @@ cut_short request fault None old new status written told = tt
 cut_short request fault (Some script) old new status written told =
     cut_short_at request fault script old new status written told
 
--- where no script was read, nothing was written, and that is the trace of no lines
+-- if no script was read, nothing was written, and that is the trace of no lines
 untraced_at : (script : List ℕ) (held : Option (List ℕ)) → WritesTraceOfFirst script held held
 untraced_at script None = (Core (record { low = 0; high = 0 }), 0, tt)
 untraced_at script (Some bytes) = (Core (record { low = 0; high = 0 }), 0, sym (append-nil bytes))
@@ -77,7 +77,7 @@ out_of_memory_at request TooLong script old new status traced = absurd cc
 out_of_memory_at request Write script old new status traced = absurd cc
 out_of_memory_at request (Drive fault) script old new status traced = absurd cc
 
--- and so where the script is known
+-- and so if the script is known
 pub out_of_memory : (request : Request) (fault : ScriptFault) (read : Option (List ℕ)) (old new : Option (List ℕ))
     → status_of fault ≡ 4
     → (IsErrOf {T = Unit {0}} (Err fault) NoMemory

@@ -7,7 +7,7 @@ use Rattle.std.proofs.lemmas.List.Splits.{length-slice_split}
 use Rattle.std.proofs.lemmas.Bool.{cases_Bool, cases_lt, lt-ltb, eqb-true}
 use Rattle.ob_cli.specs.Reading.Lines.{lines_of, words_of, words_after}
 
--- where no byte is found, the place is the end
+-- if no byte is found, the place is the end
 pub position-None : {X : Type 0} (p : X → Bool) (s : List X) → position p s ≡ None → length s ≡ position_or_len p s
 position-None p s e = elim (cases_lt (position_or_len p s) (length s)) [
   | inl h ↦ let t = lt-ltb _ _ h in let same : Some (position_or_len p s) ≡ None = (rw t at e) in cc
@@ -66,7 +66,7 @@ space_after s n e h =
     let inside : position_or_len (λ b. eqb b 32) s < length s = omega arith in
     eqb-true _ _ (rw e (passes_at_first (λ b. eqb b 32) s 0 inside))
 
--- where words follow, there are bytes
+-- if words follow, there are bytes
 pub bytes_of_words : (s : List ℕ) → 0 < length (words_after s) → 0 < length s
 bytes_of_words [] h = absurd (omega arith)
 bytes_of_words (b ∷ s) h = omega arith

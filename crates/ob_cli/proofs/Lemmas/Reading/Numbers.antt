@@ -39,7 +39,7 @@ value_more word i value all h e =
     let more = digits_value_more 10 word i h in
     omega (arith, digit.2)
 
--- where one more digit passes every number of 64 bits, the whole word does
+-- if one more digit passes every number of 64 bits, the whole word does
 pub value_too_great : (word : List ℕ) (i value : ℕ) → list_all is_ascii_digit word ≡ true → i < length word
     → value ≡ digits_value 10 (take i word)
     → 2 ^ 64 ≤ value * 10 + (get_or word i 0 - 48) → 2 ^ 64 ≤ digits_value 10 word
@@ -115,7 +115,7 @@ words_of_digits (byte ∷ word) all = elim (cases_Bool (is_ascii_digit byte)) [
   | inr fails ↦ absurd (both_ways (list_all is_ascii_digit (byte ∷ word)) (simp fails refl) all)
 ]
 
--- where one number is asked for, and digits alone are there, they are the number
+-- if one number is asked for, and digits alone are there, they are the number
 pub all_numbers_in-one : (range : Range) (word : List ℕ) (number : ℕ) → is_number word ≡ true
     → number ≡ digits_value 10 word
     → all_numbers_in (range ∷ []) (words_of word)

@@ -6,7 +6,7 @@ use Rattle.std.specs.Prelude.{◌==◌, codes}
 use Rattle.std.proofs.lemmas.Bool.{cases_Bool, eqb-true}
 use Rattle.ob_cli.specs.Tracing.Text.{eight_hex}
 
--- the last so many hexadecimal digits of a number, zeros where it has fewer, and then others
+-- the last *n* hexadecimal digits of a number, zeros if it has fewer, and then others
 abbrev pub hex_onto : ℕ → ℕ → List ℕ → List ℕ
 hex_onto zero number rest = rest
 hex_onto (suc count) number rest = hex_onto count (number / 16) (digit_glyph false (number % 16) ∷ rest)
@@ -74,7 +74,7 @@ eight_hex-bytes number small =
     let h : number % 256 % 16 ≡ number % 16 = omega arith in
     rw (a, b, c, d, e, f, g, h) (eight_hex-onto number small)
 
--- where it is a byte, six zeros stand before that
+-- if it is a byte, six zeros stand before that
 pub eight_hex-byte : (number : ℕ) → number < 256 → eight_hex number ≡ codes "000000" ++ two_hex number
 eight_hex-byte number small =
     let a : number / 16777216 ≡ 0 = omega arith in

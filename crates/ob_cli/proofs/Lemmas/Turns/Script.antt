@@ -29,7 +29,7 @@ turns_of-turn [] turn = refl
 turns_of-turn (line.Lane start ∷ lines) turn = turns_of-turn lines turn
 turns_of-turn (line.Turn first ∷ lines) turn = ap (λ t. first ∷ t) (turns_of-turn lines turn)
 
--- a lane more brings no turn, and where there is none it stands behind the other lanes
+-- a lane more brings no turn, and if there is none it stands behind the other lanes
 turns_of-lane : (lines : List CoreLine) (start : LaneStart) → turns_of (lines ++ line.Lane start ∷ []) ≡ turns_of lines
 turns_of-lane [] start = refl
 turns_of-lane (line.Lane first ∷ lines) start = turns_of-lane lines start

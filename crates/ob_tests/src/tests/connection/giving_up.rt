@@ -1,4 +1,4 @@
-//! What want of memory leaves, and what giving up tells.
+//! What lack of memory leaves, and what giving up reports.
 
 use super::{flushed, four_bytes, open};
 use ob_connection::Taken;
