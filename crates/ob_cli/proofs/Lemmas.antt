@@ -1,5 +1,6 @@
 -- What the proofs of functions share, in the folders of what they speak of.
 pub mod Cli
+pub mod Draw
 pub mod Drive
 pub mod Reading
 pub mod Results

@@ -4,3 +4,4 @@ pub mod Picture
 pub mod Piece
 pub mod Point
 pub mod Scale
+pub mod Tick

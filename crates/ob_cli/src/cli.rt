@@ -7,3 +7,4 @@ pub mod help;
 pub mod options;
 pub mod request;
 pub mod subcommands;
+pub mod words;

@@ -10,6 +10,7 @@ pub mod picture;
 pub mod piece;
 pub mod point;
 pub mod scale;
+pub mod tick;
 
 use crate::draw::picture::make_picture;
 use crate::draw::piece::push_pieces;
@@ -42,7 +43,7 @@ impl Teller for Drawing {
 }
 
 /// Reads a trace to its end, and writes it as a picture, an SVG: the pending bytes over its lines, against these marks.
-/// If a line is of no trace, the lines before it are drawn.
+/// If a line is of no trace, the lines before it are drawn; if the first line is of none, nothing is written.
 ///
 /// `Line` comes if a line is of no trace, `Read` if the reader fails or 33554432 reads do not bring the trace to
 /// its end, `TooLong` if it has more than 16777216 bytes, `Write` if the writer fails, and `NoMemory` if the

@@ -166,6 +166,7 @@ fn config(options: &Options, turns: u32) -> Config
       limit = options.now.limit;
       limits = record { max_count = 16; max_bytes = 65536 };
       turns = turns;
+      heed = options.now.heed;
     } }
 {
     Config {
@@ -175,6 +176,7 @@ fn config(options: &Options, turns: u32) -> Config
         limit: options.limit,
         limits: LIMITS,
         turns: u64::from(turns),
+        heed: options.heed,
     }
 }
 

@@ -33,8 +33,8 @@ impl Teller for Summarizer {
     }
 }
 
-/// Reads a trace to its end, and writes what it comes to. If a line is of no trace, that is told of the lines before
-/// it.
+/// Reads a trace to its end, and writes what it comes to. If a line is of no trace, that is told of the lines before it;
+/// if the first line is of none, nothing is written.
 ///
 /// `Line` comes if a line is of no trace, `Read` if the reader fails or 33554432 reads do not bring the trace to
 /// its end, `TooLong` if it has more than 16777216 bytes, `Write` if the writer fails, and `NoMemory` if the

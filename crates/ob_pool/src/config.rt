@@ -22,4 +22,8 @@ pub struct Config {
     pub limits: Limits,
     /// The most passes that the transport makes. Our own.
     pub turns: u64,
+    /// Whether the writers heed the marks: each, before it writes, waits while the buffer is unwritable and something is
+    /// flushed that the transport may still send. It goes on if nothing is flushed, if the buffer is closed, and when
+    /// the transport has ended, so each plan is carried out all the same. Our own.
+    pub heed: bool,
 }

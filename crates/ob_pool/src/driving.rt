@@ -38,7 +38,8 @@ use std::time::Clock;
 /// with the estimate of the message and the bytes of a hand-off, calls the buffer, and discharges. A command that the
 /// buffer refuses is recorded, and no fault. The transport makes one pass at a desk. If the sink fails, it fails all
 /// that is flushed, for the fault's number, and goes on. It ends when all writers have ended and nothing is flushed or
-/// the sink takes nothing, or after `turns` passes. With nothing to do while a writer runs it sleeps a millisecond.
+/// the sink takes nothing, or after `turns` passes. With nothing to do while a writer runs it sleeps a millisecond. With
+/// `heed` a writer waits for it, by naps of a millisecond, while the buffer is unwritable; how long is not promised.
 ///
 /// `BadCount` comes if there is no plan, or more than 64; then `BadPlan` names the first step that is no write, flush,
 /// cancellation, user bit or change of the marks; then `TooMuchRoom` comes if the greatest charges of all plans add up
@@ -122,7 +123,10 @@ fn drive_open<
         words,
         estimate,
         task,
+        heed: config.heed,
         writers,
+        begun: AtomicBool::new(false),
+        stopped: AtomicBool::new(false),
         ended: AtomicBool::new(false),
     };
     let ((lane, dones), transported) = run(rt, gate, &context, lane, jobs, share, sink, config);

@@ -1,6 +1,7 @@
 //! The threads of a drive: writers, and beside them the transport.
 
 mod context;
+mod heed;
 mod job;
 mod jobs;
 mod receipt_log;
@@ -17,6 +18,7 @@ use crate::config::Config;
 use crate::fault::DriveFault;
 use crate::gate::Gate;
 pub use context::Context;
+use heed::wait_for_transport;
 pub use job::Job;
 use jobs::{JobsEnd, run_all};
 use ob_lanes::Lane;
@@ -92,7 +94,8 @@ fn transport_side<L: Named, R: Wait + Clock, S: Sink>(
         unreachable!()
     };
     let context = side.context;
-    transport(
+    context.begun.store(true, Ordering::SeqCst);
+    let done = transport(
         rt,
         context.alloc,
         &context.shared,
@@ -100,7 +103,9 @@ fn transport_side<L: Named, R: Wait + Clock, S: Sink>(
         sink,
         config,
         &context.ended,
-    )
+    );
+    context.stopped.store(true, Ordering::SeqCst);
+    done
 }
 
 /// Lets all writers work with the lane that was made ready for them, and tells when they have ended.
@@ -117,6 +122,9 @@ fn writers_side<L: Named + Send + Sync, R: Threads + Wait + Clock + Sync, G: Gat
     let Some((lane, jobs)) = start else {
         unreachable!()
     };
+    if context.heed {
+        wait_for_transport(rt, context);
+    }
     let ended = run_all(rt, gate, context, lane, jobs);
     context.ended.store(true, Ordering::SeqCst);
     ended

@@ -6,14 +6,16 @@ use Rattle.ob_cli.specs.Outcome.{status_of}
 use Rattle.ob_cli.specs.declared.cli.fault.EntryFault.{EntryFault}
 use Rattle.ob_cli.specs.declared.reading.fault.LineFault.{LineFault}
 use Rattle.ob_cli.specs.declared.cli.request.Request.{Request}
-use Rattle.ob_cli.specs.declared.cli.fault.EntryFault.TheVariants.{CommandLine, NoSubcommand, BadMarks, Run}
+use Rattle.ob_cli.specs.declared.cli.fault.EntryFault.TheVariants.{CommandLine, NoSubcommand, ListAsked, BadMarks, NoMemory, Run}
 
 -- the status with which the program ends after a fault
 abbrev pub exit_status_of : EntryFault → ℕ
 exit_status_of (CommandLine error) = 1
 exit_status_of NoSubcommand = 1
-exit_status_of BadMarks = 1
-exit_status_of (Run fault) = status_of fault
+exit_status_of ListAsked = 1
+exit_status_of (BadMarks marks) = 1
+exit_status_of NoMemory = 4
+exit_status_of (Run kind fault) = status_of fault
 
 -- the status with which the program ends after its work
 abbrev pub status_after : {T : Type 0} → Result T EntryFault → ℕ

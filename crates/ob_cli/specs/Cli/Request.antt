@@ -10,7 +10,7 @@ use Rattle.ob_cli.specs.Reading.Script.{script_fault, script_lines}
 use Rattle.ob_cli.specs.Draw.Picture.{TellsPicture}
 use Rattle.ob_cli.specs.Summary.Text.{TellsSummary}
 use Rattle.ob_cli.specs.Traces.Line.{trace_grammar}
-use Rattle.ob_cli.specs.Traces.Telling.{WritesTold}
+use Rattle.ob_cli.specs.Traces.Telling.{WritesOfTrace}
 use Rattle.ob_cli.specs.Tracing.Trace.{trace_of, trace_of_first}
 use Rattle.ob_cli.specs.declared.reading.fault.LineFault.{LineFault}
 use Rattle.ob_cli.specs.declared.cli.options.Options.{Options}
@@ -37,8 +37,8 @@ WritesRequested (Run options) script fault old new =
     Appends old new (trace_of (run_language (first_history options)) script)
 WritesRequested (Core marks) script fault old new = Appends old new (trace_of (core_language marks) script)
 WritesRequested (Drive options) script fault old new = WritesDrive options script fault old new
-WritesRequested Summary script fault old new = WritesTold TellsSummary script old new
-WritesRequested (Draw marks) script fault old new = WritesTold (TellsPicture marks) script old new
+WritesRequested Summary script fault old new = WritesOfTrace TellsSummary script old new
+WritesRequested (Draw marks) script fault old new = WritesOfTrace (TellsPicture marks) script old new
 
 -- the trace of the first lines, so many of those that are carried out; a drive, a summary and a picture have none
 abbrev pub requested_trace_of_first : ℕ → Request → List ℕ → List ℕ

@@ -6,7 +6,9 @@ use Rattle.ob_types.specs.declared.reply.Change.{Change}
 use Rattle.ob_types.specs.declared.reply.Change.TheVariants.{Unwritable, Writable}
 use Rattle.ob_cli.specs.Draw.Piece.{piece_text}
 use Rattle.ob_cli.specs.Draw.Point.{points_of}
+use Rattle.ob_cli.specs.Draw.Numbers.{greater}
 use Rattle.ob_cli.specs.Draw.Scale.{scale_of, x_of, y_of}
+use Rattle.ob_cli.specs.Draw.Tick.{ticks_of}
 use Rattle.ob_cli.specs.Traces.Line.{shows_bytes}
 use Rattle.ob_cli.specs.declared.draw.piece.Fixed.{Fixed}
 use Rattle.ob_cli.specs.declared.draw.piece.Fixed.TheVariants as fixed
@@ -32,6 +34,25 @@ abbrev pub mark_pieces : Scale → Fixed → ℕ → List Piece
 mark_pieces scale name mark =
     piece.Fixed fixed.MarkAt ∷ piece.Tenths (y_of scale mark) ∷ piece.Fixed fixed.MarkName
     ∷ piece.Tenths (y_of scale mark + 40) ∷ piece.Fixed name ∷ piece.Number mark ∷ piece.Fixed fixed.TextEnd ∷ []
+
+-- the number of a line below the axis, with its stroke
+abbrev pub below_pieces : Scale → ℕ → List Piece
+below_pieces scale line =
+    piece.Fixed fixed.PathAt ∷ piece.Tenths (x_of scale line) ∷ piece.Fixed fixed.TickBelow
+    ∷ piece.Tenths (x_of scale line) ∷ piece.Fixed fixed.TickBelowEnd ∷ piece.Number line ∷ piece.Fixed fixed.TextEnd ∷ []
+
+-- a number of bytes beside the axis, with its stroke
+abbrev pub beside_pieces : Scale → ℕ → List Piece
+beside_pieces scale bytes =
+    piece.Fixed fixed.TickBesideAt ∷ piece.Tenths (y_of scale bytes) ∷ piece.Fixed fixed.TickBeside
+    ∷ piece.Tenths (y_of scale bytes + 40) ∷ piece.Fixed fixed.TickBesideEnd ∷ piece.Number bytes
+    ∷ piece.Fixed fixed.TextEnd ∷ []
+
+-- the numbers on both axes
+abbrev pub ticks_pieces : Scale → List Piece
+ticks_pieces scale =
+    flat_map (below_pieces scale) (ticks_of (greater scale.lines 1))
+    ++ flat_map (beside_pieces scale) (ticks_of (greater scale.most 1))
 
 -- the axes and the two marks
 abbrev pub axes_pieces : Scale → Marks → List Piece
@@ -76,7 +97,7 @@ end_pieces scale = piece.Fixed fixed.Legend ∷ piece.Number scale.lines ∷ pie
 -- what stands behind the curve
 abbrev pub behind_pieces : Scale → Marks → List Point → List Piece
 behind_pieces scale marks points =
-    piece.Fixed fixed.Head ∷ (shades_pieces scale points ++ axes_pieces scale marks)
+    piece.Fixed fixed.Head ∷ (shades_pieces scale points ++ ticks_pieces scale ++ axes_pieces scale marks)
 
 -- the curve, and what stands before it
 abbrev pub before_pieces : Scale → List Point → List Piece

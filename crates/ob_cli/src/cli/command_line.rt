@@ -3,12 +3,12 @@ ghost use Rattle.ob_history.specs.History.{most_records, new_history};
 ghost use Rattle.ob_cli.specs.Cli.Options.{first_history};
 ghost use Rattle.ob_cli.specs.Cli.Entry.{exit_status_of};
 
-use crate::cli::fault::EntryFault;
+use crate::cli::fault::{CrossedMarks, EntryFault};
 use crate::cli::options::Options;
 use crate::cli::request::Request;
 use crate::cli::subcommands::{MAX_RECORDS, command};
 use clap::ArgMatches;
-use ob_types::{Estimate, Refusal, WaterMark};
+use ob_types::{Estimate, WaterMark};
 use std::alloc::Global;
 use std::convert::AsStr;
 
@@ -29,8 +29,9 @@ const TASK: u16 = 32;
 
 /// What the program's words ask for: its name, a subcommand, and the options of that.
 ///
-/// `CommandLine` comes if `clap` refuses the words, or is asked for help or the version, `NoSubcommand` if they
-/// name none, `BadMarks` if the low mark is above the high one, and `NoMemory` if the allocator refuses.
+/// `CommandLine` comes if `clap` refuses the words, or is asked for help or the version, `NoSubcommand` if they name
+/// none, `ListAsked` if they ask for the list of the faults, `BadMarks` if the low mark is above the high one, and
+/// `NoMemory` if the allocator refuses.
 pub fn request_of<'a, S: AsStr>(alloc: Global, words: &'a [S]) -> Result<Request, EntryFault>
     ensures { IfErr result (λ fault. (exit_status_of fault ≡ 1) ⊎ (exit_status_of fault ≡ 4)) }
 {
@@ -45,17 +46,23 @@ fn request(matches: &ArgMatches<'_>) -> Result<Request, EntryFault>
     let Some((name, given)) = matches.subcommand() else {
         return Err(EntryFault::NoSubcommand);
     };
+    if name == "faults" {
+        return Err(EntryFault::ListAsked);
+    }
     match request_of_subcommand(name, given) {
         Ok(Some(request)) => Ok(request),
         // `clap` lets no other name through, but none of its clauses says so.
         Ok(None) => Err(EntryFault::NoSubcommand),
-        Err(_) => Err(EntryFault::BadMarks),
+        Err(marks) => Err(EntryFault::BadMarks(marks)),
     }
 }
 
 /// What the options of this subcommand ask for, or nothing if no subcommand has the name. It is refused if the
 /// low mark is above the high one.
-fn request_of_subcommand(name: &str, given: &ArgMatches<'_>) -> Result<Option<Request>, Refusal> {
+fn request_of_subcommand(
+    name: &str,
+    given: &ArgMatches<'_>,
+) -> Result<Option<Request>, CrossedMarks> {
     match name {
         "run" => Ok(Some(Request::Run(options_of(given, TASK)?))),
         "core" => Ok(Some(Request::Core(given_marks(given)?))),
@@ -69,8 +76,8 @@ fn request_of_subcommand(name: &str, given: &ArgMatches<'_>) -> Result<Option<Re
     }
 }
 
-/// The options that were given to `run` or to `drive`, with what a hand-off adds.
-fn options_of(given: &ArgMatches<'_>, task: u16) -> Result<Options, Refusal>
+/// The options that were given to `run` or to `drive`, with what a hand-off adds. A run has no flag `heed`.
+fn options_of(given: &ArgMatches<'_>, task: u16) -> Result<Options, CrossedMarks>
     ensures { IfOk result (λ options. options.task ≡ task) }
 {
     let marks = given_marks(given)?;
@@ -80,15 +87,18 @@ fn options_of(given: &ArgMatches<'_>, task: u16) -> Result<Options, Refusal>
         given.get_one("unknown").unwrap_or(UNKNOWN),
         limit_of(given.get_one("limit")),
         task,
+        given.get_flag("heed"),
     ))
 }
 
 /// The marks that were given.
-fn given_marks(given: &ArgMatches<'_>) -> Result<WaterMark, Refusal> {
-    WaterMark::new(
-        given.get_one("low").unwrap_or(LOW),
-        given.get_one("high").unwrap_or(HIGH),
-    )
+fn given_marks(given: &ArgMatches<'_>) -> Result<WaterMark, CrossedMarks> {
+    let low = given.get_one("low").unwrap_or(LOW);
+    let high = given.get_one("high").unwrap_or(HIGH);
+    match WaterMark::new(low, high) {
+        Ok(marks) => Ok(marks),
+        Err(_) => Err(CrossedMarks { low, high }),
+    }
 }
 
 /// The limit that was given. `clap` has refused the numbers past the bounds, which no clause of it says, so the
@@ -102,11 +112,20 @@ fn limit_of(given: Option<u32>) -> u32
     given.unwrap_or(MAX_RECORDS).clamp(1, MAX_RECORDS)
 }
 
-/// The options of these marks, of these numbers in bytes, of this limit, and of what a hand-off adds.
-fn options(marks: WaterMark, overhead: u16, unknown: u16, limit: u32, task: u16) -> Options
+/// The options of these marks, of these numbers in bytes, of this limit, of what a hand-off adds, and of whether writers
+/// heed the marks.
+fn options(
+    marks: WaterMark,
+    overhead: u16,
+    unknown: u16,
+    limit: u32,
+    task: u16,
+    heed: bool,
+) -> Options
     requires some_record { 0 < limit }
     requires few_records { limit ≤ most_records }
     ensures task { result.task ≡ task }
+    ensures heed { result.heed ≡ heed }
     ensures history { first_history result ≡ new_history (record {
       marks = marks;
       estimate = record { overhead = overhead; unknown = unknown };
@@ -121,5 +140,6 @@ fn options(marks: WaterMark, overhead: u16, unknown: u16, limit: u32, task: u16)
         estimate,
         limit,
         task: u32::from(task),
+        heed,
     }
 }

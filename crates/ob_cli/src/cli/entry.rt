@@ -49,7 +49,7 @@ pub fn entry<H: AllocGlobal + Threads + Wait + Clock + Sync, S: AsStr, R: Read, 
     match start(rt, words, reader, writer, errors) {
         Ok(()) => 0,
         Err(fault) => {
-            print_fault(&fault, errors);
+            print_fault(&fault, errors, is_verbose(words));
             fault.status()
         }
     }
@@ -72,13 +72,14 @@ fn start<H: AllocGlobal + Threads + Wait + Clock + Sync, S: AsStr, R: Read, W: W
         Ok(request) => request,
         Err(fault) => return Err(fault),
     };
+    let kind = request.kind();
     match carry_out(rt, reader, writer, errors, request, is_verbose(words)) {
         Ok(()) => Ok(()),
-        Err(fault) => Err(EntryFault::Run(fault)),
+        Err(fault) => Err(EntryFault::Run { kind, fault }),
     }
 }
 
-/// Whether one of the words asks for more than the report. `clap` has refused it for all but a drive.
+/// Whether one of the words asks for more than a fault's number and a drive's report.
 fn is_verbose<S: AsStr>(words: &[S]) -> bool
     ensures { All (λ word. S.text word ≢ codes "--verbose") words.now → result ≡ false }
 {
@@ -159,12 +160,10 @@ fn tell_more<E: Write>(alloc: Global, options: &Options, driven: &Driven, errors
     }
 }
 
-/// Tells a fault in its text and one byte 10. If that fails there is nobody left to tell.
-fn print_fault<E: Write>(fault: &EntryFault, errors: &mut E) {
-    let _ = match fault {
-        EntryFault::CommandLine(error) => write!(errors, "{error}"),
-        EntryFault::NoSubcommand | EntryFault::BadMarks | EntryFault::Run(_) => {
-            writeln!(errors, "{fault}")
-        }
-    };
+/// Tells a fault, and in words if that is asked for. If that fails there is nobody left to tell.
+fn print_fault<E: Write>(fault: &EntryFault, errors: &mut E, verbose: bool) {
+    let _ = fault.write(errors);
+    if verbose {
+        let _ = fault.write_words(errors);
+    }
 }

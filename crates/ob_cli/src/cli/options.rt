@@ -16,6 +16,8 @@ pub struct Options {
     pub limit: u32,
     /// How many bytes a message counts beside its own while a writer of a drive hands it over. A run has no use for it.
     pub task: u32,
+    /// Whether the writers of a drive heed the marks. A run has no use for it.
+    pub heed: bool,
     ghost small_overhead: { estimate.overhead ≤ greatest_overhead },
     ghost small_unknown: { estimate.unknown ≤ greatest_unknown },
     ghost some_record: { 0 < limit },

@@ -18,6 +18,8 @@ pub const MAX_RECORDS: u32 = 1048576;
 struct Subcommand {
     name: &'static str,
     about: &'static str,
+    /// How it is called, which a refused command line shows too.
+    usage: &'static str,
     help: Help,
     options: &'static [ProgramOption],
 }
@@ -41,36 +43,57 @@ enum OptionKind {
     Flag,
 }
 
-static SUBCOMMANDS: [Subcommand; 5] = [
+static SUBCOMMANDS: [Subcommand; 6] = [
     Subcommand {
         name: "run",
         about: "Reads a script from standard input, and writes one line for each of its lines to standard output",
+        usage: "ob_tool run [OPTIONS] < FILE",
         help: Help::Run,
-        options: &[LOW, HIGH, OVERHEAD, UNKNOWN, LIMIT],
+        options: &[LOW, HIGH, OVERHEAD, UNKNOWN, LIMIT, VERBOSE],
     },
     Subcommand {
         name: "core",
         about: "Reads a script of lanes and turns from standard input, and writes one line for each to standard output",
+        usage: "ob_tool core [OPTIONS] < FILE",
         help: Help::Core,
-        options: &[LOW, HIGH],
+        options: &[LOW, HIGH, VERBOSE],
     },
     Subcommand {
         name: "drive",
         about: "Reads a script of writers from standard input, runs them in threads, and counts what came of it",
+        usage: "ob_tool drive [OPTIONS] < FILE",
         help: Help::Drive,
-        options: &[LOW, HIGH, OVERHEAD, UNKNOWN, LIMIT, TASK, VERBOSE],
+        options: &[
+            LOW,
+            HIGH,
+            OVERHEAD,
+            UNKNOWN,
+            LIMIT,
+            TASK,
+            HEED,
+            VERBOSE_DRIVE,
+        ],
     },
     Subcommand {
         name: "summary",
         about: "Reads a trace of run or of core from standard input, and counts what it shows",
+        usage: "ob_tool summary [OPTIONS] < TRACE",
         help: Help::Summary,
-        options: &[],
+        options: &[VERBOSE],
     },
     Subcommand {
         name: "draw",
         about: "Reads a trace of run or of core from standard input, and draws it as a picture, an SVG",
+        usage: "ob_tool draw [OPTIONS] < TRACE > PICTURE.svg",
         help: Help::Draw,
-        options: &[LOW, HIGH],
+        options: &[LOW, HIGH, VERBOSE],
+    },
+    Subcommand {
+        name: "faults",
+        about: "Lists the faults of all subcommands by number, and what each says in words",
+        usage: "ob_tool faults",
+        help: Help::Faults,
+        options: &[],
     },
 ];
 
@@ -88,43 +111,55 @@ macro_rules! option {
 const LOW: ProgramOption = option!(
     "low",
     Mark,
-    "Writers may go on once fewer bytes than this are pending (32768 where it is not given)"
+    "Writers may go on once fewer bytes than this are pending: 0 to 2147483647, 32768 if not given"
 );
 
 const HIGH: ProgramOption = option!(
     "high",
     Mark,
-    "Writers should stop once more bytes than this are pending (65536 where it is not given)"
+    "Writers should stop once more bytes than this are pending: 0 to 2147483647, 65536 if not given"
 );
 
 const OVERHEAD: ProgramOption = option!(
     "overhead",
     Size,
-    "Bytes that each message counts beside its own (96 where it is not given)"
+    "Bytes that each message counts beside its own: 0 to 65535, 96 if not given"
 );
 
 const UNKNOWN: ProgramOption = option!(
     "unknown",
     Size,
-    "Bytes that a message of unknown size counts (8 where it is not given)"
+    "Bytes that a message of unknown size counts: 0 to 65535, 8 if not given"
 );
 
 const LIMIT: ProgramOption = option!(
     "limit",
     Records,
-    "Commands that are recorded, 1 to 1048576; further ones are refused (1048576 where it is not given)"
+    "Commands that are recorded; further ones are refused: 1 to 1048576, 1048576 if not given"
 );
 
 const TASK: ProgramOption = option!(
     "task",
     Size,
-    "Bytes that a message counts beside its own while it is handed over (32 where it is not given)"
+    "Bytes that a message counts beside its own while it is handed over: 0 to 65535, 32 if not given"
+);
+
+const HEED: ProgramOption = option!(
+    "heed",
+    Flag,
+    "Lets each writer wait, before it writes, while writers should stop and something flushed may still be sent"
 );
 
 const VERBOSE: ProgramOption = option!(
     "verbose",
     Flag,
-    "Tells on standard error how long it took, what was pending and how often the sink was asked"
+    "Tells on standard error what a fault means, in a line of words after it"
+);
+
+const VERBOSE_DRIVE: ProgramOption = option!(
+    "verbose",
+    Flag,
+    "Tells on standard error how long it took, what was pending, and what a fault means"
 );
 
 /// What the program takes.
@@ -158,6 +193,7 @@ impl Subcommand {
         self.push_options(alloc, &mut options)?;
         Command::new(alloc, self.name)
             .about(self.about)
+            .override_usage(self.usage)
             .after_help(self.help.text())
             .args(options)
     }

@@ -1,13 +1,15 @@
 ghost use Rattle.std.specs.Prelude.{◌≡◌, ◌++◌, ◌≤◌, IfOk, OnOk, filter, length};
 ghost use Rattle.ob_cli.specs.Draw.Picture.{axes_pieces, before_pieces, behind_pieces, curve_pieces, end_pieces, mark_pieces, picture_pieces, shade_pieces};
-ghost use Rattle.ob_cli.specs.Draw.Picture.{step_pieces, turn_pieces};
+ghost use Rattle.ob_cli.specs.Draw.Picture.{below_pieces, beside_pieces, step_pieces, ticks_pieces, turn_pieces};
 ghost use Rattle.ob_cli.specs.Draw.Point.{points_of};
 ghost use Rattle.ob_cli.specs.Reading.Script.{greatest_script};
 
 use crate::draw::drawn::{Drawn, push_each};
+use crate::draw::numbers::greater;
 use crate::draw::piece::{Fixed, Piece};
 use crate::draw::point::{Point, points};
 use crate::draw::scale::Scale;
+use crate::draw::tick::ticks;
 use crate::traces::line::TraceLine;
 use ob_types::{Change, WaterMark};
 use std::alloc::{AllocError, Global};
@@ -24,13 +26,14 @@ pub fn make_picture(
     let scale = Scale::new(shown, marks.high());
     let points = points(alloc, shown)?;
     let mut pieces = Vec::new(alloc);
-    push_behind(&mut pieces, scale, marks, &points)?;
+    push_behind(alloc, &mut pieces, scale, marks, &points)?;
     push_before(&mut pieces, scale, &points)?;
     Ok(pieces)
 }
 
 /// Adds what stands behind the curve.
 fn push_behind(
+    alloc: Global,
     pieces: &mut Vec<Piece>,
     scale: Scale,
     marks: WaterMark,
@@ -40,6 +43,7 @@ fn push_behind(
 {
     pieces.push(Piece::Fixed(Fixed::Head))?;
     push_each::<Shades>(pieces, scale, points)?;
+    push_ticks(alloc, pieces, scale)?;
     push_axes(pieces, scale, marks)
 }
 
@@ -56,6 +60,8 @@ fn push_before(pieces: &mut Vec<Piece>, scale: Scale, points: &[Point]) -> Resul
 struct Shades;
 
 impl Drawn for Shades {
+    type Of = Point;
+
     ghost drawn = { shade_pieces };
 
     fn push(pieces: &mut Vec<Piece>, scale: Scale, point: Point) -> Result<(), AllocError> {
@@ -70,6 +76,60 @@ impl Drawn for Shades {
             Piece::Fixed(Fixed::ShadeWide),
             Piece::Tenths(end.saturating_sub(begin)),
             Piece::Fixed(Fixed::ShadeEnd),
+        ])
+    }
+}
+
+/// Adds the numbers on both axes.
+fn push_ticks(alloc: Global, pieces: &mut Vec<Piece>, scale: Scale) -> Result<(), AllocError>
+    ensures { OnOk result (pieces.new.items ≡ pieces.old.items ++ ticks_pieces scale) }
+{
+    let lines = ticks(alloc, greater(scale.lines, 1))?;
+    push_each::<Below>(pieces, scale, &lines)?;
+    let bytes = ticks(alloc, greater(scale.most, 1))?;
+    push_each::<Beside>(pieces, scale, &bytes)
+}
+
+/// The number of a line below the axis, with its stroke.
+struct Below;
+
+impl Drawn for Below {
+    type Of = u32;
+
+    ghost drawn = { below_pieces };
+
+    fn push(pieces: &mut Vec<Piece>, scale: Scale, line: u32) -> Result<(), AllocError> {
+        let x = scale.x(u64::from(line));
+        pieces.extend_from_slice(&[
+            Piece::Fixed(Fixed::PathAt),
+            Piece::Tenths(x),
+            Piece::Fixed(Fixed::TickBelow),
+            Piece::Tenths(x),
+            Piece::Fixed(Fixed::TickBelowEnd),
+            Piece::Number(u64::from(line)),
+            Piece::Fixed(Fixed::TextEnd),
+        ])
+    }
+}
+
+/// A number of bytes beside the axis, with its stroke.
+struct Beside;
+
+impl Drawn for Beside {
+    type Of = u32;
+
+    ghost drawn = { beside_pieces };
+
+    fn push(pieces: &mut Vec<Piece>, scale: Scale, bytes: u32) -> Result<(), AllocError> {
+        let y = scale.y(bytes);
+        pieces.extend_from_slice(&[
+            Piece::Fixed(Fixed::TickBesideAt),
+            Piece::Tenths(y),
+            Piece::Fixed(Fixed::TickBeside),
+            Piece::Tenths(y + 40),
+            Piece::Fixed(Fixed::TickBesideEnd),
+            Piece::Number(u64::from(bytes)),
+            Piece::Fixed(Fixed::TextEnd),
         ])
     }
 }
@@ -122,6 +182,8 @@ fn push_curve(pieces: &mut Vec<Piece>, scale: Scale, points: &[Point]) -> Result
 struct Steps;
 
 impl Drawn for Steps {
+    type Of = Point;
+
     ghost drawn = { step_pieces };
 
     fn push(pieces: &mut Vec<Piece>, scale: Scale, point: Point) -> Result<(), AllocError> {
@@ -138,6 +200,8 @@ impl Drawn for Steps {
 struct Turns;
 
 impl Drawn for Turns {
+    type Of = Point;
+
     ghost drawn = { turn_pieces };
 
     fn push(pieces: &mut Vec<Piece>, scale: Scale, point: Point) -> Result<(), AllocError> {

@@ -22,6 +22,11 @@ pub enum Fixed {
     ShadeWide,
     ShadeEnd,
     Axes,
+    TickBelow,
+    TickBelowEnd,
+    TickBesideAt,
+    TickBeside,
+    TickBesideEnd,
     MarkAt,
     MarkName,
     Low,
@@ -75,11 +80,16 @@ impl Fixed {
     {
         match self {
             Fixed::Head =>
-                "<svg xmlns=\"http://www.w3.org/2000/svg\" viewBox=\"0 0 880 400\" font-family=\"sans-serif\" font-size=\"12\">\n<title>The pending bytes over the lines of a trace, against the low and the high mark</title>\n<rect width=\"880\" height=\"400\" fill=\"white\"/>\n",
+                "<svg xmlns=\"http://www.w3.org/2000/svg\" viewBox=\"0 0 960 400\" font-family=\"sans-serif\" font-size=\"12\">\n<title>The pending bytes over the lines of a trace, against the low and the high mark</title>\n<rect width=\"960\" height=\"400\" fill=\"white\"/>\n",
             Fixed::ShadeAt => "<rect x=\"",
             Fixed::ShadeWide => "\" y=\"44\" width=\"",
             Fixed::ShadeEnd => "\" height=\"306\" fill=\"#fbe3d6\"/>\n",
-            Fixed::Axes => "<path d=\"M112 44 V350 H864\" fill=\"none\" stroke=\"#222222\"/>\n",
+            Fixed::Axes => "<path d=\"M112 44 V350 H864 V44\" fill=\"none\" stroke=\"#222222\"/>\n",
+            Fixed::TickBelow => " 350 v5\" stroke=\"#222222\"/>\n<text x=\"",
+            Fixed::TickBelowEnd => "\" y=\"367\" text-anchor=\"middle\" fill=\"#222222\">",
+            Fixed::TickBesideAt => "<path d=\"M864 ",
+            Fixed::TickBeside => " h5\" stroke=\"#222222\"/>\n<text x=\"872\" y=\"",
+            Fixed::TickBesideEnd => "\" fill=\"#222222\">",
             Fixed::MarkAt => "<path d=\"M112 ",
             Fixed::MarkName =>
                 " H864\" stroke=\"#7a7a7a\" stroke-dasharray=\"6 4\"/>\n<text x=\"106\" y=\"",
@@ -94,7 +104,7 @@ impl Fixed {
             Fixed::Stop => " l-6 -12 h12 z\" fill=\"#b3261e\"/>\n",
             Fixed::Go => " l-6 12 h12 z\" fill=\"#1b7f3b\"/>\n",
             Fixed::Legend =>
-                "<text x=\"112\" y=\"28\" fill=\"#222222\">pending bytes; shaded: writers are stopped</text>\n<text x=\"864\" y=\"370\" text-anchor=\"end\" fill=\"#222222\">",
+                "<text x=\"112\" y=\"28\" fill=\"#222222\">pending bytes; shaded: writers are stopped</text>\n<text x=\"864\" y=\"390\" text-anchor=\"end\" fill=\"#222222\">",
             Fixed::End =>
                 " lines</text>\n<text x=\"112\" y=\"390\" fill=\"#b3261e\">&#9660; stop</text>\n<text x=\"172\" y=\"390\" fill=\"#1b7f3b\">&#9650; go on</text>\n</svg>\n",
         }

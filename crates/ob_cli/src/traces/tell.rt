@@ -31,7 +31,8 @@ pub trait Teller {
             × (string_bytes text.new ≡ string_bytes text.old ++ told)) };
 }
 
-/// Reads a trace to its end, and writes what is told of its lines up to the first that is of no trace.
+/// Reads a trace to its end, and writes what is told of its lines up to the first that is of no trace. If that is the
+/// first line of all, nothing is written.
 pub fn tell_of_trace<T: Teller, R: Read, W: Write>(
     alloc: Global,
     reader: &mut R,
@@ -43,6 +44,9 @@ pub fn tell_of_trace<T: Teller, R: Read, W: Write>(
 {
     let script = read_script(alloc, reader, MAX_READS)?;
     let trace = read_trace(alloc, script)?;
+    if trace.is_no_trace() {
+        return trace.ended;
+    }
     let mut text = String::new(alloc);
     teller.push_told(alloc, &trace.lines, &mut text)?;
     write_text(&text, writer)?;

@@ -20,6 +20,17 @@ pub struct Trace {
     pub ended: Result<(), ScriptFault>,
 }
 
+impl Trace {
+    ghost use Rattle.std.specs.Prelude.{◌≡◌, ◌&&◌, ◌==◌, is_err, length};
+
+    /// Whether the very first line is of no trace.
+    pub fn is_no_trace(&self) -> bool
+        ensures { result ≡ (length self.now.lines.items == 0) && is_err self.now.ended }
+    {
+        self.lines.is_empty() && self.ended.is_err()
+    }
+}
+
 /// The grammar of traces.
 struct OfTraces;
 

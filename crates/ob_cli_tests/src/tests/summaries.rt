@@ -63,7 +63,7 @@ static OF_NO_TRACE: &str = "\
 | id 0 t=1 w=00000000|id 0 t=1 w=00000000 |yes  t=1 w=00000000|yes 1 t=1 w=00000000|size=1 cur=2 bu=3 t=1 w=00000000\
 |size=x cur=2 bu=3 bw=4 t=1 w=00000000|g x t=1 w=00000000|add 1 t=1 w=00000000|id 0 t=1 w=00000000\r";
 
-/// The line before them is counted and told all the same, and the one behind them is not.
+/// The line before them is counted and told all the same, and the one after them is not.
 static ENDED: &str = "lines 1\naccepted 1\nrefused 0\npeak 7 at line 1\nstops 0\ngoes 0\n\
 unwritable 0\npending 7\nsuccess 0\nfailed 0\ncancelled 0\nstatus 2: line 2: fault 8, a line of no trace\n";
 
@@ -72,6 +72,16 @@ fn a_line_of_no_trace_ends_it(rt: HostRuntime) -> Result<(), Fail> {
     for line in OF_NO_TRACE.split('|') {
         let trace = format!(in rt.alloc(); "id 0 t=7 w=00000000\n{line}\nid 1 t=8 w=00000000\n");
         leaves_of(&rt, "ob_tool summary", trace, ENDED)?;
+    }
+    Ok(())
+}
+
+/// If the first line is of no trace, nothing is written. A trace of no lines is summed up all the same.
+#[test]
+fn sums_up_nothing_of_no_trace(rt: HostRuntime) -> Result<(), Fail> {
+    let end = "status 2: line 1: fault 8, a line of no trace\n";
+    for trace in ["b 304\n", "\n", "writes 1\nid 0 t=97 w=00000000\n"] {
+        leaves(&rt, "ob_tool summary", trace, end)?;
     }
     Ok(())
 }

@@ -13,8 +13,14 @@ pub struct Context<L: Named> {
     pub estimate: Estimate,
     /// The bytes that a hand-off adds to the estimate of a message.
     pub task: u32,
+    /// Whether a writer waits, before it writes, while writers are stopped.
+    pub heed: bool,
     /// How many writers there are.
     pub writers: u32,
+    /// Whether the transport has begun.
+    pub begun: AtomicBool,
+    /// Whether the transport sends no more beside the writers.
+    pub stopped: AtomicBool,
     /// Whether all writers have ended.
     pub ended: AtomicBool,
 }

@@ -10,6 +10,7 @@ use crate::gate::{Gate, Stuck};
 use crate::plan::Plan;
 use crate::planning::charge_for;
 use crate::threads::context::Context;
+use crate::threads::heed::heed;
 use ob_history::{Booked, Receipt};
 use ob_lanes::Lane;
 use ob_shared::{Done, Named, Share};
@@ -36,7 +37,8 @@ impl<L: Named> Model for Job<L> {
 
 impl<L: Named> Job<L> {
     /// Carries the plan out with a lane that has room for it, and gives the lane back. What it hands in has a receipt
-    /// of each command, in order. Before each command it reads whether the buffer is writable, and asks its gate.
+    /// of each command, in order. Before each command it reads whether the buffer is writable, and asks its gate; if the
+    /// drive's writers heed that, a write waits for it.
     pub fn run<R: Wait + Clock, G: Gate>(
         self,
         rt: &R,
@@ -67,8 +69,7 @@ impl<L: Named> Job<L> {
         let mut lane = lane;
         let mut share = share;
         'steps: for command in plan.commands {
-            // what a writer of a server would ask first; a plan is carried out whatever it is
-            let _glance = share.read(&context.shared);
+            share = heed(rt, context, share, &command);
             let step = receipts.len();
             if gate.before(rt, writer, step).is_err() {
                 drop(share);

@@ -34,6 +34,7 @@ fn config(options: Options, turns: u64) -> Result<Config, Refusal>
             max_bytes: 65536,
         },
         turns,
+        heed: false,
     })
 }
 

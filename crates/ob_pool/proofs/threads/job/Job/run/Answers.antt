@@ -8,8 +8,8 @@ use Rattle.ob_pool.proofs.threads.job.Job.run.Goals as goal
 
 pub one_step-same-requires-clause-numbered : goal.one_step-same-requires-clause-numbered
 one_step-same-requires-clause-numbered g c =
-    numbered_still c.read-glance.new.self.maker.caller c.steps.share.maker.caller c.args.self.maker.caller
-    c.args.context.now.writers (ap (λ (maker : Maker). maker.caller) c.read-glance.ensures.same)
+    numbered_still c.heed-share.result.maker.caller c.steps.share.maker.caller c.args.self.maker.caller
+    c.args.context.now.writers (ap (λ (maker : Maker). maker.caller) c.heed-share.ensures)
     c.steps.invariant.caller c.requires.numbered
 
 pub one_step-same-requires-clause-place : goal.one_step-same-requires-clause-place
@@ -27,17 +27,17 @@ steps-preserved g c =
     let rest = c.next.new.self.rest.items in
     let receipts = c.one_step-same.new.receipts in
     let step = c.one_step-same.ensures in
-    let same = c.read-glance.ensures.same in
+    let same = c.heed-share.ensures in
     let begin : plan ≡ command ∷ rest = search rules in
     let count : vec_len receipts ≡ vec_len c.steps.receipts + 1 =
     IfOk-at_ok (λ share. vec_len receipts ≡ vec_len c.steps.receipts + 1) c.in-Ok.is step.count in
-    let called = IfOk-at_ok (IsOneCall c.read-glance.new.self command c.steps.receipts.items receipts.items) c.in-Ok.is
+    let called = IfOk-at_ok (IsOneCall c.heed-share.result command c.steps.receipts.items receipts.items) c.in-Ok.is
     step.call in
     record {
       lane = record { words = step.lane.words ∙ kept.lane.words; room = step.lane.room ∙ kept.lane.room };
       roomy = room_rest c.args.context.now.estimate c.args.context.now.task command plan rest c.args.self.room kept.roomy begin;
       caller = ap (λ (maker : Maker). maker.caller) called.made ∙ ap (λ (maker : Maker). maker.caller) same ∙ kept.caller;
-      made = made_more c.in-Ok.counted.maker.made c.read-glance.new.self.maker.made c.steps.share.maker.made
+      made = made_more c.in-Ok.counted.maker.made c.heed-share.result.maker.made c.steps.share.maker.made
           c.args.self.maker.made (vec_len c.steps.receipts) (vec_len receipts)
           (ap (λ (maker : Maker). maker.made) called.made) (ap (λ (maker : Maker). maker.made) same) kept.made count;
       commands = commands_rest c.steps.receipts.items receipts.items command plan rest c.args.self.plan kept.commands begin
