@@ -252,6 +252,10 @@ LIMEKEEL_LAYOUT(limekeel_gathered, 16, count, 8);
 uint32_t limekeel_open(struct limekeel_connection *connection, uint32_t low, uint32_t high, uint32_t overhead,
                        uint32_t unknown);
 
+/* Keeps memory for what waits and for no more: none if nothing waits. For a connection that has sent all and is idle.
+ * It changes nothing else, and if a smaller block is refused the connection keeps the one that it has. */
+uint32_t limekeel_shrink_to_fit(struct limekeel_connection *connection);
+
 /* Frees a connection with all that waits in it. Promises that wait are not reported. */
 uint32_t limekeel_free(struct limekeel_connection *connection);
 
@@ -300,16 +304,23 @@ struct limekeel_taken limekeel_fail_flushed(struct limekeel_connection *connecti
  * refused after it. */
 struct limekeel_taken limekeel_close(struct limekeel_connection *connection, uint32_t cause);
 
+/* Gives the connection up, as when its socket is broken: what is flushed fails for this cause without
+ * notice, and the connection closes for it. One interval of all that was pending is reported, and no
+ * change of writability. Nothing but LIMEKEEL_CLOSED and LIMEKEEL_NOT_OPEN is refused. */
+struct limekeel_taken limekeel_give_up(struct limekeel_connection *connection, uint32_t cause);
+
 /* Sets the user bit 1 to 31, which makes the connection unwritable, or clears it if `writable` is set. */
 struct limekeel_changed limekeel_user_bit(struct limekeel_connection *connection, uint32_t index, bool writable);
 
 /* Sets other marks. They change nothing by themselves: the next rise or fall goes by them. */
 uint32_t limekeel_set_marks(struct limekeel_connection *connection, uint32_t low, uint32_t high);
 
-/* What is pending now; whether writers may go on; whether a close was accepted. */
+/* What is pending now; whether writers may go on; whether a close was accepted; whether no message is
+ * flushed and not yet removed. */
 struct limekeel_look limekeel_look(struct limekeel_connection *connection);
 struct limekeel_truth limekeel_is_writable(struct limekeel_connection *connection);
 struct limekeel_truth limekeel_is_closed(struct limekeel_connection *connection);
+struct limekeel_truth limekeel_is_empty(struct limekeel_connection *connection);
 
 /* What has become of a promise. */
 struct limekeel_promise limekeel_promise(struct limekeel_connection *connection, uint64_t id);

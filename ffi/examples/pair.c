@@ -200,12 +200,76 @@ static void misuse(void)
     expect("freed", limekeel_look(&none).status == LIMEKEEL_NOT_OPEN);
 }
 
+/* A broken socket: what is flushed and what is not fail together. */
+static void gives_up(void)
+{
+    struct limekeel_connection connection = LIMEKEEL_CONNECTION;
+    expect("give up none", limekeel_give_up(&connection, 7).status == LIMEKEEL_NOT_OPEN);
+    expect("shrink none", limekeel_shrink_to_fit(&connection) == LIMEKEEL_NOT_OPEN);
+    expect("none is not empty", limekeel_is_empty(&connection).status == LIMEKEEL_NOT_OPEN);
+    expect("open", limekeel_open(&connection, 100, 200, 96, 8) == LIMEKEEL_OK);
+    expect("write", limekeel_write(&connection, "flushed", 7).id == 0);
+    expect("no flush has reached it", limekeel_is_empty(&connection).holds);
+    expect("flush", limekeel_flush(&connection).count == 1);
+    struct limekeel_truth empty = limekeel_is_empty(&connection);
+    expect("it is not empty", empty.status == LIMEKEEL_OK && !empty.holds);
+    expect("one more", limekeel_write(&connection, "waits", 5).change == LIMEKEEL_UNWRITABLE);
+    expect("shrink", limekeel_shrink_to_fit(&connection) == LIMEKEEL_OK);
+    struct limekeel_look look = limekeel_look(&connection);
+    expect("what waits stays", look.size == 1 && look.total == 96 + 7 + 96 + 5);
+    struct limekeel_taken taken = limekeel_give_up(&connection, 7);
+    expect("both fail", taken.status == LIMEKEEL_OK && taken.from == 0 && taken.to == 2 && taken.count == 2);
+    expect("for the cause", taken.outcome == LIMEKEEL_FAILED && taken.cause == 7 && taken.change == LIMEKEEL_UNCHANGED);
+    expect("it is closed", limekeel_is_closed(&connection).holds && limekeel_is_empty(&connection).holds);
+    expect("once", limekeel_give_up(&connection, 7).status == LIMEKEEL_CLOSED);
+    expect("free", limekeel_free(&connection) == LIMEKEEL_OK);
+}
+
+#define MANY (LIMEKEEL_PIECES + 6u)
+
+/* More messages than one call has pieces: each piece lies where the bytes of its message do, and each byte comes.
+ * Message n is n + 1 times the byte n. */
+static void many_pieces(const int *ends)
+{
+    struct limekeel_connection connection = LIMEKEEL_CONNECTION;
+    expect("open", limekeel_open(&connection, 32768, 65536, 96, 8) == LIMEKEEL_OK);
+    uint8_t wanted[MANY * (MANY + 1) / 2];
+    size_t total = 0;
+    for (uint32_t message = 0; message < MANY; message++) {
+        memset(wanted + total, (int)message, message + 1);
+        expect("write", limekeel_write(&connection, wanted + total, message + 1).id == message);
+        total += message + 1;
+    }
+    expect("flush", limekeel_flush(&connection).count == MANY);
+    size_t came = 0;
+    for (uint32_t first = 0; first < MANY; first += LIMEKEEL_PIECES) {
+        struct limekeel_piece pieces[LIMEKEEL_PIECES];
+        struct limekeel_gathered front = limekeel_gather(&connection, pieces, LIMEKEEL_PIECES, UINT32_MAX);
+        expect("as many pieces as fit", front.count == (first == 0 ? LIMEKEEL_PIECES : 6));
+        size_t place = came;
+        for (uint32_t at = 0; at < front.count; at++) {
+            expect("of the message's length", pieces[at].length == first + at + 1);
+            expect("and where it lies", memcmp(pieces[at].at, wanted + place, pieces[at].length) == 0);
+            place += pieces[at].length;
+        }
+        expect("the socket takes all", send_pieces(ends[0], pieces, front.count) == (ssize_t)(place - came));
+        uint8_t bytes[sizeof wanted];
+        expect("all of it comes", read(ends[1], bytes, sizeof bytes) == (ssize_t)(place - came));
+        expect("as it was written", memcmp(bytes, wanted + came, place - came) == 0);
+        expect("and is gone", limekeel_take_sent(&connection, place - came).count == front.count);
+        came = place;
+    }
+    expect("free", limekeel_free(&connection) == LIMEKEEL_OK);
+}
+
 int main(void)
 {
     misuse();
+    gives_up();
     int ends[2];
     if (socketpair(AF_UNIX, SOCK_STREAM | SOCK_NONBLOCK, 0, ends) != 0)
         fail("socketpair", (uint32_t)errno);
+    many_pieces(ends);
     struct sender sender = {.connection = LIMEKEEL_CONNECTION, .shared = LIMEKEEL_BLOCK, .may_write = true};
     open_sender(&sender);
     uint32_t message = 0;

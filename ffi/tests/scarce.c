@@ -15,6 +15,7 @@ struct block {
 
 static unsigned char nowhere;
 static int asked, refused_at;
+static int held; /* blocks that were given and not freed */
 
 static struct block answer(bool may, unsigned char *at)
 {
@@ -34,7 +35,10 @@ void rattle_dealloc(unsigned char *at);
 struct block rattle_alloc(size_t size, size_t align)
 {
     (void)align;
-    return may_have() ? answer(true, malloc(size > 0 ? size : 1)) : answer(false, NULL);
+    if (!may_have())
+        return answer(false, NULL);
+    held++;
+    return answer(true, malloc(size > 0 ? size : 1));
 }
 
 struct block rattle_realloc(unsigned char *at, size_t kept, size_t size, size_t align)
@@ -46,6 +50,7 @@ struct block rattle_realloc(unsigned char *at, size_t kept, size_t size, size_t 
 
 void rattle_dealloc(unsigned char *at)
 {
+    held--;
     free(at);
 }
 
@@ -107,7 +112,11 @@ static int life(void)
     front = limekeel_gather(&connection, pieces, 1, UINT32_MAX);
     expect("and half of one is left", front.count == 1 && pieces[0].length == 3 && memcmp(pieces[0].at, "red", 3) == 0);
     expect("it fails", limekeel_fail_flushed(&connection, 4, true).count == 1);
+    int before = held;
+    expect("shrink", limekeel_shrink_to_fit(&connection) == LIMEKEEL_OK);
+    expect("an idle connection gives its ring back", held == before - 1);
     expect("free", limekeel_free(&connection) == LIMEKEEL_OK && limekeel_block_free(&block) == LIMEKEEL_OK);
+    expect("and keeps nothing", held == 0);
     return wanted;
 }
 

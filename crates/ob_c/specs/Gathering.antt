@@ -1,5 +1,7 @@
 -- What an export promises of what it gathers.
 use Rattle.std.specs.Prelude.{◌≡◌, ℕ, ◌&&◌, List, length, map, take, min, nat_eq, if◌then◌else◌, Option, Some, None}
+use Rattle.core.specs.Ptr.{as_ptr}
+use denote.Ref.{Bor}
 use Rattle.ob_types.specs.declared.message.Message.{Message}
 use Rattle.ob_types.specs.declared.message.Message.TheVariants.{Block, Region, Other}
 use Rattle.ob_connection.specs.Connected.{Connected}
@@ -12,9 +14,15 @@ use Rattle.ob_c.specs.declared.pieces.Piece.{Piece}
 abbrev pub most_pieces : ℕ
 most_pieces = 64
 
--- the bytes that a piece has
-abbrev pub piece_length : Piece → ℕ
-piece_length piece = piece.length
+-- the piece of memory behind a reference to bytes: where they lie, and how many they are
+abbrev pub piece_of : Bor (List ℕ) → Piece
+piece_of bytes = record { at = as_ptr bytes; length = length bytes.now }
+
+-- each piece is that of a reference to the bytes of the block that stands in its place
+abbrev pub AreAt : List (List ℕ) → List Piece → Type 0
+AreAt blocks pieces =
+    (references : List (Bor (List ℕ))) × (map (λ bytes. bytes.now) references ≡ blocks)
+    × (pieces ≡ map piece_of references)
 
 -- what stands in front, if `count` pieces were filled: 0 nothing, 1 blocks, 2 empty blocks, 3 a region, 4 another
 -- message
@@ -24,12 +32,12 @@ front_number (Some (Block bytes)) count = if nat_eq count 0 && nat_eq (length by
 front_number (Some (Region size)) count = 3
 front_number (Some (Other value)) count = 4
 
--- `count` pieces have the lengths of the blocks that are gathered from a connection, for at most `most` blocks and
--- `max_bytes` bytes
+-- `count` pieces are where the blocks lie that are gathered from a connection, for at most `most` blocks and `max_bytes`
+-- bytes
 abbrev pub gathered_as : Connected → ℕ → ℕ → ℕ → List Piece → Type 0
 gathered_as connection most max_bytes count pieces =
     (blocks : List (List ℕ)) × AreGathered connection most max_bytes blocks × (count ≡ length blocks)
-    × (map piece_length (take count pieces) ≡ map (λ block. length block) blocks)
+    × AreAt blocks (take count pieces)
 
 -- the same for `given` pieces, of which at most 64 are filled
 abbrev pub AreLaid : Connected → ℕ → ℕ → ℕ → List Piece → Type 0

@@ -1,14 +1,18 @@
 -- What an export promises of the connection behind a handle, and of a command to it.
-use Rattle.std.specs.Prelude.{◌≡◌, ℕ, List, Option, Some, None, Result, IsErrOf, OnErr}
+use Rattle.std.specs.Prelude.{◌≡◌, ℕ, List, Option, Some, None, Result, IfOk, IfErr, IsErrOf, OnErr, is_err}
 use Rattle.ob_types.specs.declared.command.Command.{Command}
+use Rattle.ob_types.specs.declared.promise.Cause.{Cause}
 use Rattle.ob_types.specs.declared.promise.Outcome.{Outcome}
 use Rattle.ob_types.specs.declared.promise.PromiseState.{PromiseState}
 use Rattle.ob_types.specs.declared.refusal.Refusal.{Refusal}
-use Rattle.ob_types.specs.declared.refusal.Refusal.TheVariants.{NoMemory}
+use Rattle.ob_types.specs.declared.refusal.Refusal.TheVariants.{Closed, NoMemory}
 use Rattle.ob_types.specs.declared.reply.Reply.{Reply}
+use Rattle.ob_seq.specs.State.{closed_after}
 use Rattle.ob_connection.specs.Connected.{Connected}
+use Rattle.ob_connection.specs.GivingUp.{GivesUp}
 use Rattle.ob_connection.specs.Obeying.{Obeys, IsNext}
 use Rattle.ob_connection.specs.Replies.{taken_reply}
+use Rattle.ob_connection.specs.Standing.{Gives}
 use Rattle.ob_connection.specs.declared.replies.Taken.{Taken as TakenReply}
 use Rattle.ob_c.specs.Numbers.{accepted}
 use Rattle.ob_c.specs.Replies.{taken_in_c}
@@ -47,6 +51,12 @@ Takes command outcome old result new =
 -- the same of a handle
 abbrev pub TakesFor : Option Connected → Command → Outcome → Taken → Option Connected → Type 0
 TakesFor handle command outcome told new = Answers handle (Takes command outcome) taken_in_c told new
+
+-- a connection that is open is given up for this cause, and one that is closed is refused as such and stays as it is
+abbrev pub GivesUpIfOpen : Cause → Connected → Result TakenReply Refusal → Connected → Type 0
+GivesUpIfOpen cause old result new =
+    Gives old closed_after (is_err result) × IfOk result (λ taken. GivesUp old cause taken new)
+    × IfErr result (λ refusal. refusal ≡ Closed) × OnErr result (new ≡ old)
 
 -- a connection obeys a command, but that memory may run out before it is asked, which changes nothing
 abbrev pub ObeysOrWants : {A : Type 0} → Connected → Command → (List PromiseState → A → Reply) → Result A Refusal →

@@ -31,6 +31,11 @@ Opens None (Err refused) status new = (status ≡ refused) × (new ≡ None)
 Opens None (Ok settings) status None = status ≡ no_memory
 Opens None (Ok settings) status (Some new) = (status ≡ done) × (new.unsent.settings ≡ settings) × StandsFor new []
 
+-- C is told whether there is a connection, which stays as it is
+abbrev pub StaysAsItIs : Option Connected → ℕ → Option Connected → Type 0
+StaysAsItIs None status new = (status ≡ not_open) × (new ≡ None)
+StaysAsItIs (Some old) status new = (status ≡ done) × (new ≡ Some old)
+
 -- marks are set, if there is a connection and they are marks
 abbrev pub SetsMarks : Option Connected → Result Marks Refusal → ℕ → Option Connected → Type 0
 SetsMarks None marks status new = (status ≡ not_open) × (new ≡ None)

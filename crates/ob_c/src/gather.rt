@@ -3,7 +3,7 @@
 ghost use Rattle.std.specs.Io.Slices.{io_slice_bytes};
 ghost use Rattle.std.specs.Option.{option_copied};
 ghost use Rattle.std.specs.Prelude.{◌≡◌, ◌≤◌, length, map, take, drop};
-ghost use Rattle.ob_c.specs.Gathering.{AreLaid, Gathers, front_number, gathered_as, piece_length};
+ghost use Rattle.ob_c.specs.Gathering.{AreAt, AreLaid, Gathers, front_number, gathered_as};
 
 use crate::handle::Handle;
 use crate::numbers::{DONE, NOT_OPEN};
@@ -93,12 +93,11 @@ fn lay_by<'a>(
 /// Puts where these slices lie into the first pieces.
 fn place(slices: &[IoSlice<'_>], pieces: &mut [Piece])
     requires { length slices.now ≤ length pieces.old }
-    ensures placed { map piece_length (take (length slices.now) pieces.new)
-        ≡ map (λ slice. length (io_slice_bytes slice)) slices.now }
+    ensures placed { AreAt (map io_slice_bytes slices.now) (take (length slices.now) pieces.new) }
     ensures rest { drop (length slices.now) pieces.new ≡ drop (length slices.now) pieces.old }
 {
     for at in 0..slices.len() {
-        pieces[at] = Piece::of(&slices[at]);
+        pieces[at] = Piece::of(slices[at].as_slice());
     }
 }
 

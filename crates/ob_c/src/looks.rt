@@ -1,6 +1,6 @@
 //! The looks. Each takes the handle as a command does, and leaves the connection as it was.
 
-ghost use Rattle.ob_seq.specs.State.{writable_after, closed_after};
+ghost use Rattle.ob_seq.specs.State.{writable_after, closed_after, empty_after};
 ghost use Rattle.ob_connection.specs.Looks.{Shows, IsCurrent, IsFrontPromise, Tells as TellsOf};
 ghost use Rattle.ob_connection.specs.Standing.{Gives};
 ghost use Rattle.ob_c.specs.Looks.{Tells, look_in_c, truth_in_c, promise_in_c, front_in_c, current_in_c};
@@ -31,6 +31,14 @@ pub extern "C" fn limekeel_is_closed(alloc: Global, handle: &mut Handle) -> Trut
     ensures { Tells handle.old.value (λ connection. Gives connection closed_after) truth_in_c result handle.new.value }
 {
     Truth::of(handle.with(alloc, |connection| connection.is_closed()))
+}
+
+/// Whether no message is flushed and not yet removed, voided ones too.
+#[unsafe(no_mangle)]
+pub extern "C" fn limekeel_is_empty(alloc: Global, handle: &mut Handle) -> Truth
+    ensures { Tells handle.old.value (λ connection. Gives connection empty_after) truth_in_c result handle.new.value }
+{
+    Truth::of(handle.with(alloc, |connection| connection.is_empty()))
 }
 
 /// What has become of a promise.

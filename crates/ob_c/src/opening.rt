@@ -1,10 +1,10 @@
-//! The opening of a connection, and its end: the handle that is freed.
+//! The opening of a connection, the memory that it gives back, and its end: the handle that is freed.
 
 ghost use Rattle.std.specs.Prelude.{◌≡◌, ◌≤◌, IfOk, OnErr, []};
 ghost use Rattle.ob_types.specs.Limits.{greatest_overhead, greatest_unknown};
 ghost use Rattle.ob_connection.specs.Standing.{StandsFor};
 ghost use Rattle.ob_c.specs.Blocks.{IsLetGo};
-ghost use Rattle.ob_c.specs.Opening.{Opens, settings_of};
+ghost use Rattle.ob_c.specs.Opening.{Opens, StaysAsItIs, settings_of};
 
 use crate::handle::Handle;
 use crate::numbers::{ALREADY_OPEN, BAD_ESTIMATE, DONE, NO_MEMORY, NOT_OPEN};
@@ -48,6 +48,19 @@ pub extern "C" fn limekeel_open(
             DONE
         }
         Err(_) => NO_MEMORY,
+    }
+}
+
+/// Keeps memory for what waits and for no more. If a smaller block is refused, the connection keeps the one that it has.
+///
+/// The status is 13 if the handle holds no connection.
+#[unsafe(no_mangle)]
+pub extern "C" fn limekeel_shrink_to_fit(alloc: Global, handle: &mut Handle) -> u32
+    ensures { StaysAsItIs handle.old.value result handle.new.value }
+{
+    match handle.with(alloc, |connection| connection.shrink_to_fit()) {
+        None => NOT_OPEN,
+        Some(()) => DONE,
     }
 }
 

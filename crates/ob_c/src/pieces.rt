@@ -1,7 +1,7 @@
 //! Where the bytes of a block lie, for a vectored write.
 
-ghost use Rattle.std.specs.Prelude.{◌≡◌, length};
-ghost use Rattle.core.specs.Ptr.{as_ptr};
+ghost use Rattle.std.specs.Prelude.{◌≡◌};
+ghost use Rattle.ob_c.specs.Gathering.{piece_of};
 
 /// A piece of memory that is to be sent: `struct iovec` of POSIX.
 #[repr(C)]
@@ -16,7 +16,7 @@ pub struct Piece {
 impl Piece {
     /// Where these bytes lie.
     pub(crate) fn of(bytes: &[u8]) -> Piece
-        ensures { (result.at ≡ as_ptr bytes.entry) × (result.length ≡ length bytes.now) }
+        ensures { result ≡ piece_of bytes.entry }
     {
         Piece {
             at: bytes.as_ptr(),

@@ -3,8 +3,8 @@
 ghost use Rattle.ob_types.specs.declared.command.Command.TheVariants.{Remove, RemoveWith, RemoveBytes, FailFlushed, Close};
 ghost use Rattle.ob_types.specs.declared.promise.Outcome.TheVariants.{Success, Failed};
 ghost use Rattle.ob_connection.specs.Replies.{removed_reply};
-ghost use Rattle.ob_c.specs.Obeying.{ObeysFrugallyFor, TakesFor};
-ghost use Rattle.ob_c.specs.Replies.{removed_in_c};
+ghost use Rattle.ob_c.specs.Obeying.{Answers, GivesUpIfOpen, ObeysFrugallyFor, TakesFor};
+ghost use Rattle.ob_c.specs.Replies.{removed_in_c, taken_in_c};
 
 use crate::handle::Handle;
 use crate::replies::{Removed, Taken};
@@ -60,4 +60,13 @@ pub extern "C" fn limekeel_close(alloc: Global, handle: &mut Handle, cause: u32)
     ensures { TakesFor handle.old.value (Close (record { 0 = cause })) (Failed (record { 0 = cause })) result handle.new.value }
 {
     Taken::of(handle.command(alloc, |connection| connection.close(Cause(cause))))
+}
+
+/// Gives the connection up: fails what is flushed for this cause without notice, closes for it, and returns which messages
+/// were pending. Nothing but a closed connection is refused.
+#[unsafe(no_mangle)]
+pub extern "C" fn limekeel_give_up(alloc: Global, handle: &mut Handle, cause: u32) -> Taken
+    ensures { Answers handle.old.value (GivesUpIfOpen (record { 0 = cause })) taken_in_c result handle.new.value }
+{
+    Taken::of(handle.command(alloc, |connection| connection.give_up(Cause(cause))))
 }

@@ -107,6 +107,7 @@ const _: () = assert!(size_of::<Connection>() == 8 && size_of::<Block>() == 8);
 #[allow(missing_docs)]
 unsafe extern "C" {
     pub fn limekeel_open(connection: *mut Connection, low: u32, high: u32, overhead: u32, unknown: u32) -> u32;
+    pub fn limekeel_shrink_to_fit(connection: *mut Connection) -> u32;
     pub fn limekeel_free(connection: *mut Connection) -> u32;
     pub fn limekeel_block_of_bytes(block: *mut Block, bytes: *const u8, length: usize) -> u32;
     pub fn limekeel_block_free(block: *mut Block) -> u32;
@@ -122,11 +123,13 @@ unsafe extern "C" {
     pub fn limekeel_cancel(connection: *mut Connection, id: u64) -> Cancelled;
     pub fn limekeel_fail_flushed(connection: *mut Connection, cause: u32, notify: bool) -> Taken;
     pub fn limekeel_close(connection: *mut Connection, cause: u32) -> Taken;
+    pub fn limekeel_give_up(connection: *mut Connection, cause: u32) -> Taken;
     pub fn limekeel_user_bit(connection: *mut Connection, index: u32, writable: bool) -> Changed;
     pub fn limekeel_set_marks(connection: *mut Connection, low: u32, high: u32) -> u32;
     pub fn limekeel_look(connection: *mut Connection) -> Look;
     pub fn limekeel_is_writable(connection: *mut Connection) -> Truth;
     pub fn limekeel_is_closed(connection: *mut Connection) -> Truth;
+    pub fn limekeel_is_empty(connection: *mut Connection) -> Truth;
     pub fn limekeel_promise(connection: *mut Connection, id: u64) -> Promise;
     pub fn limekeel_front(connection: *mut Connection) -> Front;
     pub fn limekeel_current(connection: *mut Connection) -> Current;

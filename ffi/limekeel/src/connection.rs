@@ -134,6 +134,20 @@ impl Connection {
         Ok(self.settled_by(taken))
     }
 
+    /// Gives the connection up, as when its socket is broken: what is flushed fails for this cause, and the connection
+    /// closes for it. It returns all that was pending, and writability stays as it was. [`Refusal::Closed`] comes if the
+    /// connection is closed, and no other refusal does.
+    pub fn give_up(&mut self, cause: u32) -> Result<Taken, Refusal> {
+        let taken = Taken::of(self.handle.give_up(cause))?;
+        Ok(self.settled_by(taken))
+    }
+
+    /// Keeps memory for what waits and for no more: none if nothing waits. For a connection that has sent all and is
+    /// idle. It cannot fail: if a smaller block is refused, the connection keeps the one that it has.
+    pub fn shrink_to_fit(&mut self) {
+        self.handle.shrink_to_fit();
+    }
+
     /// Sets the user bit 1 to 31, which makes the connection unwritable, or clears it if `writable` is set.
     pub fn user_bit(&mut self, index: u32, writable: bool) -> Result<Option<Change>, Refusal> {
         let told = self.handle.user_bit(index, writable);
@@ -162,6 +176,12 @@ impl Connection {
     #[must_use]
     pub fn is_closed(&self) -> bool {
         self.handle.is_closed().holds
+    }
+
+    /// Whether no message is flushed and not yet removed. Messages that no flush has reached are not asked for.
+    #[must_use]
+    pub fn is_empty(&self) -> bool {
+        self.handle.is_empty().holds
     }
 
     /// What has become of a promise, or nothing if no write was accepted under it.

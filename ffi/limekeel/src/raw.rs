@@ -61,6 +61,7 @@ impl Handle {
 
     commands! {
         open(low: u32, high: u32, overhead: u32, unknown: u32) -> u32 = limekeel_open;
+        shrink_to_fit() -> u32 = limekeel_shrink_to_fit;
         free() -> u32 = limekeel_free;
         write_region(length: u64) -> sys::Written = limekeel_write_region;
         write_other(value: u32) -> sys::Written = limekeel_write_other;
@@ -72,6 +73,7 @@ impl Handle {
         cancel(id: u64) -> sys::Cancelled = limekeel_cancel;
         fail_flushed(cause: u32, notify: bool) -> sys::Taken = limekeel_fail_flushed;
         close(cause: u32) -> sys::Taken = limekeel_close;
+        give_up(cause: u32) -> sys::Taken = limekeel_give_up;
         user_bit(index: u32, writable: bool) -> sys::Changed = limekeel_user_bit;
         set_marks(low: u32, high: u32) -> u32 = limekeel_set_marks;
     }
@@ -80,6 +82,7 @@ impl Handle {
         look() -> sys::Look = limekeel_look;
         is_writable() -> sys::Truth = limekeel_is_writable;
         is_closed() -> sys::Truth = limekeel_is_closed;
+        is_empty() -> sys::Truth = limekeel_is_empty;
         promise(id: u64) -> sys::Promise = limekeel_promise;
         front() -> sys::Front = limekeel_front;
         current() -> sys::Current = limekeel_current;

@@ -2,7 +2,8 @@
 
 use limekeel::{Connection, Estimate, Marks, Outcome};
 use std::collections::VecDeque;
-use std::io::{self, ErrorKind, Write};
+use std::io::{self, ErrorKind, Read, Write};
+use std::os::unix::net::UnixStream;
 
 /// A writer that does the next of its steps at each write, and keeps what it took.
 #[derive(Default)]
@@ -77,6 +78,30 @@ fn what_a_writer_took_is_gone_and_no_more() {
     assert_eq!(socket.offered, [64, 64, 29]);
     assert_eq!(socket.took, (0..100).collect::<Vec<u8>>());
     assert!(is_as_it_was(&connection, 0));
+}
+
+#[test]
+fn seventy_messages_come_over_a_socket_in_two_calls() {
+    let (mut socket, mut peer) = UnixStream::pair().expect("there are sockets");
+    let mut connection = Connection::open(Marks::default(), Estimate::default()).expect("there is memory");
+    // message n is n + 1 times the byte n, so that no two pieces are alike
+    let messages: Vec<Vec<u8>> = (0..70u8).map(|byte| vec![byte; usize::from(byte) + 1]).collect();
+    for message in &messages {
+        let _ = connection.write(message).expect("it is accepted");
+    }
+    let _ = connection.flush().expect("it is open");
+    let pieces = connection.pieces::<64>(u32::MAX);
+    assert!(pieces.iter().map(|piece| &piece[..]).eq(messages[..64].iter().map(|message| &message[..])));
+    drop(pieces);
+    // 1 and so on to 64, and 65 and so on to 70
+    for (count, bytes) in [(64, 2080), (6, 405)] {
+        let sent = connection.send_to(&mut socket).expect("it takes");
+        assert_eq!((sent.taken.count, sent.bytes), (count, bytes));
+    }
+    drop(socket);
+    let mut came = Vec::new();
+    peer.read_to_end(&mut came).expect("it reads");
+    assert_eq!(came, messages.concat());
 }
 
 #[test]

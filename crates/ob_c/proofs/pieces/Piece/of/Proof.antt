@@ -25,7 +25,7 @@ of_spec 𝓤 𝓛 𝓜 𝓡 wired =
     sets ! (of_opd ! (get_in ! (fld ! refl (stop !)) (sub ! 1 refl (whole !)))) refl (tt, fits) $
     sets ! (agg ! (and_then ! (get ! refl) (and_then ! (get ! refl) (no_more !)))) refl (tt, (tt, (fits, tt))) $
     returns ! (look_at ! 0 refl) $ free_all ! refl $
-    suffices ! _ (ends_at 𝓛 f.ended stayed c y (both (vptr b o) (vint w64 n)) (record { at = block_ptr b o; length = n }) (tt, tt) (tt, tt)) $ says ! (refl, refl) $
+    suffices ! _ (ends_at 𝓛 f.ended stayed c y (both (vptr b o) (vint w64 n)) (record { at = block_ptr b o; length = n }) (tt, tt) (tt, tt)) $ says ! refl $
     nothing ! $ move ! (1 ∷ 0 ∷ []) $ join ! $ frame ! $ nothing ! $ nothing ! $ join ! $ frame ! $
     owned ! usize _ (uint_Makes 𝓛 w64) n _ (refl, are.0.0.1.0) $ feq_i ! (List Val) (vptr b o ∷ []) (vptr b o ∷ []) refl $
     two_in RawPtr usize (block_ptr b o) n ! (vptr b o) (vint w64 n) $ done !))
