@@ -1,12 +1,14 @@
 //! Four writers and a transport over one shared buffer, each in a thread of its own, as `docs/calls.md` shows them.
 #![tactic(auto)]
 
+ghost use Rattle.std.specs.Prelude.{◌<◌};
 ghost use Rattle.ob_shared.specs.Opened.{IsNameOf};
+ghost use Rattle.ob_shared_callers.specs.BooksFirst.{BooksFirst};
 
 use bytes::Bytes;
 use ob_history::{Booked, Recorded};
 use ob_shared::{Done, Named, Opening, Share, SharedBuffer};
-use ob_transport::{Limits, PassFault, Sink, SinkFault, drain};
+use ob_transport::{Limits, PassFault, Sink, SinkFault, book, drain};
 use ob_types::{Answer, Cause, Command, Estimate, Message, PromiseId, Refusal, WaterMark};
 use std::alloc::{AllocError, Global};
 use std::marker::Brand;
@@ -147,8 +149,35 @@ const LIMITS: Limits = Limits {
     max_bytes: 65536,
 };
 
-/// The transport hands what is flushed to a sink until all is written and nothing is left: whether that came. If the
-/// sink fails, what is flushed fails too.
+/// Hands what is flushed to a sink in up to 16 passes, and returns how many bytes the sink took that are not booked,
+/// since memory was refused for that. Hand that number in at the next call: they are booked before anything else is sent,
+/// or the sink would get them twice. If the sink fails, what is flushed fails too.
+pub fn send_on<B: Booked, S: Sink>(booked: &mut B, sink: &mut S, unbooked: u64) -> u64
+    ensures { 0 < unbooked → BooksFirst (B.history booked.old) (B.caller booked.old) unbooked (S.content sink.old)
+        result (S.content sink.new) }
+{
+    if unbooked == 0 {
+        return send_next(booked, sink);
+    }
+    match book(booked, unbooked) {
+        Ok(_receipt) => send_next(booked, sink),
+        Err(_) => unbooked,
+    }
+}
+
+/// The same, once all that the sink took is booked.
+fn send_next<B: Booked, S: Sink>(booked: &mut B, sink: &mut S) -> u64 {
+    match drain(booked, sink, LIMITS, 16) {
+        Err(PassFault::Unbooked { taken }) => taken,
+        Err(PassFault::Sink(SinkFault(number))) => {
+            let _ = booked.record(Command::FailFlushed(Cause(number), true));
+            0
+        }
+        _ => 0,
+    }
+}
+
+/// The transport hands what is flushed to a sink until all is written and nothing is left: whether that came.
 fn send<L: Named, R: Wait + Clock, S: Sink>(
     rt: &R,
     alloc: Global,
@@ -157,12 +186,10 @@ fn send<L: Named, R: Wait + Clock, S: Sink>(
     sink: &mut S,
 ) -> (Done<L>, bool) {
     let mut share = share;
-    let mut is_sent = false;
+    let (mut is_sent, mut unbooked) = (false, 0);
     for _ in 0..10_000u32 {
         let mut desk = buffer.desk(rt, share);
-        if let Err(PassFault::Sink(SinkFault(number))) = drain(&mut desk, sink, LIMITS, 16) {
-            let _ = desk.call(Command::FailFlushed(Cause(number), true));
-        }
+        unbooked = send_on(&mut desk, sink, unbooked);
         let look = desk.look().look;
         let written = 1048576u32.saturating_sub(desk.buffer().writes_left());
         share = desk.leave();

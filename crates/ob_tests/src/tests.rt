@@ -4,6 +4,7 @@ mod history;
 mod in_flight;
 mod lanes;
 mod limits;
+mod patterns;
 mod schedules;
 mod seq;
 mod slow_peer;

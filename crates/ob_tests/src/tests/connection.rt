@@ -1,7 +1,7 @@
 //! A connection that is written to, cancelled, sent and closed: each answer as worked by hand.
 
 mod giving_up;
-mod sending;
+pub mod sending;
 
 use bytes::Bytes;
 use ob_connection::{Connection, Flushed, Removed, Status, Taken, Written};
@@ -10,12 +10,12 @@ use std::alloc::Global;
 use std::test::Fail;
 
 /// A message that counts 100 bytes: four, and the overhead.
-fn four_bytes() -> Message {
+pub fn four_bytes() -> Message {
     Message::Block(Bytes::from_static(b"four"))
 }
 
 /// A connection that is to stop above 200 bytes and to go on below 100.
-fn open(alloc: Global) -> Result<Connection, Refusal> {
+pub fn open(alloc: Global) -> Result<Connection, Refusal> {
     let estimate = Estimate {
         overhead: 96,
         unknown: 8,

@@ -1,10 +1,13 @@
 //! The writers and the transport that `docs/calls.md` shows.
 
 use crate::tests::host::Host;
-use ob_history::Recorded;
-use ob_shared_callers::serve;
+use crate::tests::keeping_buffers::Scarce;
+use bytes::Bytes;
+use ob_history::{As, Booked, Recorded};
+use ob_shared_callers::{send_on, serve};
 use ob_transport::ScriptSink;
-use ob_types::Refusal;
+use ob_types::{Command, Estimate, Message, Refusal, WaterMark};
+use std::alloc::Global;
 use std::test::Fail;
 
 /// How many bytes the sink took and how often it failed, and the total, the size and the writes that are left.
@@ -27,5 +30,41 @@ fn left((taken, failures): (usize, u64), recorded: Recorded) -> Left {
 #[test]
 fn writers_and_a_transport(rt: HostRuntime) -> Result<(), Fail> {
     assert_eq!(rt; served(&rt)?, (400, 0, 0, 0, 1048536));
+    Ok(())
+}
+
+/// A buffer of one thread with six flushed messages of a byte each, which wants memory for their removal.
+fn scarce(alloc: Global) -> Result<Scarce, Refusal> {
+    let estimate = Estimate {
+        overhead: 96,
+        unknown: 8,
+    };
+    let mut booked = As {
+        recorded: Recorded::new(alloc, WaterMark::new(200, 400)?, estimate, 100),
+        caller: 7,
+    };
+    for _ in 0..6 {
+        booked.record(Command::Write(Message::Block(Bytes::from_static(b"s"))))?;
+    }
+    booked.record(Command::Flush)?;
+    Ok(Scarce {
+        booked,
+        is_ready: false,
+    })
+}
+
+#[test]
+fn what_the_sink_took_is_booked_and_not_offered_again(rt: HostRuntime) -> Result<(), Fail> {
+    let mut booked = scarce(rt.alloc())?;
+    let mut sink = ScriptSink::new(Vec::new(rt.alloc()), 100);
+    let first = send_on(&mut booked, &mut sink, 0);
+    let taken = sink.taken().len();
+    let second = send_on(&mut booked, &mut sink, first);
+    let left = booked.buffer().look().total;
+    assert_eq!(rt;
+        (first, taken, second, sink.taken().len(), left),
+        (6, 6, 0, 6, 0)
+    );
+    drop((booked, sink));
     Ok(())
 }

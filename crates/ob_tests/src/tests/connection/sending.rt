@@ -10,10 +10,10 @@ use std::test::Fail;
 
 /// A socket that takes at most three bytes of the first piece a call, and `room` bytes in all.
 #[derive(Drop)]
-struct Slow {
-    log: Vec<u8>,
-    room: usize,
-    breaks: bool,
+pub struct Slow {
+    pub log: Vec<u8>,
+    pub room: usize,
+    pub breaks: bool,
 }
 
 impl Socket for Slow {
@@ -42,7 +42,7 @@ impl Socket for Slow {
 
 impl Slow {
     /// One with room for five bytes.
-    fn new(alloc: Global, breaks: bool) -> Slow {
+    pub fn new(alloc: Global, breaks: bool) -> Slow {
         Slow {
             log: Vec::new(alloc),
             room: 5,

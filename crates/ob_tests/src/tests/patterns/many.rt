@@ -1,0 +1,86 @@
+//! The same to many, and from several threads.
+
+use crate::tests::connection::sending::Slow;
+use crate::tests::connection::{four_bytes, open};
+use bytes::Bytes;
+use ob_patterns::{
+    Reached, broadcast, forward, forwarded, most_frame_bytes, respond_from_any_thread,
+    send_from_one_thread,
+};
+use ob_types::Cause;
+use std::sync::Mutex;
+use std::test::Fail;
+
+#[test]
+fn a_closed_and_a_slow_one_are_left_out(rt: HostRuntime) -> Result<(), Fail> {
+    let mut all = [
+        open(rt.alloc())?,
+        open(rt.alloc())?,
+        open(rt.alloc())?,
+        open(rt.alloc())?,
+    ];
+    let _closed = all[1].close(Cause(7))?;
+    for _ in 0..3 {
+        let _written = all[2].write(four_bytes())?;
+    }
+    let reached = broadcast(&mut all, &Bytes::from_static(b"four"));
+    let [first, second, third, last] = &all;
+    let totals = [first, second, third, last].map(|one| one.look().total);
+    let sizes = [first, second, third, last].map(|one| one.look().size);
+    assert_eq!(rt;
+        (reached, totals, sizes),
+        (
+            Reached {
+                got: 2,
+                left_out: 2
+            },
+            [100, 0, 300, 100],
+            [1, 0, 0, 1]
+        )
+    );
+    drop(all);
+    Ok(())
+}
+
+#[test]
+fn a_thread_writes_and_the_one_with_the_socket_sends(rt: HostRuntime) -> Result<(), Fail> {
+    let connection = Mutex::new(open(rt.alloc())?);
+    let mut socket = Slow::new(rt.alloc(), false);
+    let bytes = || Bytes::from_static(b"four");
+    let ids = [0; 2].map(|_| respond_from_any_thread(&rt, &connection, bytes()).map(
+        |done| done.id,
+    ));
+    let sent = [0; 3].map(|_| send_from_one_thread(&rt, &connection, &mut socket).map(
+        |sent| sent.bytes,
+    ));
+    assert_eq!(rt;
+        (ids, sent, socket.log.as_slice()),
+        ([Ok(0), Ok(1)], [Ok(3), Ok(1), Ok(1)], b"fourf".as_slice())
+    );
+    drop((connection, socket));
+    Ok(())
+}
+
+#[test]
+fn the_send_that_makes_the_other_side_writable_is_told(rt: HostRuntime) -> Result<(), Fail> {
+    let mut connection = open(rt.alloc())?;
+    let mut socket = Slow::new(rt.alloc(), false);
+    socket.room = 100;
+    let room = most_frame_bytes(&connection, 96);
+    let _reads = [0; 3].map(|_| forward(&mut connection, Bytes::from_static(b"four")).ok());
+    let none = most_frame_bytes(&connection, 0);
+    // three bytes and one for each message: below 100 once the third is gone
+    let told = [0; 6].map(|_| {
+        connection
+            .send_once(&mut socket, 8, 100)
+            .map(|sent| forwarded(&sent))
+            .ok()
+    });
+    let (no, yes) = (Some(false), Some(true));
+    assert_eq!(rt;
+        (room, none, told),
+        (Some(104), None, [no, no, no, no, no, yes])
+    );
+    drop((connection, socket));
+    Ok(())
+}
