@@ -1,9 +1,9 @@
 use crate::block::Block;
+use crate::promises::{Node, Promises};
 use crate::raw::{Handle, Pieces};
 use crate::replies::{Change, Flushed, Refusal, Removed, Taken, Written, done};
 use crate::views::{Current, Look, Promise};
-use std::collections::BTreeSet;
-use std::ops::Range;
+use std::mem::take;
 
 /// The two marks, in bytes: writers stop above the high one, and go on below the low one. The default is Netty's.
 #[derive(Clone, Copy, Debug, PartialEq, Eq)]
@@ -44,7 +44,7 @@ pub struct Connection {
     pub(crate) handle: Handle,
     /// Promises that were cancelled and whose messages are not gone. The archive reports an interval of promises, and
     /// which of them it had settled before; this is to leave those out.
-    cancelled: BTreeSet<u64>,
+    cancelled: Promises,
 }
 
 impl Connection {
@@ -52,7 +52,7 @@ impl Connection {
     pub fn open(marks: Marks, estimate: Estimate) -> Result<Connection, Refusal> {
         let mut handle = Handle::none();
         done(handle.open(marks.low, marks.high, estimate.overhead, estimate.unknown))?;
-        Ok(Connection { handle, cancelled: BTreeSet::new() })
+        Ok(Connection { handle, cancelled: Promises::default() })
     }
 
     /// Writes a copy of these bytes after all else. They are not sent before a flush.
@@ -113,11 +113,15 @@ impl Connection {
     }
 
     /// Takes a promise back, and returns whether that came in time: a promise that a flush has fixed stays as it is.
+    /// [`Refusal::NoMemory`] comes if it would be in time, and the allocator refused.
     pub fn cancel(&mut self, id: u64) -> Result<bool, Refusal> {
+        // memory comes first, so that nothing has changed if it is refused
+        let node = if self.promise(id) == Some(Promise::Waiting) { Some(Node::new(id)?) } else { None };
         let told = self.handle.cancel(id);
         done(told.status)?;
-        if told.in_time {
-            self.cancelled.insert(id);
+        debug_assert_eq!(told.in_time, node.is_some());
+        if let Some(node) = node.filter(|_| told.in_time) {
+            self.cancelled.insert(node);
         }
         Ok(told.in_time)
     }
@@ -230,13 +234,14 @@ impl Connection {
         if self.cancelled.is_empty() {
             return taken;
         }
-        let cancelled = self.forget(&taken.promises);
+        let cancelled = self.forget_below(taken.promises.end);
         taken.without(cancelled)
     }
 
     #[cold]
-    fn forget(&mut self, promises: &Range<u64>) -> Vec<u64> {
-        let left = self.cancelled.split_off(&promises.end);
-        std::mem::replace(&mut self.cancelled, left).into_iter().collect()
+    fn forget_below(&mut self, end: u64) -> Promises {
+        let (gone, left) = take(&mut self.cancelled).cut(end);
+        self.cancelled = left;
+        gone
     }
 }

@@ -46,6 +46,7 @@
 
 mod block;
 mod connection;
+mod promises;
 mod replies;
 mod send;
 mod shared;

@@ -1,5 +1,6 @@
 //! What the commands return.
 
+use crate::promises::Promises;
 use limekeel_sys as sys;
 use std::error::Error;
 use std::fmt;
@@ -218,7 +219,7 @@ pub struct Taken {
     /// The outcome of those that it settled.
     pub outcome: Outcome,
     /// Those that it did not settle, since they were cancelled before.
-    cancelled: Vec<u64>,
+    cancelled: Promises,
 }
 
 impl Taken {
@@ -230,11 +231,11 @@ impl Taken {
             change: Change::of(told.change),
             promises: told.from..told.to,
             outcome: Outcome::of(told.outcome, told.cause),
-            cancelled: Vec::new(),
+            cancelled: Promises::default(),
         })
     }
 
-    pub(crate) fn without(mut self, cancelled: Vec<u64>) -> Taken {
+    pub(crate) fn without(mut self, cancelled: Promises) -> Taken {
         self.cancelled = cancelled;
         self
     }
@@ -251,19 +252,14 @@ impl Taken {
 pub struct Settled<'a> {
     rest: Range<u64>,
     outcome: Outcome,
-    cancelled: &'a [u64],
+    cancelled: &'a Promises,
 }
 
 impl Iterator for Settled<'_> {
     type Item = (u64, Outcome);
 
     fn next(&mut self) -> Option<(u64, Outcome)> {
-        loop {
-            let id = self.rest.next()?;
-            match self.cancelled.split_first() {
-                Some((first, behind)) if *first == id => self.cancelled = behind,
-                _ => return Some((id, self.outcome)),
-            }
-        }
+        let id = self.rest.find(|id| !self.cancelled.contains(*id))?;
+        Some((id, self.outcome))
     }
 }

@@ -1,0 +1,117 @@
+//! Where this crate allocates: a cancellation before it is in time, and nothing else. Counts, and may refuse, what is
+//! allocated by Rust on this thread; the archive's own memory is that of the C library.
+
+use limekeel::{Connection, Estimate, Marks, Outcome, Promise, Refusal};
+use std::alloc::{GlobalAlloc, Layout, System};
+use std::cell::Cell;
+use std::ptr::null_mut;
+
+struct Counting;
+
+thread_local! {
+    static ASKED: Cell<u64> = const { Cell::new(0) };
+    static REFUSES: Cell<bool> = const { Cell::new(false) };
+}
+
+// SAFETY: each call is the system's, or refuses.
+unsafe impl GlobalAlloc for Counting {
+    unsafe fn alloc(&self, layout: Layout) -> *mut u8 {
+        ASKED.set(ASKED.get() + 1);
+        if REFUSES.get() { null_mut() } else { unsafe { System.alloc(layout) } }
+    }
+
+    unsafe fn dealloc(&self, at: *mut u8, layout: Layout) {
+        unsafe { System.dealloc(at, layout) }
+    }
+}
+
+#[global_allocator]
+static HEAP: Counting = Counting;
+
+/// What a call returns, and how often it asked for memory, each time in vain.
+fn refused<A>(call: impl FnOnce() -> A) -> (A, u64) {
+    let before = ASKED.get();
+    REFUSES.set(true);
+    let answer = call();
+    REFUSES.set(false);
+    (answer, ASKED.get() - before)
+}
+
+/// A connection with eight messages of one byte, of which the second and the sixth are cancelled.
+fn with_cancelled() -> Connection {
+    let mut connection = Connection::open(Marks::default(), Estimate::default()).expect("there is memory");
+    for byte in 0..8 {
+        let _ = connection.write(&[byte]).expect("it is accepted");
+    }
+    for id in [5, 1] {
+        assert_eq!(connection.cancel(id), Ok(true));
+    }
+    connection
+}
+
+fn ids(settled: impl Iterator<Item = (u64, Outcome)>, wanted: Outcome) -> Vec<u64> {
+    settled.inspect(|(_, outcome)| assert_eq!(*outcome, wanted)).map(|(id, _)| id).collect()
+}
+
+#[test]
+fn a_refused_cancellation_changes_nothing() {
+    let mut connection = with_cancelled();
+    assert_eq!(refused(|| connection.cancel(3)), (Err(Refusal::NoMemory), 1));
+    assert_eq!(connection.promise(3), Some(Promise::Waiting));
+    assert_eq!(connection.cancel(3), Ok(true));
+    assert_eq!(connection.promise(3), Some(Promise::Settled(Outcome::Cancelled)));
+    // what is not in time takes no memory
+    assert_eq!(refused(|| connection.cancel(3)), (Ok(false), 0));
+    assert_eq!(refused(|| connection.cancel(8)), (Err(Refusal::UnknownPromise), 0));
+    let taken = connection.close(9).expect("nothing is flushed");
+    assert_eq!(ids(taken.settled(), Outcome::Failed(9)), [0, 2, 4, 6, 7]);
+    assert_eq!(refused(|| connection.cancel(3)), (Err(Refusal::Closed), 0));
+}
+
+#[test]
+fn a_sending_does_not_allocate() {
+    let mut connection = with_cancelled();
+    let (flushed, asked) = refused(|| connection.flush());
+    assert_eq!((flushed.expect("it is open").count, asked), (8, 0));
+    let mut room = [0; 4];
+    let (sent, asked) = refused(|| connection.send_to(&mut &mut room[..]));
+    let sent = sent.expect("it takes");
+    // the second message is empty now, so the first four bytes are of the messages 0, 2, 3 and 4; the sixth is empty too
+    assert_eq!((sent.bytes, asked, room), (4, 0, [0, 2, 3, 4]));
+    assert_eq!(ids(sent.taken.settled(), Outcome::Success), [0, 2, 3, 4]);
+    let (taken, asked) = refused(|| connection.take_sent(2));
+    let taken = taken.expect("they wait");
+    assert_eq!((asked, ids(taken.settled(), Outcome::Success)), (0, vec![6, 7]));
+    assert!(connection.is_empty());
+}
+
+#[test]
+fn a_removal_a_failing_and_a_close_do_not_allocate() {
+    let mut connection = with_cancelled();
+    let _ = connection.flush().expect("it is open");
+    let (removed, asked) = refused(|| connection.remove());
+    assert_eq!((removed.expect("it is open").settled, asked), (Some((0, Outcome::Success)), 0));
+    let (removed, asked) = refused(|| connection.remove_with(3));
+    assert_eq!((removed.expect("it is open").settled, asked), (None, 0));
+    let (failed, asked) = refused(|| connection.fail_flushed(4, true));
+    assert_eq!((ids(failed.expect("it is open").settled(), Outcome::Failed(4)), asked), (vec![2, 3, 4, 6, 7], 0));
+    let written = connection.write(&[8]).expect("it is accepted");
+    assert_eq!((written.id, connection.cancel(8)), (8, Ok(true)));
+    let (closed, asked) = refused(|| connection.close(5));
+    let closed = closed.expect("nothing is flushed");
+    assert_eq!((closed.promises.clone(), asked, ids(closed.settled(), Outcome::Failed(5))), (8..9, 0, vec![]));
+}
+
+#[test]
+fn giving_up_does_not_allocate() {
+    let mut connection = with_cancelled();
+    let _ = connection.flush().expect("it is open");
+    for byte in 8..10 {
+        let _ = connection.write(&[byte]).expect("it is accepted");
+    }
+    assert_eq!(connection.cancel(8), Ok(true));
+    let (taken, asked) = refused(|| connection.give_up(6));
+    let taken = taken.expect("it is open");
+    assert_eq!((taken.promises.clone(), taken.count, taken.change, asked), (0..10, 10, None, 0));
+    assert_eq!(ids(taken.settled(), Outcome::Failed(6)), [0, 2, 3, 4, 6, 7, 9]);
+}
