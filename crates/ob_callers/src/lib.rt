@@ -2,5 +2,4 @@
 #![tactic(auto)]
 
 pub mod caller;
-pub mod first;
 pub mod in_flight;

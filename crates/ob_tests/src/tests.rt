@@ -1,5 +1,6 @@
 mod connection;
 mod failing_sink;
+mod first_program;
 mod history;
 mod in_flight;
 mod lanes;

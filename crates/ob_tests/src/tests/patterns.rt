@@ -11,7 +11,7 @@ use ob_patterns::{Chunks, Progress, Returned, forward, give_up_if_slow, write_ch
 use ob_types::{Cause, Refusal};
 use std::test::Fail;
 
-/// A response of so many pieces of four bytes.
+/// A response of *n* pieces of four bytes.
 #[derive(Drop)]
 struct Pieces {
     left: u32,
@@ -34,7 +34,7 @@ fn refused<T: Drop>(written: Result<T, Returned>) -> Option<(Refusal, usize)> {
     Some((returned.refusal, returned.bytes.len()))
 }
 
-/// How far a response came, of which at most so many pieces are written.
+/// How far a response came, of which at most *n* pieces are written.
 fn written(connection: &mut Connection, pieces: &mut Pieces, most: u32) -> Option<Progress> {
     write_chunks(connection, pieces, most).ok()
 }

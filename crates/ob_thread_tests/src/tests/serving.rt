@@ -33,7 +33,7 @@ fn writers_and_a_transport(rt: HostRuntime) -> Result<(), Fail> {
     Ok(())
 }
 
-/// A buffer of one thread with six flushed messages of a byte each, which wants memory for their removal.
+/// A buffer of one thread with six flushed messages of a byte each, whose removal allocates.
 fn scarce(alloc: Global) -> Result<Scarce, Refusal> {
     let estimate = Estimate {
         overhead: 96,
