@@ -147,7 +147,7 @@ const TASK: ProgramOption = option!(
 const HEED: ProgramOption = option!(
     "heed",
     Flag,
-    "Lets each writer wait, before it writes, while writers should stop and something flushed may still be sent"
+    "Each writer waits before it writes, while writers should stop and something may still be sent"
 );
 
 const VERBOSE: ProgramOption = option!(

@@ -132,7 +132,7 @@ Usage: ob_tool drive [OPTIONS] < FILE
 Options:|      --low <BYTES>       ..|      --high <BYTES>      ..|      --overhead <BYTES>  ..
       --unknown <BYTES>   ..|      --limit <RECORDS>   ..
       --task <BYTES>      Bytes that a message counts beside its own while it is handed over: 0 to 65535, 32 if not given
-      --heed              Lets each writer wait, before it writes, while writers should stop and something flushed may still be sent
+      --heed              Each writer waits before it writes, while writers should stop and something may still be sent
       --verbose           Tells on standard error how long it took, what was pending, and what a fault means
   -h, --help              Print help
 
