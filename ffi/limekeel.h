@@ -265,8 +265,8 @@ uint32_t limekeel_block_of_bytes(struct limekeel_block *block, const uint8_t *by
 /* Lets a block go. The memory is freed with the last message that shares it. */
 uint32_t limekeel_block_free(struct limekeel_block *block);
 
-/* Writes a copy of these bytes after all else. They wait, and are not sent before a flush.
- * LIMEKEEL_NO_MEMORY may come before any other refusal, since the copy is made first. */
+/* Writes a copy of these bytes after all else. They wait, and are not sent before a flush. The copy
+ * is made once nothing else refuses the write, so LIMEKEEL_NO_MEMORY comes last. */
 struct limekeel_written limekeel_write_bytes(struct limekeel_connection *connection, const uint8_t *bytes,
                                               size_t length);
 

@@ -120,6 +120,42 @@ static int life(void)
     return wanted;
 }
 
+#define LARGE (1u << 26)
+
+/* Whether a write says this, and asks for no memory. */
+static bool says(struct limekeel_connection *connection, struct limekeel_block *block, const void *bytes,
+                 uint32_t status)
+{
+    int before = asked;
+    refused_at = asked + 1;
+    struct limekeel_written told = block ? limekeel_write_block(connection, block)
+                                         : limekeel_write(connection, bytes, LARGE);
+    return told.status == status && asked == before;
+}
+
+/* What is refused anyhow is refused before a byte is copied. */
+static void refusals_come_first(void)
+{
+    struct limekeel_connection connection = LIMEKEEL_CONNECTION;
+    struct limekeel_block block = LIMEKEEL_BLOCK;
+    void *bytes = calloc(LARGE, 1);
+    refused_at = 0;
+    expect("open", bytes && limekeel_open(&connection, 1000, 2000, 96, 8) == LIMEKEEL_OK);
+    expect("block", limekeel_block_new(&block, bytes, LARGE) == LIMEKEEL_OK);
+    /* 63 times 67108864 + 96 bytes are 4227864480, and one more are too many */
+    for (int count = 0; count < 63; count++)
+        expect("write", limekeel_write_block(&connection, &block).status == LIMEKEEL_OK);
+    expect("4227864480 bytes", limekeel_look(&connection).total == 4227864480u);
+    expect("a copy is too much", says(&connection, NULL, bytes, LIMEKEEL_TOO_MUCH));
+    expect("a block is too much", says(&connection, &block, NULL, LIMEKEEL_TOO_MUCH));
+    refused_at = 0;
+    expect("give up", limekeel_give_up(&connection, 1).count == 63);
+    expect("a copy is after the close", says(&connection, NULL, bytes, LIMEKEEL_CLOSED));
+    expect("a block is after the close", says(&connection, &block, NULL, LIMEKEEL_CLOSED));
+    expect("free", limekeel_free(&connection) == LIMEKEEL_OK && limekeel_block_free(&block) == LIMEKEEL_OK);
+    free(bytes);
+}
+
 int main(void)
 {
     expect("nothing is wanted of a heap that gives", life() == 0);
@@ -127,6 +163,7 @@ int main(void)
     int told = 0;
     for (refused_at = 1; refused_at <= growths; refused_at++)
         told += life();
+    refusals_come_first();
     printf("%d growths refused in turn, %d told\n", growths, told);
     return told == 0;
 }

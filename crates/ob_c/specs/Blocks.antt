@@ -5,7 +5,7 @@ use Rattle.ob_types.specs.declared.message.Message.TheVariants.{Block as AsBlock
 use Rattle.ob_connection.specs.Connected.{Connected}
 use Rattle.ob_connection.specs.Replies.{written_reply}
 use Rattle.ob_c.specs.Numbers.{done, no_memory, already_open, not_open, no_block}
-use Rattle.ob_c.specs.Obeying.{ObeysOrWantsFor}
+use Rattle.ob_c.specs.Obeying.{ObeysFor}
 use Rattle.ob_c.specs.Replies.{written_in_c}
 use Rattle.ob_c.specs.declared.replies.Written.{Written}
 
@@ -25,4 +25,4 @@ abbrev pub WritesBlock : Option Connected → Option (List ℕ) → Written → 
 WritesBlock None bytes told new = (told ≡ written_in_c (Err not_open)) × (new ≡ None)
 WritesBlock (Some old) None told new = (told ≡ written_in_c (Err no_block)) × (new ≡ Some old)
 WritesBlock (Some old) (Some bytes) told new =
-    ObeysOrWantsFor (Some old) (Write (AsBlock bytes)) written_reply written_in_c told new
+    ObeysFor (Some old) (Write (AsBlock bytes)) written_reply written_in_c told new

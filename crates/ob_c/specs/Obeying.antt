@@ -57,15 +57,3 @@ abbrev pub GivesUpIfOpen : Cause → Connected → Result TakenReply Refusal →
 GivesUpIfOpen cause old result new =
     Gives old closed_after (is_err result) × IfOk result (λ taken. GivesUp old cause taken new)
     × IfErr result (λ refusal. refusal ≡ Closed) × OnErr result (new ≡ old)
-
--- a connection obeys a command, but that memory may run out before it is asked, which changes nothing
-abbrev pub ObeysOrWants : {A : Type 0} → Connected → Command → (List PromiseState → A → Reply) → Result A Refusal →
-    Connected → Type 0
-ObeysOrWants old command tell result new =
-    OnErr result (new ≡ old) × (¬ IsErrOf result NoMemory → Obeys old command tell result new)
-
--- the same of a handle
-abbrev pub ObeysOrWantsFor : {A C : Type 0} → Option Connected → Command → (List PromiseState → A → Reply) →
-    (Result A ℕ → C) → C → Option Connected → Type 0
-ObeysOrWantsFor handle command tell in_c told new =
-    Answers handle (λ old result after. ObeysOrWants old command tell result after) in_c told new

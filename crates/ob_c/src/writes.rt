@@ -3,9 +3,10 @@
 ghost use Rattle.std.specs.Prelude.{◌≡◌};
 ghost use Rattle.ob_types.specs.declared.command.Command.TheVariants.{Write};
 ghost use Rattle.ob_types.specs.declared.message.Message.TheVariants.{Block as AsBlock, Region as AsRegion, Other as AsOther};
+ghost use Rattle.ob_connection.specs.Obeying.{Obeys};
 ghost use Rattle.ob_connection.specs.Replies.{written_reply};
 ghost use Rattle.ob_c.specs.Blocks.{WritesBlock};
-ghost use Rattle.ob_c.specs.Obeying.{ObeysFor, ObeysOrWants, ObeysOrWantsFor};
+ghost use Rattle.ob_c.specs.Obeying.{ObeysFor};
 ghost use Rattle.ob_c.specs.Replies.{written_in_c};
 
 use crate::block::Block;
@@ -19,11 +20,10 @@ use std::alloc::Global;
 
 /// Writes a copy of these bytes.
 ///
-/// The status is 12 if it is out of memory, also before the connection is asked; the connection is as it was then.
+/// The status is 12 if it is out of memory, and nothing else refuses the write; the connection is as it was then.
 #[unsafe(no_mangle)]
 pub extern "C" fn limekeel_write_bytes(alloc: Global, handle: &mut Handle, bytes: &[u8]) -> Written
-    ensures { ObeysOrWantsFor handle.old.value (Write (AsBlock bytes.now)) written_reply written_in_c result
-        handle.new.value }
+    ensures { ObeysFor handle.old.value (Write (AsBlock bytes.now)) written_reply written_in_c result handle.new.value }
 {
     Written::of(handle.command(alloc, |connection| write_copy(alloc, connection, bytes)))
 }
@@ -71,14 +71,17 @@ pub extern "C" fn limekeel_write_other(alloc: Global, handle: &mut Handle, value
     Written::of(handle.command(alloc, |connection| connection.write(Message::Other(value))))
 }
 
-/// Writes a copy of these bytes.
+/// Writes a copy of these bytes, which is made once nothing else refuses it.
 fn write_copy(
     alloc: Global,
     connection: &mut Connection,
     bytes: &[u8],
 ) -> Result<ob_connection::Written, Refusal>
-    ensures { ObeysOrWants connection.old (Write (AsBlock bytes.now)) written_reply result connection.new }
+    ensures { Obeys connection.old (Write (AsBlock bytes.now)) written_reply result connection.new }
 {
+    if let Some(refusal) = connection.refusal_of_block(bytes) {
+        return Err(refusal);
+    }
     let copy = Bytes::copy_from_slice(alloc, bytes)?;
     connection.write(Message::Block(copy))
 }
@@ -88,8 +91,11 @@ fn write_shared(
     connection: &mut Connection,
     bytes: &Bytes,
 ) -> Result<ob_connection::Written, Refusal>
-    ensures { ObeysOrWants connection.old (Write (AsBlock bytes.now)) written_reply result connection.new }
+    ensures { Obeys connection.old (Write (AsBlock bytes.now)) written_reply result connection.new }
 {
+    if let Some(refusal) = connection.refusal_of_block(bytes.as_slice()) {
+        return Err(refusal);
+    }
     let shared = bytes.clone()?;
     connection.write(Message::Block(shared))
 }

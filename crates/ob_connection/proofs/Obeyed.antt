@@ -1,9 +1,11 @@
 -- A call that makes the step of its command obeys it.
 use Rattle.ob_connection.proofs.Words.{◌≡◌, sym, ap, ◌∙◌, subst, arith, List, [], ◌∷◌, ◌++◌, true, false, None}
-use Rattle.ob_connection.proofs.Words.{Result, Ok, Err, IsErrOf, Refusal, NoMemory, Reply, Command, PromiseState}
+use Rattle.ob_connection.proofs.Words.{Option, Result, Ok, Err, IsErrOf, Refusal, NoMemory, Reply, Command, PromiseState}
 use Rattle.ob_connection.proofs.Words.{Pending, Step, Makes, answer_by, Past, held, Moves, Connected, told_by, step_within}
 use Rattle.ob_connection.proofs.Words.{connection_limit, Leaves, StandsFor, StandsForSome, Answers, Follows, Obeys, commands_with}
 use Rattle.ob_seq.specs.Answer.{are_accepted_within}
+use Rattle.ob_connection.specs.Becoming.{IsFirstRefusal}
+use Rattle.ob_connection.specs.Looks.{Refuses}
 use Rattle.ob_connection.specs.Obeying.{Accepts}
 use Rattle.ob_seq.proofs.Simulating.Simulated.{answer_is, goes_on, simulated}
 
@@ -92,3 +94,13 @@ module _ {A : Type 0} (command : Command) {tell : List PromiseState → A → Re
         refused = moves.refused;
         no_memory_last = accepts;
       }
+
+-- the first refusal of a step is that of its command, whatever history the connection stands for
+pub refuses : (command : Command) {now : Connected} {refusal : Option Refusal} → IsFirstRefusal now command refusal →
+    Refuses now command refusal
+refuses command first commands stands =
+    let past = past_of stands in
+    let closed = stands.leaves.closed in
+    let refused = (simulated connection_limit command (held past)).refusal commands stands.leaves in
+    let is = first past in
+    grind arith

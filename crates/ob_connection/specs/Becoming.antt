@@ -1,5 +1,5 @@
 -- What a call does to a connection, step by step. No public clause cites this module.
-use Rattle.std.specs.Prelude.{◌≡◌, ℕ, List, length, false, Result, Ok, OnErr}
+use Rattle.std.specs.Prelude.{◌≡◌, ℕ, List, length, false, Option, Result, Ok, OnErr}
 use Rattle.ob_types.specs.declared.command.Command.{Command}
 use Rattle.ob_types.specs.declared.command.Command.TheVariants.{RemoveBytes}
 use Rattle.ob_types.specs.declared.promise.Cause.{Cause}
@@ -11,7 +11,7 @@ use Rattle.ob_seq.specs.Entry.{blocks_left}
 use Rattle.ob_seq.specs.Pending.{Pending}
 use Rattle.ob_seq.specs.Steps.OfCommand.{step_within}
 use Rattle.ob_seq.specs.Steps.RemoveBytes.{bytes_removed, whole_cut}
-use Rattle.ob_seq.specs.Steps.Step.{Step, Makes}
+use Rattle.ob_seq.specs.Steps.Step.{Step, Makes, first_of_step}
 use Rattle.ob_seq.specs.Unsent.{whole}
 use Rattle.ob_seq.specs.declared.contents.cut.Cut.{Cut}
 use Rattle.ob_connection.specs.Connected.{Connected}
@@ -67,3 +67,8 @@ HasNoLine connection = (connection.unsent.closed ≡ false) × (length connectio
 abbrev pub FailsAll : Connected → Cause → Taken → Connected → Type 0
 FailsAll old cause taken new =
     GivesUpBy (λ before command told after. Moves before command taken_reply (as_result told) after) old cause taken new
+
+-- whatever outcomes the messages had that are gone, this is the first refusal of the command's step, or there is none
+abbrev pub IsFirstRefusal : Connected → Command → Option Refusal → Type 0
+IsFirstRefusal connection command refusal =
+    (past : Past connection) → refusal ≡ first_of_step (held past) (step_within connection_limit command (held past))

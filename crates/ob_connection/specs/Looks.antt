@@ -1,12 +1,16 @@
 -- What a connection shows of its history, by the definitions of a buffer.
 use Rattle.std.specs.Prelude.{ℕ, List, nat_lt, if◌then◌else◌, Option, Some, None, option_map}
+use Rattle.ob_types.specs.declared.command.Command.{Command}
 use Rattle.ob_types.specs.declared.message.Message.{Message}
 use Rattle.ob_types.specs.declared.promise.PromiseState.{PromiseState}
 use Rattle.ob_types.specs.declared.promise.PromiseState.TheVariants.{Waiting as StillWaiting, Fixed as IsFixed, Settled as IsSettled}
+use Rattle.ob_types.specs.declared.refusal.Refusal.{Refusal}
+use Rattle.ob_seq.specs.Answer.{first_refusal_within}
 use Rattle.ob_seq.specs.Gathering.{gathered_after}
 use Rattle.ob_seq.specs.Looks.{look_after, promise_after, current_after, front_promise_after, flushed_after}
 use Rattle.ob_seq.specs.declared.look.Look.{Look as BufferLook}
 use Rattle.ob_connection.specs.Connected.{Connected}
+use Rattle.ob_connection.specs.Limit.{connection_limit}
 use Rattle.ob_connection.specs.Standing.{Gives}
 use Rattle.ob_connection.specs.declared.look.Look.{Look}
 use Rattle.ob_connection.specs.declared.status.Status.{Status}
@@ -39,6 +43,12 @@ abbrev pub Tells : Connected → ℕ → Option Status → Type 0
 Tells connection id status =
     Gives connection
     (λ settings commands. status_of connection.gone id (promise_after settings commands (record { 0 = id }))) status
+
+-- whatever history the connection stands for, this is the first refusal of one more command after it, or there is none
+abbrev pub Refuses : Connected → Command → Option Refusal → Type 0
+Refuses connection command refusal =
+    Gives connection
+    (λ settings commands. first_refusal_within connection_limit settings.estimate commands command) refusal
 
 -- whatever history the connection stands for, this is the promise of the front after it
 abbrev pub IsFrontPromise : Connected → Option ℕ → Type 0

@@ -1,13 +1,16 @@
 //! The looks at the state of a connection.
 
-ghost use Rattle.ob_connection.specs.Looks.{Shows, Tells};
+ghost use Rattle.std.specs.Prelude.{◌≡◌, Some};
+ghost use Rattle.ob_types.specs.declared.command.Command.TheVariants.{Write};
+ghost use Rattle.ob_types.specs.declared.message.Message.TheVariants.{Block};
+ghost use Rattle.ob_connection.specs.Looks.{Refuses, Shows, Tells};
 ghost use Rattle.ob_connection.specs.Standing.{Gives};
 ghost use Rattle.ob_seq.specs.State.{writable_after, empty_after, closed_after};
 
 use crate::connection::Connection;
 use crate::look::Look;
 use crate::status::Status;
-use ob_types::PromiseState;
+use ob_types::{PromiseState, Refusal};
 
 impl Connection {
     /// What is pending now. It changes nothing, takes the same few steps whatever is pending, and does not allocate.
@@ -46,6 +49,16 @@ impl Connection {
         ensures { Gives self.now closed_after result }
     {
         self.inner.contents().is_closed()
+    }
+
+    /// Why a write of these bytes as a block would be refused now, or nothing if it would be accepted while there is
+    /// memory: `Closed`, then `Oversize`, then `TooMuch`, as `write` has it. It copies nothing and does not allocate: ask it
+    /// before the bytes are copied into a block. Our own.
+    pub fn refusal_of_block(&self, bytes: &[u8]) -> Option<Refusal>
+        ensures first { Refuses self.now (Write (Block bytes.now)) result }
+        ensures other { ¬ (result ≡ Some Refusal.NoMemory) }
+    {
+        self.inner.refusal_of_block(bytes)
     }
 
     /// What has become of a promise, or nothing if no write was accepted under the id. It takes the same few steps

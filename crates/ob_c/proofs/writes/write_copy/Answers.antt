@@ -4,3 +4,9 @@ use Rattle.ob_c.proofs.writes.write_copy.Goals as goal
 -- Named for the must-fail edits that fail here: `search` finds it unasked (CONTRIBUTING.md).
 pub returns : goal.returns
 returns c = search rules
+
+pub returns-in_err-copy : goal.returns-in_err-copy
+returns-in_err-copy c = search rules
+
+pub returns-in-Some : goal.returns-in-Some
+returns-in-Some c = search rules
