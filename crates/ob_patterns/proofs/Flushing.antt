@@ -1,5 +1,5 @@
 -- What accepted a write accepts a flush.
-use Rattle.std.proofs.Common.{◌≡◌, refl, sym, ◌∙◌, List, [], ◌∷◌, ◌++◌, append_assoc, true, false, Bool}
+use Rattle.std.proofs.Common.{◌≡◌, refl, ◌∙◌, List, [], ◌∷◌, ◌++◌, append_assoc, true, false, Bool}
 use Rattle.std.specs.Prelude.{Option, Some, None, Result, Ok, Err, IsErrOf, if◌then◌else◌}
 use Rattle.ob_types.specs.declared.command.Command.{Command}
 use Rattle.ob_types.specs.declared.command.Command.TheVariants.{Write, Flush}
@@ -58,14 +58,26 @@ module _ {old between : Connected} {message : Message} {written : Written}
       settings = flushes.settings ∙ writes.settings;
     }
 
-    -- a flush that is refused would leave all as it was
-    pub never_refused : (refusal : Refusal) → (let result : Result Flushed Refusal = Err refusal in
-        Obeys between Flush flushed_reply result new × ¬ IsErrOf result NoMemory) → IsAsItWas old new
+    -- no history has a flush after it that is refused
+    never_refused : (refusal : Refusal) → (let result : Result Flushed Refusal = Err refusal in
+        Obeys between Flush flushed_reply result new × ¬ IsErrOf result NoMemory) →
+        (commands : List Command) → StandsFor old commands → ⊥
     never_refused refusal flushes commands stands =
         let said = flushes.0.answer flushes.1 (commands ++ Write message ∷ []) (writes.stands commands stands) in
         let shut = closed_if_refused (is_closed (commands ++ Write message ∷ [])) refusal _ said in
         let unclosed = closed_more commands (Write message) (was_open commands stands) in
-        absurd (cc)
+        cc
+
+    -- so such a refusal would leave all as it was, and be that of the write
+    pub as_it_was : (refusal : Refusal) → (let result : Result Flushed Refusal = Err refusal in
+        Obeys between Flush flushed_reply result new × ¬ IsErrOf result NoMemory) → IsAsItWas old new
+    as_it_was refusal flushes commands stands = absurd (never_refused refusal flushes commands stands)
+
+    pub refused_as_a_write : (refusal : Refusal) → (let result : Result Flushed Refusal = Err refusal in
+        Obeys between Flush flushed_reply result new × ¬ IsErrOf result NoMemory) → (told : Refusal) →
+        RefusesWrite old message told
+    refused_as_a_write refusal flushes told other commands stands =
+        absurd (never_refused refusal flushes commands stands)
 
 -- what a refused write is refused for
 pub refuses : {old new : Connected} {message : Message} {refusal : Refusal} →

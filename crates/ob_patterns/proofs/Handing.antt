@@ -1,9 +1,9 @@
 -- One connection after another is handed a message.
-use Rattle.std.proofs.Common.{◌≡◌, ◌≢◌, refl, sym, ap, ◌∙◌, subst, arith, ℕ, ◌+◌, ◌<◌, ◌≤◌, List, [], ◌∷◌, ◌++◌, length, below_more}
-use Rattle.std.proofs.Common.{Bool, true, false, not, cond, set, get_or, length-append, zero, suc}
-use Rattle.std.specs.Prelude.{Some, None, slice_get, count_by}
+use Rattle.std.proofs.Common.{◌≡◌, ◌≢◌, refl, sym, ap, ◌∙◌, arith, ℕ, ◌+◌, ◌<◌, ◌≤◌, List, [], ◌∷◌, ◌++◌, length}
+use Rattle.std.proofs.Common.{below_more, Bool, true, false, not, cond, set, length-append, zero, suc}
+use Rattle.std.specs.Prelude.{Some, slice_get, count_by}
 use Rattle.std.proofs.lemmas.List.Sums.{sum_by-append}
-use Rattle.std.proofs.lemmas.Option.{same_Some, slice_get-get_or, slice_get_within}
+use Rattle.std.proofs.lemmas.Option.{same_Some, slice_get_within}
 use Rattle.ob_connection.specs.Connected.{Connected}
 use Rattle.ob_patterns.specs.Broadcasting.{AreHanded, Broadcasts, IsHanded}
 
@@ -80,7 +80,8 @@ module _ {old now : List Connected} {bytes : List ℕ} {got left_out place : ℕ
       let same_before = same_Some _ _ (sym found ∙ on.rest place (omega arith) ∙ was) in
       let last = get-last on.handed is_handed in
       let same_said = same_Some _ _ (sym (rw on.so_far at last) ∙ is) in
-      let same_after = same_Some _ _ (sym (get-set_same now place new (slice_get_within now place item found)) ∙ then) in
+      let within = slice_get_within now place item found in
+      let same_after = same_Some _ _ (sym (get-set_same now place new within) ∙ then) in
       rw (← same_before, ← same_said, ← same_after) one
 
   each_more : AreHanded old bytes handed (set now place new)

@@ -1,15 +1,13 @@
 -- The pieces of a long response, one after another.
-use Rattle.std.proofs.Common.{◌≡◌, refl, sym, ap, ◌∙◌, subst, ℕ, List, [], ◌∷◌, ◌++◌, append_assoc, append-nil, map}
+use Rattle.std.proofs.Common.{◌≡◌, refl, sym, ap, ◌∙◌, ℕ, List, [], ◌∷◌, ◌++◌, append_assoc, append-nil}
 use Rattle.std.specs.Prelude.{Option, Some, None}
 use Rattle.std.proofs.lemmas.List.{map-append}
-use Rattle.ob_types.specs.declared.command.Command.{Command}
 use Rattle.ob_types.specs.declared.command.Command.TheVariants.{Write}
 use Rattle.ob_types.specs.declared.message.Message.TheVariants.{Block}
 use Rattle.ob_connection.proofs.Offered.{taken_twice}
 use Rattle.ob_connection.specs.Connected.{Connected}
 use Rattle.ob_connection.specs.Obeying.{Obeys}
 use Rattle.ob_connection.specs.Replies.{written_reply}
-use Rattle.ob_connection.specs.Standing.{StandsFor}
 use Rattle.ob_connection.specs.Telling.{with_more}
 use Rattle.ob_connection.specs.declared.replies.Written.{Written}
 use Rattle.ob_patterns.specs.Adding.{accepted, Adds}
@@ -43,7 +41,8 @@ one_wrote {new = new} {before = before} piece wrote writes gives = record {
   pieces = wrote.pieces ++ piece ∷ [];
   adds = record {
     stands = λ commands stands.
-        rw (map-append, ← append_assoc) (writes.stands (commands ++ written wrote.pieces) (wrote.adds.stands commands stands));
+        rw (map-append, ← append_assoc)
+        (writes.stands (commands ++ written wrote.pieces) (wrote.adds.stands commands stands));
     settings = writes.settings ∙ wrote.adds.settings;
   };
   gave = gives ∙ ap (λ told. with_more told (piece ∷ [])) wrote.gave ∙ taken_twice before wrote.pieces (piece ∷ []);

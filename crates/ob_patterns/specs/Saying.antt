@@ -7,8 +7,8 @@ use Rattle.ob_connection.specs.Standing.{Gives}
 use Rattle.ob_patterns.specs.declared.next.Next.{Next}
 use Rattle.ob_patterns.specs.declared.next.Next.TheVariants.{Rest, WaitForRoom, ComeAgain, SendFront, Closed}
 
--- whatever history the connection stands for: nothing flushed is left at rest; something is if the socket has no room; no
--- block is in front if that is to be sent by other means; and a connection that is said to be closed is
+-- whatever history the connection stands for: nothing flushed is left at rest; something is if the socket has no room;
+-- no block is in front if that is to be sent by other means; and a connection that is said to be closed is
 abbrev pub Says : Connected → Next → Type 0
 Says now Rest = Gives now empty_after true
 Says now WaitForRoom = Gives now empty_after false

@@ -1,7 +1,7 @@
-ghost use Rattle.std.specs.Prelude.{◌≡◌, IfOk, OnErr};
+ghost use Rattle.std.specs.Prelude.{◌≡◌, IfErr, IfOk, OnErr};
 ghost use Rattle.ob_types.specs.declared.message.Message.TheVariants.{Block};
 ghost use Rattle.ob_connection.specs.Connected.{Connected};
-ghost use Rattle.ob_patterns.specs.Adding.{Adds, IsAsItWas, written_and_flushed};
+ghost use Rattle.ob_patterns.specs.Adding.{Adds, IsAsItWas, RefusesWrite, written_and_flushed};
 ghost use Rattle.ob_patterns.specs.Saying.{Says};
 ghost use Rattle.ob_patterns.specs.Sending.{Spins};
 
@@ -25,6 +25,7 @@ pub fn respond<S: Socket>(
         (S.calls socket.new)) }
     ensures says { IfOk result (λ next. Says connection.new next) }
     ensures refused { OnErr result (IsAsItWas connection.old connection.new) }
+    ensures refusal { IfErr result (λ refusal. RefusesWrite connection.old (Block answer) refusal) }
     ensures unsent { OnErr result (S.sent socket.new ≡ S.sent socket.old) }
 {
     let _written = connection.write(Message::Block(answer))?;

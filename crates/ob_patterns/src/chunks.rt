@@ -29,8 +29,8 @@ pub enum Progress {
 
 /// Writes at most `most` pieces, while the connection is writable. Flush and send after it.
 ///
-/// A piece that is refused comes back in the error, and the pieces before it stay written. Write that piece first if you
-/// go on.
+/// A piece that is refused comes back in the error, and the pieces before it stay written. Write that piece first if
+/// you go on.
 pub fn write_chunks<C: Chunks>(
     connection: &mut Connection,
     chunks: &mut C,

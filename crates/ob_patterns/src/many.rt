@@ -21,8 +21,8 @@ pub struct Reached {
     pub left_out: u64,
 }
 
-/// Hands the same bytes to each connection that is writable, without a copy. A connection that refuses them, or is closed,
-/// is left out as one that reads slowly: it stays as it was, and the others get the message all the same.
+/// Hands the same bytes to each connection that is writable, without a copy. A connection that refuses them, or is
+/// closed, is left out as one that reads slowly: it stays as it was, and the others get the message all the same.
 pub fn broadcast(connections: &mut [Connection], bytes: &Bytes) -> Reached
     ensures { Broadcasts connections.old bytes.now result.got result.left_out connections.new }
 {
@@ -40,8 +40,8 @@ pub fn broadcast(connections: &mut [Connection], bytes: &Bytes) -> Reached
     reached
 }
 
-/// Writes and flushes bytes if the connection is writable and open, and returns whether it took them. If not, it is as it
-/// was.
+/// Writes and flushes bytes if the connection is writable and open, and returns whether it took them. If not, it is as
+/// it was.
 pub fn hand(connection: &mut Connection, bytes: &Bytes) -> bool
     ensures { IsHanded connection.old bytes.now result connection.new }
 {

@@ -1,5 +1,5 @@
-/// What to do for a connection next. All patterns that send answer with it. Whether to read from the peer is another
-/// question, which `is_writable` answers at any time.
+/// What to do for a connection next: each pattern that sends returns it. Whether to read from the peer is not in it:
+/// ask `is_writable`.
 #[derive(Clone, Copy, Debug, PartialEq, Eq)]
 pub enum Next {
     /// All that is flushed is sent: ask for readiness to write no more.

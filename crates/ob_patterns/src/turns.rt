@@ -11,8 +11,8 @@ use ob_types::Cause;
 /// Why messages failed that a broken socket left: the number that patterns give up with.
 pub const BROKEN: Cause = Cause(1);
 
-/// Sends at most `turns` times (Netty's write spin count), each time at most 65536 bytes, so that one fast peer does not
-/// keep the others waiting. It makes one turn at least, and does not allocate.
+/// Sends at most `turns` times (Netty's write spin count), each time at most 65536 bytes, so that one fast peer does
+/// not keep the others waiting. It makes one turn at least, and does not allocate.
 ///
 /// If the socket is broken, the connection is given up for `BROKEN`; what the socket took before that is taken away as
 /// sent. A closed connection stays as it is, and its socket is not asked.
@@ -55,8 +55,8 @@ pub trait Peer: Socket {
 /// Reads and sends by turns after an event, at most `turns` times. Once sending makes the connection writable it reads
 /// again: no event reports bytes that came while nothing was read.
 ///
-/// `ComeAgain` comes if the turns are used up, or if the last one left something to send at once. A closed connection is
-/// not read from.
+/// `ComeAgain` comes if the turns are used up, or if the last one left something to send at once. A closed connection
+/// is not read from.
 pub fn serve<P: Peer>(connection: &mut Connection, peer: &mut P, turns: u32) -> Next
     ensures { Says connection.new result }
 {

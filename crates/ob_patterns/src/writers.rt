@@ -6,8 +6,8 @@ use std::sync::{Mutex, Wait};
 /// Writes and flushes from whichever thread, under a lock. Wake the thread that has the socket after it; whoever reads
 /// `Unwritable` in the result stops its own work.
 ///
-/// The refusals are those of `write`; each leaves the connection as it was. No clause can name what is behind a lock, so
-/// this is tested and not proved.
+/// The refusals are those of `write`; each leaves the connection as it was. No clause can name what is behind a lock,
+/// so this is tested and not proved.
 pub fn respond_from_any_thread<R: Wait>(
     rt: &R,
     connection: &Mutex<Connection>,

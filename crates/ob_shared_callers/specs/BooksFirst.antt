@@ -7,8 +7,8 @@ use Rattle.ob_history.specs.History.{History}
 use Rattle.ob_history.specs.declared.receipt.Receipt.{Receipt}
 use Rattle.ob_transport.specs.Content.{Content}
 
--- so many bytes that a sink took are removed by a call before anything else is done; and if that is refused, as many are
--- left, and the sink is as it was
+-- so many bytes that a sink took are removed by a call before anything else is done; and if that is refused, as many
+-- are left, and the sink is as it was
 pub record BooksFirst (before : History) (caller taken : ℕ) (sink_before : Content) (left : ℕ) (sink_after : Content)
     : Type 0 where
   pub booking : Result Receipt Refusal

@@ -150,8 +150,8 @@ const LIMITS: Limits = Limits {
 };
 
 /// Hands what is flushed to a sink in up to 16 passes, and returns how many bytes the sink took that are not booked,
-/// since memory was refused for that. Hand that number in at the next call: they are booked before anything else is sent,
-/// or the sink would get them twice. If the sink fails, what is flushed fails too.
+/// since memory was refused for that. Hand that number in at the next call: they are booked before anything else is
+/// sent, or the sink would get them twice. If the sink fails, what is flushed fails too.
 pub fn send_on<B: Booked, S: Sink>(booked: &mut B, sink: &mut S, unbooked: u64) -> u64
     ensures { 0 < unbooked → BooksFirst (B.history booked.old) (B.caller booked.old) unbooked (S.content sink.old)
         result (S.content sink.new) }

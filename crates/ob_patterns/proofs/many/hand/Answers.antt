@@ -8,6 +8,7 @@ pub returns : goal.returns
 returns c =
     let flushed = c.flush-flushed in (
       search rules,
-      subst (λ bytes. Adds c.args.connection.now (written_and_flushed (Block bytes)) flushed.new.self) c.in-Ok.ensures.cases
+      subst (λ bytes. Adds c.args.connection.now (written_and_flushed (Block bytes)) flushed.new.self)
+          c.in-Ok.ensures.cases
           (both_added c.in-Ok-write.ensures flushed.result flushed.ensures.obeys flushed.ensures.frugal),
     )

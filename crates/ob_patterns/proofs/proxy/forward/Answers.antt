@@ -3,4 +3,5 @@ use Rattle.ob_patterns.proofs.proxy.forward.Goals as goal
 
 pub returns-clause-handed : goal.returns-clause-handed
 returns-clause-handed c =
-    both_added c.in_ok-_written.ensures.written c.flush-flushed.result c.flush-flushed.ensures.obeys c.flush-flushed.ensures.frugal
+    let flushed = c.flush-flushed in
+    both_added c.in_ok-_written.ensures.written flushed.result flushed.ensures.obeys flushed.ensures.frugal
