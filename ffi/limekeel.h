@@ -273,7 +273,8 @@ struct limekeel_written limekeel_write_bytes(struct limekeel_connection *connect
 /* Writes the bytes of a block, which the message then shares: nothing is copied. */
 struct limekeel_written limekeel_write_block(struct limekeel_connection *connection, struct limekeel_block *block);
 
-/* Writes a region: `length` bytes of something that you send yourself, as of a file by sendfile. */
+/* Writes a region: `length` bytes of something that you send yourself, as of a file by sendfile. It
+ * counts the overhead alone. */
 struct limekeel_written limekeel_write_region(struct limekeel_connection *connection, uint64_t length);
 
 /* Writes any other message, by a number that means something to you alone. */
@@ -325,7 +326,8 @@ struct limekeel_truth limekeel_is_empty(struct limekeel_connection *connection);
 /* What has become of a promise. */
 struct limekeel_promise limekeel_promise(struct limekeel_connection *connection, uint64_t id);
 
-/* The promise of the first flushed message, and what is left of that message. */
+/* The promise of the first flushed message; and what is left of that message, or of a region its whole
+ * length, whatever progress was told. */
 struct limekeel_front limekeel_front(struct limekeel_connection *connection);
 struct limekeel_current limekeel_current(struct limekeel_connection *connection);
 

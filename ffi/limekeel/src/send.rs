@@ -17,7 +17,8 @@ pub struct Sent {
     /// Which messages are gone by that, and how it changed writability.
     pub taken: Taken,
     /// Whether the writer had no room: it is to be written to again when it is ready. A reactor that clears readiness at
-    /// the error [`ErrorKind::WouldBlock`] (tokio's `try_io`) does not see that error, and has to be told by this.
+    /// the error [`ErrorKind::WouldBlock`] (tokio's `try_io`) does not see that error, and has to be told by this. What is
+    /// in `taken` holds then too: empty messages in front may be gone.
     pub blocked: bool,
     /// Whether a flushed message is left. If the writer was not blocked and took nothing, that in front is no block:
     /// [`Connection::current`] says what it is, and it is the caller's to send.

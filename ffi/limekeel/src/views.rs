@@ -86,7 +86,7 @@ impl Front {
     }
 }
 
-/// What is left of the first flushed message.
+/// What is left of the first flushed message; of a region its whole length, whatever progress was told.
 #[derive(Clone, Copy, Debug, PartialEq, Eq)]
 pub enum Current {
     /// A block, with the number of its bytes that are left.
