@@ -39,8 +39,9 @@
  * Errors. Each call returns a status, alone or as the first member of a struct: LIMEKEEL_OK, or
  * why the call did nothing. A call that did not return LIMEKEEL_OK left everything as it was, and
  * all else in its struct is 0. A handle that owns nothing is LIMEKEEL_NOT_OPEN and no crash. No
- * call reads errno, aborts, or calls back; LIMEKEEL_NO_MEMORY leaves in errno what malloc did. Pointers may not be NULL, but for the bytes and
- * pieces of limekeel_write, limekeel_block_new and limekeel_gather if there are none.
+ * call reads errno, aborts, or calls back; LIMEKEEL_NO_MEMORY leaves in errno what malloc did.
+ * Pointers may not be NULL, but for the bytes and pieces of limekeel_write, limekeel_block_new and
+ * limekeel_gather if there are none.
  */
 #ifndef LIMEKEEL_H
 #define LIMEKEEL_H
