@@ -2,6 +2,7 @@
 
 pub mod cursor;
 pub mod fault;
+pub mod faulty_line;
 pub mod first_word;
 pub mod grammar;
 pub mod line;

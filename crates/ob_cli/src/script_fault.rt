@@ -1,17 +1,18 @@
 use crate::reading::fault::LineFault;
+use crate::reading::faulty_line::FaultyLine;
 use ob_pool::DriveFault;
 use std::alloc::AllocError;
 use thiserror::Error;
 
 /// Why a run ended before the end of its script.
-#[derive(Clone, Copy, Debug, Error)]
+#[derive(Debug, Drop, Error)]
 pub enum ScriptFault {
     /// A line is faulty. The lines before it were carried out, and their trace was written, or what is told of them; a
     /// drive did nothing.
-    #[error("line {line}: fault {}{}", .fault.number(), .fault.words())]
+    #[error("line {}: fault {}{}", .line.number(), .fault.number(), .fault.words())]
     Line {
-        /// The number of the line, from 1 on.
-        line: u32,
+        /// The line, with its number.
+        line: FaultyLine,
         /// What is wrong with it.
         fault: LineFault,
     },
@@ -37,8 +38,8 @@ impl ScriptFault {
     ghost use Rattle.ob_cli.specs.Outcome.{status_of};
 
     /// The status with which the program ends.
-    pub(crate) fn status(self) -> u8
-        ensures { result ≡ status_of self }
+    pub(crate) fn status(&self) -> u8
+        ensures { result ≡ status_of self.now }
     {
         match self {
             ScriptFault::Line { .. } => 2,

@@ -74,7 +74,7 @@ impl EntryFault {
                 writeln!(errors, "--low {} is above --high {}", marks.low, marks.high)
             }
             EntryFault::NoMemory => writeln!(errors, "{NO_MEMORY}"),
-            EntryFault::Run { kind, fault } => write_words(errors, *kind, *fault),
+            EntryFault::Run { kind, fault } => write_words(errors, *kind, fault),
         }
     }
 }

@@ -1,5 +1,5 @@
-//! What each fault says in words: what is wrong, and what to do. `--verbose` tells the words after the fault, and
-//! `ob_tool faults` lists all.
+//! What each fault says in words: what is wrong, and what to do. `--verbose` tells the words after the fault, of a faulty
+//! line with the word or the line, and `ob_tool faults` lists all.
 
 use crate::cli::request::Kind;
 use crate::reading::fault::LineFault;
@@ -127,20 +127,23 @@ fn write_numbered<E: Write>(errors: &mut E, told: &str, words: &[&str]) -> io::R
 }
 
 /// Writes what a fault says that ended a request of this kind, in one line.
-pub fn write_words<E: Write>(errors: &mut E, kind: Kind, fault: ScriptFault) -> io::Result<()> {
+pub fn write_words<E: Write>(errors: &mut E, kind: Kind, fault: &ScriptFault) -> io::Result<()> {
     match (kind, fault) {
         (Kind::Drive { limit }, ScriptFault::Drive(DriveFault::Refused { .. })) => writeln!(
             errors,
             "a writer met the limit of {limit} records: raise --limit, or let the writers give fewer commands"
         ),
+        (_, ScriptFault::Line { line, fault }) => {
+            writeln!(errors, "{}: {line}", of_line(kind, *fault))
+        }
         _ => writeln!(errors, "{}", words_of(kind, fault)),
     }
 }
 
 /// What a fault says that ended a request of this kind.
-fn words_of(kind: Kind, fault: ScriptFault) -> &'static str {
+fn words_of(kind: Kind, fault: &ScriptFault) -> &'static str {
     match fault {
-        ScriptFault::Line { fault, .. } => of_line(kind, fault),
+        ScriptFault::Line { fault, .. } => of_line(kind, *fault),
         ScriptFault::Read => NO_READ,
         ScriptFault::TooLong => TOO_LONG,
         ScriptFault::Write => NO_WRITE,

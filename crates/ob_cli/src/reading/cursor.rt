@@ -7,8 +7,9 @@ ghost use Rattle.ob_cli.specs.declared.reading.fault.LineFault.TheVariants.{Misp
 ghost use Rattle.ob_cli.specs.declared.script_fault.ScriptFault.TheVariants.{Line};
 
 use crate::reading::fault::LineFault;
+use crate::reading::faulty_line::FaultyLine;
 use crate::reading::grammar::Grammar;
-use crate::reading::lines::first_line;
+use crate::reading::lines::{first_line, index_or_len};
 use crate::script_fault::ScriptFault;
 use std::marker::Model;
 
@@ -21,6 +22,8 @@ const PIECE: usize = 65536;
 pub struct Cursor {
     /// What is left of the script, behind bytes that were read.
     script: Vec<u8>,
+    /// How many bytes of it were read before the line that was read last.
+    last: usize,
     /// How many bytes of it were read.
     read: usize,
     /// How many are to be read before their memory is given back.
@@ -51,6 +54,7 @@ impl Cursor {
         let enough = enough_of(script.len());
         Cursor {
             script,
+            last: 0,
             read: 0,
             enough,
             count: 0,
@@ -84,6 +88,7 @@ impl Cursor {
     {
         self.give_back();
         let (line, bytes) = first_line(behind(&self.script, self.read));
+        self.last = self.read;
         self.read += bytes;
         self.count += 1;
         match G::read(line) {
@@ -96,8 +101,10 @@ impl Cursor {
     pub fn fault(&self, fault: LineFault) -> ScriptFault
         ensures { result ≡ Line self.now.count fault }
     {
+        let bytes = self.script.get(self.last..self.read).unwrap_or(&[]);
+        let line = &bytes[..index_or_len(bytes, b'\n')];
         ScriptFault::Line {
-            line: self.count,
+            line: FaultyLine::new(self.count, line, fault),
             fault,
         }
     }

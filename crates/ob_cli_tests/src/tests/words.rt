@@ -10,72 +10,73 @@ static WORDS: [(&str, &str, &str); 24] = [
     (
         "run",
         "f\n\n",
-        "the first word is none of this kind of script, as that of an empty line or of a comment",
+        "the first word is none of this kind of script, as that of an empty line or of a comment: ''",
     ),
     (
         "core",
         "# lanes\n",
-        "the first word is none of this kind of script, as that of an empty line or of a comment",
+        "the first word is none of this kind of script, as that of an empty line or of a comment: '# lanes'",
     ),
     (
         "run",
         "b 1\r\n",
-        "a word in a number's place is not digits alone, as with a sign, a unit, or the byte 13 at the end",
+        "a word in a number's place is not digits alone, as with a sign, a unit, or the byte 13 at the end: '1\\r'",
     ),
     (
         "run",
         "b 1048577\n",
-        "a number is out of its range: --help has the ranges",
+        "a number is out of its range: --help has the ranges: 'b 1048577'",
     ),
     (
         "drive",
         "b 64 1 1\n",
-        "a number is out of its range: --help has the ranges",
+        "a number is out of its range: --help has the ranges: 'b 64 1 1'",
     ),
     (
         "run",
         "b\n",
-        "too few words follow the first: --help has the lines",
+        "too few words follow the first: --help has the lines: 'b'",
     ),
     (
         "run",
         "b 1 \n",
-        "too many words follow the first; a second space, or one at the end, makes an empty word",
+        "too many words follow the first; a second space, or one at the end, makes an empty word: 'b 1 '",
     ),
     (
         "run",
         LONG,
-        "the line has more than 200 bytes, not counting the byte 10 that ends it",
+        "the line has more than 200 bytes, not counting the byte 10 that ends it: \
+        'b 00000000000000000000000000000000000000'..",
     ),
     (
         "run",
         "m 5 4\n",
-        "the low mark of the line is above its high mark",
+        "the low mark of the line is above its high mark: 'm 5 4'",
     ),
     (
         "core",
         "k 0\n",
-        "a lane after a turn, a turn before a lane, a 65th lane, bit 0, a bit held twice, or too much room",
+        "a lane after a turn, a turn before a lane, a 65th lane, bit 0, a bit held twice, or too much room: 'k 0'",
     ),
     (
         "drive",
         "m 0 5 4\n",
-        "a second `then`, a second `turns`, or a low mark above the high mark",
+        "a second `then`, a second `turns`, or a low mark above the high mark: 'm 0 5 4'",
     ),
     (
         "drive",
         "then 1\nthen 1\n",
-        "a second `then`, a second `turns`, or a low mark above the high mark",
+        "a second `then`, a second `turns`, or a low mark above the high mark: 'then 1'",
     ),
     (
         "summary",
         "b 304\n",
-        "the line is none that run or core writes, as one that was cut off, or a line of a script",
+        "the line is none that run or core writes, as one that was cut off, or a line of a script: 'b 304'",
     ),
     (
         "draw",
         "b 304\n",
-        "the line is none that run or core writes, as one that was cut off, or a line of a script",
+        "the line is none that run or core writes, as one that was cut off, or a line of a script: 'b 304'",
     ),
     (
         "run --low 500 --high 400",
