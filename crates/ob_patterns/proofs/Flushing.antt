@@ -16,7 +16,7 @@ use Rattle.ob_connection.specs.Replies.{flushed_reply, written_reply}
 use Rattle.ob_connection.specs.Standing.{StandsFor}
 use Rattle.ob_connection.specs.declared.replies.Flushed.{Flushed}
 use Rattle.ob_connection.specs.declared.replies.Written.{Written}
-use Rattle.ob_patterns.specs.Adding.{accepted, Adds, IsAsItWas, RefusesWrite, written_and_flushed}
+use Rattle.ob_patterns.specs.Adding.{accepted, Adds, RefusesWrite, written_and_flushed}
 
 -- what is answered by a reply is open
 open_if_answered : (closed : Bool) (other : Option Refusal) (reply said : Reply) →
@@ -57,27 +57,6 @@ module _ {old between : Connected} {message : Message} {written : Written}
       stands = flushed_after result flushes frugal;
       settings = flushes.settings ∙ writes.settings;
     }
-
-    -- no history has a flush after it that is refused
-    never_refused : (refusal : Refusal) → (let result : Result Flushed Refusal = Err refusal in
-        Obeys between Flush flushed_reply result new × ¬ IsErrOf result NoMemory) →
-        (commands : List Command) → StandsFor old commands → ⊥
-    never_refused refusal flushes commands stands =
-        let said = flushes.0.answer flushes.1 (commands ++ Write message ∷ []) (writes.stands commands stands) in
-        let shut = closed_if_refused (is_closed (commands ++ Write message ∷ [])) refusal _ said in
-        let unclosed = closed_more commands (Write message) (was_open commands stands) in
-        cc
-
-    -- so such a refusal would leave all as it was, and be that of the write
-    pub as_it_was : (refusal : Refusal) → (let result : Result Flushed Refusal = Err refusal in
-        Obeys between Flush flushed_reply result new × ¬ IsErrOf result NoMemory) → IsAsItWas old new
-    as_it_was refusal flushes commands stands = absurd (never_refused refusal flushes commands stands)
-
-    pub refused_as_a_write : (refusal : Refusal) → (let result : Result Flushed Refusal = Err refusal in
-        Obeys between Flush flushed_reply result new × ¬ IsErrOf result NoMemory) → (told : Refusal) →
-        RefusesWrite old message told
-    refused_as_a_write refusal flushes told other commands stands =
-        absurd (never_refused refusal flushes commands stands)
 
 -- what a refused write is refused for
 pub refuses : {old new : Connected} {message : Message} {refusal : Refusal} →

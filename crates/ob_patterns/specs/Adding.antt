@@ -20,10 +20,6 @@ pub record Adds (old : Connected) (more : List Command) (new : Connected) : Type
 abbrev pub written_and_flushed : Message → List Command
 written_and_flushed message = Write message ∷ Flush ∷ []
 
--- whatever history the old connection stands for, the new one is as it was
-abbrev pub IsAsItWas : Connected → Connected → Type 0
-IsAsItWas old new = (commands : List Command) → StandsFor old commands → new ≡ old
-
 -- whatever history the connection stands for, a write of the message after it is refused so, or memory was
 abbrev pub RefusesWrite : Connected → Message → Refusal → Type 0
 RefusesWrite old message refusal =

@@ -1,7 +1,7 @@
 ghost use Rattle.std.specs.Prelude.{◌≡◌, IfErr, IfOk, OnErr};
 ghost use Rattle.ob_types.specs.declared.message.Message.TheVariants.{Block};
 ghost use Rattle.ob_connection.specs.Connected.{Connected};
-ghost use Rattle.ob_patterns.specs.Adding.{Adds, IsAsItWas, RefusesWrite, written_and_flushed};
+ghost use Rattle.ob_patterns.specs.Adding.{Adds, RefusesWrite, written_and_flushed};
 ghost use Rattle.ob_patterns.specs.Saying.{Says};
 ghost use Rattle.ob_patterns.specs.Sending.{Spins};
 
@@ -13,7 +13,7 @@ use ob_types::{Message, Refusal};
 
 /// Writes an answer, sends what the socket takes, and returns what to do next.
 ///
-/// The refusals are those of `write`; each leaves the connection as it was, and nothing is sent.
+/// The refusals are those of `write`; each leaves the connection as it was, and the socket is not asked.
 pub fn respond<S: Socket>(
     connection: &mut Connection,
     socket: &mut S,
@@ -24,11 +24,12 @@ pub fn respond<S: Socket>(
         × Spins 16 ready (S.sent socket.old) (S.calls socket.old) next connection.new (S.sent socket.new)
         (S.calls socket.new)) }
     ensures says { IfOk result (λ next. Says connection.new next) }
-    ensures refused { OnErr result (IsAsItWas connection.old connection.new) }
+    ensures refused { OnErr result (connection.new ≡ connection.old) }
     ensures refusal { IfErr result (λ refusal. RefusesWrite connection.old (Block answer) refusal) }
-    ensures unsent { OnErr result (S.sent socket.new ≡ S.sent socket.old) }
+    ensures unasked { OnErr result (socket.new ≡ socket.old) }
 {
     let _written = connection.write(Message::Block(answer))?;
-    let _flushed = connection.flush()?;
+    // what accepted a write accepts a flush
+    let _flushed = connection.flush();
     Ok(spin(connection, socket, 16))
 }
