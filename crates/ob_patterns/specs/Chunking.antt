@@ -1,5 +1,6 @@
 -- How the pieces of a long response are written.
-use Rattle.std.specs.Prelude.{◌≡◌, ◌++◌, ℕ, List, [], ◌∷◌, map, false, Option, Some, None, Result, Ok, Err}
+use Rattle.std.specs.Prelude.{◌≡◌, ◌<◌, ◌≤◌, ◌++◌, ℕ, List, [], ◌∷◌, length, map, take, false, true}
+use Rattle.std.specs.Prelude.{Option, Some, None, Result, Ok, Err}
 use Rattle.ob_types.specs.declared.command.Command.{Command}
 use Rattle.ob_types.specs.declared.command.Command.TheVariants.{Write}
 use Rattle.ob_types.specs.declared.message.Message.TheVariants.{Block}
@@ -7,34 +8,43 @@ use Rattle.ob_seq.specs.State.{writable_after}
 use Rattle.ob_connection.specs.Connected.{Connected}
 use Rattle.ob_connection.specs.Standing.{Gives}
 use Rattle.ob_connection.specs.Telling.{with_more}
-use Rattle.ob_patterns.specs.Adding.{Adds}
+use Rattle.ob_patterns.specs.Adding.{Adds, RefusesWrite}
 use Rattle.ob_patterns.specs.declared.chunks.Progress.{Progress}
 use Rattle.ob_patterns.specs.declared.chunks.Progress.TheVariants.{Finished, Paused, ComeAgain}
 use Rattle.ob_patterns.specs.declared.returned.Returned.{Returned}
-
--- a piece that a source gave, as a list
-abbrev pub given : Option (List ℕ) → List (List ℕ)
-given None = []
-given (Some piece) = piece ∷ []
 
 -- pieces are written, one after another
 abbrev pub written : List (List ℕ) → List Command
 written pieces = map (λ piece. Write (Block piece)) pieces
 
--- the piece that came back, as a list
-abbrev pub came_back : Result Progress Returned → List (List ℕ)
-came_back (Ok progress) = []
-came_back (Err returned) = returned.bytes ∷ []
+-- each piece was wanted: the connection was writable once those before it were written
+abbrev pub AreWanted : Connected → List (List ℕ) → Type 0
+AreWanted old pieces =
+    (place : ℕ) → place < length pieces →
+    Gives old (λ settings commands. writable_after settings (commands ++ written (take place pieces))) true
 
--- a source gave pieces, and each but the one that came back is written, in their order
-pub record WritesGiven (old : Connected) (given_before : Option (List (List ℕ))) (result : Result Progress Returned)
-    (new : Connected) (given_after : Option (List (List ℕ))) : Type 0 where
+-- what a source answered besides the pieces that are written: none at its end, and the piece that came back
+abbrev pub last_answer : Result Progress Returned → List (Option (List ℕ))
+last_answer (Ok Finished) = None ∷ []
+last_answer (Ok Paused) = []
+last_answer (Ok ComeAgain) = []
+last_answer (Err returned) = Some returned.bytes ∷ []
+
+-- why no more pieces were written: the connection is not writable, or as many are written as may be; at the end of the
+-- source, and when a piece is refused, it is writable, and refuses a write of that piece so
+abbrev pub Stops : ℕ → ℕ → Result Progress Returned → Connected → Type 0
+Stops most count (Ok Finished) now = Gives now writable_after true
+Stops most count (Ok Paused) now = Gives now writable_after false
+Stops most count (Ok ComeAgain) now = count ≡ most
+Stops most count (Err returned) now =
+    Gives now writable_after true × RefusesWrite now (Block returned.bytes) returned.refusal
+
+-- a source gave pieces while they were wanted, and each but the one that came back is written, in their order
+pub record WritesGiven (most : ℕ) (old : Connected) (before : Option (List (Option (List ℕ))))
+    (result : Result Progress Returned) (new : Connected) (after : Option (List (Option (List ℕ)))) : Type 0 where
   pub pieces : List (List ℕ)
+  pub few : length pieces ≤ most
+  pub wanted : AreWanted old pieces
   pub adds : Adds old (written pieces) new
-  pub given : given_after ≡ with_more given_before (pieces ++ came_back result)
-
--- a response that is said to pause waits for a connection that is not writable
-abbrev pub IsPaused : Connected → Progress → Type 0
-IsPaused now Finished = Unit {0}
-IsPaused now Paused = Gives now writable_after false
-IsPaused now ComeAgain = Unit {0}
+  pub answers : after ≡ with_more before (map (λ piece. Some piece) pieces ++ last_answer result)
+  pub stops : Stops most (length pieces) result new

@@ -1,6 +1,6 @@
-ghost use Rattle.std.specs.Prelude.{◌≡◌, ℕ, List, Option, IfOk};
+ghost use Rattle.std.specs.Prelude.{◌≡◌, ◌∷◌, [], ℕ, List, Option};
 ghost use Rattle.ob_connection.specs.Telling.{with_more};
-ghost use Rattle.ob_patterns.specs.Chunking.{IsPaused, WritesGiven, given};
+ghost use Rattle.ob_patterns.specs.Chunking.{WritesGiven};
 
 use crate::returned::{Returned, write_or_return};
 use bytes::Bytes;
@@ -8,12 +8,12 @@ use ob_connection::Connection;
 
 /// What a long response is made of, piece by piece, such as a file.
 pub trait Chunks {
-    /// The pieces that it gave so far, of a source that tells them: for contracts alone, as those of a socket.
-    ghost pieces: { Self → Option (List (List ℕ)) };
+    /// What it answered so far, of a source that tells it: for contracts alone, as what a socket tells.
+    ghost answers: { Self → Option (List (Option (List ℕ))) };
 
     /// The next piece, or none at the end.
     fn next(&mut self) -> Option<Bytes>
-        ensures { pieces self.new ≡ with_more (pieces self.old) (given result) };
+        ensures { answers self.new ≡ with_more (answers self.old) (result ∷ []) };
 }
 
 /// How far a long response is written.
@@ -27,19 +27,19 @@ pub enum Progress {
     ComeAgain,
 }
 
-/// Writes at most `most` pieces, while the connection is writable. Flush and send after it.
+/// Writes at most `most` pieces, while the connection is writable. Flush and send after it. The source is asked for a
+/// piece only while the connection is writable.
 ///
 /// A piece that is refused comes back in the error, and the pieces before it stay written. Write that piece first if
-/// you go on.
+/// you go on. The refusals are those of `write_or_return`.
 pub fn write_chunks<C: Chunks>(
     connection: &mut Connection,
     chunks: &mut C,
     most: u32,
 ) -> Result<Progress, Returned>
-    ensures writes { WritesGiven connection.old (C.pieces chunks.old) result connection.new (C.pieces chunks.new) }
-    ensures paused { IfOk result (λ progress. IsPaused connection.new progress) }
+    ensures { WritesGiven most connection.old (C.answers chunks.old) result connection.new (C.answers chunks.new) }
 {
-    for _ in 0..most {
+    for _count in 0..most {
         if !connection.is_writable() {
             return Ok(Progress::Paused);
         }

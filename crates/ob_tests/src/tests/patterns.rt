@@ -20,7 +20,7 @@ struct Pieces {
 impl Chunks for Pieces {
     ghost use Rattle.std.specs.Prelude.{None};
 
-    ghost pieces = { λ _. None };
+    ghost answers = { λ _. None };
 
     fn next(&mut self) -> Option<Bytes> {
         self.left = self.left.checked_sub(1)?;
