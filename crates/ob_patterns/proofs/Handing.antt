@@ -1,11 +1,13 @@
 -- One connection after another is handed a message.
 use Rattle.std.proofs.Common.{◌≡◌, ◌≢◌, refl, sym, ap, ◌∙◌, arith, ℕ, ◌+◌, ◌<◌, ◌≤◌, List, [], ◌∷◌, ◌++◌, length}
-use Rattle.std.proofs.Common.{below_more, Bool, true, false, not, cond, set, length-append, zero, suc}
-use Rattle.std.specs.Prelude.{Some, slice_get, count_by}
+use Rattle.std.proofs.Common.{below_more, Bool, cond, set, length-append, zero, suc}
+use Rattle.std.specs.Prelude.{Result, Some, slice_get, count_by}
 use Rattle.std.proofs.lemmas.List.Sums.{sum_by-append}
 use Rattle.std.proofs.lemmas.Option.{same_Some, slice_get_within}
 use Rattle.ob_connection.specs.Connected.{Connected}
-use Rattle.ob_patterns.specs.Broadcasting.{AreHanded, Broadcasts, IsHanded}
+use Rattle.ob_patterns.specs.Broadcasting.{AreHanded, Broadcasts, IsHanded, is_handed, is_refused, is_unwritable}
+use Rattle.ob_patterns.specs.declared.many.LeftOut.{LeftOut}
+use Rattle.ob_patterns.specs.declared.many.Reached.{Reached}
 
 -- what a list has at a place that was set
 get-set_same : {X : Type 0} (xs : List X) (i : ℕ) (x : X) → i < length xs → slice_get (set xs i x) i ≡ Some x
@@ -32,53 +34,60 @@ get-last [] x = refl
 get-last (y ∷ ys) x = get-last ys x
 
 -- the connections so far: each before this place was handed the bytes or left out, and the rest are as they were
-pub record HandsOn (old : List Connected) (bytes : List ℕ) (got left_out place : ℕ) (now : List Connected) : Type 0 where
-  pub handed : List Bool
+pub record HandsOn (old : List Connected) (bytes : List ℕ) (reached : Reached) (place : ℕ) (now : List Connected)
+    : Type 0 where
+  pub handed : List (Result Unit LeftOut)
   pub so_far : length handed ≡ place
   pub each : AreHanded old bytes handed now
   pub rest : (k : ℕ) → place ≤ k → slice_get now k ≡ slice_get old k
-  pub counts_got : got ≡ count_by (λ one. one) handed
-  pub counts_left_out : left_out ≡ count_by not handed
+  pub counts_got : reached.got ≡ count_by is_handed handed
+  pub counts_unwritable : reached.unwritable ≡ count_by is_unwritable handed
+  pub counts_refused : reached.refused ≡ count_by is_refused handed
 
 -- none at first
-pub none_handed : (old : List Connected) (bytes : List ℕ) → HandsOn old bytes 0 0 0 old
+pub none_handed : (old : List Connected) (bytes : List ℕ) →
+    HandsOn old bytes (record { got = 0; unwritable = 0; refused = 0 }) 0 old
 none_handed old bytes = record {
   handed = [];
   so_far = refl;
   each = λ place before after got was is new. absurd (cc);
   rest = λ k within. refl;
   counts_got = refl;
-  counts_left_out = refl;
+  counts_unwritable = refl;
+  counts_refused = refl;
 }
 
--- a count of one, turned round
-turned : (said : Bool) → ◌≡◌ {A = ℕ} (cond (not said) 1 0) (cond said 0 1)
-turned true = refl
-turned false = refl
+-- whom it reached, with one connection more
+abbrev pub with_one_more : Reached → Result Unit LeftOut → Reached
+with_one_more reached result = record {
+  got = reached.got + cond (is_handed result) 1 0;
+  unwritable = reached.unwritable + cond (is_unwritable result) 1 0;
+  refused = reached.refused + cond (is_refused result) 1 0;
+}
 
-module _ {old now : List Connected} {bytes : List ℕ} {got left_out place : ℕ} (item new : Connected) (is_handed : Bool)
-    (on : HandsOn old bytes got left_out place now) (found : slice_get now place ≡ Some item)
-    (one : IsHanded item bytes is_handed new) where
-  abbrev handed : List Bool
-  handed = on.handed ++ is_handed ∷ []
+module _ {old now : List Connected} {bytes : List ℕ} {reached : Reached} {place : ℕ} (item new : Connected)
+    (result : Result Unit LeftOut) (on : HandsOn old bytes reached place now)
+    (found : slice_get now place ≡ Some item) (one : IsHanded item bytes result new) where
+  abbrev handed : List (Result Unit LeftOut)
+  handed = on.handed ++ result ∷ []
 
   -- what is said of one place
   abbrev SaysAt : ℕ → Type 0
   SaysAt k =
-      (before after : Connected) (said : Bool) → slice_get old k ≡ Some before → slice_get handed k ≡ Some said →
+      (before after : Connected) (said : Result Unit LeftOut) → slice_get old k ≡ Some before → slice_get handed k ≡ Some said →
       slice_get (set now place new) k ≡ Some after → IsHanded before bytes said after
 
   earlier : (k : ℕ) → k < place → SaysAt k
   earlier k within before after said was is then =
       let other : k ≢ place = omega arith in
       on.each k before after said was
-      (sym (get-first on.handed is_handed k (omega (arith, on.so_far, within))) ∙ is)
+      (sym (get-first on.handed result k (omega (arith, on.so_far, within))) ∙ is)
       (sym (get-set_other now place k new other) ∙ then)
 
   here : SaysAt place
   here before after said was is then =
       let same_before = same_Some _ _ (sym found ∙ on.rest place (omega arith) ∙ was) in
-      let last = get-last on.handed is_handed in
+      let last = get-last on.handed result in
       let same_said = same_Some _ _ (sym (rw on.so_far at last) ∙ is) in
       let within = slice_get_within now place item found in
       let same_after = same_Some _ _ (sym (get-set_same now place new within) ∙ then) in
@@ -88,41 +97,40 @@ module _ {old now : List Connected} {bytes : List ℕ} {got left_out place : ℕ
   each_more k before after said was is then =
       let within = slice_get_within handed k said is in
       below_more SaysAt place earlier here k
-      (omega (arith, within, length-append on.handed (is_handed ∷ []), on.so_far)) before after said was is then
+      (omega (arith, within, length-append on.handed (result ∷ []), on.so_far)) before after said was is then
+
+  -- a count of what is so of each of them, with one more
+  counts_more : (is : Result Unit LeftOut → Bool) {before : ℕ} → before ≡ count_by is on.handed →
+      before + cond (is result) 1 0 ≡ count_by is handed
+  counts_more is counts = omega (
+    arith,
+    counts,
+    sum_by-append (λ (said : Result Unit LeftOut). cond (is said) 1 0) on.handed (result ∷ []),
+  )
 
   -- one more
-  pub one_handed : {more_got more_left_out : ℕ} → more_got ≡ got + cond is_handed 1 0 →
-      more_left_out ≡ left_out + cond is_handed 0 1 →
-      HandsOn old bytes more_got more_left_out (place + 1) (set now place new)
-  one_handed gets leaves = record {
+  pub one_handed : {more : Reached} → more ≡ with_one_more reached result →
+      HandsOn old bytes more (place + 1) (set now place new)
+  one_handed is = rw is record {
     handed = handed;
-    so_far = omega (arith, length-append on.handed (is_handed ∷ []), on.so_far);
+    so_far = omega (arith, length-append on.handed (result ∷ []), on.so_far);
     each = each_more;
     rest = λ k within.
         (let other : k ≢ place = omega arith in get-set_other now place k new other) ∙ on.rest k (omega arith);
-    counts_got = omega (
-      arith,
-      gets,
-      on.counts_got,
-      sum_by-append (λ (said : Bool). cond said 1 0) on.handed (is_handed ∷ []),
-    );
-    counts_left_out = omega (
-      arith,
-      leaves,
-      on.counts_left_out,
-      sum_by-append (λ (said : Bool). cond (not said) 1 0) on.handed (is_handed ∷ []),
-      turned is_handed,
-    );
+    counts_got = counts_more is_handed on.counts_got;
+    counts_unwritable = counts_more is_unwritable on.counts_unwritable;
+    counts_refused = counts_more is_refused on.counts_refused;
   }
 
 -- all of them
-pub all_handed : {old new : List Connected} {bytes : List ℕ} {got left_out place : ℕ} → length new ≡ length old →
-    length old ≤ place → place ≤ length old →
-    HandsOn old bytes got left_out place new → Broadcasts old bytes got left_out new
+pub all_handed : {old new : List Connected} {bytes : List ℕ} {reached : Reached} {place : ℕ} →
+    length new ≡ length old → length old ≤ place → place ≤ length old → HandsOn old bytes reached place new →
+    Broadcasts old bytes reached new
 all_handed same least most on = record {
   handed = on.handed;
   one_each = omega (arith, on.so_far);
   each = on.each;
   counts_got = on.counts_got;
-  counts_left_out = on.counts_left_out;
+  counts_unwritable = on.counts_unwritable;
+  counts_refused = on.counts_refused;
 }

@@ -14,7 +14,7 @@ mod writers;
 pub use answers::respond;
 pub use chunks::{Chunks, Progress, write_chunks};
 pub use frames::most_frame_bytes;
-pub use many::{Reached, TOO_SLOW, broadcast, give_up_if_slow, hand};
+pub use many::{LeftOut, Reached, TOO_SLOW, broadcast, give_up_if_slow, hand};
 pub use next::Next;
 pub use proxy::{forward, forwarded};
 pub use returned::{Returned, write_or_return};

@@ -1,8 +1,8 @@
-use Rattle.std.proofs.Common.{ap, arith, get_or}
+use native.Mathlib.Numerals.{unary_clauses}
+use Rattle.std.proofs.Common.{arith, get_or}
 use Rattle.std.proofs.lemmas.Option.{slice_get-get_or}
 use Rattle.ob_patterns.proofs.Handing.{one_handed}
-use Rattle.ob_patterns.specs.declared.many.Reached.{Reached}
-use Rattle.ob_patterns.proofs.many.broadcast.Goals.{then-hand, else-hand}
+use Rattle.ob_patterns.proofs.many.broadcast.Goals.{in-Ok, in-Err-Unwritable, in-Err-Refused}
 use Rattle.ob_patterns.proofs.many.broadcast.Goals as goal
 
 pub loop-connection-preserved : goal.loop-connection-preserved
@@ -10,10 +10,8 @@ loop-connection-preserved c =
     let now = c.loop-connection in
     let item = get_or now.connections now.connection-index c.connection-item.result in
     let found = slice_get-get_or now.connections now.connection-index c.connection-item.result (omega arith) in
-    let more = one_handed item c.hand.new.connection c.hand.result now.invariant found c.hand.ensures in
-    elim c.if-hand.branch [
-      | then-hand w ↦ more (rw w.if-hand.true (ap (λ (one : Reached). one.got) w.reached-is))
-          (rw w.if-hand.true (omega (arith, ap (λ (one : Reached). one.left_out) w.reached-is)))
-      | else-hand w ↦ more (rw w.if-hand.false (omega (arith, ap (λ (one : Reached). one.got) w.reached-is)))
-          (rw w.if-hand.false (ap (λ (one : Reached). one.left_out) w.reached-is))
-    ]
+    one_handed item c.hand.new.connection c.hand.result now.invariant found c.hand.ensures (elim c.match-hand.branch [
+      | in-Ok w ↦ rw w.in-Ok.is (simp unary_clauses (simp unary_clauses at w.reached-is))
+      | in-Err-Unwritable w ↦ rw (w.in-Err-Unwritable.is, w.in-Err-Unwritable.field-0-is) (simp unary_clauses (simp unary_clauses at w.reached-is))
+      | in-Err-Refused w ↦ rw (w.in-Err-Refused.is, w.in-Err-Refused.field-0-is) (simp unary_clauses (simp unary_clauses at w.reached-is))
+    ])

@@ -3,4 +3,4 @@ use Rattle.ob_patterns.proofs.many.broadcast.Given as goal
 
 abbrev pub invariant-loop-connection : goal.invariant-loop-connection
 invariant-loop-connection l =
-    HandsOn l.fn.connections l.fn.bytes l.reached.got l.reached.left_out l.connection-index l.connections
+    HandsOn l.fn.connections l.fn.bytes l.reached l.connection-index l.connections

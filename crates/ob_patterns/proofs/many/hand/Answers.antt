@@ -1,8 +1,17 @@
 use Rattle.std.proofs.Common.{rules, subst}
 use Rattle.ob_types.specs.declared.message.Message.TheVariants.{Block}
-use Rattle.ob_patterns.specs.Adding.{Adds, written_and_flushed}
-use Rattle.ob_patterns.proofs.Flushing.{both_added}
+use Rattle.ob_patterns.specs.Adding.{Adds, RefusesWrite, written_and_flushed}
+use Rattle.ob_patterns.proofs.Flushing.{both_added, refuses}
 use Rattle.ob_patterns.proofs.many.hand.Goals as goal
+
+pub returns-in-Err : goal.returns-in-Err
+returns-in-Err c = (
+  search rules,
+  subst (λ bytes. RefusesWrite c.args.connection.now (Block bytes) c.in-Err.refusal)
+      c.in-Ok.ensures.cases
+      (refuses c.in-Err.ensures),
+  search rules,
+)
 
 pub returns : goal.returns
 returns c =
@@ -10,5 +19,5 @@ returns c =
       search rules,
       subst (λ bytes. Adds c.args.connection.now (written_and_flushed (Block bytes)) flushed.new.self)
           c.in-Ok.ensures.cases
-          (both_added c.in-Ok-write.ensures flushed.result flushed.ensures.obeys flushed.ensures.frugal),
+          (both_added c.in_default-write.ensures flushed.result flushed.ensures.obeys flushed.ensures.frugal),
     )

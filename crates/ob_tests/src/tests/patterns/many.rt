@@ -32,7 +32,8 @@ fn a_closed_and_a_slow_one_are_left_out(rt: HostRuntime) -> Result<(), Fail> {
         (
             Reached {
                 got: 2,
-                left_out: 2
+                unwritable: 1,
+                refused: 1
             },
             [100, 0, 300, 100],
             [1, 0, 0, 1]
