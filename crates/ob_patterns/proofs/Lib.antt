@@ -1,4 +1,5 @@
 pub mod Flushing
 pub mod GivenUp
 pub mod Pieces
+pub mod Serving
 pub mod Handing

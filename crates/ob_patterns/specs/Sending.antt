@@ -1,5 +1,5 @@
 -- How a pattern sends.
-use Rattle.std.specs.Prelude.{◌≡◌, ◌⊎◌, ℕ, List, Option, true}
+use Rattle.std.specs.Prelude.{◌≡◌, ◌<◌, ◌⊎◌, ℕ, List, Option, true, false}
 use Rattle.ob_types.specs.declared.promise.Cause.{Cause}
 use Rattle.ob_seq.specs.State.{closed_after}
 use Rattle.ob_connection.specs.Calls.{Call}
@@ -71,3 +71,34 @@ abbrev pub Spins : ℕ → Connected → Option (List ℕ) → Option (List Call
 Spins turns old sent_before calls_before next new sent_after calls_after =
     SendsOpen turns old sent_before calls_before next new sent_after calls_after
     ⊎ SendsNothing old sent_before calls_before next new sent_after calls_after
+
+-- an open connection of which no turn is asked stays as it is, and its socket is not asked
+pub record MakesNoTurn (turns : ℕ) (old : Connected) (sent_before : Option (List ℕ)) (calls_before : Option (List Call))
+    (next : Next) (new : Connected) (sent_after : Option (List ℕ)) (calls_after : Option (List Call)) : Type 0 where
+  pub unclosed : Gives old closed_after false
+  pub none : turns ≡ 0
+  pub says : next ≡ ComeAgain
+  pub kept : new ≡ old
+  pub unsent : sent_after ≡ sent_before
+  pub unasked : calls_after ≡ calls_before
+
+-- of an open connection, what was done last was to send in at most 16 turns; it is said what was said then, or to come
+-- again
+pub record SendsLast (turns : ℕ) (old : Connected) (next : Next) (new : Connected) (sent_after : Option (List ℕ))
+    (calls_after : Option (List Call)) : Type 0 where
+  pub unclosed : Gives old closed_after false
+  pub some : 0 < turns
+  pub ready : Connected
+  pub sent_before : Option (List ℕ)
+  pub calls_before : Option (List Call)
+  pub said : Next
+  pub spins : Spins 16 ready sent_before calls_before said new sent_after calls_after
+  pub says : (next ≡ said) ⊎ (next ≡ ComeAgain)
+
+-- a connection is served in at most so many turns, unless it is closed
+abbrev pub Serves : ℕ → Connected → Option (List ℕ) → Option (List Call) → Next → Connected → Option (List ℕ) →
+    Option (List Call) → Type 0
+Serves turns old sent_before calls_before next new sent_after calls_after =
+    SendsLast turns old next new sent_after calls_after
+    ⊎ (MakesNoTurn turns old sent_before calls_before next new sent_after calls_after
+    ⊎ SendsNothing old sent_before calls_before next new sent_after calls_after)

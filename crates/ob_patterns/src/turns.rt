@@ -2,7 +2,7 @@ ghost use Rattle.std.specs.Prelude.{true};
 ghost use Rattle.ob_seq.specs.State.{closed_after};
 ghost use Rattle.ob_connection.specs.Standing.{Gives};
 ghost use Rattle.ob_patterns.specs.Saying.{Says};
-ghost use Rattle.ob_patterns.specs.Sending.{IsGivenUp, Spins, broken};
+ghost use Rattle.ob_patterns.specs.Sending.{IsGivenUp, Serves, Spins, broken};
 
 use crate::next::Next;
 use ob_connection::{Connection, Ending, Socket};
@@ -58,12 +58,14 @@ pub trait Peer: Socket {
 /// `ComeAgain` comes if the turns are used up, or if the last one left something to send at once. A closed connection
 /// is not read from.
 pub fn serve<P: Peer>(connection: &mut Connection, peer: &mut P, turns: u32) -> Next
-    ensures { Says connection.new result }
+    ensures says { Says connection.new result }
+    ensures serves { Serves turns connection.old (P.sent peer.old) (P.calls peer.old) result connection.new
+        (P.sent peer.new) (P.calls peer.new) }
 {
     if connection.is_closed() {
         return Next::Closed;
     }
-    for _ in 0..turns {
+    for _turn in 0..turns {
         let was_stopped = !connection.is_writable();
         let hears_more = !was_stopped && peer.answer(connection);
         let next = spin(connection, peer, 16);
