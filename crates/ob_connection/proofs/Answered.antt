@@ -69,31 +69,31 @@ abbrev answers_of : List Call → List Answered
 answers_of made = map (λ call. call.answer) made
 
 -- the answers of the one call that there is
-pub answers_are : (bytes : List ℕ) (answer : Option Answered) →
-    map (λ (call : Call). call.answer) (calls_with bytes answer) ≡ answers_in answer
-answers_are bytes None = refl
-answers_are bytes (Some answer) = refl
+pub answers_are : (pieces : List (List ℕ)) (answer : Option Answered) →
+    map (λ (call : Call). call.answer) (calls_with pieces answer) ≡ answers_in answer
+answers_are pieces None = refl
+answers_are pieces (Some answer) = refl
 
 -- the one call that there is was offered what is due at once
-pub due_at_once : (Due : ℕ → List ℕ → Type 0) {bytes : List ℕ} (offer : Offer) →
-    (¬ (offer ≡ Nothing) → Due 0 bytes) → OffersInTurns Due 0 (calls_with bytes (answer_of offer))
+pub due_at_once : (Due : ℕ → List (List ℕ) → Type 0) {pieces : List (List ℕ)} (offer : Offer) →
+    (¬ (offer ≡ Nothing) → Due 0 pieces) → OffersInTurns Due 0 (calls_with pieces (answer_of offer))
 due_at_once Due Nothing due = tt
 due_at_once Due (Took count) due = (due (λ same. absurd (cc)), tt)
 due_at_once Due AskedBlocked due = (due (λ same. absurd (cc)), tt)
 due_at_once Due AskedBroken due = (due (λ same. absurd (cc)), tt)
 
 -- the bytes of the one call that there is
-pub taken_by : (bytes : List ℕ) (offer : Offer) →
-    sum_by (λ (call : Call). bytes_of call.answer) (calls_with bytes (answer_of offer)) ≡ bytes_taken offer
-taken_by bytes Nothing = refl
-taken_by bytes (Took count) = omega arith
-taken_by bytes AskedBlocked = refl
-taken_by bytes AskedBroken = refl
+pub taken_by : (pieces : List (List ℕ)) (offer : Offer) →
+    sum_by (λ (call : Call). bytes_of call.answer) (calls_with pieces (answer_of offer)) ≡ bytes_taken offer
+taken_by pieces Nothing = refl
+taken_by pieces (Took count) = omega arith
+taken_by pieces AskedBlocked = refl
+taken_by pieces AskedBroken = refl
 
-module _ (Due : ℕ → List ℕ → Type 0) where
+module _ (Due : ℕ → List (List ℕ) → Type 0) where
   -- what is due by another rule is due by this one, some bytes further on
-  offers_as : (Here : ℕ → List ℕ → Type 0) (further : ℕ) →
-      ((taken : ℕ) (bytes : List ℕ) → Here taken bytes → Due (further + taken) bytes) →
+  offers_as : (Here : ℕ → List (List ℕ) → Type 0) (further : ℕ) →
+      ((taken : ℕ) (pieces : List (List ℕ)) → Here taken pieces → Due (further + taken) pieces) →
       (taken : ℕ) (calls : List Call) → OffersInTurns Here taken calls → OffersInTurns Due (further + taken) calls
   offers_as Here further same taken [] offers = tt
   offers_as Here further same taken (call ∷ calls) offers = (
@@ -117,7 +117,7 @@ module _ (Due : ℕ → List ℕ → Type 0) where
   module _ {turns first : ℕ} {before : Option (List Call)} {mid : Option (List Call)} where
     -- turns after which the sending goes on, and one more
     pub asks_more : {more : ℕ} {was ending : Ending} {after : Option (List Call)} → was ≡ TurnsUsed →
-        (Here : ℕ → List ℕ → Type 0) → ((taken : ℕ) (bytes : List ℕ) → Here taken bytes → Due (first + taken) bytes) →
+        (Here : ℕ → List (List ℕ) → Type 0) → ((taken : ℕ) (pieces : List (List ℕ)) → Here taken pieces → Due (first + taken) pieces) →
         AsksInTurns Due turns first before was mid → AsksInTurns Here 1 more mid ending after →
         AsksInTurns Due (turns + 1) (first + more) before ending after
     asks_more {more} {was} {ending} {after} on Here further earlier now = record {
@@ -146,13 +146,13 @@ module _ (Due : ℕ → List ℕ → Type 0) where
     }
 
     -- a sending whose calls were offered what is due by this rule too
-    pub asks_as : {ending : Ending} → (Here : ℕ → List ℕ → Type 0) →
-        ((taken : ℕ) (bytes : List ℕ) → Here taken bytes → Due taken bytes) →
+    pub asks_as : {ending : Ending} → (Here : ℕ → List (List ℕ) → Type 0) →
+        ((taken : ℕ) (pieces : List (List ℕ)) → Here taken pieces → Due taken pieces) →
         AsksInTurns Here turns first before ending mid → AsksInTurns Due turns first before ending mid
     asks_as Here same asks = record {
       made = asks.made;
       calls = asks.calls;
-      offers = offers_as Here 0 (λ taken bytes here. subst (λ n. Due n bytes) (omega arith) (same taken bytes here)) 0
+      offers = offers_as Here 0 (λ taken pieces here. subst (λ n. Due n pieces) (omega arith) (same taken pieces here)) 0
           asks.made asks.offers;
       bytes = asks.bytes;
       ends = asks.ends;

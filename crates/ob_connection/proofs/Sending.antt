@@ -17,7 +17,7 @@ use Rattle.ob_connection.specs.declared.connection.sending.Sent.{Sent}
 use Rattle.ob_connection.specs.declared.inner.offer.Offer.{Offer}
 use Rattle.ob_connection.specs.declared.inner.offer.Offer.TheVariants.{Nothing, Took, Blocked as AskedBlocked, Broken as AskedBroken}
 use Rattle.std.specs.List.{concat}
-use Rattle.std.specs.Prelude.{min, is_some, Result, ◌&&◌}
+use Rattle.std.specs.Prelude.{min, is_some, IfOk, Result, ◌&&◌}
 use Rattle.ob_connection.proofs.Words.{◌∷◌, ◌++◌, Past, held, connection_limit}
 use Rattle.ob_types.specs.declared.command.Command.TheVariants.{RemoveBytes}
 use Rattle.ob_types.specs.declared.refusal.Refusal.TheVariants.{TooManyBytes}
@@ -30,7 +30,7 @@ use Rattle.ob_seq.specs.Pieces.{bytes_in}
 use Rattle.ob_seq.proofs.Inside.Gathered.{gathered_first, length_of_concat, more_gathered}
 use Rattle.ob_seq.proofs.Simulating.BytesRemoved.{run_is}
 use Rattle.ob_connection.specs.Limit.{answer_of_connection}
-use Rattle.ob_connection.specs.Calls.{Call, calls_with, most_pieces}
+use Rattle.ob_connection.specs.Calls.{Call, calls_with, had_no_room, most_pieces}
 use Rattle.ob_connection.specs.Becoming.{removed}
 use Rattle.ob_connection.specs.Offering.{answer_of, EndsAt, IsLeft, offered, Offers, run_of}
 use Rattle.ob_connection.specs.Telling.{with_more}
@@ -143,8 +143,8 @@ pub asks_by : {inside now : Connected} → inside ≡ now → Gives now closed_a
     (sent_before sent_after : Option (List ℕ)) (before after : Option (List Call)) (offer : Offer) →
     Offers (min most_pieces max_count) max_bytes inside.unsent sent_before before offer sent_after after →
     (result : Result Sent SendFault) → bytes_or_fault result ≡ sent_or_fault false (answer_of offer) →
-    Asks max_count max_bytes now before result after
-asks_by {now = now} view unclosed max_count max_bytes sent_before sent_after before after offer offers result told =
+    IfOk result (λ done. done.blocked ≡ had_no_room (answer_of offer)) → Asks max_count max_bytes now before result after
+asks_by {now = now} view unclosed max_count max_bytes sent_before sent_after before after offer offers result told blocks =
     let here : Offers (min most_pieces max_count) max_bytes now.unsent sent_before before offer sent_after after =
     subst
     (λ (one : Connected). Offers (min most_pieces max_count) max_bytes one.unsent sent_before before offer sent_after after)
@@ -156,15 +156,16 @@ asks_by {now = now} view unclosed max_count max_bytes sent_before sent_after bef
           ∙ ap (λ closed. not closed && ltb 0 (length (offered_after max_count max_bytes now.unsent.settings commands)))
           (unclosed commands stands);
       calls = λ commands stands. here.calls
-          ∙ ap (λ (blocks : List (List ℕ)). with_more before (calls_with (concat blocks) (answer_of offer)))
+          ∙ ap (λ (blocks : List (List ℕ)). with_more before (calls_with blocks (answer_of offer)))
           (offered_is now commands stands max_count max_bytes);
       told = λ commands stands. told ∙ ap (λ closed. sent_or_fault closed (answer_of offer)) (unclosed commands stands);
+      blocked = blocks;
     }
 
 -- what is left once `taken` bytes were taken away is what is gathered after a removal of them
-pub due_after : {now : Connected} → Gives now closed_after false → (max_bytes taken : ℕ) (bytes : List ℕ) →
-    IsLeft max_bytes now taken bytes → IsDue max_bytes now taken bytes
-due_after {now} unclosed max_bytes taken bytes left = record {
+pub due_after : {now : Connected} → Gives now closed_after false → (max_bytes taken : ℕ) (pieces : List (List ℕ)) →
+    IsLeft max_bytes now taken pieces → IsDue max_bytes now taken pieces
+due_after {now} unclosed max_bytes taken pieces left = record {
   some = left.some;
   gathered = λ commands stands.
       let past : Past now = record { outcomes = stands.past; count = stands.forgotten } in
@@ -173,7 +174,7 @@ due_after {now} unclosed max_bytes taken bytes left = record {
       let on = goes_on connection_limit command old commands stands.accepted stands.leaves
       (stands.leaves.closed ∙ sym (unclosed commands stands)) (not_too_many taken old left.within) in
       left.left past
-      ∙ ap concat (gathered_is (removed taken old) most_pieces max_bytes (commands ++ command ∷ []) on.1)
-      ∙ ap (λ settings. concat (gathered_after settings (commands ++ command ∷ []) most_pieces max_bytes))
+      ∙ gathered_is (removed taken old) most_pieces max_bytes (commands ++ command ∷ []) on.1
+      ∙ ap (λ settings. gathered_after settings (commands ++ command ∷ []) most_pieces max_bytes)
       (simulated connection_limit command old).settings;
 }

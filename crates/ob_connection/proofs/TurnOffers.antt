@@ -75,11 +75,11 @@ some_bytes (block ∷ blocks) n some = by_test (ltb 0 (length block)) refl n (so
 
 -- what the first turn offers is what is left before anything was taken away
 pub first_offer : (max_bytes : ℕ) (old : Connected) → 0 < length (offered most_pieces max_bytes old.unsent) →
-    IsLeft max_bytes old 0 (concat (offered most_pieces max_bytes old.unsent))
+    IsLeft max_bytes old 0 (offered most_pieces max_bytes old.unsent)
 first_offer max_bytes old some = record {
   some = some_bytes (run_of old.unsent) _ some;
   within = omega arith;
-  left = λ past. ap (λ blocks. concat (first_blocks most_pieces max_bytes blocks))
+  left = λ past. ap (λ blocks. first_blocks most_pieces max_bytes blocks)
       (sym (nothing_removed (held past).line (held past) refl));
 }
 
@@ -130,8 +130,9 @@ offered_some max_count max_bytes unsent some =
 
 -- what is left after a turn is left from the start, `a` bytes further on
 pub left_further : (old mid : Connected) (a : ℕ) → Becomes (removed a) old mid → a ≤ bytes_in (run_of old.unsent) →
-    (max_bytes taken : ℕ) (bytes : List ℕ) → IsLeft max_bytes mid taken bytes → IsLeft max_bytes old (a + taken) bytes
-left_further old mid a first fits max_bytes taken bytes left =
+    (max_bytes taken : ℕ) (pieces : List (List ℕ)) → IsLeft max_bytes mid taken pieces →
+    IsLeft max_bytes old (a + taken) pieces
+left_further old mid a first fits max_bytes taken pieces left =
     let within = within_both old mid a first fits taken left.within in record {
       some = left.some;
       within = within;
@@ -139,6 +140,6 @@ left_further old mid a first fits max_bytes taken bytes left =
           let there = first past in
           let turns = in_turns (held past).line (held past) refl a taken within in
           left.left there.0
-          ∙ ap (λ (one : Pending). concat (first_blocks most_pieces max_bytes (with_bytes (blocks_left one.line))))
+          ∙ ap (λ (one : Pending). first_blocks most_pieces max_bytes (with_bytes (blocks_left one.line)))
           (ap (removed taken) there.1 ∙ turns.state);
     }

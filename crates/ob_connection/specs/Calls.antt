@@ -1,10 +1,11 @@
 -- The calls of a socket.
-use Rattle.std.specs.Prelude.{ℕ, List, [], ◌∷◌, Option, Some, None, Result, Ok, Err}
+use Rattle.std.specs.Prelude.{ℕ, nat_eq, Bool, true, false, List, [], ◌∷◌, Option, Some, None, Result, Ok, Err}
 use Rattle.ob_connection.specs.declared.socket.SocketFault.{SocketFault}
+use Rattle.ob_connection.specs.declared.socket.SocketFault.TheVariants.{Blocked, Broken}
 
--- a call of a socket: the bytes that it was offered, and how many of them it took, or why none
+-- a call of a socket: the pieces that it was offered, and how many of their bytes it took, or why none
 pub record Call : Type 0 where
-  pub offered : List ℕ
+  pub offered : List (List ℕ)
   pub answer : Result ℕ SocketFault
 
 -- how many pieces a socket is offered at once, at most
@@ -16,12 +17,19 @@ abbrev pub answers_in : Option (Result ℕ SocketFault) → List (Result ℕ Soc
 answers_in None = []
 answers_in (Some answer) = answer ∷ []
 
--- the call that offered these bytes, if there was one
-abbrev pub calls_with : List ℕ → Option (Result ℕ SocketFault) → List Call
-calls_with bytes None = []
-calls_with bytes (Some answer) = record { offered = bytes; answer = answer } ∷ []
+-- the call that offered these pieces, if there was one
+abbrev pub calls_with : List (List ℕ) → Option (Result ℕ SocketFault) → List Call
+calls_with pieces None = []
+calls_with pieces (Some answer) = record { offered = pieces; answer = answer } ∷ []
 
 -- how many bytes a socket took by this answer
 abbrev pub bytes_of : Result ℕ SocketFault → ℕ
 bytes_of (Ok count) = count
 bytes_of (Err fault) = 0
+
+-- whether a socket was asked and has no room now: it says so, or took nothing
+abbrev pub had_no_room : Option (Result ℕ SocketFault) → Bool
+had_no_room None = false
+had_no_room (Some (Ok count)) = nat_eq count 0
+had_no_room (Some (Err Blocked)) = true
+had_no_room (Some (Err Broken)) = false

@@ -45,17 +45,17 @@ pub record Offers (max_count max_bytes : ℕ) (unsent : Unsent) (sent_before : O
   pub within : bytes_taken offer ≤ length (concat (offered max_count max_bytes unsent))
   pub sent : sent_after ≡ with_more sent_before (take (bytes_taken offer) (concat (offered max_count max_bytes unsent)))
   pub calls : calls_after
-      ≡ with_more calls_before (calls_with (concat (offered max_count max_bytes unsent)) (answer_of offer))
+      ≡ with_more calls_before (calls_with (offered max_count max_bytes unsent) (answer_of offer))
   pub nothing : offer ≡ Nothing → offered max_count max_bytes unsent ≡ []
   pub something : ¬ (offer ≡ Nothing) → 0 < length (offered max_count max_bytes unsent)
 
--- these bytes are what a turn offers once `taken` of those in front were taken away, whatever outcomes the messages had
+-- these pieces are what a turn offers once `taken` of those in front were taken away, whatever outcomes the messages had
 -- that are gone
-pub record IsLeft (max_bytes : ℕ) (old : Connected) (taken : ℕ) (bytes : List ℕ) : Type 0 where
-  pub some : 0 < length bytes
+pub record IsLeft (max_bytes : ℕ) (old : Connected) (taken : ℕ) (pieces : List (List ℕ)) : Type 0 where
+  pub some : 0 < length (concat pieces)
   pub within : taken ≤ bytes_in (run_of old.unsent)
   pub left : (past : Past old) →
-      bytes ≡ concat (first_blocks most_pieces max_bytes (with_bytes (blocks_left (removed taken (held past)).line)))
+      pieces ≡ first_blocks most_pieces max_bytes (with_bytes (blocks_left (removed taken (held past)).line))
 
 -- what is left when a sending ended so
 abbrev pub EndsAt : Unsent → Ending → Type 0

@@ -1,6 +1,6 @@
 -- What a connection sends at once.
 use Rattle.std.specs.List.{concat}
-use Rattle.std.specs.Prelude.{◌<◌, ℕ, Bool, not, nat_lt, length, ◌&&◌, List, [], ◌∷◌, ◌++◌, take, min, max, true, false, Option, Some, None, is_some, Result, Ok, Err}
+use Rattle.std.specs.Prelude.{◌≡◌, IfOk, ◌<◌, ℕ, Bool, not, nat_lt, length, ◌&&◌, List, [], ◌∷◌, ◌++◌, take, min, max, true, false, Option, Some, None, is_some, Result, Ok, Err}
 use Rattle.ob_types.specs.declared.command.Command.{Command}
 use Rattle.ob_types.specs.declared.command.Command.TheVariants.{RemoveBytes}
 use Rattle.ob_types.specs.declared.promise.Outcome.TheVariants.{Success}
@@ -11,7 +11,7 @@ use Rattle.ob_seq.specs.Gathering.{gathered_after}
 use Rattle.ob_seq.specs.Pieces.{bytes_in}
 use Rattle.ob_seq.specs.Settings.{Settings}
 use Rattle.ob_seq.specs.State.{closed_after, empty_after}
-use Rattle.ob_connection.specs.Calls.{Call, calls_with, most_pieces}
+use Rattle.ob_connection.specs.Calls.{Call, calls_with, had_no_room, most_pieces}
 use Rattle.ob_connection.specs.Connected.{Connected}
 use Rattle.ob_connection.specs.Obeying.{IsNext, Obeys}
 use Rattle.ob_connection.specs.Replies.{taken_reply}
@@ -63,8 +63,8 @@ abbrev pub bytes_or_fault : Result Sent SendFault → Result ℕ SendFault
 bytes_or_fault (Ok done) = Ok done.bytes
 bytes_or_fault (Err fault) = Err fault
 
--- a sending at once asks the socket if the connection is open and there is something to offer, once, and offers it all;
--- and it reports what the socket returned
+-- a sending at once asks the socket if the connection is open and there is something to offer, once, and offers it all,
+-- a piece for each block; and it reports what the socket returned, and whether it has no room
 pub record Asks (max_count max_bytes : ℕ) (old : Connected) (before : Option (List Call)) (result : Result Sent SendFault)
     (after : Option (List Call)) : Type 0 where
   pub answer : Option (Result ℕ SocketFault)
@@ -74,8 +74,9 @@ pub record Asks (max_count max_bytes : ℕ) (old : Connected) (before : Option (
       (is_some answer)
   pub calls : Gives old
       (λ settings commands.
-      with_more before (calls_with (concat (offered_after max_count max_bytes settings commands)) answer)) after
+      with_more before (calls_with (offered_after max_count max_bytes settings commands) answer)) after
   pub told : Gives old (λ settings commands. sent_or_fault (closed_after settings commands) answer) (bytes_or_fault result)
+  pub blocked : IfOk result (λ done. done.blocked ≡ had_no_room answer)
 
 -- how a sending of several turns ended, by what is left
 abbrev pub Ends : Connected → Ending → Type 0
@@ -85,12 +86,11 @@ Ends new OtherInFront = Gives new empty_after false × Gives new bytes_in_front_
 Ends new TurnsUsed = Gives new empty_after false
 Ends new IsBroken = Gives new empty_after false
 
--- these bytes are what a turn offers once `taken` were taken away: what is gathered then, and that is not nothing
-pub record IsDue (max_bytes : ℕ) (old : Connected) (taken : ℕ) (bytes : List ℕ) : Type 0 where
-  pub some : 0 < length bytes
+-- these pieces are what a turn offers once `taken` bytes were taken away: what is gathered then, and that is not nothing
+pub record IsDue (max_bytes : ℕ) (old : Connected) (taken : ℕ) (pieces : List (List ℕ)) : Type 0 where
+  pub some : 0 < length (concat pieces)
   pub gathered : Gives old
-      (λ settings commands. concat (gathered_after settings (commands ++ RemoveBytes taken ∷ []) most_pieces max_bytes))
-      bytes
+      (λ settings commands. gathered_after settings (commands ++ RemoveBytes taken ∷ []) most_pieces max_bytes) pieces
 
 -- all turns together took the first bytes of those in front, as many as are reported; they were taken away as by one
 -- removal, with the reply that is reported; each turn offered what is gathered past the bytes of those before it; and

@@ -38,14 +38,14 @@ EndsWithin turns answers Broken = Stopped answers Broken × (length answers ≤ 
 
 -- the calls of a socket after it took `taken` bytes: each was offered what is due past the bytes that it took until
 -- then
-abbrev pub OffersInTurns : (ℕ → List ℕ → Type 0) → ℕ → List Call → Type 0
+abbrev pub OffersInTurns : (ℕ → List (List ℕ) → Type 0) → ℕ → List Call → Type 0
 OffersInTurns IsDue taken [] = ⊤
 OffersInTurns IsDue taken (call ∷ calls) =
     IsDue taken call.offered × OffersInTurns IsDue (taken + bytes_of call.answer) calls
 
 -- the calls of a socket that a sending of at most `turns` turns made: each was offered what is due, together they took
 -- the bytes that it reports, and it ended so by what they returned
-pub record AsksInTurns (IsDue : ℕ → List ℕ → Type 0) (turns sent : ℕ) (before : Option (List Call)) (ending : Ending)
+pub record AsksInTurns (IsDue : ℕ → List (List ℕ) → Type 0) (turns sent : ℕ) (before : Option (List Call)) (ending : Ending)
     (after : Option (List Call)) : Type 0 where
   pub made : List Call
   pub calls : after ≡ with_more before made

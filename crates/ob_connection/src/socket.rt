@@ -1,7 +1,7 @@
 //! What a connection sends to.
 
-ghost use Rattle.std.specs.Io.Slices.{io_slices_bytes};
-ghost use Rattle.std.specs.Prelude.{◌≡◌, ◌≤◌, [], ◌∷◌, List, ℕ, length, take, Option, IfOk, OnErr};
+ghost use Rattle.std.specs.Io.Slices.{io_slice_bytes, io_slices_bytes};
+ghost use Rattle.std.specs.Prelude.{◌≡◌, ◌≤◌, [], ◌∷◌, List, ℕ, length, map, take, Option, IfOk, OnErr};
 ghost use Rattle.ob_connection.specs.Calls.{Call};
 ghost use Rattle.ob_connection.specs.Telling.{with_more};
 
@@ -30,7 +30,7 @@ pub trait Socket {
     /// say what the system does with the bytes.
     ghost sent: { Self → Option (List ℕ) };
 
-    /// Its calls so far, each with what it was offered and what it returned, of a socket that reports them.
+    /// Its calls so far, each with the pieces that it was offered and what it returned, of a socket that reports them.
     ghost calls: { Self → Option (List Call) };
 
     /// Writes pieces, one after another, and returns how many of their bytes were taken, from the front (`writev`).
@@ -39,5 +39,5 @@ pub trait Socket {
         ensures taken { IfOk result (λ count. sent self.new ≡ with_more (sent self.old) (take count (io_slices_bytes pieces.now))) }
         ensures failed { OnErr result (sent self.new ≡ sent self.old) }
         ensures called { calls self.new
-            ≡ with_more (calls self.old) (record { offered = io_slices_bytes pieces.now; answer = result } ∷ []) };
+            ≡ with_more (calls self.old) (record { offered = map io_slice_bytes pieces.now; answer = result } ∷ []) };
 }

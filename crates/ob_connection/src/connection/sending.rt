@@ -17,9 +17,12 @@ use thiserror::Error;
 pub struct Sent {
     /// How many bytes the socket took: 0 if it has no room now, or if there was nothing to send.
     pub bytes: u64,
+    /// Whether the socket was asked and has no room now: it took nothing. Send again when it is ready.
+    pub blocked: bool,
     /// Which messages are gone by that, and how it changed writability.
     pub taken: Taken,
-    /// Whether a flushed message is left. If the socket has room and took nothing, that in front is no block.
+    /// Whether a flushed message is left. If nothing was sent and the socket is not blocked, that in front is no block,
+    /// or `max_count` was 0.
     pub more: bool,
 }
 
@@ -59,7 +62,8 @@ impl Connection {
         if self.is_closed() {
             return Err(SendFault::Closed);
         }
-        let bytes = taken_of(self.inner.offer(socket, max_count, max_bytes))?;
+        let offer = self.inner.offer(socket, max_count, max_bytes);
+        let bytes = taken_of(offer)?;
         // What was written is of what stands in front, so an open connection takes it away.
         self.stands_for_some_commands();
         let Ok(taken) = self.take_sent(bytes) else {
@@ -67,6 +71,7 @@ impl Connection {
         };
         Ok(Sent {
             bytes,
+            blocked: offer.is_blocked(),
             taken,
             more: !self.is_empty(),
         })

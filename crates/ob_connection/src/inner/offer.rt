@@ -3,7 +3,7 @@
 ghost use Rattle.std.specs.Io.Slices.{io_slice_bytes};
 ghost use Rattle.std.specs.List.{concat};
 ghost use Rattle.std.specs.Prelude.{◌≡◌, ◌≤◌, length, take, map, min};
-ghost use Rattle.ob_connection.specs.Calls.{calls_with, most_pieces};
+ghost use Rattle.ob_connection.specs.Calls.{calls_with, had_no_room, most_pieces};
 ghost use Rattle.ob_connection.specs.Offering.{answer_of, bytes_taken, Offers};
 ghost use Rattle.ob_connection.specs.Telling.{with_more};
 
@@ -35,6 +35,17 @@ impl Offer {
         match self {
             Offer::Took(bytes) => bytes,
             Offer::Nothing | Offer::Blocked | Offer::Broken => 0,
+        }
+    }
+
+    /// Whether the socket was asked and has no room now.
+    pub fn is_blocked(self) -> bool
+        ensures { result ≡ had_no_room (answer_of self) }
+    {
+        match self {
+            Offer::Took(bytes) => bytes == 0,
+            Offer::Blocked => true,
+            Offer::Nothing | Offer::Broken => false,
         }
     }
 }
@@ -76,7 +87,7 @@ fn ask<S: Socket>(socket: &mut S, pieces: &[IoSlice<'_>]) -> Offer
     ensures sent { S.sent socket.new
         ≡ with_more (S.sent socket.old) (take (bytes_taken result) (concat (map io_slice_bytes pieces.now))) }
     ensures calls { S.calls socket.new
-        ≡ with_more (S.calls socket.old) (calls_with (concat (map io_slice_bytes pieces.now)) (answer_of result)) }
+        ≡ with_more (S.calls socket.old) (calls_with (map io_slice_bytes pieces.now) (answer_of result)) }
 {
     match socket.write_vectored(pieces) {
         Ok(bytes) => Offer::Took(bytes as u64),

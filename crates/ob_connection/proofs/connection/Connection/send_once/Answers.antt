@@ -1,6 +1,6 @@
-use Rattle.ob_connection.proofs.Words.{◌≡◌, ◌≤◌, List, ℕ, length, take, not, sym, ap, ◌∙◌, told_by, subst, Connected, Option}
+use Rattle.ob_connection.proofs.Words.{◌≡◌, ◌≤◌, List, ℕ, length, take, not, sym, ap, ◌∙◌, told_by, subst, Connected, Option, Bool}
 use Rattle.std.specs.List.{concat}
-use Rattle.std.specs.Prelude.{min, IsErrAnd, Result, Ok, Err}
+use Rattle.std.specs.Prelude.{min, IfOk, IsErr, IsErrAnd, Result, Ok, Err}
 use Rattle.ob_connection.specs.declared.connection.sending.SendFault.{SendFault}
 use Rattle.ob_connection.specs.declared.connection.sending.Sent.{Sent}
 use Rattle.ob_connection.specs.Obeying.{promises_after}
@@ -29,6 +29,11 @@ module _ {inside now : Connected} (view : inside ≡ now) where
       after ≡ with_more before (take bytes (concat (offered (min most_pieces max_count) max_bytes one.unsent))))
       view (rw same is)
 
+-- which reports nothing of the socket's room
+no_room_told : (result : Result Sent SendFault) (blocked : Bool) → IsErr result → IfOk result (λ done. done.blocked ≡ blocked)
+no_room_told (Ok done) blocked is = absurd (cc)
+no_room_told (Err told) blocked is = tt
+
 -- a fault that is passed on is reported
 fault_kept : (result : Result Sent SendFault) (fault : SendFault) → IsErrAnd result (λ told. told ≡ fault) →
     bytes_or_fault result ≡ Err fault
@@ -43,18 +48,18 @@ unreachable-requires g c =
     not_refused settings commands c.in_ok-bytes.bytes c.in_default.field-0
     (sym (c.is_closed.ensures commands some.1) ∙ c.if-is_closed.false)
     (offered_within c.args.self.now commands some.1 c.args.max_count c.args.max_bytes c.in_ok-bytes.bytes
-    (taken_within c.self.view_is c.args.max_count c.args.max_bytes c.in_ok-bytes.ensures.taken c.offer.ensures.within))
+    (taken_within c.self.view_is c.args.max_count c.args.max_bytes c.in_ok-bytes.ensures.taken c.offer-offer.ensures.within))
     (ap (told_by (taken_reply (promises_after settings commands))) (sym c.in_default.is)
     ∙ c.take_sent.ensures.obeys.answer c.take_sent.ensures.frugal commands some.1)
 
 pub returns-clause-sends : goal.returns-clause-sends
 returns-clause-sends g c = record {
   sent = λ commands stands. sent_as c.self.view_is (g.S.Socket.sent c.args.socket.now) c.args.max_count c.args.max_bytes
-      c.in_ok-bytes.ensures.taken c.offer.ensures.sent
+      c.in_ok-bytes.ensures.taken c.offer-offer.ensures.sent
       ∙ ap (with_more (g.S.Socket.sent c.args.socket.now))
       (offered_are_gathered c.args.self.now commands stands c.args.max_count c.args.max_bytes c.in_ok-bytes.bytes
       (taken_within c.self.view_is c.args.max_count c.args.max_bytes c.in_ok-bytes.ensures.taken
-      c.offer.ensures.within));
+      c.offer-offer.ensures.within));
   obeys = c.in-Ok.ensures.obeys;
   next = c.in-Ok.ensures.next;
   more = λ commands stands. ap not (c.is_empty.ensures commands stands);
@@ -63,10 +68,12 @@ returns-clause-sends g c = record {
 pub returns-in_err-bytes-clause-asks : goal.returns-in_err-bytes-clause-asks
 returns-in_err-bytes-clause-asks g c =
     asks_by c.self.view_is (λ commands stands. sym c.if-is_closed.false ∙ c.is_closed.ensures commands stands)
-    c.args.max_count c.args.max_bytes _ _ _ _ c.offer.result c.offer.ensures c.from_residual.result
+    c.args.max_count c.args.max_bytes _ _ _ _ c.offer-offer.result c.offer-offer.ensures c.from_residual.result
     (fault_kept c.from_residual.result c.in_err-bytes.field-0.0 c.from_residual.ensures.1 ∙ c.in_err-bytes.ensures.told)
+    (no_room_told c.from_residual.result _ c.from_residual.ensures.0)
 
 pub returns-clause-asks : goal.returns-clause-asks
 returns-clause-asks g c =
     asks_by c.self.view_is (λ commands stands. sym c.if-is_closed.false ∙ c.is_closed.ensures commands stands)
-    c.args.max_count c.args.max_bytes _ _ _ _ c.offer.result c.offer.ensures _ (sym c.in_ok-bytes.was ∙ c.taken_of.ensures.told)
+    c.args.max_count c.args.max_bytes _ _ _ _ c.offer-offer.result c.offer-offer.ensures _ (sym c.in_ok-bytes.was ∙ c.taken_of.ensures.told)
+    c.is_blocked.ensures

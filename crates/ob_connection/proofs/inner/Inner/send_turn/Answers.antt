@@ -63,7 +63,8 @@ ending_after-requires-clause-left g c asked none =
 pub returns : goal.returns
 returns g c =
     let now = c.args.self.now.unsent in
-    let all = concat (offered most_pieces c.args.max_bytes now) in
+    let pieces = offered most_pieces c.args.max_bytes now in
+    let all = concat pieces in
     let within = same_within all c.bytes-bytes.ensures c.offer-offer.ensures.within in
     let first = offered_first most_pieces c.args.max_bytes c.bytes-bytes.result now within in record {
       becomes = c.take_bytes.ensures.becomes;
@@ -73,12 +74,12 @@ returns g c =
           ∙ ap (λ n. with_more (g.S.Socket.sent c.args.socket.now) (take n all)) (sym c.bytes-bytes.ensures)
           ∙ ap (with_more (g.S.Socket.sent c.args.socket.now)) first.0;
       asks = record {
-        made = calls_with all (answer_of c.offer-offer.result);
+        made = calls_with pieces (answer_of c.offer-offer.result);
         calls = c.offer-offer.ensures.calls;
         offers = due_at_once (IsLeft c.args.max_bytes c.args.self.now) c.offer-offer.result
             (λ asked. first_offer c.args.max_bytes c.args.self.now (c.offer-offer.ensures.something asked));
-        bytes = taken_by all c.offer-offer.result ∙ sym c.bytes-bytes.ensures;
-        ends = rw (answers_are all (answer_of c.offer-offer.result)) c.ending_after.ensures.asked;
+        bytes = taken_by pieces c.offer-offer.result ∙ sym c.bytes-bytes.ensures;
+        ends = rw (answers_are pieces (answer_of c.offer-offer.result)) c.ending_after.ensures.asked;
       };
       ends = c.ending_after.ensures.left;
     }
