@@ -1,3 +1,4 @@
+pub mod Admitting
 pub mod Answered
 pub mod Gathered
 pub mod GivingUp

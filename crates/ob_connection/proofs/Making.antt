@@ -1,10 +1,12 @@
 -- Steps that are refused, and steps that are taken.
 use Rattle.ob_connection.proofs.Words.{◌≡◌, refl, sym, subst, List, true, false, Some, None, Ok, Err, Refusal, Closed}
 use Rattle.ob_connection.proofs.Words.{NoMemory, Reply, PromiseState, Pending, Step, Makes, Past, held, Steps, Connected}
-use Rattle.ob_connection.proofs.Words.{first_of_step, change_between, ℕ, Option, arith}
+use Rattle.ob_connection.proofs.Words.{first_of_step, change_between, ℕ, Option, arith, Command, Moves, step_within}
+use Rattle.ob_connection.proofs.Words.{connection_limit}
+use Rattle.ob_connection.specs.Becoming.{IsFirstRefusal}
 
 -- what an open connection refuses is what its step refuses
-first_where_open : (old : Pending) (step : Step) (value : Option Refusal) → old.closed ≡ false → step.refusal ≡ value →
+pub first_where_open : (old : Pending) (step : Step) (value : Option Refusal) → old.closed ≡ false → step.refusal ≡ value →
     first_of_step old step ≡ value
 first_where_open old step value unclosed is = rw (unclosed, is) refl
 
@@ -94,3 +96,12 @@ module _ {A : Type 0} (step : Pending → Step) (tell : List PromiseState → A 
 -- a word that stays turns nothing
 pub nothing_turned : (word : ℕ) → change_between word word ≡ None
 nothing_turned word = grind arith
+
+-- a call is refused so if that is the first refusal of its step
+pub first_refused : {A : Type 0} (command : Command) (tell : List PromiseState → A → Reply) {old : Connected}
+    (refusal : Refusal) → ¬ (refusal ≡ NoMemory) → IsFirstRefusal old command (Some refusal) →
+    Moves old command tell (Err refusal) old
+first_refused command tell refusal other first = record {
+  makes = λ past. (past, makes_refused (held past) (step_within connection_limit command (held past)) refusal other (sym (first past)));
+  refused = refl;
+}

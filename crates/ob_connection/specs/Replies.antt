@@ -15,6 +15,7 @@ use Rattle.ob_connection.specs.declared.replies.Written.{Written}
 use Rattle.ob_connection.specs.declared.replies.Flushed.{Flushed}
 use Rattle.ob_connection.specs.declared.replies.Removed.{Removed}
 use Rattle.ob_connection.specs.declared.replies.Taken.{Taken}
+use Rattle.ob_connection.specs.declared.refused.Refused.{Refused}
 
 -- an accepted write: its promise
 abbrev pub written_reply : List PromiseState → Written → Reply
@@ -69,3 +70,8 @@ done_reply promises done = record { answer = Done; settled = []; change = None }
 abbrev pub told_by : {A : Type 0} → (A → Reply) → Result A Refusal → Result Reply Refusal
 told_by tell (Ok value) = Ok (tell value)
 told_by tell (Err refusal) = Err refusal
+
+-- the answer of a write, but for the message that came back
+abbrev pub answer_of_write : Result Written Refused → Result Written Refusal
+answer_of_write (Ok written) = Ok written
+answer_of_write (Err refused) = Err refused.refusal

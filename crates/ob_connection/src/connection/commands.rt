@@ -9,10 +9,11 @@ ghost use Rattle.ob_seq.specs.State.{closed_after};
 ghost use Rattle.ob_connection.specs.GivingUp.{GivesUp};
 ghost use Rattle.ob_connection.specs.Obeying.{IsNext, IsQuiet, Obeys};
 ghost use Rattle.ob_connection.specs.Standing.{Gives};
-ghost use Rattle.ob_connection.specs.Replies.{written_reply, flushed_reply, removed_reply, taken_reply, cancelled_reply};
+ghost use Rattle.ob_connection.specs.Replies.{answer_of_write, written_reply, flushed_reply, removed_reply, taken_reply, cancelled_reply};
 ghost use Rattle.ob_connection.specs.Replies.{bit_reply, done_reply};
 
 use crate::connection::Connection;
+use crate::refused::Refused;
 use crate::replies::{Flushed, Removed, Taken, Written};
 use ob_types::{Cause, Change, Message, Outcome, Refusal, WaterMark};
 
@@ -22,11 +23,12 @@ impl Connection {
     ///
     /// `Closed` comes if the connection is closed, then `Oversize` if the message counts more than 2147483647 bytes or is
     /// a region longer than 9223372036854775807, then `TooMuch` if more than 4294967295 bytes would be pending or 2^64 - 1
-    /// writes were accepted, and then `NoMemory` if the allocator refused. Each leaves everything as it was, but for the
-    /// message, which is dropped.
+    /// writes were accepted, and then `NoMemory` if the allocator refused. Each leaves everything as it was, and the
+    /// message comes back with it: `?` to a `Refusal` lets that go.
     #[inline(always)]
-    pub fn write(&mut self, message: Message) -> Result<Written, Refusal>
-        ensures { Obeys self.old (Write message) written_reply result self.new }
+    pub fn write(&mut self, message: Message) -> Result<Written, Refused>
+        ensures obeys { Obeys self.old (Write message) written_reply (answer_of_write result) self.new }
+        ensures returned { IfErr result (λ refused. refused.message ≡ message) }
     {
         self.inner.write(message)
     }

@@ -44,6 +44,6 @@ impl Whole {
         ensures err { OnErr result (self.new ≡ self.old) }
     {
         self.gone.reserve(self.contents.count() + 1)?;
-        self.contents.add(message, size)
+        self.contents.add(message, size).map_err(|_| AllocError)
     }
 }

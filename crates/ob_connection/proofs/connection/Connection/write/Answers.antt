@@ -3,7 +3,7 @@ use Rattle.ob_connection.proofs.Obeyed.{obeys, stays}
 use Rattle.ob_connection.proofs.connection.Connection.write.Goals as goal
 
 pub invariant_of-self : goal.invariant_of-self
-invariant_of-self c = stays (Write c.args.message) c.write.ensures c.self.invariant
+invariant_of-self c = stays (Write c.args.message) c.write.ensures.moves c.self.invariant
 
-pub returns : goal.returns
-returns c = rw (← c.self.view_is) (obeys (Write c.args.message) c.write.ensures c.self.invariant)
+pub returns-clause-obeys : goal.returns-clause-obeys
+returns-clause-obeys c = rw (← c.self.view_is) (obeys (Write c.args.message) c.write.ensures.moves c.self.invariant)

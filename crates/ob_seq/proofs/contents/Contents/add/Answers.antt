@@ -24,7 +24,7 @@ returns-clause-ok c gone =
     total_is (unsent_of inside) inside refl c.self.invariant in
     let rises = c.after_rise-self-inside.ensures
     ∙ ap (λ (total : ℕ). word_after_rise inside.marks inside.word c.args.size (total + c.args.size)) sum in
-    rw (c.push_back_reserved.ensures.items, c.in_ok-reserve.ensures.items, front, behind)
+    rw (c.push_back_reserved.ensures.items, c.in-Ok.ensures.items, front, behind)
     (written_is gone settings inside.marks inside.closed (take n items) (drop n items) inside.word
     c.after_rise-self-inside.result c.args.message c.args.size rises
     ∙ ap (λ (held : Unsent). written (whole gone held) c.args.message c.args.size) c.self.view_is)
