@@ -13,11 +13,11 @@ use Rattle.ob_connection.specs.Obeying.{Obeys}
 use Rattle.ob_connection.specs.Replies.{written_reply}
 use Rattle.ob_connection.specs.Standing.{Gives}
 use Rattle.ob_connection.specs.Telling.{with_more}
+use Rattle.ob_connection.specs.declared.refused.Refused.{Refused}
 use Rattle.ob_connection.specs.declared.replies.Written.{Written}
 use Rattle.ob_patterns.specs.Adding.{accepted, Adds, RefusesWrite}
 use Rattle.ob_patterns.specs.Chunking.{AreWanted, Stops, WritesGiven, last_answer, written}
 use Rattle.ob_patterns.specs.declared.chunks.Progress.{Progress}
-use Rattle.ob_patterns.specs.declared.returned.Returned.{Returned}
 
 -- what a source answers that gives these pieces
 abbrev gave : List (List ℕ) → List (Option (List ℕ))
@@ -90,7 +90,7 @@ module _ {count : ℕ} {old between : Connected} {before now : Option (List (Opt
     }
 
   -- that is all
-  pub writes_given : {most : ℕ} (result : Result Progress Returned) {new : Connected}
+  pub writes_given : {most : ℕ} (result : Result Progress Refused) {new : Connected}
       {after : Option (List (Option (List ℕ)))} → count ≤ most → new ≡ between →
       after ≡ with_more now (last_answer result) → Stops most count result new →
       WritesGiven most old before result new after
@@ -105,9 +105,9 @@ module _ {count : ℕ} {old between : Connected} {before now : Option (List (Opt
   }
 
   -- or a piece was refused that the source gave last
-  pub refused_given : {most : ℕ} (returned : Returned) (piece : List ℕ) {new : Connected}
-      {after : Option (List (Option (List ℕ)))} → count ≤ most → new ≡ between → returned.bytes ≡ piece →
+  pub refused_given : {most : ℕ} (refused : Refused) (piece : List ℕ) {new : Connected}
+      {after : Option (List (Option (List ℕ)))} → count ≤ most → new ≡ between → refused.message ≡ Block piece →
       after ≡ with_more now (Some piece ∷ []) → Gives between writable_after true →
-      RefusesWrite between (Block piece) returned.refusal → WritesGiven most old before (Err returned) new after
-  refused_given returned piece few same is gives writable refuses =
-      writes_given (Err returned) few same (rw is gives) (rw (same, is) (writable, refuses))
+      RefusesWrite between (Block piece) refused.refusal → WritesGiven most old before (Err refused) new after
+  refused_given refused piece few same is gives writable refuses =
+      writes_given (Err refused) few same (rw is gives) (rw (same, is) (writable, refl, refuses))

@@ -3,15 +3,16 @@ use Rattle.std.specs.Prelude.{◌≡◌, ◌<◌, ◌≤◌, ◌++◌, ℕ, List
 use Rattle.std.specs.Prelude.{Option, Some, None, Result, Ok, Err}
 use Rattle.ob_types.specs.declared.command.Command.{Command}
 use Rattle.ob_types.specs.declared.command.Command.TheVariants.{Write}
-use Rattle.ob_types.specs.declared.message.Message.TheVariants.{Block}
+use Rattle.ob_types.specs.declared.message.Message.{Message}
+use Rattle.ob_types.specs.declared.message.Message.TheVariants.{Block, Region, Other}
 use Rattle.ob_seq.specs.State.{writable_after}
 use Rattle.ob_connection.specs.Connected.{Connected}
 use Rattle.ob_connection.specs.Standing.{Gives}
 use Rattle.ob_connection.specs.Telling.{with_more}
+use Rattle.ob_connection.specs.declared.refused.Refused.{Refused}
 use Rattle.ob_patterns.specs.Adding.{Adds, RefusesWrite}
 use Rattle.ob_patterns.specs.declared.chunks.Progress.{Progress}
 use Rattle.ob_patterns.specs.declared.chunks.Progress.TheVariants.{Finished, Paused, ComeAgain}
-use Rattle.ob_patterns.specs.declared.returned.Returned.{Returned}
 
 -- pieces are written, one after another
 abbrev pub written : List (List ℕ) → List Command
@@ -23,25 +24,32 @@ AreWanted old pieces =
     (place : ℕ) → place < length pieces →
     Gives old (λ settings commands. writable_after settings (commands ++ written (take place pieces))) true
 
+-- the piece that came back, as an answer of its source
+abbrev pub piece_in : Message → List (Option (List ℕ))
+piece_in (Block bytes) = Some bytes ∷ []
+piece_in (Region units) = []
+piece_in (Other value) = []
+
 -- what a source answered besides the pieces that are written: none at its end, and the piece that came back
-abbrev pub last_answer : Result Progress Returned → List (Option (List ℕ))
+abbrev pub last_answer : Result Progress Refused → List (Option (List ℕ))
 last_answer (Ok Finished) = None ∷ []
 last_answer (Ok Paused) = []
 last_answer (Ok ComeAgain) = []
-last_answer (Err returned) = Some returned.bytes ∷ []
+last_answer (Err refused) = piece_in refused.message
 
 -- why no more pieces were written: the connection is not writable, or as many are written as may be; at the end of the
--- source, and when a piece is refused, it is writable, and refuses a write of that piece so
-abbrev pub Stops : ℕ → ℕ → Result Progress Returned → Connected → Type 0
+-- source, and when a piece is refused, it is writable, and refuses a write of what came back so, which is a piece
+abbrev pub Stops : ℕ → ℕ → Result Progress Refused → Connected → Type 0
 Stops most count (Ok Finished) now = Gives now writable_after true
 Stops most count (Ok Paused) now = Gives now writable_after false
 Stops most count (Ok ComeAgain) now = count ≡ most
-Stops most count (Err returned) now =
-    Gives now writable_after true × RefusesWrite now (Block returned.bytes) returned.refusal
+Stops most count (Err refused) now =
+    Gives now writable_after true × (length (piece_in refused.message) ≡ 1)
+    × RefusesWrite now refused.message refused.refusal
 
 -- a source gave pieces while they were wanted, and each but the one that came back is written, in their order
 pub record WritesGiven (most : ℕ) (old : Connected) (before : Option (List (Option (List ℕ))))
-    (result : Result Progress Returned) (new : Connected) (after : Option (List (Option (List ℕ)))) : Type 0 where
+    (result : Result Progress Refused) (new : Connected) (after : Option (List (Option (List ℕ)))) : Type 0 where
   pub pieces : List (List ℕ)
   pub few : length pieces ≤ most
   pub wanted : AreWanted old pieces

@@ -2,9 +2,9 @@ ghost use Rattle.std.specs.Prelude.{◌≡◌, ◌∷◌, [], ℕ, List, Option}
 ghost use Rattle.ob_connection.specs.Telling.{with_more};
 ghost use Rattle.ob_patterns.specs.Chunking.{WritesGiven};
 
-use crate::returned::{Returned, write_or_return};
 use bytes::Bytes;
-use ob_connection::Connection;
+use ob_connection::{Connection, Refused};
+use ob_types::Message;
 
 /// What a long response is made of, piece by piece, such as a file.
 pub trait Chunks {
@@ -31,12 +31,12 @@ pub enum Progress {
 /// piece only while the connection is writable.
 ///
 /// A piece that is refused comes back in the error, and the pieces before it stay written. Write that piece first if
-/// you go on. The refusals are those of `write_or_return`.
+/// you go on. The refusals are those of `write`.
 pub fn write_chunks<C: Chunks>(
     connection: &mut Connection,
     chunks: &mut C,
     most: u32,
-) -> Result<Progress, Returned>
+) -> Result<Progress, Refused>
     ensures { WritesGiven most connection.old (C.answers chunks.old) result connection.new (C.answers chunks.new) }
 {
     for _count in 0..most {
@@ -46,7 +46,7 @@ pub fn write_chunks<C: Chunks>(
         let Some(bytes) = chunks.next() else {
             return Ok(Progress::Finished);
         };
-        let _written = write_or_return(connection, bytes)?;
+        let _written = connection.write(Message::Block(bytes))?;
     }
     Ok(Progress::ComeAgain)
 }

@@ -7,7 +7,6 @@ mod frames;
 mod many;
 mod next;
 mod proxy;
-mod returned;
 mod turns;
 mod writers;
 
@@ -17,6 +16,5 @@ pub use frames::most_frame_bytes;
 pub use many::{LeftOut, Reached, TOO_SLOW, broadcast, give_up_if_slow, hand};
 pub use next::Next;
 pub use proxy::{forward, forwarded};
-pub use returned::{Returned, write_or_return};
 pub use turns::{BROKEN, Peer, serve, spin};
 pub use writers::{respond_from_any_thread, send_from_one_thread};

@@ -65,8 +65,8 @@ pub fn hand(connection: &mut Connection, bytes: &Bytes) -> Result<(), LeftOut>
     let Ok(handle) = bytes.clone() else {
         return Err(LeftOut::Refused(Refusal::NoMemory));
     };
-    if let Err(refusal) = connection.write(Message::Block(handle)) {
-        return Err(LeftOut::Refused(refusal));
+    if let Err(refused) = connection.write(Message::Block(handle)) {
+        return Err(LeftOut::Refused(refused.refusal));
     }
     // what accepted a write accepts a flush
     let _flushed = connection.flush();

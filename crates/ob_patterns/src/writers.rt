@@ -1,21 +1,22 @@
 use bytes::Bytes;
-use ob_connection::{Connection, SendFault, Sent, Socket, Written};
-use ob_types::{Message, Refusal};
+use ob_connection::{Connection, Refused, SendFault, Sent, Socket, Written};
+use ob_types::Message;
 use std::sync::{Mutex, Wait};
 
 /// Writes and flushes from whichever thread, under a lock. Wake the thread that has the socket after it; whoever reads
 /// `Unwritable` in the result stops its own work.
 ///
-/// The refusals are those of `write`; each leaves the connection as it was. No clause can name what is behind a lock,
-/// so this is tested and not proved.
+/// The refusals are those of `write`, and the bytes come back; each leaves the connection as it was. No clause can name
+/// what is behind a lock, so this is tested and not proved.
 pub fn respond_from_any_thread<R: Wait>(
     rt: &R,
     connection: &Mutex<Connection>,
     bytes: Bytes,
-) -> Result<Written, Refusal> {
+) -> Result<Written, Refused> {
     let mut locked = connection.lock(rt);
     let written = locked.write(Message::Block(bytes))?;
-    let _flushed = locked.flush()?;
+    // what accepted a write accepts a flush
+    let _flushed = locked.flush();
     Ok(written)
 }
 

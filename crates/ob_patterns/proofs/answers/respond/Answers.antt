@@ -4,5 +4,5 @@ use Rattle.ob_patterns.proofs.answers.respond.Goals as goal
 pub returns-clause-responds : goal.returns-clause-responds
 returns-clause-responds g c =
     let flushed = c.flush-flushed in
-    let added = both_added c.in_ok-_written.ensures flushed.result flushed.ensures.obeys flushed.ensures.frugal in
+    let added = both_added c.in_ok-_written.ensures.obeys flushed.result flushed.ensures.obeys flushed.ensures.frugal in
     (flushed.new.self, added, c.spin.ensures.spins)

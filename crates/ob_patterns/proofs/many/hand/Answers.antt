@@ -7,9 +7,9 @@ use Rattle.ob_patterns.proofs.many.hand.Goals as goal
 pub returns-in-Err : goal.returns-in-Err
 returns-in-Err c = (
   search rules,
-  subst (λ bytes. RefusesWrite c.args.connection.now (Block bytes) c.in-Err.refusal)
+  subst (λ bytes. RefusesWrite c.args.connection.now (Block bytes) c.in-Err.refused.refusal)
       c.in-Ok.ensures.cases
-      (refuses c.in-Err.ensures),
+      (refuses c.in-Err.ensures.obeys),
   search rules,
 )
 
@@ -19,5 +19,5 @@ returns c =
       search rules,
       subst (λ bytes. Adds c.args.connection.now (written_and_flushed (Block bytes)) flushed.new.self)
           c.in-Ok.ensures.cases
-          (both_added c.in_default-write.ensures flushed.result flushed.ensures.obeys flushed.ensures.frugal),
+          (both_added c.in_default-write.ensures.obeys flushed.result flushed.ensures.obeys flushed.ensures.frugal),
     )
