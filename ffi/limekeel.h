@@ -211,7 +211,7 @@ struct limekeel_front {
 struct limekeel_current {
     uint32_t status;
     uint32_t kind;
-    uint64_t number; /* bytes that are left of a block, the length of a region, or the number of another message */
+    uint64_t number; /* the bytes that are left of a block or of a region, or the number of another message */
 };
 
 struct limekeel_gathered {
@@ -293,7 +293,7 @@ struct limekeel_removed limekeel_remove_with(struct limekeel_connection *connect
  * sent whole is gone, and empty ones with it, so call it with 0 if only empty blocks stand in front. */
 struct limekeel_taken limekeel_take_sent(struct limekeel_connection *connection, uint64_t n);
 
-/* Adds n bytes to the progress of the first flushed message, as of a region. */
+/* Adds n bytes to the progress of the first flushed message: of a region, as sendfile sent them. */
 uint32_t limekeel_progress(struct limekeel_connection *connection, uint64_t n);
 
 /* Takes a promise back, if no flush has fixed it yet. */
@@ -327,8 +327,8 @@ struct limekeel_truth limekeel_is_empty(struct limekeel_connection *connection);
 /* What has become of a promise. */
 struct limekeel_promise limekeel_promise(struct limekeel_connection *connection, uint64_t id);
 
-/* The promise of the first flushed message; and what is left of that message, or of a region its whole
- * length, whatever progress was told. */
+/* The promise of the first flushed message; and what is left of that message: of a region its length less
+ * the progress that was told, or 0 if that is more, which is what sendfile is still to send. */
 struct limekeel_front limekeel_front(struct limekeel_connection *connection);
 struct limekeel_current limekeel_current(struct limekeel_connection *connection);
 
