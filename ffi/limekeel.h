@@ -17,9 +17,9 @@
  *         limekeel_take_sent(&connection, (uint64_t)sent);
  *     limekeel_free(&connection);
  *
- * Linking. Link liblimekeel.a, and compile heap.c into the program once: it defines the three
- * functions through which the archive allocates. `pkg-config --cflags --libs limekeel` gives
- * the flags. The archive needs nothing else, and starts no thread and takes no lock.
+ * Linking. Compile limekeel.s and heap.c into the program: `cc server.c limekeel.s heap.c`. Or link
+ * liblimekeel.a, which has both: `pkg-config --cflags --libs limekeel` gives the flags. It needs
+ * memcpy, memmove, memset and malloc of the C library, starts no thread and takes no lock.
  *
  * Ownership. A connection and a block are made as LIMEKEEL_CONNECTION and LIMEKEEL_BLOCK, which
  * own nothing, and are filled by limekeel_open and limekeel_block_new. Each is let go once, by
@@ -211,7 +211,7 @@ struct limekeel_front {
 struct limekeel_current {
     uint32_t status;
     uint32_t kind;
-    uint64_t number; /* bytes that are left of a block, the length of a region, or the number of another message */
+    uint64_t number; /* the bytes that are left of a block or of a region, or the number of another message */
 };
 
 struct limekeel_gathered {
@@ -293,7 +293,7 @@ struct limekeel_removed limekeel_remove_with(struct limekeel_connection *connect
  * sent whole is gone, and empty ones with it, so call it with 0 if only empty blocks stand in front. */
 struct limekeel_taken limekeel_take_sent(struct limekeel_connection *connection, uint64_t n);
 
-/* Adds n bytes to the progress of the first flushed message, as of a region. */
+/* Adds n bytes to the progress of the first flushed message: of a region, as sendfile sent them. */
 uint32_t limekeel_progress(struct limekeel_connection *connection, uint64_t n);
 
 /* Takes a promise back, if no flush has fixed it yet. */
@@ -327,8 +327,8 @@ struct limekeel_truth limekeel_is_empty(struct limekeel_connection *connection);
 /* What has become of a promise. */
 struct limekeel_promise limekeel_promise(struct limekeel_connection *connection, uint64_t id);
 
-/* The promise of the first flushed message; and what is left of that message, or of a region its whole
- * length, whatever progress was told. */
+/* The promise of the first flushed message; and what is left of that message: of a region its length less
+ * the progress that was told, or 0 if that is more, which is what sendfile is still to send. */
 struct limekeel_front limekeel_front(struct limekeel_connection *connection);
 struct limekeel_current limekeel_current(struct limekeel_connection *connection);
 
@@ -337,6 +337,19 @@ struct limekeel_current limekeel_current(struct limekeel_connection *connection)
  * the first in any case. The other pieces stay as they were. It does not allocate. */
 struct limekeel_gathered limekeel_gather_pieces(struct limekeel_connection *connection, struct limekeel_piece *pieces,
                                                 size_t length, uint32_t max_bytes);
+
+/* The heap. Limekeel allocates through these three alone. heap.c defines them over malloc, weakly: a
+ * program that defines all three itself gets its own. They are of one heap; a block is aligned to each
+ * power of two up to 16 that divides its size, and more is never asked for. If memory is refused `given`
+ * is false, `at` points anywhere but to NULL, and a block that was to grow stays as it was. Of the block
+ * that realloc moves the first `kept` bytes stay. */
+struct limekeel_memory {
+    bool given;
+    uint8_t *at;
+};
+struct limekeel_memory limekeel_alloc(size_t size, size_t align);
+struct limekeel_memory limekeel_realloc(uint8_t *at, size_t kept, size_t size, size_t align);
+void limekeel_dealloc(uint8_t *at);
 
 /* The three calls that take bytes or pieces, for callers that may have none: NULL is good then, and
  * the pointer may be to anything that lies as bytes or pieces do. Call these. */

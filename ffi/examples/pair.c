@@ -189,6 +189,10 @@ static void misuse(void)
     expect("is taken", limekeel_take_sent(&none, 0).count == 1);
     expect("a region stands", limekeel_current(&none).kind == LIMEKEEL_CURRENT_REGION);
     expect("of 7 bytes", limekeel_current(&none).number == 7);
+    expect("3 are sent", limekeel_progress(&none, 3) == LIMEKEEL_OK);
+    expect("and 4 are left", limekeel_current(&none).number == 4);
+    expect("6 more than it has", limekeel_progress(&none, 10) == LIMEKEEL_OK);
+    expect("leave none", limekeel_current(&none).number == 0 && limekeel_look(&none).current_progress == 13);
     expect("too many", limekeel_take_sent(&none, 1).status == LIMEKEEL_TOO_MANY_BYTES);
     expect("flushed left", limekeel_close(&none, 5).status == LIMEKEEL_FLUSHED_LEFT);
     struct limekeel_taken failed = limekeel_fail_flushed(&none, 5, true);

@@ -1,6 +1,6 @@
 /*
  * Each growth of memory refused, in turn: the call that asked for it says LIMEKEEL_NO_MEMORY and changes nothing, and
- * when it is made again all goes on as if nothing had been refused. Links no heap.c: the heap here refuses.
+ * when it is made again all goes on as if nothing had been refused. The heap here refuses, in place of that of heap.c.
  */
 #include <stdio.h>
 #include <stdlib.h>
@@ -8,19 +8,14 @@
 
 #include "limekeel.h"
 
-struct block {
-    bool ok;
-    unsigned char *at;
-};
-
-static unsigned char nowhere;
+static uint8_t nowhere;
 static int asked, refused_at;
 static int held; /* blocks that were given and not freed */
 
-static struct block answer(bool may, unsigned char *at)
+static struct limekeel_memory answer(bool may, void *at)
 {
-    struct block block = {may, may ? at : &nowhere};
-    return block;
+    struct limekeel_memory memory = {may, may ? at : &nowhere};
+    return memory;
 }
 
 static bool may_have(void)
@@ -28,11 +23,7 @@ static bool may_have(void)
     return ++asked != refused_at;
 }
 
-struct block rattle_alloc(size_t size, size_t align);
-struct block rattle_realloc(unsigned char *at, size_t kept, size_t size, size_t align);
-void rattle_dealloc(unsigned char *at);
-
-struct block rattle_alloc(size_t size, size_t align)
+struct limekeel_memory limekeel_alloc(size_t size, size_t align)
 {
     (void)align;
     if (!may_have())
@@ -41,14 +32,14 @@ struct block rattle_alloc(size_t size, size_t align)
     return answer(true, malloc(size > 0 ? size : 1));
 }
 
-struct block rattle_realloc(unsigned char *at, size_t kept, size_t size, size_t align)
+struct limekeel_memory limekeel_realloc(uint8_t *at, size_t kept, size_t size, size_t align)
 {
     (void)kept;
     (void)align;
     return may_have() ? answer(true, realloc(at, size > 0 ? size : 1)) : answer(false, NULL);
 }
 
-void rattle_dealloc(unsigned char *at)
+void limekeel_dealloc(uint8_t *at)
 {
     held--;
     free(at);

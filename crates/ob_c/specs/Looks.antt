@@ -1,8 +1,12 @@
 -- What an export promises of a look.
-use Rattle.std.specs.Prelude.{◌≡◌, ℕ, Bool, true, false, length, Option, Some, None}
+use Rattle.std.specs.Prelude.{◌≡◌, ℕ, ◌-◌, Bool, true, false, List, length, Option, Some, None, option_map}
+use Rattle.ob_types.specs.declared.command.Command.{Command}
 use Rattle.ob_types.specs.declared.message.Message.{Message}
 use Rattle.ob_types.specs.declared.message.Message.TheVariants.{Block, Region, Other}
+use Rattle.ob_seq.specs.Looks.{current_after, look_after}
+use Rattle.ob_seq.specs.Settings.{Settings}
 use Rattle.ob_connection.specs.Connected.{Connected}
+use Rattle.ob_connection.specs.Standing.{Gives}
 use Rattle.ob_connection.specs.declared.look.Look.{Look as LookReply}
 use Rattle.ob_connection.specs.declared.status.Status.{Status}
 use Rattle.ob_connection.specs.declared.status.Status.TheVariants.{Waiting, Fixed, Settled, SettledBefore}
@@ -61,6 +65,21 @@ abbrev pub front_in_c : Option (Option ℕ) → Front
 front_in_c None = record { status = not_open; any = false; id = 0 }
 front_in_c (Some None) = record { status = done; any = false; id = 0 }
 front_in_c (Some (Some id)) = record { status = done; any = true; id = id }
+
+-- a message less the progress that was told of it: a region is shorter by that, and any other is as it was
+abbrev pub less_progress : ℕ → Message → Message
+less_progress progress (Block bytes) = Block bytes
+less_progress progress (Region size) = Region (size - progress)
+less_progress progress (Other value) = Other value
+
+-- what is left to send of the front after a history: its unread part, and of a region what its progress has not reached
+abbrev pub left_after : Settings → List Command → Option Message
+left_after settings commands =
+    option_map (less_progress (look_after settings commands).current_progress) (current_after settings commands)
+
+-- whatever history the connection stands for, this is what is left to send of the front after it
+abbrev pub IsLeft : Connected → Option Message → Type 0
+IsLeft connection message = Gives connection left_after message
 
 -- what is left of the front: 0 nothing, 1 a block with its length, 2 a region with its length, 3 another with its
 -- number

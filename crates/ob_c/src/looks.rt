@@ -1,9 +1,9 @@
 //! The looks. Each takes the handle as a command does, and leaves the connection as it was.
 
 ghost use Rattle.ob_seq.specs.State.{writable_after, closed_after, empty_after};
-ghost use Rattle.ob_connection.specs.Looks.{Shows, IsCurrent, IsFrontPromise, Tells as TellsOf};
+ghost use Rattle.ob_connection.specs.Looks.{Shows, IsFrontPromise, Tells as TellsOf};
 ghost use Rattle.ob_connection.specs.Standing.{Gives};
-ghost use Rattle.ob_c.specs.Looks.{Tells, look_in_c, truth_in_c, promise_in_c, front_in_c, current_in_c};
+ghost use Rattle.ob_c.specs.Looks.{Tells, IsLeft, look_in_c, truth_in_c, promise_in_c, front_in_c, current_in_c};
 
 use crate::handle::Handle;
 use crate::views::{Current, Front, Look, Promise, Truth};
@@ -57,12 +57,16 @@ pub extern "C" fn limekeel_front(alloc: Global, handle: &mut Handle) -> Front
     Front::of(handle.with(alloc, |connection| connection.front()))
 }
 
-/// What is left of the first flushed message.
+/// What is left to send of the first flushed message: of a region its length less the progress that was told, and 0 if
+/// that is more.
 #[unsafe(no_mangle)]
 pub extern "C" fn limekeel_current(alloc: Global, handle: &mut Handle) -> Current
-    ensures { Tells handle.old.value IsCurrent current_in_c result handle.new.value }
+    ensures { Tells handle.old.value IsLeft current_in_c result handle.new.value }
 {
-    match handle.with(alloc, |connection| Current::of(connection.current())) {
+    match handle.with(
+        alloc,
+        |connection| Current::of(connection.current(), connection.look().current_progress),
+    ) {
         None => Current::not_open(),
         Some(current) => current,
     }

@@ -2,7 +2,7 @@
 
 ghost use Rattle.std.specs.Option.{option_copied};
 ghost use Rattle.std.specs.Prelude.{◌≡◌, option_map, Some, None};
-ghost use Rattle.ob_c.specs.Looks.{look_in_c, truth_in_c, promise_in_c, front_in_c, current_in_c};
+ghost use Rattle.ob_c.specs.Looks.{look_in_c, truth_in_c, promise_in_c, front_in_c, less_progress, current_in_c};
 
 use crate::numbers::{DONE, NOT_OPEN, cause_number, outcome_number};
 use ob_connection::Status;
@@ -165,7 +165,7 @@ pub struct Current {
     pub status: u32,
     /// 0: nothing is flushed. 1: a block. 2: a region. 3: another message.
     pub kind: u32,
-    /// The bytes that are left of a block, the length of a region, or the number of another message.
+    /// The bytes that are left of a block or of a region, or the number of another message.
     pub number: u64,
 }
 
@@ -181,14 +181,14 @@ impl Current {
         }
     }
 
-    /// What C gets for this front.
-    pub(crate) fn of(message: Option<&Message>) -> Current
-        ensures { result ≡ current_in_c (Some (option_copied message.entry)) }
+    /// What C gets for this front with this progress.
+    pub(crate) fn of(message: Option<&Message>, progress: u64) -> Current
+        ensures { result ≡ current_in_c (Some (option_map (less_progress progress) (option_copied message.entry))) }
     {
         let (kind, number) = match message {
             None => (0, 0),
             Some(Message::Block(bytes)) => (1, bytes.len() as u64),
-            Some(Message::Region(length)) => (2, *length),
+            Some(Message::Region(length)) => (2, length.saturating_sub(progress)),
             Some(Message::Other(value)) => (3, u64::from(*value)),
         };
         Current {

@@ -5,7 +5,8 @@ use core::ptr::addr_of_mut;
 
 unsafe extern "C" {
     fn malloc(size: usize) -> *mut c_void;
-    fn realloc(at: *mut c_void, size: usize) -> *mut c_void;
+    #[link_name = "realloc"]
+    fn c_realloc(at: *mut c_void, size: usize) -> *mut c_void;
     fn free(at: *mut c_void);
 }
 
@@ -14,7 +15,7 @@ static mut NOWHERE: u8 = 0;
 
 /// A block, or none.
 #[repr(C)]
-struct Tried {
+pub(crate) struct Tried {
     ok: bool,
     at: *mut u8,
 }
@@ -28,8 +29,7 @@ fn block_or_none(at: *mut c_void) -> Tried {
 
 /// A block of `size` bytes. `malloc` aligns it to each power of two up to 16 that divides its size, and more is never
 /// asked for.
-#[unsafe(no_mangle)]
-extern "C" fn rattle_alloc(size: usize, _align: usize) -> Tried {
+pub(crate) extern "C" fn alloc(size: usize, _align: usize) -> Tried {
     // SAFETY: `malloc` asks nothing of its size.
     block_or_none(unsafe { malloc(size.max(1)) })
 }
@@ -38,20 +38,18 @@ extern "C" fn rattle_alloc(size: usize, _align: usize) -> Tried {
 ///
 /// # Safety
 ///
-/// The block is one of `rattle_alloc` or of this function, and not freed. The archive is proved to hand in no other.
-#[unsafe(no_mangle)]
-unsafe extern "C" fn rattle_realloc(at: *mut u8, _kept: usize, size: usize, _align: usize) -> Tried {
+/// The block is one of `alloc` or of this function, and not freed. The archive is proved to hand in no other.
+pub(crate) unsafe extern "C" fn realloc(at: *mut u8, _kept: usize, size: usize, _align: usize) -> Tried {
     // SAFETY: what `realloc` asks is what this function asks.
-    block_or_none(unsafe { realloc(at.cast(), size.max(1)) })
+    block_or_none(unsafe { c_realloc(at.cast(), size.max(1)) })
 }
 
 /// Frees a block.
 ///
 /// # Safety
 ///
-/// As of `rattle_realloc`.
-#[unsafe(no_mangle)]
-unsafe extern "C" fn rattle_dealloc(at: *mut u8) {
+/// As of `realloc`.
+pub(crate) unsafe extern "C" fn dealloc(at: *mut u8) {
     // SAFETY: what `free` asks is what this function asks.
     unsafe { free(at.cast()) }
 }

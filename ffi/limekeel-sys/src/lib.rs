@@ -1,15 +1,20 @@
 //! The archive of Limekeel as it is: what it exports, and the three functions through which it takes memory.
 //!
-//! The crate `limekeel` is for use; `ffi/limekeel.h` says what each call does. `ffi/check_edge` compares these
-//! declarations with the sources of the archive and with the header, name by name and type by type.
+//! The crate `limekeel` is for use; `limekeel.h` says what each call does. The archive is in this crate as assembly,
+//! `limekeel.s`, whose head says what proved it, or else in the folder that `LIMEKEEL_LIB_DIR` names when this is built.
+//! `ffi/check_edge` of the repository compares these declarations with the sources of the archive and with the header, name
+//! by name and type by type.
 
 #![no_std]
 
 use core::mem::offset_of;
 
-#[cfg(not(all(target_os = "linux", target_arch = "x86_64")))]
-compile_error!("the archive of limekeel is built for x86-64 Linux alone");
+#[cfg(not(all(target_os = "linux", target_arch = "x86_64", target_pointer_width = "64")))]
+compile_error!("limekeel is compiled for x86-64 Linux alone");
 
+#[cfg(not(limekeel_lib_dir))]
+mod assembled;
+#[cfg(not(limekeel_lib_dir))]
 mod heap;
 
 /// The most pieces that one `limekeel_gather_pieces` fills.

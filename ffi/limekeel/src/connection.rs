@@ -107,7 +107,7 @@ impl Connection {
         Ok(self.settled_by(taken))
     }
 
-    /// Adds *n* bytes to the progress of the first flushed message.
+    /// Adds *n* bytes to the progress of the first flushed message: of a region, as they were sent.
     pub fn progress(&mut self, n: u64) -> Result<(), Refusal> {
         done(self.handle.progress(n))
     }

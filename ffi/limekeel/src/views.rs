@@ -86,12 +86,13 @@ impl Front {
     }
 }
 
-/// What is left of the first flushed message; of a region its whole length, whatever progress was told.
+/// What is left of the first flushed message.
 #[derive(Clone, Copy, Debug, PartialEq, Eq)]
 pub enum Current {
     /// A block, with the number of its bytes that are left.
     Block(u64),
-    /// A region, with its length in bytes.
+    /// A region, with its length in bytes less the progress that was told, or 0 if that is more: what `sendfile` is still
+    /// to send.
     Region(u64),
     /// Another message, by its number.
     Other(u32),

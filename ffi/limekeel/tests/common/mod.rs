@@ -67,7 +67,10 @@ impl Player {
                 self.shadow.take(reply.count, numbers[0]);
                 taken(reply)
             }),
-            "p" => connection.progress(numbers[0]).map(|()| ("ok".to_owned(), None, Vec::new())),
+            "p" => connection.progress(numbers[0]).map(|()| {
+                self.shadow.progress(numbers[0]);
+                ("ok".to_owned(), None, Vec::new())
+            }),
             "x" => connection.cancel(numbers[0]).map(|in_time| {
                 if in_time {
                     self.shadow.cancel(numbers[0]);

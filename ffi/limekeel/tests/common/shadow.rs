@@ -8,12 +8,13 @@ struct Message {
     cancelled: bool,
 }
 
-/// The messages that wait, oldest first, and how many are flushed and gone.
+/// The messages that wait, oldest first, how many are flushed and gone, and the progress of the first.
 #[derive(Default)]
 pub struct Shadow {
     messages: VecDeque<Message>,
     flushed: usize,
     gone: u64,
+    progress: u64,
 }
 
 impl Shadow {
@@ -47,13 +48,30 @@ impl Shadow {
         self.messages.drain(..count as usize);
         self.flushed = self.flushed.saturating_sub(count as usize);
         self.gone += count;
+        if count > 0 {
+            self.progress = 0;
+        }
+    }
+
+    /// `n` bytes of the front are done.
+    pub fn progress(&mut self, n: u64) {
+        self.progress += n;
+    }
+
+    /// What is left of the front.
+    fn left(&self) -> Option<Current> {
+        let front = self.messages.front().filter(|_| self.flushed > 0)?;
+        Some(match front.left {
+            Current::Region(length) => Current::Region(length.saturating_sub(self.progress)),
+            left => left,
+        })
     }
 
     /// Compares with what the connection shows: its front, what is left of it, and the promises round its edges.
     pub fn check(&self, connection: &Connection) {
         let front = self.messages.front().filter(|_| self.flushed > 0);
         assert_eq!(connection.front(), front.map(|_| self.gone));
-        assert_eq!(connection.current(), front.map(|message| message.left));
+        assert_eq!(connection.current(), self.left());
         let pieces = connection.pieces::<1>(u32::MAX);
         let stands = match front.map(|message| message.left) {
             None => Front::Nothing,
