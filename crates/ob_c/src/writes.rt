@@ -57,10 +57,7 @@ pub extern "C" fn limekeel_write_block(
 pub extern "C" fn limekeel_write_region(alloc: Global, handle: &mut Handle, length: u64) -> Written
     ensures { ObeysFor handle.old.value (Write (AsRegion length)) written_reply written_in_c result handle.new.value }
 {
-    Written::of(handle.command(
-        alloc,
-        |connection| connection.write(Message::Region(length)),
-    ))
+    Written::of(handle.command(alloc, |connection| write(connection, Message::Region(length))))
 }
 
 /// Writes any other message, by a number that means something to the application alone.
@@ -68,7 +65,7 @@ pub extern "C" fn limekeel_write_region(alloc: Global, handle: &mut Handle, leng
 pub extern "C" fn limekeel_write_other(alloc: Global, handle: &mut Handle, value: u32) -> Written
     ensures { ObeysFor handle.old.value (Write (AsOther value)) written_reply written_in_c result handle.new.value }
 {
-    Written::of(handle.command(alloc, |connection| connection.write(Message::Other(value))))
+    Written::of(handle.command(alloc, |connection| write(connection, Message::Other(value))))
 }
 
 /// Writes a copy of these bytes, which is made once nothing else refuses it.
@@ -83,7 +80,7 @@ fn write_copy(
         return Err(refusal);
     }
     let copy = Bytes::copy_from_slice(alloc, bytes)?;
-    connection.write(Message::Block(copy))
+    write(connection, Message::Block(copy))
 }
 
 /// Writes these bytes, which the message shares.
@@ -97,5 +94,15 @@ fn write_shared(
         return Err(refusal);
     }
     let shared = bytes.clone()?;
-    connection.write(Message::Block(shared))
+    write(connection, Message::Block(shared))
+}
+
+/// Writes a message, of which a refusal tells the reason alone: the caller of C has what it is made of.
+fn write(
+    connection: &mut Connection,
+    message: Message,
+) -> Result<ob_connection::Written, Refusal>
+    ensures { Obeys connection.old (Write message) written_reply result connection.new }
+{
+    connection.write(message).map_err(|refused| refused.refusal)
 }

@@ -42,6 +42,11 @@ fn flushed(count: u64) -> Result<Flushed, Refusal> {
     })
 }
 
+/// Writes a message, of which a refusal tells the reason alone.
+fn write(connection: &mut Connection, message: Message) -> Result<Written, Refusal> {
+    connection.write(message).map_err(Refusal::from)
+}
+
 /// The answer of a write.
 fn written(id: u64, change: Option<Change>) -> Result<Written, Refusal> {
     Ok(Written { id, change })
@@ -52,9 +57,9 @@ fn a_cancelled_message_leaves_with_the_one_before(rt: HostRuntime) -> Result<(),
     let mut connection = open(rt.alloc())?;
     assert_eq!(rt;
         (
-            connection.write(four_bytes()),
-            connection.write(four_bytes()),
-            connection.write(four_bytes()),
+            write(&mut connection, four_bytes()),
+            write(&mut connection, four_bytes()),
+            write(&mut connection, four_bytes()),
             connection.cancel(1),
             connection.cancel(1),
             connection.cancel(3),
@@ -124,13 +129,13 @@ fn a_close_tells_which_messages_it_failed(rt: HostRuntime) -> Result<(), Fail> {
     };
     assert_eq!(rt;
         (
-            connection.write(four_bytes()),
+            write(&mut connection, four_bytes()),
             connection.flush(),
-            connection.write(four_bytes()),
+            write(&mut connection, four_bytes()),
             connection.close(Cause(7)),
             connection.fail_flushed(Cause(6), true),
             connection.close(Cause(7)),
-            connection.write(four_bytes()),
+            write(&mut connection, four_bytes()),
         ),
         (
             written(0, None),

@@ -6,9 +6,9 @@ mod turns;
 
 use crate::tests::connection::open;
 use bytes::Bytes;
-use ob_connection::Connection;
-use ob_patterns::{Chunks, Progress, Returned, forward, give_up_if_slow, write_chunks};
-use ob_types::{Cause, Refusal};
+use ob_connection::{Connection, Refused};
+use ob_patterns::{Chunks, Progress, forward, give_up_if_slow, write_chunks};
+use ob_types::{Cause, Message, Refusal};
 use std::test::Fail;
 
 /// A response of *n* pieces of four bytes.
@@ -29,9 +29,12 @@ impl Chunks for Pieces {
 }
 
 /// Why bytes were refused, and how many came back.
-fn refused<T: Drop>(written: Result<T, Returned>) -> Option<(Refusal, usize)> {
-    let returned = written.err()?;
-    Some((returned.refusal, returned.bytes.len()))
+fn refused<T: Drop>(written: Result<T, Refused>) -> Option<(Refusal, usize)> {
+    let refused = written.err()?;
+    match &refused.message {
+        Message::Block(bytes) => Some((refused.refusal, bytes.len())),
+        _ => None,
+    }
 }
 
 /// How far a response came, of which at most *n* pieces are written.

@@ -2,7 +2,7 @@
 
 use super::{flushed, four_bytes, open};
 use ob_connection::Taken;
-use ob_types::{Cause, Refusal};
+use ob_types::{Cause, Message, Refusal};
 use std::test::Fail;
 
 #[test]
@@ -13,8 +13,12 @@ fn a_refused_write_changes_nothing_and_all_is_given_up(rt: HostRuntime) -> Resul
         let before = connection.look();
         match connection.write(four_bytes()) {
             Ok(_written) => accepted = accepted.saturating_add(1),
-            Err(refusal) => {
-                assert_eq!(rt; (refusal, connection.look()), (Refusal::NoMemory, before));
+            Err(refused) => {
+                let is_back = matches!(refused.message, Message::Block(_));
+                assert_eq!(rt;
+                    (refused.refusal, is_back, connection.look()),
+                    (Refusal::NoMemory, true, before)
+                );
             }
         }
     }

@@ -1,6 +1,6 @@
 //! What a slow and a broken socket leave, what a full ring gives back, and what a refused write leaves.
 
-use super::{four_bytes, open, sent, written};
+use super::{four_bytes, open, sent, write, written};
 use bytes::Bytes;
 use ob_connection::{Connection, Ending, SendFault, SentTurns, Socket, SocketFault, Taken};
 use ob_types::{Change, Message, Outcome, Refusal};
@@ -148,8 +148,8 @@ fn what_is_no_block_is_left_in_front(rt: HostRuntime) -> Result<(), Fail> {
     let mut socket = Slow::new(rt.alloc(), false);
     assert_eq!(rt;
         (
-            connection.write(Message::Block(Bytes::new())),
-            connection.write(Message::Region(7)),
+            write(&mut connection, Message::Block(Bytes::new())),
+            write(&mut connection, Message::Region(7)),
             connection.flush(),
             connection.send_until_blocked(&mut socket, 8, 100).map(told),
             connection.front(),
@@ -179,7 +179,7 @@ fn a_ring_that_gave_memory_back_answers_as_before(rt: HostRuntime) -> Result<(),
     assert_eq!(rt;
         (
             connection.take_sent(4 * 97 + 1),
-            connection.write(four_bytes()),
+            write(&mut connection, four_bytes()),
             connection.flush(),
             connection.take_sent(3),
             connection.take_sent(12),
