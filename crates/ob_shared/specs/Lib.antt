@@ -2,6 +2,7 @@ pub mod Called
 pub mod FinishFault
 pub mod Finished
 pub mod Foreign
+pub mod GivenBack
 pub mod Handed
 pub mod Held
 pub mod Maker

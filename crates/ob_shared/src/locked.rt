@@ -1,4 +1,4 @@
-ghost use Rattle.std.specs.Prelude.{◌≡◌, ℕ, None, ◌+◌, ◌≤◌, ◌↔◌, [], length, Some, IfSome, IsNone, IfOk};
+ghost use Rattle.std.specs.Prelude.{◌≡◌, ℕ, None, ◌+◌, ◌≤◌, ◌↔◌, [], length, map, Some, IfSome, IsNone, IfOk};
 ghost use Rattle.std.specs.Prelude.{IsErrOf, IsOk, IsOkUnless, OnOk, OnErr};
 ghost use Rattle.std.specs.List.{All, Contains};
 ghost use Rattle.ob_types.specs.declared.promise.Outcome.{Outcome};
@@ -8,7 +8,7 @@ ghost use Rattle.ob_history.specs.Words.{accepted_commands, IsBeginning, IsCall,
 ghost use Rattle.ob_history.specs.Words.{IsBufferOf, AreGivenSince, receipt_of, IsLookAt, settlements_in};
 ghost use Rattle.ob_shared.specs.Words.{HandsInAll, StandsIn, first_short, IsForeign, HasNoLooks, LacksShare};
 ghost use Rattle.ob_shared.specs.Words.{made_by, one_more, IsAsOpened, share_after, IsCheckIn, IsCopiedFreely};
-ghost use Rattle.ob_shared.specs.Words.{IsToldFreely, IsUnknown, IsUnsettled, TellsOf};
+ghost use Rattle.ob_shared.specs.Words.{IsToldFreely, IsUnknown, IsUnsettled, TellsOf, after_meeting};
 ghost use Rattle.ob_shared.specs.declared.finish_fault.FinishFault.TheVariants.{ForeignReceipt, ReceiptsMissing};
 
 use crate::callers::Callers;
@@ -110,6 +110,25 @@ impl<L: Named> Locked<L> {
         ensures same { self.new ≡ self.old }
     {
         self.publisher.meet(words, &mut share.reader);
+    }
+
+    /// The share of a Done meets the history.
+    fn meet_done(&mut self, words: &Words<L>, done: &mut Done<L>)
+        ensures met { done.new ≡ after_meeting self.old.records done.old }
+        ensures part { IsBeginning done.old.sight.seen self.old.records }
+        ensures same { self.new ≡ self.old }
+    {
+        self.meet(words, &mut done.share);
+    }
+
+    /// The share of each Done meets the history.
+    pub fn meet_all(&mut self, words: &Words<L>, dones: &mut [Done<L>])
+        ensures met { dones.new ≡ map (after_meeting self.old.records) dones.old }
+        ensures saw { All (λ one. IsBeginning one.sight.seen self.old.records) dones.old }
+    {
+        for done in dones.iter_mut() {
+            self.meet_done(words, done);
+        }
     }
 
     /// A look that a reader takes, which meets the history.

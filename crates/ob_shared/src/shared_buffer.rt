@@ -2,11 +2,11 @@ ghost use Rattle.std.specs.Prelude.{◌≡◌, ℕ, ◌≤◌, ◌↔◌, length
 ghost use Rattle.std.specs.List.{All};
 ghost use Rattle.ob_types.specs.declared.promise.PromiseId.{PromiseId};
 ghost use Rattle.ob_seq.specs.Settles.{times_settled};
-ghost use Rattle.ob_history.specs.Words.{IsBeginning, History, settlements_in};
-ghost use Rattle.ob_shared.specs.Words.{IsKept, HandsInAll, StandsIn, first_short, IsForeign, HasNoLooks, LacksShare};
+ghost use Rattle.ob_history.specs.Words.{IsBeginning, settlements_in};
+ghost use Rattle.ob_shared.specs.Words.{IsKept, HandsInAll, StandsIn, first_short, IsGivenBack, HasNoLooks, LacksShare};
 ghost use Rattle.ob_shared.specs.Words.{made_by, IsAsOpened, IsCheckIn, IsToldFreely, IsUnknown, IsUnsettled};
 ghost use Rattle.ob_shared.specs.Words.{TellsOf};
-ghost use Rattle.ob_shared.specs.declared.finish_fault.FinishFault.TheVariants.{ForeignReceipt, ReceiptsMissing};
+ghost use Rattle.ob_shared.specs.declared.finish_fault.FinishFault.TheVariants.{ReceiptsMissing};
 
 use crate::callers::Callers;
 use crate::desk::Desk;
@@ -200,20 +200,17 @@ impl<L: Named> SharedBuffer<L> {
     /// compared, Done by Done, in each first its receipts, then those that it was told of, then its looks:
     /// `ForeignReceipt` names the first that is not of the history, and `NoMemory` comes only if a look was to be
     /// compared and the allocator refused, and so never without a look. With each fault all that was handed in is given
-    /// back, and the buffer stays as it was.
+    /// back, each share after it has met the history, and the buffer stays as it was.
     pub fn finish(self, dones: Vec<Done<L>>) -> Result<Final, Unfinished<L>>
         ensures missing { IsErrAnd result (λ unfinished. unfinished.fault ≡ FinishFault.SharesMissing)
             ↔ LacksShare L.opened.callers dones.items }
         ensures short { ¬ LacksShare L.opened.callers dones.items → (caller : ℕ) →
             IsErrAnd result (λ unfinished. unfinished.fault ≡ ReceiptsMissing caller)
             ↔ first_short dones.items ≡ Some caller }
-        ensures foreign { (caller place : ℕ) →
-            IsErrAnd result (λ unfinished. unfinished.fault ≡ ForeignReceipt caller place)
-            → (history : History) × IsAsOpened L.opened history
-            × IsForeign history.settings history.records dones.items caller place }
         ensures frugal { HasNoLooks dones.items
             → ¬ IsErrAnd result (λ unfinished. unfinished.fault ≡ FinishFault.NoMemory) }
-        ensures back { IfErr result (λ unfinished. unfinished.dones ≡ dones) }
+        ensures back { IfErr result (λ unfinished.
+            IsGivenBack L.opened dones.items unfinished.fault unfinished.dones.items) }
 
         ensures opened { IfOk result (λ finished. IsAsOpened L.opened finished.recorded) }
         ensures counted { IfOk result (λ finished. length finished.recorded.records ≡ made_by dones.items) }
@@ -231,14 +228,18 @@ impl<L: Named> SharedBuffer<L> {
             callers,
             words,
         } = self;
-        let locked = locked.into_inner();
+        let mut locked = locked.into_inner();
         locked.is_as_opened();
         match locked.fault(&callers, &dones) {
-            Some(fault) => Err(Unfinished {
-                buffer: SharedBuffer::new(locked, callers, words),
-                dones,
-                fault,
-            }),
+            Some(fault) => {
+                let mut dones = dones;
+                locked.meet_all(&words, &mut dones);
+                Err(Unfinished {
+                    buffer: SharedBuffer::new(locked, callers, words),
+                    dones,
+                    fault,
+                })
+            }
             None => {
                 a_history_settles_each_promise_once();
                 Ok(Final {
