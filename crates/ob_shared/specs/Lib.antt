@@ -10,6 +10,7 @@ pub mod NewTable
 pub mod Opened
 pub mod Reads
 pub mod Ruled
+pub mod Rung
 pub mod Seats
 pub mod Share
 pub mod Sight

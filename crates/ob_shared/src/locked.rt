@@ -18,6 +18,7 @@ use crate::finish_fault::FinishFault;
 use crate::named::Named;
 use crate::publisher::Publisher;
 use crate::reader::Reader;
+use crate::rung::{Owed, Rung};
 use crate::share::Share;
 use crate::words::Words;
 use ob_history::{Receipt, Record, Recorded, Seen, a_history_tells_each_settled_promise};
@@ -37,11 +38,14 @@ pub struct Locked<L: Named> {
     rest: ledger::Share<L>,
     /// The seat that publishes the glance after the last record.
     publisher: Publisher<L>,
+    /// For how many records those who wait were woken, or are when the lock goes.
+    rung: Rung,
 }
 
 impl<L: Named> Model for Locked<L> {
     ghost use Rattle.std.specs.Prelude.{◌≡◌, length};
     ghost use Rattle.ob_history.specs.History.{History};
+    ghost use Rattle.ob_shared.specs.Rung.{settling_count};
 
     ghost Value = { History };
 
@@ -51,7 +55,8 @@ impl<L: Named> Model for Locked<L> {
         × (locked.recorded.settings ≡ L.opened.settings)
         × (locked.recorded.limit ≡ L.opened.limit)
         × (locked.rest.parts ≡ 0) × (locked.rest.amount ≡ 0)
-        × (locked.publisher ≡ locked.recorded.records) };
+        × (locked.publisher ≡ locked.recorded.records)
+        × (locked.rung.count ≡ settling_count locked.recorded.records) };
 }
 
 impl<L: Named> Locked<L> {
@@ -73,6 +78,7 @@ impl<L: Named> Locked<L> {
             book,
             rest,
             publisher,
+            rung: Rung::never(),
         }
     }
 
@@ -83,11 +89,13 @@ impl<L: Named> Locked<L> {
         let _records = self.recorded.records();
     }
 
-    /// One call in the name of the caller of a share. Its record is made, and then published, before the lock goes.
+    /// One call in the name of the caller of a share. Its record is made, and then published, before the lock goes; if it
+    /// settles a promise, that those who wait are woken is owed.
     pub fn call(
         &mut self,
         words: &Words<L>,
         share: &mut Share<L>,
+        owed: &mut Owed,
         command: Command,
     ) -> Result<Receipt, Refusal>
         ensures is_call { IsCall self.old share.old.maker.caller command result self.new }
@@ -100,6 +108,7 @@ impl<L: Named> Locked<L> {
         let receipt = self.recorded.call(share.caller(), command)?;
         self.publisher.publish(words, &self.recorded);
         share.count(&mut self.book);
+        self.rung.hear(&receipt.reply, owed);
         Ok(receipt)
     }
 
@@ -249,6 +258,7 @@ impl<L: Named> Locked<L> {
             mut book,
             rest,
             mut publisher,
+            rung: _,
         } = self;
         let mut all = merged(words, &mut publisher, rest, dones);
         book.audit(&mut all);

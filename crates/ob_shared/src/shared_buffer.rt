@@ -1,5 +1,6 @@
 ghost use Rattle.std.specs.Prelude.{◌≡◌, ℕ, ◌≤◌, ◌↔◌, length, Some, IsErrAnd, IsErrOf, IsOk, IsOkUnless, IfOk, IfErr};
 ghost use Rattle.std.specs.List.{All};
+ghost use Rattle.std.specs.Sync.Mutex.{mutex_guard_value};
 ghost use Rattle.ob_types.specs.declared.promise.PromiseId.{PromiseId};
 ghost use Rattle.ob_seq.specs.Settles.{times_settled};
 ghost use Rattle.ob_history.specs.Words.{IsBeginning, settlements_in};
@@ -172,7 +173,7 @@ impl<L: Named> SharedBuffer<L> {
         for _ in rt.forever() {
             match locked.told(id) {
                 Some(answer) => return (Desk::new(self, locked, share), answer),
-                None => locked = self.settled.wait(rt, locked),
+                None => locked = self.sleep(rt, locked, id),
             }
         }
         unreachable!()
@@ -249,8 +250,22 @@ impl<L: Named> SharedBuffer<L> {
         }
     }
 
-    /// Wakes all who wait for a promise.
-    pub(crate) fn wake(&self) {
-        self.settled.notify_all();
+    /// Where those wait whose promise is not settled.
+    pub(crate) fn settled(&self) -> &Condvar {
+        &self.settled
+    }
+
+    /// Sleeps until those who wait are woken, with the lock free. What it lets go has just been asked: so the promise is
+    /// settled after that, and then it is rung for.
+    fn sleep<'b, R: Wait>(
+        &'b self,
+        rt: &R,
+        asked: MutexGuard<'b, Locked<L>>,
+        _id: PromiseId,
+    ) -> MutexGuard<'b, Locked<L>>
+        requires known { ¬ IsUnknown (mutex_guard_value asked).records _id }
+        requires unsettled { IsUnsettled (mutex_guard_value asked).records _id }
+    {
+        self.settled.wait(rt, asked)
     }
 }
