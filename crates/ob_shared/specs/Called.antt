@@ -27,14 +27,18 @@ with_record_of caller records one = record caller {
   receipts = caller.receipts ++ receipt_of one ∷ [];
 }
 
--- a call is recorded in a history that was kept as it was opened, and the caller has the receipt of its record; or it
--- is refused, only by a full history or out of memory, and the caller has what it had; what its share had seen begins
--- what it has seen then
+-- a call is recorded in a history that was kept as it was opened and begins with what the share had seen, and the caller
+-- has the receipt of its record; or it is refused, by a full history, or out of memory before the history is asked or
+-- with a place left in it, and the caller has what it had; the history is what its share has seen then
 pub record IsKept (opened : Opened) (old : Handed) (command : Command) (result : Result Unit Refusal) (new : Handed)
     : Type 0 where
   pub recorded : IsOk result → (history : History) × IsAsOpened opened history × (is_full history ≡ false)
       × (new ≡ with_record_of old history.records (next_record history old.maker.caller command))
+      × IsBeginning old.sight.seen history.records
   pub full : IsErrOf result HistoryFull → (history : History) × IsAsOpened opened history × (is_full history ≡ true)
+      × (new.sight ≡ sight_of history.records)
+  pub no_memory : IsErrOf result NoMemory → (new ≡ old) ⊎ ((history : History) × IsAsOpened opened history
+      × (is_full history ≡ false) × (new.sight ≡ sight_of history.records))
   pub refusals : IsErr result → IsErrOf result HistoryFull ⊎ IsErrOf result NoMemory
   pub refused : OnErr result (new ≡ record old { sight = new.sight })
   pub longer : IsBeginning old.sight.seen new.sight.seen

@@ -2,6 +2,7 @@ pub mod Called
 pub mod FinishFault
 pub mod Finished
 pub mod Foreign
+pub mod GivenBack
 pub mod Handed
 pub mod Held
 pub mod Maker
@@ -9,6 +10,7 @@ pub mod NewTable
 pub mod Opened
 pub mod Reads
 pub mod Ruled
+pub mod Rung
 pub mod Seats
 pub mod Share
 pub mod Sight

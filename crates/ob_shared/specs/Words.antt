@@ -2,6 +2,7 @@
 pub use Rattle.ob_shared.specs.Called.{IsKept}
 pub use Rattle.ob_shared.specs.Finished.{HandsInAll, StandsIn, first_short}
 pub use Rattle.ob_shared.specs.Foreign.{IsForeign}
+pub use Rattle.ob_shared.specs.GivenBack.{IsGivenBack, after_meeting}
 pub use Rattle.ob_shared.specs.Handed.{HasNoLooks, LacksShare, made_by}
 pub use Rattle.ob_shared.specs.Maker.{one_more}
 pub use Rattle.ob_shared.specs.Opened.{IsAsOpened, IsNameOf}

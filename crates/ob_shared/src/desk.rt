@@ -1,16 +1,16 @@
-ghost use Rattle.std.specs.Prelude.{◌≡◌, ◌↔◌, [], IsTrue, OnOk, OnErr};
+ghost use Rattle.std.specs.Prelude.{◌≡◌, OnOk, OnErr};
 ghost use Rattle.std.specs.Sync.Mutex.{mutex_guard_value};
-ghost use Rattle.ob_seq.specs.Settles.{settled_by};
 ghost use Rattle.ob_history.specs.Words.{IsBeginning, IsCall, IsReservation, IsBufferOf, AreGivenSince, IsLookAt};
 ghost use Rattle.ob_shared.specs.Words.{one_more, IsAsOpened, share_after};
 
 use crate::locked::Locked;
 use crate::named::Named;
+use crate::rung::Owed;
 use crate::share::Share;
 use crate::shared_buffer::SharedBuffer;
 use ob_history::{Booked, Receipt, Seen};
 use ob_seq::Buffer;
-use ob_types::{Command, Refusal, Reply};
+use ob_types::{Command, Refusal};
 use std::marker::Model;
 use std::sync::MutexGuard;
 
@@ -23,8 +23,8 @@ pub struct Desk<'b, L: Named> {
     shared: &'b SharedBuffer<L>,
     locked: MutexGuard<'b, Locked<L>>,
     share: Share<L>,
-    /// How many calls at this desk settled something. If there is one, those who wait have to look.
-    settled: u32,
+    /// Whether a call at this desk settled something, so that those who wait have to look.
+    owed: Owed,
 }
 
 impl<'b, L: Named> Model for Desk<'b, L> {
@@ -59,7 +59,7 @@ impl<'b, L: Named> Desk<'b, L> {
             shared,
             locked: guard,
             share,
-            settled: 0,
+            owed: Owed::nothing(),
         }
     }
 
@@ -92,16 +92,14 @@ impl<'b, L: Named> Desk<'b, L> {
             shared,
             locked,
             share,
-            settled,
+            owed,
         } = self;
         let mut locked = locked;
         let mut share = share;
         locked.is_as_opened();
         locked.meet(shared.words(), &mut share);
         drop(locked);
-        if settled > 0 {
-            shared.wake();
-        }
+        owed.pay(shared.settled());
         share
     }
 }
@@ -124,11 +122,8 @@ impl<'b, L: Named> Booked for Desk<'b, L> {
         ensures none_made { OnErr result (self.new.maker ≡ self.old.maker) }
     {
         let locked = &mut *self.locked;
-        let receipt = locked.call(self.shared.words(), &mut self.share, command)?;
-        if settles(&receipt.reply) {
-            self.settled = self.settled.saturating_add(1);
-        }
-        Ok(receipt)
+        let words = self.shared.words();
+        locked.call(words, &mut self.share, &mut self.owed, command)
     }
 
     fn reserve(&mut self, count: u32) -> Result<(), Refusal>
@@ -143,15 +138,5 @@ impl<'b, L: Named> Booked for Desk<'b, L> {
         ensures { IsBufferOf self.now.history result.now }
     {
         self.locked.buffer()
-    }
-}
-
-/// Whether an answer settles a promise.
-fn settles(answer: &Result<Reply, Refusal>) -> bool
-    ensures { IsTrue result ↔ ¬ (settled_by answer.now ≡ []) }
-{
-    match answer {
-        Ok(reply) => !reply.settled.as_slice().is_empty(),
-        Err(_) => false,
     }
 }

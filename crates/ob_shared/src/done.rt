@@ -63,7 +63,7 @@ pub struct Final {
 pub struct Unfinished<L: Named> {
     /// The buffer, as it was.
     pub buffer: SharedBuffer<L>,
-    /// What was handed in.
+    /// What was handed in. Each share has met the history.
     pub dones: Vec<Done<L>>,
     /// Why it could not be finished.
     pub fault: FinishFault,

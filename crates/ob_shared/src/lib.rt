@@ -13,6 +13,7 @@ mod plays;
 mod publisher;
 mod reader;
 mod rule;
+mod rung;
 mod share;
 mod shared_buffer;
 mod view;

@@ -1,4 +1,4 @@
-ghost use Rattle.std.specs.Prelude.{◌≡◌, ℕ, None, ◌+◌, ◌≤◌, ◌↔◌, [], length, Some, IfSome, IsNone, IfOk};
+ghost use Rattle.std.specs.Prelude.{◌≡◌, ℕ, None, ◌+◌, ◌≤◌, ◌↔◌, [], length, map, Some, IfSome, IsNone, IfOk};
 ghost use Rattle.std.specs.Prelude.{IsErrOf, IsOk, IsOkUnless, OnOk, OnErr};
 ghost use Rattle.std.specs.List.{All, Contains};
 ghost use Rattle.ob_types.specs.declared.promise.Outcome.{Outcome};
@@ -8,7 +8,7 @@ ghost use Rattle.ob_history.specs.Words.{accepted_commands, IsBeginning, IsCall,
 ghost use Rattle.ob_history.specs.Words.{IsBufferOf, AreGivenSince, receipt_of, IsLookAt, settlements_in};
 ghost use Rattle.ob_shared.specs.Words.{HandsInAll, StandsIn, first_short, IsForeign, HasNoLooks, LacksShare};
 ghost use Rattle.ob_shared.specs.Words.{made_by, one_more, IsAsOpened, share_after, IsCheckIn, IsCopiedFreely};
-ghost use Rattle.ob_shared.specs.Words.{IsToldFreely, IsUnknown, IsUnsettled, TellsOf};
+ghost use Rattle.ob_shared.specs.Words.{IsToldFreely, IsUnknown, IsUnsettled, TellsOf, after_meeting};
 ghost use Rattle.ob_shared.specs.declared.finish_fault.FinishFault.TheVariants.{ForeignReceipt, ReceiptsMissing};
 
 use crate::callers::Callers;
@@ -18,6 +18,7 @@ use crate::finish_fault::FinishFault;
 use crate::named::Named;
 use crate::publisher::Publisher;
 use crate::reader::Reader;
+use crate::rung::{Owed, Rung};
 use crate::share::Share;
 use crate::words::Words;
 use ob_history::{Receipt, Record, Recorded, Seen, a_history_tells_each_settled_promise};
@@ -37,11 +38,14 @@ pub struct Locked<L: Named> {
     rest: ledger::Share<L>,
     /// The seat that publishes the glance after the last record.
     publisher: Publisher<L>,
+    /// For how many records those who wait were woken, or are when the lock goes.
+    rung: Rung,
 }
 
 impl<L: Named> Model for Locked<L> {
     ghost use Rattle.std.specs.Prelude.{◌≡◌, length};
     ghost use Rattle.ob_history.specs.History.{History};
+    ghost use Rattle.ob_shared.specs.Rung.{settling_count};
 
     ghost Value = { History };
 
@@ -51,7 +55,8 @@ impl<L: Named> Model for Locked<L> {
         × (locked.recorded.settings ≡ L.opened.settings)
         × (locked.recorded.limit ≡ L.opened.limit)
         × (locked.rest.parts ≡ 0) × (locked.rest.amount ≡ 0)
-        × (locked.publisher ≡ locked.recorded.records) };
+        × (locked.publisher ≡ locked.recorded.records)
+        × (locked.rung.count ≡ settling_count locked.recorded.records) };
 }
 
 impl<L: Named> Locked<L> {
@@ -73,6 +78,7 @@ impl<L: Named> Locked<L> {
             book,
             rest,
             publisher,
+            rung: Rung::never(),
         }
     }
 
@@ -83,11 +89,13 @@ impl<L: Named> Locked<L> {
         let _records = self.recorded.records();
     }
 
-    /// One call in the name of the caller of a share. Its record is made, and then published, before the lock goes.
+    /// One call in the name of the caller of a share. Its record is made, and then published, before the lock goes; if it
+    /// settles a promise, that those who wait are woken is owed.
     pub fn call(
         &mut self,
         words: &Words<L>,
         share: &mut Share<L>,
+        owed: &mut Owed,
         command: Command,
     ) -> Result<Receipt, Refusal>
         ensures is_call { IsCall self.old share.old.maker.caller command result self.new }
@@ -100,6 +108,7 @@ impl<L: Named> Locked<L> {
         let receipt = self.recorded.call(share.caller(), command)?;
         self.publisher.publish(words, &self.recorded);
         share.count(&mut self.book);
+        self.rung.hear(&receipt.reply, owed);
         Ok(receipt)
     }
 
@@ -110,6 +119,25 @@ impl<L: Named> Locked<L> {
         ensures same { self.new ≡ self.old }
     {
         self.publisher.meet(words, &mut share.reader);
+    }
+
+    /// The share of a Done meets the history.
+    fn meet_done(&mut self, words: &Words<L>, done: &mut Done<L>)
+        ensures met { done.new ≡ after_meeting self.old.records done.old }
+        ensures part { IsBeginning done.old.sight.seen self.old.records }
+        ensures same { self.new ≡ self.old }
+    {
+        self.meet(words, &mut done.share);
+    }
+
+    /// The share of each Done meets the history.
+    pub fn meet_all(&mut self, words: &Words<L>, dones: &mut [Done<L>])
+        ensures met { dones.new ≡ map (after_meeting self.old.records) dones.old }
+        ensures saw { All (λ one. IsBeginning one.sight.seen self.old.records) dones.old }
+    {
+        for done in dones.iter_mut() {
+            self.meet_done(words, done);
+        }
     }
 
     /// A look that a reader takes, which meets the history.
@@ -230,6 +258,7 @@ impl<L: Named> Locked<L> {
             mut book,
             rest,
             mut publisher,
+            rung: _,
         } = self;
         let mut all = merged(words, &mut publisher, rest, dones);
         book.audit(&mut all);

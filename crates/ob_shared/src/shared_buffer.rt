@@ -1,12 +1,13 @@
 ghost use Rattle.std.specs.Prelude.{◌≡◌, ℕ, ◌≤◌, ◌↔◌, length, Some, IsErrAnd, IsErrOf, IsOk, IsOkUnless, IfOk, IfErr};
 ghost use Rattle.std.specs.List.{All};
+ghost use Rattle.std.specs.Sync.Mutex.{mutex_guard_value};
 ghost use Rattle.ob_types.specs.declared.promise.PromiseId.{PromiseId};
 ghost use Rattle.ob_seq.specs.Settles.{times_settled};
-ghost use Rattle.ob_history.specs.Words.{IsBeginning, History, settlements_in};
-ghost use Rattle.ob_shared.specs.Words.{IsKept, HandsInAll, StandsIn, first_short, IsForeign, HasNoLooks, LacksShare};
+ghost use Rattle.ob_history.specs.Words.{IsBeginning, settlements_in};
+ghost use Rattle.ob_shared.specs.Words.{IsKept, HandsInAll, StandsIn, first_short, IsGivenBack, HasNoLooks, LacksShare};
 ghost use Rattle.ob_shared.specs.Words.{made_by, IsAsOpened, IsCheckIn, IsToldFreely, IsUnknown, IsUnsettled};
 ghost use Rattle.ob_shared.specs.Words.{TellsOf};
-ghost use Rattle.ob_shared.specs.declared.finish_fault.FinishFault.TheVariants.{ForeignReceipt, ReceiptsMissing};
+ghost use Rattle.ob_shared.specs.declared.finish_fault.FinishFault.TheVariants.{ReceiptsMissing};
 
 use crate::callers::Callers;
 use crate::desk::Desk;
@@ -172,7 +173,7 @@ impl<L: Named> SharedBuffer<L> {
         for _ in rt.forever() {
             match locked.told(id) {
                 Some(answer) => return (Desk::new(self, locked, share), answer),
-                None => locked = self.settled.wait(rt, locked),
+                None => locked = self.sleep(rt, locked, id),
             }
         }
         unreachable!()
@@ -200,20 +201,17 @@ impl<L: Named> SharedBuffer<L> {
     /// compared, Done by Done, in each first its receipts, then those that it was told of, then its looks:
     /// `ForeignReceipt` names the first that is not of the history, and `NoMemory` comes only if a look was to be
     /// compared and the allocator refused, and so never without a look. With each fault all that was handed in is given
-    /// back, and the buffer stays as it was.
+    /// back, each share after it has met the history, and the buffer stays as it was.
     pub fn finish(self, dones: Vec<Done<L>>) -> Result<Final, Unfinished<L>>
         ensures missing { IsErrAnd result (λ unfinished. unfinished.fault ≡ FinishFault.SharesMissing)
             ↔ LacksShare L.opened.callers dones.items }
         ensures short { ¬ LacksShare L.opened.callers dones.items → (caller : ℕ) →
             IsErrAnd result (λ unfinished. unfinished.fault ≡ ReceiptsMissing caller)
             ↔ first_short dones.items ≡ Some caller }
-        ensures foreign { (caller place : ℕ) →
-            IsErrAnd result (λ unfinished. unfinished.fault ≡ ForeignReceipt caller place)
-            → (history : History) × IsAsOpened L.opened history
-            × IsForeign history.settings history.records dones.items caller place }
         ensures frugal { HasNoLooks dones.items
             → ¬ IsErrAnd result (λ unfinished. unfinished.fault ≡ FinishFault.NoMemory) }
-        ensures back { IfErr result (λ unfinished. unfinished.dones ≡ dones) }
+        ensures back { IfErr result (λ unfinished.
+            IsGivenBack L.opened dones.items unfinished.fault unfinished.dones.items) }
 
         ensures opened { IfOk result (λ finished. IsAsOpened L.opened finished.recorded) }
         ensures counted { IfOk result (λ finished. length finished.recorded.records ≡ made_by dones.items) }
@@ -231,14 +229,18 @@ impl<L: Named> SharedBuffer<L> {
             callers,
             words,
         } = self;
-        let locked = locked.into_inner();
+        let mut locked = locked.into_inner();
         locked.is_as_opened();
         match locked.fault(&callers, &dones) {
-            Some(fault) => Err(Unfinished {
-                buffer: SharedBuffer::new(locked, callers, words),
-                dones,
-                fault,
-            }),
+            Some(fault) => {
+                let mut dones = dones;
+                locked.meet_all(&words, &mut dones);
+                Err(Unfinished {
+                    buffer: SharedBuffer::new(locked, callers, words),
+                    dones,
+                    fault,
+                })
+            }
             None => {
                 a_history_settles_each_promise_once();
                 Ok(Final {
@@ -248,8 +250,22 @@ impl<L: Named> SharedBuffer<L> {
         }
     }
 
-    /// Wakes all who wait for a promise.
-    pub(crate) fn wake(&self) {
-        self.settled.notify_all();
+    /// Where those wait whose promise is not settled.
+    pub(crate) fn settled(&self) -> &Condvar {
+        &self.settled
+    }
+
+    /// Sleeps until those who wait are woken, with the lock free. What it lets go has just been asked: so the promise is
+    /// settled after that, and then it is rung for.
+    fn sleep<'b, R: Wait>(
+        &'b self,
+        rt: &R,
+        asked: MutexGuard<'b, Locked<L>>,
+        _id: PromiseId,
+    ) -> MutexGuard<'b, Locked<L>>
+        requires known { ¬ IsUnknown (mutex_guard_value asked).records _id }
+        requires unsettled { IsUnsettled (mutex_guard_value asked).records _id }
+    {
+        self.settled.wait(rt, asked)
     }
 }

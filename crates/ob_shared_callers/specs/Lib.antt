@@ -1,1 +1,1 @@
-pub mod BooksFirst
+pub mod SendsOn

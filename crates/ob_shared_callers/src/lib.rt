@@ -1,9 +1,10 @@
 //! Four writers and a transport over one shared buffer, each in a thread of its own, as `docs/calls.md` shows them.
 #![tactic(auto)]
 
-ghost use Rattle.std.specs.Prelude.{◌<◌};
+ghost use Rattle.std.specs.Prelude.{◌≡◌};
 ghost use Rattle.ob_shared.specs.Opened.{IsNameOf};
-ghost use Rattle.ob_shared_callers.specs.BooksFirst.{BooksFirst};
+ghost use Rattle.ob_transport.specs.Standing.{standing};
+ghost use Rattle.ob_shared_callers.specs.SendsOn.{SendsNext, SendsOn};
 
 use bytes::Bytes;
 use ob_history::{Booked, Recorded};
@@ -153,8 +154,9 @@ const LIMITS: Limits = Limits {
 /// since memory was refused for that. Hand that number in at the next call: they are booked before anything else is
 /// sent, or the sink would get them twice. If the sink fails, what is flushed fails too.
 pub fn send_on<B: Booked, S: Sink>(booked: &mut B, sink: &mut S, unbooked: u64) -> u64
-    ensures { 0 < unbooked → BooksFirst (B.history booked.old) (B.caller booked.old) unbooked (S.content sink.old)
-        result (S.content sink.new) }
+    ensures sends { SendsOn (B.caller booked.old) unbooked (standing (B.history booked.old) (S.content sink.old))
+        result (standing (B.history booked.new) (S.content sink.new)) }
+    ensures caller { B.caller booked.new ≡ B.caller booked.old }
 {
     if unbooked == 0 {
         return send_next(booked, sink);
@@ -166,7 +168,11 @@ pub fn send_on<B: Booked, S: Sink>(booked: &mut B, sink: &mut S, unbooked: u64) 
 }
 
 /// The same, once all that the sink took is booked.
-fn send_next<B: Booked, S: Sink>(booked: &mut B, sink: &mut S) -> u64 {
+fn send_next<B: Booked, S: Sink>(booked: &mut B, sink: &mut S) -> u64
+    ensures sends { SendsNext (B.caller booked.old) (standing (B.history booked.old) (S.content sink.old)) result
+        (standing (B.history booked.new) (S.content sink.new)) }
+    ensures caller { B.caller booked.new ≡ B.caller booked.old }
+{
     match drain(booked, sink, LIMITS, 16) {
         Err(PassFault::Unbooked { taken }) => taken,
         Err(PassFault::Sink(SinkFault(number))) => {

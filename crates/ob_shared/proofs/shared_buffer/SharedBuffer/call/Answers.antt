@@ -1,14 +1,17 @@
-use Rattle.std.proofs.Common.{◌≡◌, List, [], ◌∷◌, ◌++◌, sym, ap, ◌∙◌, subst, rules}
-use Rattle.std.specs.Prelude.{Result, OnErr}
+use Rattle.std.proofs.Common.{◌≡◌, inr, List, [], ◌∷◌, ◌++◌, sym, ap, ◌∙◌, subst, rules}
+use Rattle.std.specs.Prelude.{Result, IsErrOf, OnErr}
 use Rattle.ob_types.specs.declared.refusal.Refusal.{Refusal}
+use Rattle.ob_types.specs.declared.refusal.Refusal.TheVariants.{NoMemory}
 use Rattle.ob_history.specs.Beginning.{IsBeginning}
 use Rattle.ob_history.specs.Call.{next_record}
+use Rattle.ob_history.specs.History.{History}
 use Rattle.ob_history.specs.declared.record.Record.{Record}
 use Rattle.ob_history.proofs.Beginnings.{begins_further}
 use Rattle.ob_history.proofs.Calls.{called_begins}
 use Rattle.ob_shared.specs.Called.{with_record_of}
 use Rattle.ob_shared.specs.Handed.{Handed}
 use Rattle.ob_shared.specs.Share.{ShareValue}
+use Rattle.ob_shared.specs.Sight.{sight_of}
 use Rattle.ob_shared.proofs.Calling.{keeps_nothing, keeps_record, now_with}
 use Rattle.ob_shared.proofs.shared_buffer.SharedBuffer.call.Given.{Over}
 use Rattle.ob_shared.proofs.shared_buffer.SharedBuffer.call.Goals as goal
@@ -57,8 +60,11 @@ returns g c =
               subst (λ (its : Handed). now_with old share items
                   ≡ with_record_of its before.records (next_record before its.maker.caller c.args.command))
                   c.caller.view_is kept.1,
+              subst (λ (records : List Record). IsBeginning records before.records)
+                  (ap (λ (its : Handed). its.sight.seen) c.caller.view_is) c.desk-desk.ensures.part,
             );
             full = search rules;
+            no_memory = search rules;
             refusals = search rules;
             refused = search rules;
             longer = longer g c;
@@ -66,6 +72,14 @@ returns g c =
       | in-Err w ↦ record {
         recorded = search rules;
         full = search rules;
+        no_memory = λ none. inr (
+          before,
+          c.desk-desk.ensures.opened,
+          let is = subst (λ (answer : Result (Unit {0}) Refusal). IsErrOf answer NoMemory) w.answer-is none in
+              w.in-Err.ensures.is_call.no_memory_last (search rules),
+          ap (λ (s : ShareValue). s.sight) left
+              ∙ ap (λ (h : History). sight_of h.records) w.in-Err.ensures.is_call.refused,
+        );
         refusals = search rules;
         refused = subst (λ (answer : Result (Unit {0}) Refusal). OnErr answer
             (now_with old share items ≡ record c.args.caller { sight = share.sight })) (sym w.answer-is)

@@ -1,26 +1,43 @@
-use Rattle.std.proofs.Common.{◌≡◌, ◌≤◌, List, Some, None, refl, sym, ap, subst}
+use Rattle.std.proofs.Common.{◌≡◌, ◌≤◌, ℕ, List, ◌++◌, append-nil, drop, length, map, take, Some, None, refl, sym, ap, ◌∙◌, subst, arith}
 use Rattle.std.specs.List.{All}
+use Rattle.std.proofs.lemmas.List.{drop_all, take_all}
+use Rattle.ob_history.specs.Beginning.{IsBeginning}
 use Rattle.ob_history.specs.History.{History}
 use Rattle.ob_history.specs.Settlements.{settlements_in}
 use Rattle.ob_seq.specs.Settles.{times_settled}
 use Rattle.ob_shared.specs.Finished.{StandsIn, first_short}
 use Rattle.ob_shared.specs.Foreign.{IsForeign}
+use Rattle.ob_shared.specs.GivenBack.{after_meeting}
 use Rattle.ob_shared.specs.Handed.{Handed}
 use Rattle.ob_shared.proofs.shared_buffer.SharedBuffer.finish.Goals as goal
+
+-- a list that was written over as long as it was is what was written
+written_whole : {X : Type 0} (new old : List X) (n : ℕ) → length new ≡ length old → length old ≡ n
+    → take n (new ++ drop (length new) old) ≡ new
+written_whole new old n same long =
+    ap (λ rest. take n (new ++ rest)) (drop_all (length new) old (omega (arith, same)))
+    ∙ ap (take n) (append-nil new) ∙ take_all n new (omega (arith, same, long))
 
 pub returns-in-Some-clause-short : goal.returns-in-Some-clause-short
 returns-in-Some-clause-short g c = rw (← c.args.self.callers.opened, ← c.deref.ensures.value) (λ complete caller.
     let short = c.in-Some.ensures.short complete caller in
     (λ is. short.0 (ap Some is), λ first. cc (short.1 first)))
 
-pub returns-in-Some-clause-foreign : goal.returns-in-Some-clause-foreign
-returns-in-Some-clause-foreign g c = λ caller place is.
-    let stored = c.into_inner-locked.result in (
-      stored,
-      c.is_as_opened.ensures,
-      subst (λ (handed : List Handed). IsForeign stored.settings stored.records handed caller place)
-          c.deref.ensures.value (c.in-Some.ensures.foreign caller place (ap Some is)),
-    )
+pub returns-in-Some-clause-back : goal.returns-in-Some-clause-back
+returns-in-Some-clause-back g c =
+    let stored = c.into_inner-locked.result in
+    record {
+      history = stored;
+      opened = c.is_as_opened.ensures;
+      saw = subst (All (λ (one : Handed). IsBeginning one.sight.seen stored.records)) c.deref_mut.ensures.value
+          c.meet_all.ensures.saw;
+      met = written_whole c.meet_all.new.dones c.args.dones.items c.args.dones.len
+          (omega (arith, c.meet_all.auto.dones, ap length c.deref_mut.ensures.value)) (sym c.args.dones.ok.0)
+          ∙ c.meet_all.ensures.met ∙ ap (map (after_meeting stored.records)) c.deref_mut.ensures.value;
+      foreign = λ caller place is.
+          subst (λ (handed : List Handed). IsForeign stored.settings stored.records handed caller place)
+          c.deref.ensures.value (c.in-Some.ensures.foreign caller place (ap Some is));
+    }
 
 pub into_recorded-requires-clause-as_many : goal.into_recorded-requires-clause-as_many
 into_recorded-requires-clause-as_many g c = subst
