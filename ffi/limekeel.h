@@ -25,7 +25,7 @@
  * own nothing, and are filled by limekeel_open and limekeel_block_new. Each is let go once, by
  * limekeel_free or limekeel_block_free. The struct may be moved in memory, but not copied and
  * used twice, as a FILE * may not be closed twice; its member is not to be touched. Bytes that
- * are passed in are copied, and stay the caller's.
+ * are passed in are copied, and stay the caller's. What a call takes as const it does not write.
  *
  * Lifetimes. The pieces that limekeel_gather fills point into the connection. They are good until
  * the next call on that connection that is no look: until a write, flush, removal, failing, close
@@ -272,7 +272,8 @@ struct limekeel_written limekeel_write_bytes(struct limekeel_connection *connect
                                               size_t length);
 
 /* Writes the bytes of a block, which the message then shares: nothing is copied. */
-struct limekeel_written limekeel_write_block(struct limekeel_connection *connection, struct limekeel_block *block);
+struct limekeel_written limekeel_write_block(struct limekeel_connection *connection,
+                                              const struct limekeel_block *block);
 
 /* Writes a region: `length` bytes of something that you send yourself, as of a file by sendfile. It
  * counts the overhead alone. */
@@ -319,24 +320,24 @@ uint32_t limekeel_set_marks(struct limekeel_connection *connection, uint32_t low
 
 /* What is pending now; whether writers may go on; whether a close was accepted; whether no message is
  * flushed and not yet removed. */
-struct limekeel_look limekeel_look(struct limekeel_connection *connection);
-struct limekeel_truth limekeel_is_writable(struct limekeel_connection *connection);
-struct limekeel_truth limekeel_is_closed(struct limekeel_connection *connection);
-struct limekeel_truth limekeel_is_empty(struct limekeel_connection *connection);
+struct limekeel_look limekeel_look(const struct limekeel_connection *connection);
+struct limekeel_truth limekeel_is_writable(const struct limekeel_connection *connection);
+struct limekeel_truth limekeel_is_closed(const struct limekeel_connection *connection);
+struct limekeel_truth limekeel_is_empty(const struct limekeel_connection *connection);
 
 /* What has become of a promise. */
-struct limekeel_promise limekeel_promise(struct limekeel_connection *connection, uint64_t id);
+struct limekeel_promise limekeel_promise(const struct limekeel_connection *connection, uint64_t id);
 
 /* The promise of the first flushed message; and what is left of that message: of a region its length less
  * the progress that was told, or 0 if that is more, which is what sendfile is still to send. */
-struct limekeel_front limekeel_front(struct limekeel_connection *connection);
-struct limekeel_current limekeel_current(struct limekeel_connection *connection);
+struct limekeel_front limekeel_front(const struct limekeel_connection *connection);
+struct limekeel_current limekeel_current(const struct limekeel_connection *connection);
 
 /* Fills pieces with where the flushed blocks in front lie that hold a byte, up to the first message
  * that is no block: at most `length` and LIMEKEEL_PIECES of them, and at most max_bytes bytes, but
  * the first in any case. The other pieces stay as they were. It does not allocate. */
-struct limekeel_gathered limekeel_gather_pieces(struct limekeel_connection *connection, struct limekeel_piece *pieces,
-                                                size_t length, uint32_t max_bytes);
+struct limekeel_gathered limekeel_gather_pieces(const struct limekeel_connection *connection,
+                                                struct limekeel_piece *pieces, size_t length, uint32_t max_bytes);
 
 /* The heap. Limekeel allocates through these three alone. heap.c defines them over malloc, weakly: a
  * program that defines all three itself gets its own. They are of one heap; a block is aligned to each
@@ -364,7 +365,7 @@ static inline struct limekeel_written limekeel_write(struct limekeel_connection 
     return limekeel_write_bytes(connection, length > 0 ? (const uint8_t *)bytes : (const uint8_t *)"", length);
 }
 
-static inline struct limekeel_gathered limekeel_gather(struct limekeel_connection *connection,
+static inline struct limekeel_gathered limekeel_gather(const struct limekeel_connection *connection,
                                                        struct limekeel_piece *pieces, size_t length,
                                                        uint32_t max_bytes)
 {

@@ -11,7 +11,7 @@ use contract.Running.{Running, tables}
 use types.Logic.{Logic}
 use types.Kit.{Item, Goal, Seq, Step, step, ‵, ◌$◌, drop, fsplit, fjoin, fpick, fpack, feq_i, feq_l, rewrite}
 use denote.RattleType.{RattleType, Valss}
-use denote.Builtin.{RawPtr, RefMutOf}
+use denote.Builtin.{One, RawPtr, RefMutOf}
 use denote.Param.Laws.{Laws}
 use denote.RawPtr.{Ptr, ptr_val}
 use denote.Signature.{Signature, Slot, plain}
@@ -29,10 +29,13 @@ use Rattle.std_heap.specs.contracts.Global as heap
 use Rattle.std_heap.specs.contracts.GlobalAllocator.TheImpl.{ghosts}
 use Rattle.std_heap.proofs.Global.TheLaws as heap_laws
 
--- the struct's name, the row of what it holds, and its values: each is just a pointer and what is held
+-- the struct's name, the row of what it holds, which is one machine value, and the type that code writes for that, and
+-- its values: each is just a pointer and what is held
 pub record Holder : Type 2 where
   pub name : Sym
   pub inner : RattleType
+  pub written : Ty
+  pub one : One inner.mir
   pub D : Type 0
   pub codes : (v : Values (RawPtr-field ∷ [])) → Coded (Also (Option inner.Denot) (λ x. Done))
   pub at : D → Ptr
@@ -46,6 +49,11 @@ pub record Holder : Type 2 where
 abbrev pub Met : (M : Type 1) (T : Ended) → ((𝓤 : Ura M) → Clauses 𝓤 T) → Fn → Type 2
 Met M T clauses code = (𝓤 : Ura M) (𝓛 : Logic 𝓤) (𝓜 : Model 𝓤 𝓛.H) (𝓡 : Running 𝓤 𝓛.H 𝓜) (k : Callee)
     → Closed 𝓤 𝓛.H (tables 𝓤 𝓛.H 𝓜 𝓡 𝓡.env).C (tables 𝓤 𝓛.H 𝓜 𝓡 𝓡.env).Λ k code → Meets 𝓛 T.signature ((tables 𝓤 𝓛.H 𝓜 𝓡 𝓡.env).C k) (closing 𝓛 T (clauses 𝓤))
+
+-- the same of clauses that own memory
+abbrev pub MetIn : (M : Type 1) (T : Ended) → ((𝓤 : Ura M) (𝓛 : Logic 𝓤) → Clauses 𝓤 T) → Fn → Type 2
+MetIn M T clauses code = (𝓤 : Ura M) (𝓛 : Logic 𝓤) (𝓜 : Model 𝓤 𝓛.H) (𝓡 : Running 𝓤 𝓛.H 𝓜) (k : Callee)
+    → Closed 𝓤 𝓛.H (tables 𝓤 𝓛.H 𝓜 𝓡 𝓡.env).C (tables 𝓤 𝓛.H 𝓜 𝓡 𝓡.env).Λ k code → Meets 𝓛 T.signature ((tables 𝓤 𝓛.H 𝓜 𝓡 𝓡.env).C k) (closing 𝓛 T (clauses 𝓤 𝓛))
 
 -- the C library's heap
 abbrev pub Z : RattleType

@@ -1,5 +1,7 @@
 -- The two holders.
-use Rattle.std.proofs.Common.{refl}
+use Rattle.std.proofs.Common.{refl, []}
+use Rattle.std.specs.Prelude.{codes}
+use mir.Syntax.{ty_named, tcons, tnil}
 use Rattle.ob_connection.specs.contracts.connection.Connection.{the_row as connection_row}
 use Rattle.ob_c.specs.Shared.{bytes_row}
 use Rattle.ob_c.specs.contracts.block.Block as block
@@ -10,6 +12,8 @@ abbrev pub handles : Holder
 handles = record {
   name = handle.struct.name;
   inner = connection_row;
+  written = ty_named (codes "ob_connection::connection::Connection", []) tnil;
+  one = tt;
   D = handle.the_row.Denot;
   codes = handle.the_codes;
   at = λ d. d.at;
@@ -22,6 +26,8 @@ abbrev pub blocks : Holder
 blocks = record {
   name = block.struct.name;
   inner = bytes_row;
+  written = ty_named (codes "bytes::shared::Bytes", []) (tcons (ty_named (codes "std_heap::Global", []) tnil) tnil);
+  one = tt;
   D = block.the_row.Denot;
   codes = block.the_codes;
   at = λ d. d.at;

@@ -3,6 +3,7 @@ pub mod Holders
 pub mod Keeping
 pub mod Loosened
 pub mod Putting
+pub mod Reaching
 pub mod Steps
 pub mod Taking
 pub mod Testing

@@ -5,5 +5,6 @@ pub mod Looks
 pub mod Numbers
 pub mod Obeying
 pub mod Opening
+pub mod Reaching
 pub mod Replies
 pub mod Shared

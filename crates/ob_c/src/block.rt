@@ -1,6 +1,7 @@
 //! What C holds of a block.
 
 ghost use Rattle.std.specs.Prelude.{◌≡◌, ℕ, List, IsSome, is_some, Option, Some, None, option_map};
+ghost use Rattle.std.specs.Borrow.{sem};
 ghost use Rattle.ob_c.specs.Held.{held};
 ghost use Rattle.ob_c.specs.Shared.{bytes_row};
 
@@ -26,6 +27,8 @@ impl Model for Block {
 unsafe impl Send for Block {}
 
 impl Block {
+    ghost use Rattle.ob_c.specs.Reaching.{LendsBytes};
+
     /// Takes the bytes out, if there is one.
     pub(crate) fn bytes(&mut self, alloc: Global) -> Option<Box<Bytes>>
         ensures taken { option_map (λ block. block.value) result ≡ self.old.value }
@@ -49,6 +52,15 @@ impl Block {
         ensures { (result ≡ is_some self.old.value) × (self.new ≡ self.old) }
     {
         !self.at.is_null()
+    }
+
+    /// The bytes, in their place: the block is not written.
+    pub(crate) fn reach(&mut self) -> &mut Bytes
+        requires { IsSome self.old.value }
+        ensures* writes_back { sem 𝓛 (LendsBytes self.entry result) }
+        ensures value { self.old.value ≡ Some result.now }
+    {
+        unsafe { &mut *(self.at as *mut Bytes) }
     }
 
     /// Takes the bytes out as its pointer.

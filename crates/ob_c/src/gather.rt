@@ -10,7 +10,6 @@ use crate::numbers::{DONE, NOT_OPEN};
 use crate::pieces::Piece;
 use ob_connection::Connection;
 use ob_types::Message;
-use std::alloc::Global;
 use std::io::IoSlice;
 
 /// The most pieces that are given at once.
@@ -35,7 +34,6 @@ pub struct Gathered {
 /// and together at most `max_bytes` bytes, but the first in any case. The other pieces stay as they were.
 #[unsafe(no_mangle)]
 pub extern "C" fn limekeel_gather_pieces(
-    alloc: Global,
     handle: &mut Handle,
     pieces: &mut [Piece],
     max_bytes: u32,
@@ -43,19 +41,18 @@ pub extern "C" fn limekeel_gather_pieces(
     ensures gathers { Gathers handle.old.value (length pieces.old) max_bytes result pieces.new handle.new.value }
     ensures rest { drop result.count pieces.new ≡ drop result.count pieces.old }
 {
-    let Some(connection) = handle.connection(alloc) else {
+    if !handle.is_open() {
         return Gathered {
             status: NOT_OPEN,
             front: 0,
             count: 0,
         };
-    };
-    let count = lay(&connection, pieces, max_bytes);
-    let front = front_number(connection.current(), count);
-    handle.keep(connection);
+    }
+    let connection: &Connection = handle.reach();
+    let count = lay(connection, pieces, max_bytes);
     Gathered {
         status: DONE,
-        front,
+        front: front_number(connection.current(), count),
         count,
     }
 }

@@ -2,6 +2,7 @@
 
 ghost use Rattle.std.specs.Prelude.{◌≡◌, IsSome, is_some, Option, Some, None, option_map};
 ghost use Rattle.std.specs.Fn.{FnOnceReturnsAtMut};
+ghost use Rattle.std.specs.Borrow.{sem};
 ghost use Rattle.ob_c.specs.Held.{held};
 ghost use Rattle.ob_c.specs.Numbers.{accepted};
 ghost use Rattle.ob_c.specs.Obeying.{Relays};
@@ -32,6 +33,8 @@ impl Model for Handle {
 unsafe impl Send for Handle {}
 
 impl Handle {
+    ghost use Rattle.ob_c.specs.Reaching.{LendsConnection};
+
     /// Takes the connection out, if there is one.
     pub(crate) fn connection(&mut self, alloc: Global) -> Option<Box<Connection>>
         ensures taken { option_map (λ connection. connection.value) result ≡ self.old.value }
@@ -43,33 +46,28 @@ impl Handle {
         Some(self.take(alloc).into_box())
     }
 
-    /// Makes a call of the connection, if there is one, and keeps it.
-    pub(crate) fn with<T, F: FnOnce(&mut Connection) -> T>(
-        &mut self,
-        alloc: Global,
-        call: F,
-    ) -> Option<T>
+    /// Makes a call of the connection in its place, if there is one.
+    pub(crate) fn with<T, F: FnOnce(&mut Connection) -> T>(&mut self, call: F) -> Option<T>
         requires { F.IsAlwaysCallable call }
         ensures { Relays self.old.value (λ old value after. FnOnceReturnsAtMut F.FnOnce call old value after) (λ told. told)
             result self.new.value }
     {
-        let mut connection = self.connection(alloc)?;
-        let value = call(&mut connection);
-        self.keep(connection);
-        Some(value)
+        if !self.is_open() {
+            return None;
+        }
+        Some(call(self.reach()))
     }
 
     /// Gives the connection a command.
     pub(crate) fn command<T, F: FnOnce(&mut Connection) -> Result<T, Refusal>>(
         &mut self,
-        alloc: Global,
         call: F,
     ) -> Result<T, u32>
         requires { F.IsAlwaysCallable call }
         ensures { Relays self.old.value (λ old answer after. FnOnceReturnsAtMut F.FnOnce call old answer after) accepted
             result self.new.value }
     {
-        accepted(self.with(alloc, call))
+        accepted(self.with(call))
     }
 
     /// Puts a connection in.
@@ -84,6 +82,15 @@ impl Handle {
         ensures { (result ≡ is_some self.old.value) × (self.new ≡ self.old) }
     {
         !self.at.is_null()
+    }
+
+    /// The connection, in its place: the handle is not written.
+    pub(crate) fn reach(&mut self) -> &mut Connection
+        requires { IsSome self.old.value }
+        ensures* writes_back { sem 𝓛 (LendsConnection self.entry result) }
+        ensures value { self.old.value ≡ Some result.now }
+    {
+        unsafe { &mut *(self.at as *mut Connection) }
     }
 
     /// Takes the connection out as its pointer.

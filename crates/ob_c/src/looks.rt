@@ -7,66 +7,65 @@ ghost use Rattle.ob_c.specs.Looks.{Tells, IsLeft, look_in_c, truth_in_c, promise
 
 use crate::handle::Handle;
 use crate::views::{Current, Front, Look, Promise, Truth};
-use std::alloc::Global;
 
 /// What is pending now.
 #[unsafe(no_mangle)]
-pub extern "C" fn limekeel_look(alloc: Global, handle: &mut Handle) -> Look
+pub extern "C" fn limekeel_look(handle: &mut Handle) -> Look
     ensures { Tells handle.old.value Shows look_in_c result handle.new.value }
 {
-    Look::of(handle.with(alloc, |connection| connection.look()))
+    Look::of(handle.with(|connection| connection.look()))
 }
 
 /// Whether writers may go on.
 #[unsafe(no_mangle)]
-pub extern "C" fn limekeel_is_writable(alloc: Global, handle: &mut Handle) -> Truth
+pub extern "C" fn limekeel_is_writable(handle: &mut Handle) -> Truth
     ensures { Tells handle.old.value (λ connection. Gives connection writable_after) truth_in_c result handle.new.value }
 {
-    Truth::of(handle.with(alloc, |connection| connection.is_writable()))
+    Truth::of(handle.with(|connection| connection.is_writable()))
 }
 
 /// Whether a close was accepted.
 #[unsafe(no_mangle)]
-pub extern "C" fn limekeel_is_closed(alloc: Global, handle: &mut Handle) -> Truth
+pub extern "C" fn limekeel_is_closed(handle: &mut Handle) -> Truth
     ensures { Tells handle.old.value (λ connection. Gives connection closed_after) truth_in_c result handle.new.value }
 {
-    Truth::of(handle.with(alloc, |connection| connection.is_closed()))
+    Truth::of(handle.with(|connection| connection.is_closed()))
 }
 
 /// Whether no message is flushed and not yet removed, voided ones too.
 #[unsafe(no_mangle)]
-pub extern "C" fn limekeel_is_empty(alloc: Global, handle: &mut Handle) -> Truth
+pub extern "C" fn limekeel_is_empty(handle: &mut Handle) -> Truth
     ensures { Tells handle.old.value (λ connection. Gives connection empty_after) truth_in_c result handle.new.value }
 {
-    Truth::of(handle.with(alloc, |connection| connection.is_empty()))
+    Truth::of(handle.with(|connection| connection.is_empty()))
 }
 
 /// What has become of a promise.
 #[unsafe(no_mangle)]
-pub extern "C" fn limekeel_promise(alloc: Global, handle: &mut Handle, id: u64) -> Promise
+pub extern "C" fn limekeel_promise(handle: &mut Handle, id: u64) -> Promise
     ensures { Tells handle.old.value (λ connection. TellsOf connection id) promise_in_c result handle.new.value }
 {
-    Promise::of(handle.with(alloc, |connection| connection.promise(id)))
+    Promise::of(handle.with(|connection| connection.promise(id)))
 }
 
 /// The promise of the first flushed message.
 #[unsafe(no_mangle)]
-pub extern "C" fn limekeel_front(alloc: Global, handle: &mut Handle) -> Front
+pub extern "C" fn limekeel_front(handle: &mut Handle) -> Front
     ensures { Tells handle.old.value IsFrontPromise front_in_c result handle.new.value }
 {
-    Front::of(handle.with(alloc, |connection| connection.front()))
+    Front::of(handle.with(|connection| connection.front()))
 }
 
 /// What is left to send of the first flushed message: of a region its length less the progress that was told, and 0 if
 /// that is more.
 #[unsafe(no_mangle)]
-pub extern "C" fn limekeel_current(alloc: Global, handle: &mut Handle) -> Current
+pub extern "C" fn limekeel_current(handle: &mut Handle) -> Current
     ensures { Tells handle.old.value IsLeft current_in_c result handle.new.value }
 {
-    match handle.with(
-        alloc,
-        |connection| Current::of(connection.current(), connection.look().current_progress),
-    ) {
+    match handle.with(|connection| Current::of(
+        connection.current(),
+        connection.look().current_progress,
+    )) {
         None => Current::not_open(),
         Some(current) => current,
     }

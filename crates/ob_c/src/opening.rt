@@ -55,10 +55,10 @@ pub extern "C" fn limekeel_open(
 ///
 /// The status is 13 if the handle holds no connection.
 #[unsafe(no_mangle)]
-pub extern "C" fn limekeel_shrink_to_fit(alloc: Global, handle: &mut Handle) -> u32
+pub extern "C" fn limekeel_shrink_to_fit(handle: &mut Handle) -> u32
     ensures { StaysAsItIs handle.old.value result handle.new.value }
 {
-    match handle.with(alloc, |connection| connection.shrink_to_fit()) {
+    match handle.with(|connection| connection.shrink_to_fit()) {
         None => NOT_OPEN,
         Some(()) => DONE,
     }

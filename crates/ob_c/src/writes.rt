@@ -25,7 +25,7 @@ use std::alloc::Global;
 pub extern "C" fn limekeel_write_bytes(alloc: Global, handle: &mut Handle, bytes: &[u8]) -> Written
     ensures { ObeysFor handle.old.value (Write (AsBlock bytes.now)) written_reply written_in_c result handle.new.value }
 {
-    Written::of(handle.command(alloc, |connection| write_copy(alloc, connection, bytes)))
+    Written::of(handle.command(|connection| write_copy(alloc, connection, bytes)))
 }
 
 /// Writes the bytes of a block, which the message shares: no byte is copied.
@@ -33,39 +33,34 @@ pub extern "C" fn limekeel_write_bytes(alloc: Global, handle: &mut Handle, bytes
 /// The status is 13 if the handle holds no connection, then 16 if the block holds no bytes; 12 also if the block has more
 /// owners than can be counted.
 #[unsafe(no_mangle)]
-pub extern "C" fn limekeel_write_block(
-    alloc: Global,
-    handle: &mut Handle,
-    block: &mut Block,
-) -> Written
+pub extern "C" fn limekeel_write_block(handle: &mut Handle, block: &mut Block) -> Written
     ensures writes { WritesBlock handle.old.value block.old.value result handle.new.value }
     ensures block { block.new.value ≡ block.old.value }
 {
     if !handle.is_open() {
         return Written::of(Err(NOT_OPEN));
     }
-    let Some(bytes) = block.bytes(alloc) else {
+    if !block.is_open() {
         return Written::of(Err(NO_BLOCK));
-    };
-    let answer = handle.command(alloc, |connection| write_shared(connection, &bytes));
-    block.keep(bytes);
-    Written::of(answer)
+    }
+    let bytes: &Bytes = block.reach();
+    Written::of(handle.command(|connection| write_shared(connection, bytes)))
 }
 
 /// Writes a region of `length` bytes, which the transport sends by itself.
 #[unsafe(no_mangle)]
-pub extern "C" fn limekeel_write_region(alloc: Global, handle: &mut Handle, length: u64) -> Written
+pub extern "C" fn limekeel_write_region(handle: &mut Handle, length: u64) -> Written
     ensures { ObeysFor handle.old.value (Write (AsRegion length)) written_reply written_in_c result handle.new.value }
 {
-    Written::of(handle.command(alloc, |connection| write(connection, Message::Region(length))))
+    Written::of(handle.command(|connection| write(connection, Message::Region(length))))
 }
 
 /// Writes any other message, by a number that means something to the application alone.
 #[unsafe(no_mangle)]
-pub extern "C" fn limekeel_write_other(alloc: Global, handle: &mut Handle, value: u32) -> Written
+pub extern "C" fn limekeel_write_other(handle: &mut Handle, value: u32) -> Written
     ensures { ObeysFor handle.old.value (Write (AsOther value)) written_reply written_in_c result handle.new.value }
 {
-    Written::of(handle.command(alloc, |connection| write(connection, Message::Other(value))))
+    Written::of(handle.command(|connection| write(connection, Message::Other(value))))
 }
 
 /// Writes a copy of these bytes, which is made once nothing else refuses it.

@@ -117,7 +117,7 @@ unsafe extern "C" {
     pub fn limekeel_block_of_bytes(block: *mut Block, bytes: *const u8, length: usize) -> u32;
     pub fn limekeel_block_free(block: *mut Block) -> u32;
     pub fn limekeel_write_bytes(connection: *mut Connection, bytes: *const u8, length: usize) -> Written;
-    pub fn limekeel_write_block(connection: *mut Connection, block: *mut Block) -> Written;
+    pub fn limekeel_write_block(connection: *mut Connection, block: *const Block) -> Written;
     pub fn limekeel_write_region(connection: *mut Connection, length: u64) -> Written;
     pub fn limekeel_write_other(connection: *mut Connection, value: u32) -> Written;
     pub fn limekeel_flush(connection: *mut Connection) -> Flushed;
@@ -131,15 +131,15 @@ unsafe extern "C" {
     pub fn limekeel_give_up(connection: *mut Connection, cause: u32) -> Taken;
     pub fn limekeel_user_bit(connection: *mut Connection, index: u32, writable: bool) -> Changed;
     pub fn limekeel_set_marks(connection: *mut Connection, low: u32, high: u32) -> u32;
-    pub fn limekeel_look(connection: *mut Connection) -> Look;
-    pub fn limekeel_is_writable(connection: *mut Connection) -> Truth;
-    pub fn limekeel_is_closed(connection: *mut Connection) -> Truth;
-    pub fn limekeel_is_empty(connection: *mut Connection) -> Truth;
-    pub fn limekeel_promise(connection: *mut Connection, id: u64) -> Promise;
-    pub fn limekeel_front(connection: *mut Connection) -> Front;
-    pub fn limekeel_current(connection: *mut Connection) -> Current;
+    pub fn limekeel_look(connection: *const Connection) -> Look;
+    pub fn limekeel_is_writable(connection: *const Connection) -> Truth;
+    pub fn limekeel_is_closed(connection: *const Connection) -> Truth;
+    pub fn limekeel_is_empty(connection: *const Connection) -> Truth;
+    pub fn limekeel_promise(connection: *const Connection, id: u64) -> Promise;
+    pub fn limekeel_front(connection: *const Connection) -> Front;
+    pub fn limekeel_current(connection: *const Connection) -> Current;
     pub fn limekeel_gather_pieces(
-        connection: *mut Connection,
+        connection: *const Connection,
         pieces: *mut Piece,
         length: usize,
         max_bytes: u32,

@@ -4,12 +4,12 @@
 //!
 //! - The handle was made as null or by the archive, and is let go once: `Handle` and `Slot` alone hold one, and neither
 //!   can be copied.
-//! - One call at a time uses it: a command takes `&mut`, and a look takes `&` of a type that is not `Sync`.
+//! - One call at a time uses it: a command takes `&mut`, and a look takes `&` of a type that is not `Sync`. A look writes
+//!   neither the handle nor what is behind it, and so the archive takes it as const.
 //! - Slices are not null: those of Rust never are.
 //! - What a `Piece` points to is read while the connection is as it was: a `Pieces` borrows it.
 
 use limekeel_sys as sys;
-use std::cell::UnsafeCell;
 use std::io::IoSlice;
 use std::ops::Deref;
 use std::ptr::null_mut;
@@ -19,11 +19,10 @@ use crate::views::Front;
 /// A connection of the archive's, or none.
 #[derive(Debug)]
 pub(crate) struct Handle {
-    // A look takes the connection out of the handle and puts it back, so it writes behind a `&`.
-    inner: UnsafeCell<sys::Connection>,
+    inner: sys::Connection,
 }
 
-// SAFETY: the archive proves `Send` of what is behind the pointer, and nothing of it is tied to a thread. The cell keeps
+// SAFETY: the archive proves `Send` of what is behind the pointer, and nothing of it is tied to a thread. The pointer keeps
 // `Handle` from being `Sync`.
 unsafe impl Send for Handle {}
 
@@ -34,7 +33,7 @@ macro_rules! commands {
             #[inline]
             pub(crate) fn $name(&mut self $(, $argument: $kind)*) -> $answer {
                 // SAFETY: the handle is this value's own, and `&mut` says that no other call uses it.
-                unsafe { sys::$export(self.inner.get() $(, $argument)*) }
+                unsafe { sys::$export(&mut self.inner $(, $argument)*) }
             }
         )*
     };
@@ -46,9 +45,8 @@ macro_rules! looks {
         $(
             #[inline]
             pub(crate) fn $name(&self $(, $argument: $kind)*) -> $answer {
-                // SAFETY: the handle is this value's own, and not `Sync`, so that no other call uses it meanwhile; no
-                // reference into the cell is ever made.
-                unsafe { sys::$export(self.inner.get() $(, $argument)*) }
+                // SAFETY: the handle is this value's own, and not `Sync`, so that no other call uses it meanwhile.
+                unsafe { sys::$export(&self.inner $(, $argument)*) }
             }
         )*
     };
@@ -56,7 +54,7 @@ macro_rules! looks {
 
 impl Handle {
     pub(crate) const fn none() -> Handle {
-        Handle { inner: UnsafeCell::new(sys::Connection { at: null_mut() }) }
+        Handle { inner: sys::Connection { at: null_mut() } }
     }
 
     commands! {
@@ -91,14 +89,14 @@ impl Handle {
     #[inline]
     pub(crate) fn write(&mut self, bytes: &[u8]) -> sys::Written {
         // SAFETY: the handle is this value's own; the pointer and the length are those of one slice.
-        unsafe { sys::limekeel_write_bytes(self.inner.get(), bytes.as_ptr(), bytes.len()) }
+        unsafe { sys::limekeel_write_bytes(&mut self.inner, bytes.as_ptr(), bytes.len()) }
     }
 
     #[inline]
     pub(crate) fn write_block(&mut self, block: &Slot) -> sys::Written {
         // SAFETY: both handles are their values' own, and two values; neither type is `Sync`, so that no other call uses
         // one of them meanwhile.
-        unsafe { sys::limekeel_write_block(self.inner.get(), block.inner.get()) }
+        unsafe { sys::limekeel_write_block(&mut self.inner, &block.inner) }
     }
 
     pub(crate) fn pieces<const N: usize>(&self, max_bytes: u32) -> Pieces<'_, N> {
@@ -106,7 +104,7 @@ impl Handle {
         // SAFETY: the handle is this value's own, as in a look. On Unix an `IoSlice` is laid out as `struct iovec`, which
         // is what a `Piece` is. The archive fills the first `count` slices with where bytes of the connection lie, and
         // they lie there until it changes, which the borrow in `Pieces` keeps off.
-        let told = unsafe { sys::limekeel_gather_pieces(self.inner.get(), slices.as_mut_ptr().cast(), N, max_bytes) };
+        let told = unsafe { sys::limekeel_gather_pieces(&self.inner, slices.as_mut_ptr().cast(), N, max_bytes) };
         Pieces { slices, count: told.count, front: Front::of(told.front) }
     }
 }
@@ -144,8 +142,7 @@ impl<'a, const N: usize> Deref for Pieces<'a, N> {
 /// A block of the archive's, or none.
 #[derive(Debug)]
 pub(crate) struct Slot {
-    // A write takes the bytes out and puts them back, so it writes behind a `&`.
-    inner: UnsafeCell<sys::Block>,
+    inner: sys::Block,
 }
 
 // SAFETY: as of `Handle`. The owners of the bytes are counted by an atomic.
@@ -153,18 +150,18 @@ unsafe impl Send for Slot {}
 
 impl Slot {
     pub(crate) const fn none() -> Slot {
-        Slot { inner: UnsafeCell::new(sys::Block { at: null_mut() }) }
+        Slot { inner: sys::Block { at: null_mut() } }
     }
 
     pub(crate) fn fill(&mut self, bytes: &[u8]) -> u32 {
         // SAFETY: the handle is this value's own; the pointer and the length are those of one slice.
-        unsafe { sys::limekeel_block_of_bytes(self.inner.get(), bytes.as_ptr(), bytes.len()) }
+        unsafe { sys::limekeel_block_of_bytes(&mut self.inner, bytes.as_ptr(), bytes.len()) }
     }
 }
 
 impl Drop for Slot {
     fn drop(&mut self) {
         // SAFETY: the handle is this value's own, and it is not used again.
-        unsafe { sys::limekeel_block_free(self.inner.get()) };
+        unsafe { sys::limekeel_block_free(&mut self.inner) };
     }
 }

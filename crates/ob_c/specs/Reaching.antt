@@ -1,0 +1,26 @@
+-- What becomes of a handle or a block if what is behind its pointer is reached in its place.
+use Rattle.std.specs.Prelude.{ℕ, List, Some}
+use Rattle.std.specs.Borrow.{Lends, MutBor, Fml}
+use Rattle.ob_connection.specs.Connected.{Connected}
+use Rattle.ob_connection.specs.contracts.connection.Connection.{the_row as connection_row}
+use Rattle.ob_c.specs.Shared.{bytes_row}
+use Rattle.ob_c.specs.declared.block.Block.{Block}
+use Rattle.ob_c.specs.declared.handle.Handle.{Handle}
+use Rattle.ob_c.specs.contracts.block.Block.{the_row as block_row}
+use Rattle.ob_c.specs.contracts.handle.Handle.{the_row as handle_row}
+
+-- a handle at the same place, with this connection behind it
+abbrev pub handle_with : Handle → Connected → Handle
+handle_with handle connection = record { at = handle.at; value = Some connection }
+
+-- the handle ends with what was left behind the reference
+abbrev pub LendsConnection : MutBor Handle → MutBor Connected → Fml
+LendsConnection handle connection = Lends handle_row connection_row handle connection (handle_with handle.now)
+
+-- a block at the same place, with these bytes behind it
+abbrev pub block_with : Block → List ℕ → Block
+block_with block bytes = record { at = block.at; value = Some bytes }
+
+-- the block ends with what was left behind the reference
+abbrev pub LendsBytes : MutBor Block → MutBor (List ℕ) → Fml
+LendsBytes block bytes = Lends block_row bytes_row block bytes (block_with block.now)
