@@ -115,6 +115,8 @@ unsafe extern "C" {
     pub fn limekeel_shrink_to_fit(connection: *mut Connection) -> u32;
     pub fn limekeel_free(connection: *mut Connection) -> u32;
     pub fn limekeel_block_of_bytes(block: *mut Block, bytes: *const u8, length: usize) -> u32;
+    pub fn limekeel_block_share(block: *const Block, second: *mut Block) -> u32;
+    pub fn limekeel_block_piece(block: *const Block, piece: *mut Piece) -> u32;
     pub fn limekeel_block_free(block: *mut Block) -> u32;
     pub fn limekeel_write_bytes(connection: *mut Connection, bytes: *const u8, length: usize) -> Written;
     pub fn limekeel_write_block(connection: *mut Connection, block: *const Block) -> Written;
