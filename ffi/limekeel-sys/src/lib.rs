@@ -2,6 +2,7 @@
 //!
 //! The crate `limekeel` is for use; `limekeel.h` says what each call does. The archive is in this crate as assembly,
 //! `limekeel.s`, whose head says what proved it, or else in the folder that `LIMEKEEL_LIB_DIR` names when this is built.
+//! It allocates by the `malloc` of the C library, or with the feature `global-allocator` by Rust's global allocator.
 //! `ffi/check_edge` of the repository compares these declarations with the sources of the archive and with the header, name
 //! by name and type by type.
 
@@ -14,7 +15,8 @@ compile_error!("limekeel is compiled for x86-64 Linux alone");
 
 #[cfg(not(limekeel_lib_dir))]
 mod assembled;
-#[cfg(not(limekeel_lib_dir))]
+#[cfg(any(not(limekeel_lib_dir), feature = "global-allocator"))]
+#[cfg_attr(feature = "global-allocator", path = "global.rs")]
 mod heap;
 
 /// The most pieces that one `limekeel_gather_pieces` fills.

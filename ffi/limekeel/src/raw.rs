@@ -7,7 +7,8 @@
 //! - One call at a time uses it: a command takes `&mut`, and a look takes `&` of a type that is not `Sync`. A look writes
 //!   neither the handle nor what is behind it, and so the archive takes it as const.
 //! - Slices are not null: those of Rust never are.
-//! - What a `Piece` points to is read while the connection is as it was: a `Pieces` borrows it.
+//! - What a `Piece` points to is read while the connection is as it was: a `Pieces` borrows it. It may be read in one thread
+//!   while another looks at the connection, since a look writes nothing.
 
 use limekeel_sys as sys;
 use std::io::IoSlice;
@@ -117,7 +118,19 @@ impl Drop for Handle {
     }
 }
 
+// A slice of these is handed in where the archive wants a slice of those. `limekeel-sys` is for Linux on x86-64 alone, where
+// std lays an `IoSlice` out as `struct iovec`.
+const _: () = assert!(size_of::<IoSlice<'_>>() == size_of::<sys::Piece>());
+const _: () = assert!(align_of::<IoSlice<'_>>() == align_of::<sys::Piece>());
+
 /// Where the flushed blocks in front lie, for one vectored write. It borrows the connection.
+///
+/// Another thread may read it, while this one looks at the connection: neither writes anything.
+///
+/// ```
+/// fn crosses_threads<T: Send + Sync>() {}
+/// crosses_threads::<limekeel::Pieces<64>>();
+/// ```
 #[derive(Debug)]
 pub struct Pieces<'a, const N: usize> {
     slices: [IoSlice<'a>; N],
