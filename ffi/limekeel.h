@@ -33,8 +33,9 @@
  *
  * Threads. A connection may go from thread to thread, but only one call at a time may use it:
  * give it a lock, or to one thread. Two connections need no lock between them, also if they share
- * a block; the block itself is used by one call at a time. No call may be made from a signal
- * handler, nor in the child of a fork of a process with threads.
+ * a block; the block itself is used by one call at a time, so each thread takes its own by
+ * limekeel_block_share. No call may be made from a signal handler, nor in the child of a fork of a
+ * process with threads.
  *
  * Errors. Each call returns a status, alone or as the first member of a struct: LIMEKEEL_OK, or
  * why the call did nothing. A call that did not return LIMEKEEL_OK left everything as it was, and
@@ -263,7 +264,14 @@ uint32_t limekeel_free(struct limekeel_connection *connection);
 /* Copies bytes into a block. */
 uint32_t limekeel_block_of_bytes(struct limekeel_block *block, const uint8_t *bytes, size_t length);
 
-/* Lets a block go. The memory is freed with the last message that shares it. */
+/* Makes a second block of the bytes of one, which both share: nothing is copied. It is another thread's,
+ * since a block is used by one call at a time. */
+uint32_t limekeel_block_share(const struct limekeel_block *block, struct limekeel_block *second);
+
+/* Says where the bytes of a block lie: there as long as a block or a message shares them. */
+uint32_t limekeel_block_piece(const struct limekeel_block *block, struct limekeel_piece *piece);
+
+/* Lets a block go. The memory is freed with the last block or message that shares it. */
 uint32_t limekeel_block_free(struct limekeel_block *block);
 
 /* Writes a copy of these bytes after all else. They wait, and are not sent before a flush. The copy

@@ -1,9 +1,11 @@
 //! Blocks of bytes that several writes share.
 
-ghost use Rattle.ob_c.specs.Blocks.{IsLetGo, IsMadeOf};
+ghost use Rattle.std.specs.Prelude.{◌≡◌};
+ghost use Rattle.ob_c.specs.Blocks.{IsLetGo, IsMadeOf, IsPieceOf, IsSharedOf};
 
 use crate::block::Block;
 use crate::numbers::{ALREADY_OPEN, DONE, NO_MEMORY, NOT_OPEN};
+use crate::pieces::Piece;
 use bytes::Bytes;
 use std::alloc::Global;
 
@@ -27,6 +29,51 @@ pub extern "C" fn limekeel_block_of_bytes(alloc: Global, block: &mut Block, byte
         }
         Err(_) => NO_MEMORY,
     }
+}
+
+/// Makes a second block of the bytes of one, which both share: no byte is copied. It is for another thread, since a block is
+/// used by one call at a time.
+///
+/// The status is 13 if the block holds no bytes, then 14 if the second one does; 12 if it is out of memory or the bytes have
+/// more owners than can be counted.
+#[unsafe(no_mangle)]
+pub extern "C" fn limekeel_block_share(alloc: Global, block: &mut Block, second: &mut Block) -> u32
+    ensures shares { IsSharedOf block.old.value second.old.value result second.new.value }
+    ensures block { block.new.value ≡ block.old.value }
+{
+    if !block.is_open() {
+        return NOT_OPEN;
+    }
+    if second.is_open() {
+        return ALREADY_OPEN;
+    }
+    let bytes: &Bytes = block.reach();
+    let Ok(shared) = bytes.clone() else {
+        return NO_MEMORY;
+    };
+    match Box::new(alloc, shared) {
+        Ok(shared) => {
+            second.keep(shared);
+            DONE
+        }
+        Err(_) => NO_MEMORY,
+    }
+}
+
+/// Says where the bytes of a block lie. They stay there as long as the block or a message shares them.
+///
+/// The status is 13 if the block holds no bytes, and the piece is as it was then.
+#[unsafe(no_mangle)]
+pub extern "C" fn limekeel_block_piece(block: &mut Block, piece: &mut Piece) -> u32
+    ensures piece { IsPieceOf block.old.value piece.old result piece.new }
+    ensures block { block.new.value ≡ block.old.value }
+{
+    if !block.is_open() {
+        return NOT_OPEN;
+    }
+    let bytes: &Bytes = block.reach();
+    *piece = Piece::of(bytes.as_slice());
+    DONE
 }
 
 /// Lets a block go. Its memory is freed with the last write that shares it.

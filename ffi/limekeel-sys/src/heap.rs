@@ -1,7 +1,7 @@
 //! What `ffi/heap.c` is for C: the archive's memory is that of the C library.
 
 use core::ffi::c_void;
-use core::ptr::addr_of_mut;
+use core::ptr::NonNull;
 
 unsafe extern "C" {
     fn malloc(size: usize) -> *mut c_void;
@@ -10,28 +10,25 @@ unsafe extern "C" {
     fn free(at: *mut c_void);
 }
 
-/// Where a refused block points: nothing is read or written there.
-static mut NOWHERE: u8 = 0;
-
 /// A block, or none.
 #[repr(C)]
-pub(crate) struct Tried {
-    ok: bool,
-    at: *mut u8,
+pub(crate) struct Memory {
+    given: bool,
+    at: NonNull<u8>,
 }
 
-fn block_or_none(at: *mut c_void) -> Tried {
-    if at.is_null() {
-        return Tried { ok: false, at: addr_of_mut!(NOWHERE) };
+fn memory_at(at: *mut c_void) -> Memory {
+    match NonNull::new(at.cast()) {
+        Some(at) => Memory { given: true, at },
+        None => Memory { given: false, at: NonNull::dangling() },
     }
-    Tried { ok: true, at: at.cast() }
 }
 
 /// A block of `size` bytes. `malloc` aligns it to each power of two up to 16 that divides its size, and more is never
 /// asked for.
-pub(crate) extern "C" fn alloc(size: usize, _align: usize) -> Tried {
+pub(crate) extern "C" fn alloc(size: usize, _align: usize) -> Memory {
     // SAFETY: `malloc` asks nothing of its size.
-    block_or_none(unsafe { malloc(size.max(1)) })
+    memory_at(unsafe { malloc(size.max(1)) })
 }
 
 /// The block with another size.
@@ -39,9 +36,9 @@ pub(crate) extern "C" fn alloc(size: usize, _align: usize) -> Tried {
 /// # Safety
 ///
 /// The block is one of `alloc` or of this function, and not freed. The archive is proved to hand in no other.
-pub(crate) unsafe extern "C" fn realloc(at: *mut u8, _kept: usize, size: usize, _align: usize) -> Tried {
+pub(crate) unsafe extern "C" fn realloc(at: *mut u8, _kept: usize, size: usize, _align: usize) -> Memory {
     // SAFETY: what `realloc` asks is what this function asks.
-    block_or_none(unsafe { c_realloc(at.cast(), size.max(1)) })
+    memory_at(unsafe { c_realloc(at.cast(), size.max(1)) })
 }
 
 /// Frees a block.

@@ -2,6 +2,7 @@
 //!
 //! The crate `limekeel` is for use; `limekeel.h` says what each call does. The archive is in this crate as assembly,
 //! `limekeel.s`, whose head says what proved it, or else in the folder that `LIMEKEEL_LIB_DIR` names when this is built.
+//! It allocates by the `malloc` of the C library, or with the feature `global-allocator` by Rust's global allocator.
 //! `ffi/check_edge` of the repository compares these declarations with the sources of the archive and with the header, name
 //! by name and type by type.
 
@@ -14,7 +15,8 @@ compile_error!("limekeel is compiled for x86-64 Linux alone");
 
 #[cfg(not(limekeel_lib_dir))]
 mod assembled;
-#[cfg(not(limekeel_lib_dir))]
+#[cfg(any(not(limekeel_lib_dir), feature = "global-allocator"))]
+#[cfg_attr(feature = "global-allocator", path = "global.rs")]
 mod heap;
 
 /// The most pieces that one `limekeel_gather_pieces` fills.
@@ -115,6 +117,8 @@ unsafe extern "C" {
     pub fn limekeel_shrink_to_fit(connection: *mut Connection) -> u32;
     pub fn limekeel_free(connection: *mut Connection) -> u32;
     pub fn limekeel_block_of_bytes(block: *mut Block, bytes: *const u8, length: usize) -> u32;
+    pub fn limekeel_block_share(block: *const Block, second: *mut Block) -> u32;
+    pub fn limekeel_block_piece(block: *const Block, piece: *mut Piece) -> u32;
     pub fn limekeel_block_free(block: *mut Block) -> u32;
     pub fn limekeel_write_bytes(connection: *mut Connection, bytes: *const u8, length: usize) -> Written;
     pub fn limekeel_write_block(connection: *mut Connection, block: *const Block) -> Written;

@@ -7,13 +7,16 @@
 //! - One call at a time uses it: a command takes `&mut`, and a look takes `&` of a type that is not `Sync`. A look writes
 //!   neither the handle nor what is behind it, and so the archive takes it as const.
 //! - Slices are not null: those of Rust never are.
-//! - What a `Piece` points to is read while the connection is as it was: a `Pieces` borrows it.
+//! - What a `Piece` points to is read while the connection is as it was: a `Pieces` borrows it. It may be read in one thread
+//!   while another looks at the connection, since a look writes nothing.
 
 use limekeel_sys as sys;
 use std::io::IoSlice;
 use std::ops::Deref;
-use std::ptr::null_mut;
+use std::ptr::{null, null_mut};
+use std::slice;
 
+use crate::replies::{Refusal, done};
 use crate::views::Front;
 
 /// A connection of the archive's, or none.
@@ -115,7 +118,19 @@ impl Drop for Handle {
     }
 }
 
+// A slice of these is handed in where the archive wants a slice of those. `limekeel-sys` is for Linux on x86-64 alone, where
+// std lays an `IoSlice` out as `struct iovec`.
+const _: () = assert!(size_of::<IoSlice<'_>>() == size_of::<sys::Piece>());
+const _: () = assert!(align_of::<IoSlice<'_>>() == align_of::<sys::Piece>());
+
 /// Where the flushed blocks in front lie, for one vectored write. It borrows the connection.
+///
+/// Another thread may read it, while this one looks at the connection: neither writes anything.
+///
+/// ```
+/// fn crosses_threads<T: Send + Sync>() {}
+/// crosses_threads::<limekeel::Pieces<64>>();
+/// ```
 #[derive(Debug)]
 pub struct Pieces<'a, const N: usize> {
     slices: [IoSlice<'a>; N],
@@ -139,23 +154,48 @@ impl<'a, const N: usize> Deref for Pieces<'a, N> {
     }
 }
 
-/// A block of the archive's, or none.
-#[derive(Debug)]
+/// A block of the archive's, and where its bytes lie.
 pub(crate) struct Slot {
     inner: sys::Block,
+    piece: sys::Piece,
 }
 
 // SAFETY: as of `Handle`. The owners of the bytes are counted by an atomic.
 unsafe impl Send for Slot {}
 
+// SAFETY: what takes a `&Slot` only reads: where the bytes lie, the bytes, which nobody changes, or by a call of the archive
+// that takes the block as const. Of such a call the archive proves that the block stays as it was, and that its bytes may be
+// shared between threads; but it proves that for one call at a time. That two calls at once only read the handle is seen in
+// the assembly, and by tests: `ffi/tests/looks.c` hands it in where nobody can write, `ffi/tests/threads.c` from two threads.
+unsafe impl Sync for Slot {}
+
 impl Slot {
-    pub(crate) const fn none() -> Slot {
-        Slot { inner: sys::Block { at: null_mut() } }
+    /// A block of a copy of these bytes.
+    pub(crate) fn of(bytes: &[u8]) -> Result<Slot, Refusal> {
+        // SAFETY: the handle is new and owns nothing; the pointer and the length are those of one slice.
+        Slot::made(|inner| unsafe { sys::limekeel_block_of_bytes(inner, bytes.as_ptr(), bytes.len()) })
     }
 
-    pub(crate) fn fill(&mut self, bytes: &[u8]) -> u32 {
-        // SAFETY: the handle is this value's own; the pointer and the length are those of one slice.
-        unsafe { sys::limekeel_block_of_bytes(&mut self.inner, bytes.as_ptr(), bytes.len()) }
+    /// A second block of the same bytes.
+    pub(crate) fn share(&self) -> Result<Slot, Refusal> {
+        // SAFETY: the one handle is this value's own, and only read; the other is new and owns nothing.
+        Slot::made(|inner| unsafe { sys::limekeel_block_share(&self.inner, inner) })
+    }
+
+    /// A block that this call fills, unless it refuses.
+    fn made(fill: impl FnOnce(&mut sys::Block) -> u32) -> Result<Slot, Refusal> {
+        let mut slot = Slot { inner: sys::Block { at: null_mut() }, piece: sys::Piece { at: null(), length: 0 } };
+        done(fill(&mut slot.inner))?;
+        // SAFETY: both are this value's own.
+        done(unsafe { sys::limekeel_block_piece(&slot.inner, &mut slot.piece) })?;
+        Ok(slot)
+    }
+
+    #[inline]
+    pub(crate) fn bytes(&self) -> &[u8] {
+        // SAFETY: the archive said that the bytes lie there, and they do as long as the block is theirs, which is as long as
+        // this value is; nobody changes them.
+        unsafe { slice::from_raw_parts(self.piece.at, self.piece.length) }
     }
 }
 
