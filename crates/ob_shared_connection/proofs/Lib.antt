@@ -1,0 +1,5 @@
+pub mod Ending
+pub mod GivingUp
+pub mod Keeping
+pub mod Lists
+pub mod Told

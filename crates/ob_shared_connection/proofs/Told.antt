@@ -1,0 +1,103 @@
+-- What a handle is told at the lock, and what a call leaves.
+use Rattle.std.proofs.Common.{◌≡◌, ℕ, List, [], ◌∷◌, ◌++◌, refl, sym, ap, ◌∙◌, subst, Result, Ok}
+use Rattle.atomic_table.specs.Seated.{TableId}
+use Rattle.atomic_table.specs.Table.{rest}
+use Rattle.ob_types.specs.declared.command.Command.{Command}
+use Rattle.ob_types.specs.declared.refusal.Refusal.{Refusal}
+use Rattle.ob_connection.specs.Connected.{Connected}
+use Rattle.ob_connection.specs.Standing.{StandsFor}
+use Rattle.ob_shared_connection.specs.Acts.{Continues}
+use Rattle.ob_shared_connection.specs.Calls.{IsCall, IsLock}
+use Rattle.ob_shared_connection.specs.Log.{calls_of, commands_by, commands_of}
+use Rattle.ob_shared_connection.specs.Ruled.{settings_of, view_with}
+use Rattle.ob_shared_connection.specs.Steps.{HasLock, Holds, IsNamed, Knows, Locks, Rests, connected_in, handle_of, held_of}
+use Rattle.ob_shared_connection.specs.Values.{HandleValue, IsLeft, IsLeftBy, handle_with}
+use Rattle.ob_shared_connection.specs.declared.call.Call.{Call}
+use Rattle.ob_shared_connection.specs.declared.view.View.{View}
+use Rattle.ob_shared_connection.proofs.Lists.{commands_by-append, commands_of-more, nothing_more, own_added}
+
+-- what a lock told
+module _ (old new : Knows) (named : IsNamed old.0) (locks : Locks old new) where
+  log : List Call
+  log = old.0.seen ++ locks.between
+
+  seat_left : IsLeftBy (settings_of new.0) new.0.seen (connected_in new.1)
+  seat_left =
+      subst (λ (view : View). IsLeftBy (settings_of view) view.seen (connected_in new.1)) (sym locks.view)
+      (locks.left named.there)
+
+  -- a seat that took the lock has it
+  pub has_lock : old.1 ≡ [] → Holds new
+  has_lock none = record {
+    lock = record {
+      seat = record {
+        named = ap (λ (view : View). view.named) locks.view ∙ named.named;
+        there = ap (λ (view : View). view.spent) locks.view ∙ named.there;
+        own = ap (λ (view : View). view.mine) locks.view ∙ locks.own named.named named.there
+            ∙ ap (λ (view : View). commands_by view.caller view.seen) (sym locks.view);
+      };
+      holds = ap (λ (view : View). view.holds) locks.view;
+      slot = locks.slot ∙ ap (λ (slots : List (ℕ × Connected)). (0, connected_in new.1) ∷ slots) none;
+    };
+    left = seat_left;
+  }
+
+  -- as contracts say it
+  pub is_lock : (table : TableId) → IsLock (handle_of table old.0) (held_of table new)
+  is_lock table = record {
+    between = locks.between;
+    sees = ap (handle_of table) locks.view;
+    own = locks.own named.named named.there
+        ∙ ap (λ (view : View). commands_by old.0.caller view.seen) (sym locks.view);
+    others = nothing_more (commands_by old.0.caller old.0.seen) (commands_by old.0.caller locks.between)
+        (sym (commands_by-append old.0.caller old.0.seen locks.between) ∙ sym (locks.own named.named named.there)
+        ∙ named.own);
+    untouched = locks.untouched;
+    left = seat_left;
+  }
+
+-- what an accepted call leaves
+module _ (me : Knows) (commands : List Command) (before after : Connected) (holds : Holds me)
+    (had : me.1 ≡ (0, before) ∷ rest me.1) (goes : Continues before commands after) where
+  -- what the seat knows then
+  abbrev pub next : Knows
+  next = (view_with commands me.0, (0, after) ∷ rest me.1)
+
+  was : connected_in me.1 ≡ before
+  was = ap connected_in had
+
+  left_next : IsLeftBy (settings_of me.0) (me.0.seen ++ calls_of me.0.caller commands) after
+  left_next = record {
+    settings_are = goes.settings ∙ ap (λ (connected : Connected). connected.unsent.settings) (sym was)
+        ∙ holds.left.settings_are;
+    stands = subst (λ (history : List Command). StandsFor after history)
+        (sym (commands_of-more me.0.caller me.0.seen commands))
+        (goes.stands (commands_of me.0.seen)
+        (subst (λ (connected : Connected). StandsFor connected (commands_of me.0.seen)) was holds.left.stands));
+  }
+
+  -- it has the lock still
+  pub still_holds : Holds next
+  still_holds = record {
+    lock = record {
+      seat = record {
+        named = holds.lock.seat.named;
+        there = holds.lock.seat.there;
+        own = ap (λ (first : List Command). first ++ commands) holds.lock.seat.own
+            ∙ sym (own_added me.0.caller me.0.seen commands);
+      };
+      holds = holds.lock.holds;
+      slot = ap (λ (slots : List (ℕ × Connected)). (0, after) ∷ rest slots) holds.lock.slot;
+    };
+    left = left_next;
+  }
+
+  -- and the call is as contracts say it
+  pub is_call : {A : Type 0} (Does : Connected → Result A Refusal → Connected → Type 0) (table : TableId) (answer : A)
+      → Does before (Ok answer) after → IsCall Does commands (held_of table me) (Ok answer) (held_of table next)
+  is_call Does table answer does = record {
+    does = subst (λ (connected : Connected). Does connected (Ok answer) after) (sym was) does;
+    listed = refl;
+    refused = tt;
+    left = left_next;
+  }

@@ -1,0 +1,90 @@
+-- What a handle is told at the lock, and what a call promises.
+use Rattle.std.specs.Prelude.{◌≡◌, ℕ, true, false, List, [], ◌∷◌, ◌++◌, Result, IfErr, IfOk, IsErrOf, OnErr, OnOk, is_err}
+use Rattle.ob_types.specs.declared.command.Command.{Command}
+use Rattle.ob_types.specs.declared.command.Command.TheVariants.{Close, FailFlushed}
+use Rattle.ob_types.specs.declared.promise.Cause.{Cause}
+use Rattle.ob_types.specs.declared.promise.Outcome.{Outcome}
+use Rattle.ob_types.specs.declared.promise.PromiseState.{PromiseState}
+use Rattle.ob_types.specs.declared.refusal.Refusal.{Refusal}
+use Rattle.ob_types.specs.declared.refusal.Refusal.TheVariants.{Closed, NoMemory}
+use Rattle.ob_types.specs.declared.reply.Reply.{Reply}
+use Rattle.ob_seq.specs.State.{closed_after}
+use Rattle.ob_connection.specs.Connected.{Connected}
+use Rattle.ob_connection.specs.GivingUp.{GivesUp}
+use Rattle.ob_connection.specs.Obeying.{IsNext, IsQuiet, Obeys}
+use Rattle.ob_connection.specs.Replies.{taken_reply}
+use Rattle.ob_connection.specs.Standing.{Gives}
+use Rattle.ob_connection.specs.declared.replies.Taken.{Taken}
+use Rattle.ob_shared_connection.specs.Log.{commands_by}
+use Rattle.ob_shared_connection.specs.Removals.{NoneRemoves}
+use Rattle.ob_shared_connection.specs.Values.{HandleValue, Held, IsLeft, handle_with}
+use Rattle.ob_shared_connection.specs.declared.call.Call.{Call}
+
+-- a handle that takes the lock sees all accepted calls, and the connection is what they leave: what it had seen begins
+-- them, its own are just those that were accepted from it, in order, and what came between is of other handles; of that
+-- nothing took flushed messages away if this handle is the one that sends
+pub record IsLock (old : HandleValue) (new : Held) : Type 0 where
+  pub between : List Call
+  pub sees : new.handle ≡ record old { seen = old.seen ++ between }
+  pub own : old.mine ≡ commands_by old.caller new.handle.seen
+  pub others : commands_by old.caller between ≡ []
+  pub untouched : old.sends ≡ true → NoneRemoves between
+  pub left : IsLeft new
+
+-- a call under the lock does this to the connection; if it is accepted, the list has its commands behind all others, and
+-- else nothing changed
+pub record IsCall {A : Type 0} (Does : Connected → Result A Refusal → Connected → Type 0) (commands : List Command)
+    (old : Held) (result : Result A Refusal) (new : Held) : Type 0 where
+  pub does : Does old.connected result new.connected
+  pub listed : OnOk result (new.handle ≡ handle_with commands old.handle)
+  pub refused : OnErr result (new ≡ old)
+  pub left : IsLeft new
+
+-- a call of one command
+abbrev pub Makes : {A : Type 0} → (Command → Connected → Result A Refusal → Connected → Type 0) → Command
+    → Result A Refusal → Held → Held → Type 0
+Makes Does command result old new = IsCall (Does command) (command ∷ []) old result new
+
+-- between an old handle and a new one it took the lock once, this was done under it, and it let the lock go
+pub record UnderLock (old : HandleValue) (Does : Held → Held → Type 0) (new : HandleValue) : Type 0 where
+  pub before : Held
+  pub after : Held
+  pub locks : IsLock old before
+  pub does : Does before after
+  pub unlocks : new ≡ after.handle
+
+-- it obeys the command, as the sequential connection does, and may run out of memory
+abbrev pub Obeying : {A : Type 0} → (List PromiseState → A → Reply) → Command → Connected → Result A Refusal → Connected
+    → Type 0
+Obeying tell command old result new = Obeys old command tell result new
+
+-- it obeys the command, and never runs out of memory
+pub record ObeyingFreely {A : Type 0} (tell : List PromiseState → A → Reply) (command : Command) (old : Connected)
+    (result : Result A Refusal) (new : Connected) : Type 0 where
+  pub obeys : Obeys old command tell result new
+  pub frugal : ¬ IsErrOf result NoMemory
+
+-- it obeys the command, never runs out of memory, and what it took away goes on where those end that were gone before,
+-- with this outcome
+pub record Taking (outcome : Outcome) (command : Command) (old : Connected) (result : Result Taken Refusal)
+    (new : Connected) : Type 0 where
+  pub obeys : Obeys old command taken_reply result new
+  pub frugal : ¬ IsErrOf result NoMemory
+  pub next : IsNext old outcome result new
+
+-- and reports no change of writability if this is so
+pub record TakingQuietly (outcome : Outcome) (quiet : Type 0) (command : Command) (old : Connected)
+    (result : Result Taken Refusal) (new : Connected) : Type 0 where
+  pub takes : Taking outcome command old result new
+  pub quiet_then : quiet → IsQuiet result
+
+-- it gives the connection up, unless that is closed
+pub record GivingUp (cause : Cause) (old : Connected) (result : Result Taken Refusal) (new : Connected) : Type 0 where
+  pub gives_up : IfOk result (λ taken. GivesUp old cause taken new)
+  pub is_open : Gives old closed_after (is_err result)
+  pub refused : OnErr result (new ≡ old)
+  pub closed_only : IfErr result (λ refusal. refusal ≡ Closed)
+
+-- the commands of giving up
+abbrev pub giving_up : Cause → List Command
+giving_up cause = FailFlushed cause false ∷ Close cause ∷ []

@@ -1,0 +1,41 @@
+-- How handles begin, and how they end.
+use Rattle.std.specs.Prelude.{◌≡◌, ◌+◌, true, false, List, [], ◌++◌, length}
+use Rattle.ob_seq.specs.Settings.{Settings}
+use Rattle.ob_shared_connection.specs.Log.{IsBeginning, commands_by}
+use Rattle.ob_shared_connection.specs.Values.{HandleValue, IsLeftBy}
+use Rattle.ob_shared_connection.specs.declared.call.Call.{Call}
+use Rattle.ob_shared_connection.specs.declared.ended.Ended.{Ended}
+
+-- the first handle of a connection that was opened with these settings: it is the one that sends, and no call was made
+pub record IsFirst (settings : Settings) (handle : HandleValue) : Type 0 where
+  pub settings_are : handle.settings ≡ settings
+  pub sends_first : handle.sends ≡ true
+  pub none_made : handle.mine ≡ []
+  pub none_seen : handle.seen ≡ []
+  pub none_joined : (handle.others ≡ 0) × (handle.handed ≡ 0)
+
+-- another handle of the same connection: it has a number of its own, does not send, has made no call, and has seen what
+-- the old one has
+abbrev pub IsAnother : HandleValue → HandleValue → Type 0
+IsAnother old other =
+    other ≡ record old { caller = other.caller; sends = false; mine = []; others = 0; handed = 0 }
+
+-- a handle took another one in: it stands for both, and has seen what both had
+pub record IsJoined (old other new : HandleValue) : Type 0 where
+  pub between : List Call
+  pub joins : new ≡ record old {
+    seen = old.seen ++ between;
+    others = old.others + (1 + other.others);
+    handed = old.handed + (length other.mine + other.handed);
+  }
+  pub part : IsBeginning other.seen new.seen
+
+-- the end of a connection: of the list of all calls the handle had seen a beginning, and its own are those of its number
+-- in it; nobody had the lock, exactly if that is told, and then the connection is what the calls leave; and if as many
+-- handles are told as this one stands for, there are as many calls as were accepted from those
+pub record IsEnd (handle : HandleValue) (ended : Ended) : Type 0 where
+  pub log : List Call
+  pub part : IsBeginning handle.seen log
+  pub own : handle.mine ≡ commands_by handle.caller log
+  pub left : ended.is_left ≡ true → IsLeftBy handle.settings log ended.connection
+  pub counted : ended.handles ≡ 1 + handle.others → length log ≡ length handle.mine + handle.handed

@@ -1,0 +1,11 @@
+pub mod Acts
+pub mod Callers
+pub mod Calls
+pub mod Handles
+pub mod Log
+pub mod Looking
+pub mod Removals
+pub mod Ruled
+pub mod Steps
+pub mod Tables
+pub mod Values

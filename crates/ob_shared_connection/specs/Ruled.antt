@@ -1,0 +1,156 @@
+-- What holds of the words, of the connection and of what each seat knows, between any two steps. No public clause cites
+-- it.
+use Rattle.std.specs.Prelude.{◌≡◌, ◌≤◌, ◌+◌, ℕ, Bool, true, false, List, [], ◌∷◌, ◌++◌, length, slice_index}
+use Rattle.std.specs.List.{sum_by}
+use mathlib.Core.Option.{some}
+use lib.ListN.{get_elem?}
+use Rattle.atomic_table.specs.Table.{State}
+use Rattle.ob_types.specs.WaterMark.{Marks}
+use Rattle.ob_types.specs.declared.command.Command.{Command}
+use Rattle.ob_types.specs.declared.estimate.Estimate.{Estimate}
+use Rattle.ob_seq.specs.Settings.{Settings}
+use Rattle.ob_connection.specs.Connected.{Connected}
+use Rattle.ob_shared_connection.specs.Log.{IsBeginning, calls_of, commands_by}
+use Rattle.ob_shared_connection.specs.Removals.{NoneRemoves}
+use Rattle.ob_shared_connection.specs.Values.{IsLeftBy}
+use Rattle.ob_shared_connection.specs.declared.call.Call.{Call}
+use Rattle.ob_shared_connection.specs.declared.view.View.{View}
+
+-- what a seat's connection was opened with
+abbrev pub settings_of : View → Settings
+settings_of view = record { marks = view.marks; estimate = view.estimate }
+
+-- what the first seat knows
+abbrev pub first_view : Marks × Estimate → View
+first_view about = record {
+  marks = about.0;
+  estimate = about.1;
+  named = true;
+  spent = false;
+  caller = 0;
+  sends = true;
+  holds = false;
+  mine = [];
+  seen = [];
+  told = [];
+  others = 0;
+  handed = 0;
+}
+
+-- what a new seat knows that is cut off another one
+abbrev pub new_view : View → View
+new_view view = record {
+  marks = view.marks;
+  estimate = view.estimate;
+  named = false;
+  spent = false;
+  caller = 0;
+  sends = false;
+  holds = false;
+  mine = [];
+  seen = view.seen;
+  told = [];
+  others = 0;
+  handed = 0;
+}
+
+-- once it has its number
+abbrev pub named_view : ℕ → View → View
+named_view caller view = record view { named = true; caller = caller }
+
+-- once it has the lock, and has seen these calls
+abbrev pub held_view : List Call → View → View
+held_view log view = record view { holds = true; seen = log }
+
+-- once it let the lock go
+abbrev pub free_view : View → View
+free_view view = record view { holds = false }
+
+-- once it has seen these calls, and all that it was told of
+abbrev pub seeing_view : List Call → View → View
+seeing_view log view = record view { seen = log; told = [] }
+
+-- once these commands were accepted from its handle
+abbrev pub view_with : List Command → View → View
+view_with commands view = record view {
+  mine = view.mine ++ commands;
+  seen = view.seen ++ calls_of view.caller commands;
+}
+
+-- once it took another one in
+abbrev pub both_views : View → View → View
+both_views view other = record view {
+  told = other.seen;
+  others = view.others + (1 + other.others);
+  handed = view.handed + (length other.mine + other.handed);
+}
+
+-- what a seat knows that was taken in
+abbrev pub spent_view : View
+spent_view = record {
+  marks = record { low = 0; high = 0 };
+  estimate = record { overhead = 0; unknown = 0 };
+  named = false;
+  spent = true;
+  caller = 0;
+  sends = false;
+  holds = false;
+  mine = [];
+  seen = [];
+  told = [];
+  others = 0;
+  handed = 0;
+}
+
+-- a number, if this holds, and else none
+abbrev pub count_if : Bool → ℕ → ℕ
+count_if true count = count
+count_if false count = 0
+
+-- how many handles a seat stands for
+abbrev pub handles_of : View → ℕ
+handles_of view = count_if view.named (1 + view.others)
+
+-- how many calls were accepted from those
+abbrev pub calls_with : View → ℕ
+calls_with view = count_if view.named (length view.mine + view.handed)
+
+-- what the seat with this number knows fits the calls: it has seen a beginning of them, and was told of one; those of its own number are its
+-- own; if it has the lock it is the only one, and has seen all; and if it is the one that takes messages away, it is the
+-- only one, and nothing that it has not seen did
+pub record Fits (settings : Settings) (holder sender : ℕ) (log : List Call) (seat : ℕ) (view : View) : Type 0 where
+  pub opened : view.spent ≡ false → settings_of view ≡ settings
+  pub part : IsBeginning view.seen log
+  pub told : IsBeginning view.told log
+  pub numbered : view.named ≡ true → view.caller ≡ seat
+  pub own : view.spent ≡ false → view.mine ≡ commands_by seat log
+  pub one : view.holds ≡ true → seat ≡ holder
+  pub whole : view.holds ≡ true → view.seen ≡ log
+  pub sender_is : view.sends ≡ true → seat ≡ sender
+  pub untouched : view.sends ≡ true → NoneRemoves part.rest
+
+-- all seats fit
+abbrev pub AllFit : Settings → ℕ → ℕ → List Call → List View → Type 0
+AllFit settings holder sender log views =
+    (seat : ℕ) (view : View) → get_elem? views seat ≡ some view → Fits settings holder sender log seat view
+
+-- the connection is at home, is what the calls leave, and nobody has the lock
+pub record AtHome (settings : Settings) (log : List Call) (state : State Connected View) : Type 0 where
+  pub connection : Connected
+  pub here : state.homes ≡ some connection ∷ []
+  pub left : IsLeftBy settings log connection
+  pub nobody : (seat : ℕ) (view : View) → get_elem? state.views seat ≡ some view → view.holds ≡ false
+
+-- there is one list of calls, which the views of all seats fit; while the lock is free the connection is at home; the
+-- handles that there ever were are counted, and each call is of one of them
+pub record Ruled (state : State Connected View) : Type 0 where
+  pub settings : Settings
+  pub log : List Call
+  pub holder : ℕ
+  pub sender : ℕ
+  pub words : length state.words ≡ 8
+  pub free : slice_index state.words 0 ≡ 0 → AtHome settings log state
+  pub fits : AllFit settings holder sender log state.views
+  pub none_yet : (seat : ℕ) → length state.views ≤ seat → commands_by seat log ≡ []
+  pub given : slice_index state.words 1 ≡ sum_by handles_of state.views
+  pub counted : length log ≡ sum_by calls_with state.views

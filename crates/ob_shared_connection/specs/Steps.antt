@@ -1,0 +1,101 @@
+-- What a seat is between two steps, and what a step tells it. No public clause cites it.
+use Rattle.std.specs.Prelude.{◌≡◌, ◌≢◌, ℕ, true, false, List, [], ◌∷◌, ◌++◌}
+use Rattle.atomic_table.specs.Seated.{TableId}
+use Rattle.atomic_table.specs.Table.{Me}
+use Rattle.ob_connection.specs.Connected.{Connected}
+use Rattle.ob_seq.specs.Unsent.{nothing_unsent}
+use Rattle.ob_shared_connection.specs.Handles.{IsEnd}
+use Rattle.ob_shared_connection.specs.Log.{IsBeginning, commands_by}
+use Rattle.ob_shared_connection.specs.Removals.{NoneRemoves}
+use Rattle.ob_shared_connection.specs.Ruled.{held_view, named_view, seeing_view, settings_of}
+use Rattle.ob_shared_connection.specs.Values.{HandleValue, Held, IsLeftBy}
+use Rattle.ob_shared_connection.specs.declared.call.Call.{Call}
+use Rattle.ob_shared_connection.specs.declared.ended.Ended.{Ended}
+use Rattle.ob_shared_connection.specs.declared.view.View.{View}
+
+-- what a seat knows, and the slots that it has
+abbrev pub Knows : Type 0
+Knows = Me Connected View
+
+-- a connection that is none
+abbrev pub no_connection : Connected
+no_connection = record {
+  unsent = nothing_unsent (record { marks = record { low = 0; high = 0 }; estimate = record { overhead = 0; unknown = 0 } });
+  gone = 0;
+}
+
+-- the connection that a seat has
+abbrev pub connected_in : List (ℕ × Connected) → Connected
+connected_in [] = no_connection
+connected_in (slot ∷ slots) = slot.1
+
+-- what contracts see of a seat
+abbrev pub handle_of : TableId → View → HandleValue
+handle_of table view = record {
+  connection = table;
+  settings = settings_of view;
+  caller = view.caller;
+  sends = view.sends;
+  mine = view.mine;
+  seen = view.seen;
+  others = view.others;
+  handed = view.handed;
+}
+
+abbrev pub held_of : TableId → Knows → Held
+held_of table me = record { connected = connected_in me.1; handle = handle_of table me.0 }
+
+-- a seat is that of a handle
+pub record IsNamed (view : View) : Type 0 where
+  pub named : view.named ≡ true
+  pub there : view.spent ≡ false
+  pub own : view.mine ≡ commands_by view.caller view.seen
+
+-- and does not have the lock
+pub record Rests (me : Knows) : Type 0 where
+  pub seat : IsNamed me.0
+  pub free : me.0.holds ≡ false
+  pub slots : me.1 ≡ []
+
+-- and has the lock with the connection
+pub record HasLock (me : Knows) : Type 0 where
+  pub seat : IsNamed me.0
+  pub holds : me.0.holds ≡ true
+  pub slot : me.1 ≡ (0, connected_in me.1) ∷ []
+
+-- and the connection is what all calls leave
+pub record Holds (me : Knows) : Type 0 where
+  pub lock : HasLock me
+  pub left : IsLeftBy (settings_of me.0) me.0.seen (connected_in me.1)
+
+-- a seat takes the lock: it has the connection then, which is what all calls leave
+pub record Locks (old new : Knows) : Type 0 where
+  pub between : List Call
+  pub view : new.0 ≡ held_view (old.0.seen ++ between) old.0
+  pub slot : new.1 ≡ (0, connected_in new.1) ∷ old.1
+  pub own : old.0.named ≡ true → old.0.spent ≡ false → old.0.mine ≡ commands_by old.0.caller (old.0.seen ++ between)
+  pub untouched : old.0.sends ≡ true → NoneRemoves between
+  pub left : old.0.spent ≡ false → IsLeftBy (settings_of old.0) (old.0.seen ++ between) (connected_in new.1)
+
+-- a try to take it: it is taken if it was free, and else nothing changes
+pub record Tries (old : Knows) (found : ℕ) (new : Knows) : Type 0 where
+  pub taken : found ≡ 0 → Locks old new
+  pub missed : found ≢ 0 → new ≡ old
+
+-- a seat gets its number if it found what it had expected, and else nothing changes
+pub record Names (expected : ℕ) (old : Knows) (found : ℕ) (new : Knows) : Type 0 where
+  pub named : found ≡ expected → new ≡ (named_view new.0.caller old.0, old.1)
+  pub own : found ≡ expected → old.0.spent ≡ false → old.0.mine ≡ [] → commands_by new.0.caller old.0.seen ≡ []
+  pub missed : found ≢ expected → new ≡ old
+
+-- a seat sees all calls, which begin with what it was told of
+pub record Sees (old new : Knows) : Type 0 where
+  pub between : List Call
+  pub is : new ≡ (seeing_view (old.0.seen ++ between) old.0, old.1)
+  pub told : IsBeginning old.0.told (old.0.seen ++ between)
+  pub own : old.0.named ≡ true → old.0.spent ≡ false → old.0.mine ≡ commands_by old.0.caller (old.0.seen ++ between)
+  pub untouched : old.0.sends ≡ true → NoneRemoves between
+
+-- the end of a table, as a seat knows it
+abbrev pub IsEndOf : View → Ended → Type 0
+IsEndOf view ended = (table : TableId) → IsEnd (handle_of table view) ended

@@ -1,0 +1,43 @@
+-- What contracts see of a handle, and of what lies under the lock.
+use Rattle.std.specs.Prelude.{◌≡◌, ℕ, Bool, List, ◌++◌}
+use Rattle.atomic_table.specs.Seated.{TableId}
+use Rattle.ob_types.specs.declared.command.Command.{Command}
+use Rattle.ob_seq.specs.Settings.{Settings}
+use Rattle.ob_connection.specs.Connected.{Connected}
+use Rattle.ob_connection.specs.Standing.{StandsFor}
+use Rattle.ob_shared_connection.specs.Log.{calls_of, commands_of}
+use Rattle.ob_shared_connection.specs.declared.call.Call.{Call}
+
+-- a handle: which connection it is of, and what that was opened with; its number; whether it is the one that takes
+-- messages away; what was accepted from it, in order; the accepted calls that it has seen; and how many other handles it
+-- took in, with the number of calls that were accepted from those
+pub record HandleValue : Type 0 where
+  pub connection : TableId
+  pub settings : Settings
+  pub caller : ℕ
+  pub sends : Bool
+  pub mine : List Command
+  pub seen : List Call
+  pub others : ℕ
+  pub handed : ℕ
+
+-- what lies under the lock, and the handle that has it: what it has seen are all accepted calls
+pub record Held : Type 0 where
+  pub connected : Connected
+  pub handle : HandleValue
+
+-- a connection is as it was opened, and what these calls leave
+pub record IsLeftBy (settings : Settings) (log : List Call) (connected : Connected) : Type 0 where
+  pub settings_are : connected.unsent.settings ≡ settings
+  pub stands : StandsFor connected (commands_of log)
+
+-- what lies under the lock is what all calls leave that its handle has seen
+abbrev pub IsLeft : Held → Type 0
+IsLeft held = IsLeftBy held.handle.settings held.handle.seen held.connected
+
+-- the handle once these commands were accepted from it
+abbrev pub handle_with : List Command → HandleValue → HandleValue
+handle_with commands handle = record handle {
+  mine = handle.mine ++ commands;
+  seen = handle.seen ++ calls_of handle.caller commands;
+}

@@ -1,0 +1,106 @@
+//! One call for each command, under the lock.
+ghost use Rattle.std.specs.Prelude.{◌≡◌, true, false, ⊤};
+ghost use Rattle.ob_types.specs.declared.command.Command.TheVariants as command;
+ghost use Rattle.ob_types.specs.declared.promise.Outcome.TheVariants.{Success, Failed};
+ghost use Rattle.ob_connection.specs.Replies.{written_reply, flushed_reply, removed_reply, taken_reply, cancelled_reply};
+ghost use Rattle.ob_connection.specs.Replies.{bit_reply, done_reply};
+ghost use Rattle.ob_shared_connection.specs.Calls.{GivingUp, IsCall, Makes, Obeying, ObeyingFreely, Taking};
+ghost use Rattle.ob_shared_connection.specs.Calls.{TakingQuietly, giving_up};
+
+use crate::commands;
+use crate::guard::Guard;
+use ob_connection::{Flushed, Removed, Taken, Written};
+use ob_types::{Cause, Change, Message, Refusal, WaterMark};
+
+impl Guard {
+    /// Adds a message behind all others, as `Connection::write`.
+    pub fn write(&mut self, message: Message) -> Result<Written, Refusal>
+        ensures { Makes (Obeying written_reply) (command.Write message) result self.old self.new }
+    {
+        self.caller.act(commands::Write(message))
+    }
+
+    /// Lets the transport have all that was written so far, as `Connection::flush`.
+    pub fn flush(&mut self) -> Result<Flushed, Refusal>
+        ensures { Makes (ObeyingFreely flushed_reply) command.Flush result self.old self.new }
+    {
+        self.caller.act(commands::Flush)
+    }
+
+    /// Takes the first flushed message away, as sent, as `Connection::remove`. Of the handle that sends.
+    pub fn remove(&mut self) -> Result<Removed, Refusal>
+        requires { self.old.handle.sends ≡ true }
+        ensures { Makes (ObeyingFreely removed_reply) command.Remove result self.old self.new }
+    {
+        self.caller.act(commands::Remove)
+    }
+
+    /// Takes the first flushed message away, as failed, as `Connection::remove_with`. Of the handle that sends.
+    pub fn remove_with(&mut self, cause: Cause) -> Result<Removed, Refusal>
+        requires { self.old.handle.sends ≡ true }
+        ensures { Makes (ObeyingFreely removed_reply) (command.RemoveWith cause) result self.old self.new }
+    {
+        self.caller.act(commands::RemoveWith(cause))
+    }
+
+    /// Takes *n* bytes off the flushed blocks in front, as sent, as `Connection::take_sent`. Of the handle that sends.
+    pub fn take_sent(&mut self, n: u64) -> Result<Taken, Refusal>
+        requires { self.old.handle.sends ≡ true }
+        ensures { Makes (Taking Success) (command.RemoveBytes n) result self.old self.new }
+    {
+        self.caller.act(commands::TakeSent(n))
+    }
+
+    /// Adds *n* bytes to the progress of the first flushed message, as `Connection::progress`.
+    pub fn progress(&mut self, n: u64) -> Result<(), Refusal>
+        ensures { Makes (ObeyingFreely done_reply) (command.Progress n) result self.old self.new }
+    {
+        self.caller.act(commands::Progress(n))
+    }
+
+    /// Takes a promise back, as `Connection::cancel`.
+    pub fn cancel(&mut self, id: u64) -> Result<bool, Refusal>
+        ensures { Makes (ObeyingFreely (cancelled_reply id)) (command.Cancel (record { 0 = id })) result self.old self.new }
+    {
+        self.caller.act(commands::Cancel(id))
+    }
+
+    /// Takes all flushed messages away, as failed, as `Connection::fail_flushed`. Of the handle that sends.
+    pub fn fail_flushed(&mut self, cause: Cause, notify: bool) -> Result<Taken, Refusal>
+        requires { self.old.handle.sends ≡ true }
+        ensures { Makes (TakingQuietly (Failed cause) (notify ≡ false)) (command.FailFlushed cause notify)
+            result self.old self.new }
+    {
+        self.caller.act(commands::FailFlushed(cause, notify))
+    }
+
+    /// Closes the connection for good, as `Connection::close`.
+    pub fn close(&mut self, cause: Cause) -> Result<Taken, Refusal>
+        ensures { Makes (TakingQuietly (Failed cause) ⊤) (command.Close cause) result self.old self.new }
+    {
+        self.caller.act(commands::Close(cause))
+    }
+
+    /// Fails what is flushed and closes the connection, as `Connection::give_up`: two calls of the list. Of the handle
+    /// that sends.
+    pub fn give_up(&mut self, cause: Cause) -> Result<Taken, Refusal>
+        requires { self.old.handle.sends ≡ true }
+        ensures { IsCall (GivingUp cause) (giving_up cause) self.old result self.new }
+    {
+        self.caller.act(commands::GiveUp(cause))
+    }
+
+    /// Sets a user bit or clears it, as `Connection::user_bit`.
+    pub fn user_bit(&mut self, index: u32, writable: bool) -> Result<Option<Change>, Refusal>
+        ensures { Makes (ObeyingFreely bit_reply) (command.UserBit index writable) result self.old self.new }
+    {
+        self.caller.act(commands::UserBit(index, writable))
+    }
+
+    /// Sets the marks that are in force from now on, as `Connection::set_marks`.
+    pub fn set_marks(&mut self, marks: WaterMark) -> Result<(), Refusal>
+        ensures { Makes (ObeyingFreely done_reply) (command.SetMarks marks) result self.old self.new }
+    {
+        self.caller.act(commands::SetMarks(marks))
+    }
+}

@@ -1,0 +1,153 @@
+ghost use Rattle.std.specs.Prelude.{◌≡◌, ◌≤◌, IfErr, IfOk, IsOkUnless};
+ghost use Rattle.ob_types.specs.Limits.{greatest_overhead, greatest_unknown};
+ghost use Rattle.ob_shared_connection.specs.Calls.{IsCall, IsLock, UnderLock};
+ghost use Rattle.ob_shared_connection.specs.Handles.{IsAnother, IsEnd, IsFirst, IsJoined};
+ghost use Rattle.ob_shared_connection.specs.Looking.{IsLook};
+ghost use Rattle.ob_shared_connection.specs.Log.{commands_by};
+
+mod commands;
+mod looks;
+
+use crate::act::Act;
+use crate::ask::Ask;
+use crate::caller::Caller;
+use crate::ended::Ended;
+use crate::guard::Guard;
+use ob_types::{Estimate, Refusal, WaterMark};
+use std::alloc::{AllocError, Global};
+use std::marker::Model;
+use std::sync::Wait;
+use thiserror::Error;
+
+/// A connection has had more handles than can be counted: 2^64 - 1 ever, or 2^63 - 1 at a time.
+#[derive(Clone, Copy, Debug, PartialEq, Eq, Error)]
+#[error("the connection has had more handles than can be counted")]
+pub struct TooManyHandles;
+
+impl From<AllocError> for TooManyHandles {
+    fn from(_error: AllocError) -> TooManyHandles {
+        TooManyHandles
+    }
+}
+
+/// One of the handles of a connection, for one thread. It may go to another thread, and lie beside handles of other
+/// connections.
+///
+/// Of one connection there is one list of accepted calls, whatever the schedule: each call of each handle returns what
+/// the sequential `Connection` returns after the calls before it, and the list is stored nowhere. Contracts see the
+/// number of the handle, what was accepted from it, and the calls that it has seen.
+///
+/// Each call takes the lock and lets it go: it waits while another handle has it. It lets other threads run and tries
+/// again, ten times; then it naps for 50 microseconds between tries, a hundred times; and then it sleeps until it is
+/// woken. The lock is never poisoned; that it is had in any order, or ever, is not promised.
+#[derive(Drop)]
+pub struct Handle {
+    caller: Caller,
+}
+
+impl Model for Handle {
+    ghost use Rattle.ob_shared_connection.specs.Values.{HandleValue};
+    ghost use Rattle.ob_shared_connection.specs.Callers.{IsFree, caller_handle};
+
+    ghost Value = { HandleValue };
+
+    ghost view = { λ handle. caller_handle handle.caller };
+
+    ghost invariant = { λ handle. IsFree handle.caller };
+}
+
+impl Handle {
+    ghost use Rattle.ob_shared_connection.specs.Removals.{MayGive};
+    ghost use Rattle.ob_shared_connection.specs.Callers.{IsFree, caller_handle};
+
+    /// The first handle of a connection with nothing written, which is the one that sends. The overhead and the size of
+    /// unknown messages are at most 65535 bytes. `NoMemory` comes only if the allocator refuses.
+    pub fn open(alloc: Global, marks: WaterMark, estimate: Estimate) -> Result<Handle, Refusal>
+        requires overhead { estimate.overhead ≤ greatest_overhead }
+        requires unknown { estimate.unknown ≤ greatest_unknown }
+        ensures first { IfOk result (λ handle. IsFirst (record { marks = marks; estimate = estimate }) handle) }
+        ensures no_memory { IsOkUnless result Refusal.NoMemory }
+    {
+        Ok(Handle::new(Caller::open(alloc, marks, estimate)?))
+    }
+
+    /// A handle of a caller that does not have the lock.
+    pub(crate) fn new(caller: Caller) -> Handle
+        requires { IsFree caller }
+        ensures { result ≡ caller_handle caller }
+    {
+        Handle { caller }
+    }
+
+    /// Another handle of the same connection, for another thread: it has seen what this one has, and has made no call. It
+    /// can be had at any time, waits for nobody and does not allocate.
+    pub fn another(&mut self) -> Result<Handle, TooManyHandles>
+        ensures other { IfOk result (λ other. IsAnother self.old other) }
+        ensures same { self.new ≡ self.old }
+    {
+        Ok(Handle::new(self.caller.another()?))
+    }
+
+    /// What was accepted from this handle are the calls of its number that it has seen, each once, in order. It does
+    /// nothing.
+    pub fn own_calls(&self)
+        ensures { self.now.mine ≡ commands_by self.now.caller self.now.seen }
+    {
+        let _caller = &self.caller;
+    }
+
+    /// Takes the lock, for several calls. It does not allocate.
+    pub fn lock<R: Wait>(self, rt: &R) -> Guard
+        ensures { IsLock self result }
+    {
+        let Handle { mut caller } = self;
+        caller.lock(rt);
+        Guard::new(caller)
+    }
+
+    /// Takes another handle of the same connection in, once its thread is done with it. It waits for nobody.
+    pub fn join(&mut self, other: Handle)
+        requires { other.connection ≡ self.old.connection }
+        ensures { IsJoined self.old other self.new }
+    {
+        let Handle { caller } = other;
+        self.caller.join(caller);
+    }
+
+    /// Ends the connection, if no other handle of it is left that was neither joined nor dropped; else the handle is
+    /// given back.
+    ///
+    /// There is one list of all calls, which begins with what each handle had seen, and if as many handles there ever
+    /// were as this one stands for, it has as many calls as were accepted from those. The connection is what they leave.
+    pub fn finish(self) -> Result<Ended, Handle>
+        ensures ended { IfOk result (λ ended. IsEnd self ended) }
+        ensures back { IfErr result (λ handle. handle ≡ self) }
+    {
+        let Handle { caller } = self;
+        match caller.finish() {
+            Ok(ended) => Ok(ended),
+            Err(caller) => Err(Handle::new(caller)),
+        }
+    }
+
+    /// One call, which takes the lock and lets it go.
+    fn call<A: Act, R: Wait>(&mut self, rt: &R, act: A) -> Result<A::Answer, Refusal>
+        requires { MayGive self.old.sends (A.commands act) }
+        ensures { UnderLock self.old (λ before after. IsCall (A.does act) (A.commands act) before result after) self.new }
+    {
+        self.caller.lock(rt);
+        let answer = self.caller.act(act);
+        self.caller.unlock();
+        answer
+    }
+
+    /// One look, which takes the lock and lets it go.
+    fn ask<A: Ask, R: Wait>(&mut self, rt: &R, ask: A) -> A::Answer
+        ensures { UnderLock self.old (IsLook (A.shows ask) result) self.new }
+    {
+        self.caller.lock(rt);
+        let answer = self.caller.ask(ask);
+        self.caller.unlock();
+        answer
+    }
+}

@@ -1,0 +1,22 @@
+//! One connection for many threads, with nothing stored of what is past: a handle for each thread, and the list of all
+//! accepted calls in contracts alone.
+#![tactic(auto)]
+
+mod act;
+mod ask;
+mod call;
+mod caller;
+mod commands;
+mod ended;
+mod guard;
+mod handle;
+mod looks;
+mod plays;
+mod rule;
+mod shared;
+mod view;
+
+pub use call::Call;
+pub use ended::Ended;
+pub use guard::Guard;
+pub use handle::{Handle, TooManyHandles};

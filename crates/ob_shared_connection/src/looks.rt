@@ -1,0 +1,116 @@
+//! Each look.
+ghost use Rattle.ob_types.specs.declared.command.Command.TheVariants as command;
+ghost use Rattle.ob_types.specs.declared.message.Message.TheVariants.{Block};
+ghost use Rattle.ob_seq.specs.State.{writable_after, empty_after, closed_after};
+ghost use Rattle.ob_connection.specs.Looks.{IsFrontPromise, Refuses, Shows, Tells};
+ghost use Rattle.ob_connection.specs.Standing.{Gives};
+ghost use Rattle.ob_shared_connection.specs.Looking.{Gathers, RefusesFreely};
+
+use crate::ask::Ask;
+use bytes::Bytes;
+use ob_connection::{Connection, Status};
+use ob_types::Refusal;
+
+#[derive(Drop)]
+pub struct Look;
+
+impl Ask for Look {
+    type Answer = ob_connection::Look;
+
+    ghost shows = { λ _ connected look. Shows connected look };
+
+    fn ask(self, connection: &Connection) -> ob_connection::Look {
+        connection.look()
+    }
+}
+
+#[derive(Drop)]
+pub struct IsWritable;
+
+impl Ask for IsWritable {
+    type Answer = bool;
+
+    ghost shows = { λ _ connected answer. Gives connected writable_after answer };
+
+    fn ask(self, connection: &Connection) -> bool {
+        connection.is_writable()
+    }
+}
+
+#[derive(Drop)]
+pub struct IsEmpty;
+
+impl Ask for IsEmpty {
+    type Answer = bool;
+
+    ghost shows = { λ _ connected answer. Gives connected empty_after answer };
+
+    fn ask(self, connection: &Connection) -> bool {
+        connection.is_empty()
+    }
+}
+
+#[derive(Drop)]
+pub struct IsClosed;
+
+impl Ask for IsClosed {
+    type Answer = bool;
+
+    ghost shows = { λ _ connected answer. Gives connected closed_after answer };
+
+    fn ask(self, connection: &Connection) -> bool {
+        connection.is_closed()
+    }
+}
+
+#[derive(Drop)]
+pub struct RefusalOfBlock<'b>(pub &'b [u8]);
+
+impl<'b> Ask for RefusalOfBlock<'b> {
+    type Answer = Option<Refusal>;
+
+    ghost shows = { λ ask connected refusal. RefusesFreely connected (command.Write (Block ask.0.now)) refusal };
+
+    fn ask(self, connection: &Connection) -> Option<Refusal> {
+        connection.refusal_of_block(self.0)
+    }
+}
+
+#[derive(Drop)]
+pub struct Promise(pub u64);
+
+impl Ask for Promise {
+    type Answer = Option<Status>;
+
+    ghost shows = { λ ask connected status. Tells connected ask.0 status };
+
+    fn ask(self, connection: &Connection) -> Option<Status> {
+        connection.promise(self.0)
+    }
+}
+
+#[derive(Drop)]
+pub struct Front;
+
+impl Ask for Front {
+    type Answer = Option<u64>;
+
+    ghost shows = { λ _ connected id. IsFrontPromise connected id };
+
+    fn ask(self, connection: &Connection) -> Option<u64> {
+        connection.front()
+    }
+}
+
+#[derive(Drop)]
+pub struct Gather(pub u32, pub u32);
+
+impl Ask for Gather {
+    type Answer = Result<Vec<Bytes>, Refusal>;
+
+    ghost shows = { λ ask connected gathered. Gathers (λ blocks. blocks.items) ask.0 ask.1 connected gathered };
+
+    fn ask(self, connection: &Connection) -> Result<Vec<Bytes>, Refusal> {
+        connection.gather(self.0, self.1)
+    }
+}

@@ -1,0 +1,84 @@
+//! What each kind of step tells the seat that makes it.
+ghost use Rattle.std.specs.Prelude.{◌≡◌};
+ghost use Rattle.atomic_table.specs.Table.{rest};
+ghost use Rattle.ob_shared_connection.specs.Steps.{Names, Sees, Tries};
+ghost use Rattle.ob_shared_connection.specs.Ruled.{free_view, view_with};
+
+use crate::view::View;
+use atomic_table::{Join, Play, Split};
+use ob_connection::Connection;
+use std::marker::{Brand, PhantomData};
+
+/// Commands that were accepted. A step is told none when the program runs, so they come as a ghost member, which the
+/// caller picks.
+pub trait Accepted {
+    ghost use Rattle.std.specs.Prelude.{List};
+    ghost use Rattle.ob_types.specs.declared.command.Command.{Command};
+
+    ghost commands: { List Command };
+}
+
+impl Accepted for Brand {
+    ghost use Rattle.std.specs.Prelude.{[]};
+
+    ghost commands = { [] };
+}
+
+/// A try to take the lock.
+pub struct Lock;
+
+impl Play<Connection, View> for Lock {
+    ghost then = { λ _ old found new. Tries old found new };
+}
+
+/// The lock is let go.
+pub struct Unlock;
+
+impl Play<Connection, View> for Unlock {
+    ghost then = { λ _ old _ new. new ≡ (free_view old.0, rest old.1) };
+}
+
+/// Calls of the handle that has the lock join the list.
+pub struct List<C> {
+    commands: PhantomData<C>,
+}
+
+impl<C: Accepted> Play<Connection, View> for List<C> {
+    ghost then = { λ _ old _ new. new ≡ (view_with C.commands old.0, old.1) };
+}
+
+/// A new seat gets its number.
+pub struct Name;
+
+impl Play<Connection, View> for Name {
+    ghost then = { λ step old found new. Names step.first old found new };
+}
+
+/// A look at the list of calls, which no word tells: it is for the proof alone.
+pub struct See;
+
+impl Play<Connection, View> for See {
+    ghost then = { λ _ old _ new. Sees old new };
+}
+
+/// A new seat, which has seen what this one has.
+pub struct Cut;
+
+impl Split<View> for Cut {
+    ghost use Rattle.ob_shared_connection.specs.Ruled.{new_view};
+
+    ghost left = { λ view. view };
+
+    ghost right = { new_view };
+}
+
+/// A seat takes another one in.
+pub struct Take;
+
+impl Join<View> for Take {
+    ghost use Rattle.ob_shared_connection.specs.Ruled.{both_views, spent_view};
+
+    ghost both = { both_views };
+
+    ghost spent = { spent_view };
+}

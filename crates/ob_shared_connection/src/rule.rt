@@ -1,0 +1,33 @@
+use crate::view::View;
+use atomic_table::TableRule;
+use ob_connection::Connection;
+use ob_types::{Estimate, WaterMark};
+
+/// How many words the table has.
+pub const WORDS: usize = 8;
+
+/// The word that is the lock.
+pub const LOCK: usize = 0;
+
+/// The word that counts the handles that there ever were.
+pub const GIVEN: usize = 1;
+
+/// Nobody has the lock.
+pub const FREE: u64 = 0;
+
+/// A handle has it, and none sleeps for it.
+pub const TAKEN: u64 = 1;
+
+/// A handle has it, and others may sleep until it is free.
+pub const WAITED: u64 = 2;
+
+/// What holds between any two steps.
+pub struct Rule;
+
+impl TableRule<Connection, View, (WaterMark, Estimate)> for Rule {
+    ghost use Rattle.ob_shared_connection.specs.Ruled.{Ruled, first_view};
+
+    ghost holds = { λ _. Ruled };
+
+    ghost first = { first_view };
+}

@@ -1,0 +1,255 @@
+ghost use Rattle.std.specs.Prelude.{◌≡◌, ◌≤◌, false, true, [], IfOk, OnOk, IsOkUnless};
+
+use crate::ended::Ended;
+use crate::handle::TooManyHandles;
+use crate::plays::{Accepted, Cut, List, Lock, Name, See, Take, Unlock};
+use crate::rule::{FREE, GIVEN, LOCK, Rule, TAKEN, WAITED, WORDS};
+use crate::view::View;
+use atomic_table::{Refused, Table};
+use ob_connection::Connection;
+use ob_types::{Estimate, Refusal, WaterMark};
+use std::alloc::Global;
+use std::sync::Wait;
+use std::thread::{Parker, yield_now};
+use std::time::Duration;
+
+/// What one handle steps with. It has no bytes.
+pub type Seat = atomic_table::Seat<Connection, View>;
+
+/// How often a thread that finds the lock taken lets others run and tries again, before it naps.
+const YIELDS: u32 = 10;
+
+/// How often it naps and tries again, before it sleeps until it is woken.
+const NAPS: u32 = 100;
+
+/// How many microseconds a nap takes.
+const NAP: u64 = 50;
+
+/// The table that all handles of a connection share: the lock is one of its words, and the connection lies in its slot.
+#[derive(Drop)]
+pub struct Shared {
+    pub table: Table<Connection, View, (WaterMark, Estimate), Rule, Global>,
+    ghost words: { table.shared.table_id.words ≡ 8 },
+    ghost slots: { table.shared.table_id.slots ≡ 1 },
+}
+
+impl Shared {
+    ghost use Rattle.ob_types.specs.Limits.{greatest_overhead, greatest_unknown};
+    ghost use Rattle.ob_shared_connection.specs.Ruled.{both_views, first_view, free_view, named_view, new_view, view_with};
+    ghost use Rattle.ob_shared_connection.specs.Log.{commands_by};
+    ghost use Rattle.ob_shared_connection.specs.Removals.{MayGive};
+    ghost use Rattle.ob_shared_connection.specs.Steps.{HasLock, Holds, IsEndOf, IsNamed, Locks, Rests, Sees};
+    ghost use Rattle.ob_shared_connection.specs.Tables.{IsSeatOf, IsSameSeat};
+
+    /// A table with a connection that has nothing written, and its first seat.
+    pub fn new(
+        alloc: Global,
+        marks: WaterMark,
+        estimate: Estimate,
+    ) -> Result<(Shared, Seat), Refusal>
+        requires overhead { estimate.overhead ≤ greatest_overhead }
+        requires unknown { estimate.unknown ≤ greatest_unknown }
+        ensures seat { IfOk result (λ made. IsSeatOf made.0 made.1) }
+        ensures me { IfOk result (λ made. made.1.me ≡ (first_view (marks, estimate), [])) }
+        ensures no_memory { IsOkUnless result Refusal.NoMemory }
+    {
+        let mut slots = Vec::new(alloc);
+        slots.push(Connection::new(alloc, marks, estimate))?;
+        let words: [u64; WORDS] = [FREE, 1, 0, 0, 0, 0, 0, 0];
+        match Table::new(alloc, &words, slots, &(marks, estimate)) {
+            Ok((table, seat)) => Ok((Shared { table }, seat)),
+            Err(Refused { slots: _ }) => Err(Refusal::NoMemory),
+        }
+    }
+
+    /// Takes the lock if it is free.
+    fn try_lock(&self, seat: &mut Seat) -> bool
+        requires table { IsSeatOf self.now seat.old }
+        requires rests { Rests seat.old.me }
+        ensures seat { IsSameSeat seat.old seat.new }
+        ensures taken { result ≡ true → Locks seat.old.me seat.new.me }
+        ensures missed { result ≡ false → seat.new.me ≡ seat.old.me }
+    {
+        self.table
+            .shared
+            .compare_exchange::<Lock>(seat, LOCK, FREE, TAKEN)
+            == FREE
+    }
+
+    /// Takes the lock if it is free; else whoever has it knows that another waits.
+    fn ask_lock(&self, seat: &mut Seat) -> bool
+        requires table { IsSeatOf self.now seat.old }
+        requires rests { Rests seat.old.me }
+        ensures seat { IsSameSeat seat.old seat.new }
+        ensures taken { result ≡ true → Locks seat.old.me seat.new.me }
+        ensures missed { result ≡ false → seat.new.me ≡ seat.old.me }
+    {
+        self.table.shared.swap::<Lock>(seat, LOCK, WAITED) == FREE
+    }
+
+    /// Takes the lock. Who finds it taken lets others run, then naps, and then sleeps until it is woken.
+    pub fn lock<R: Wait>(&self, rt: &R, seat: &mut Seat)
+        requires table { IsSeatOf self.now seat.old }
+        requires rests { Rests seat.old.me }
+        ensures seat { IsSameSeat seat.old seat.new }
+        ensures locks { Locks seat.old.me seat.new.me }
+    {
+        if self.try_lock(seat) || self.yielding(seat) || self.napping(rt, seat) {
+            return;
+        }
+        'asks: for _ in rt.forever() {
+            if self.ask_lock(seat) {
+                return;
+            }
+            self.table.shared.park(rt, LOCK, WAITED as u32);
+        }
+        unreachable!()
+    }
+
+    /// Tries to take the lock, and lets other threads run between tries.
+    fn yielding(&self, seat: &mut Seat) -> bool
+        requires table { IsSeatOf self.now seat.old }
+        requires rests { Rests seat.old.me }
+        ensures seat { IsSameSeat seat.old seat.new }
+        ensures taken { result ≡ true → Locks seat.old.me seat.new.me }
+        ensures missed { result ≡ false → seat.new.me ≡ seat.old.me }
+    {
+        'yields: for _ in 0..YIELDS {
+            yield_now();
+            if self.try_lock(seat) {
+                return true;
+            }
+        }
+        false
+    }
+
+    /// Tries to take the lock, and naps between tries: whoever has it goes on meanwhile, and wakes nobody.
+    fn napping<R: Wait>(&self, rt: &R, seat: &mut Seat) -> bool
+        requires table { IsSeatOf self.now seat.old }
+        requires rests { Rests seat.old.me }
+        ensures seat { IsSameSeat seat.old seat.new }
+        ensures taken { result ≡ true → Locks seat.old.me seat.new.me }
+        ensures missed { result ≡ false → seat.new.me ≡ seat.old.me }
+    {
+        // nobody else has this one, so nothing but time ends a nap
+        let parker = Parker::new();
+        'naps: for _ in 0..NAPS {
+            parker.park_timeout(rt, Duration::from_micros(NAP));
+            if self.try_lock(seat) {
+                return true;
+            }
+        }
+        false
+    }
+
+    /// Lets the lock go, and wakes one who sleeps for it.
+    pub fn unlock(&self, seat: &mut Seat)
+        requires table { IsSeatOf self.now seat.old }
+        requires holds { Holds seat.old.me }
+        ensures seat { IsSameSeat seat.old seat.new }
+        ensures view { seat.new.me.0 ≡ free_view seat.old.me.0 }
+        ensures slots { seat.new.me.1 ≡ [] }
+    {
+        let found = self.table.shared.swap::<Unlock>(seat, LOCK, FREE);
+        if found == WAITED {
+            self.table.shared.wake_one(LOCK);
+        }
+    }
+
+    /// Puts commands that were just accepted behind the list. It is for the proof alone: no word changes.
+    pub fn list<C: Accepted>(&self, seat: &mut Seat)
+        requires table { IsSeatOf self.now seat.old }
+        requires lock { HasLock seat.old.me }
+        requires may { MayGive seat.old.me.0.sends C.commands }
+        ensures seat { IsSameSeat seat.old seat.new }
+        ensures me { seat.new.me ≡ (view_with C.commands seat.old.me.0, seat.old.me.1) }
+    {
+        let _found = self.table.shared.load::<List<C>>(seat, LOCK);
+    }
+
+    /// A new seat, which has seen what this one has, and has no number yet.
+    fn cut(&self, seat: &mut Seat) -> Seat
+        requires table { IsSeatOf self.now seat.old }
+        requires there { seat.old.me.0.spent ≡ false }
+        ensures seat { IsSameSeat seat.old seat.new }
+        ensures me { seat.new.me ≡ seat.old.me }
+        ensures other { IsSeatOf self.now result }
+        ensures given { result.me ≡ (new_view seat.old.me.0, []) }
+    {
+        self.table.shared.split_seat::<Cut>(seat)
+    }
+
+    /// Gives a new seat its number, and counts its handle.
+    fn name(&self, seat: &mut Seat) -> Result<(), TooManyHandles>
+        requires table { IsSeatOf self.now seat.old }
+        requires new { seat.old.me ≡ (new_view seat.old.me.0, []) }
+        ensures seat { IsSameSeat seat.old seat.new }
+        ensures named { OnOk result (seat.new.me ≡ (named_view seat.new.me.0.caller seat.old.me.0, [])) }
+        ensures own { OnOk result (commands_by seat.new.me.0.caller seat.old.me.0.seen ≡ []) }
+    {
+        let mut given = self.table.shared.peek(GIVEN);
+        'tries: for _ in 0..u64::MAX {
+            if given == u64::MAX {
+                return Err(TooManyHandles);
+            }
+            let found = self
+                .table
+                .shared
+                .compare_exchange::<Name>(seat, GIVEN, given, given + 1);
+            if found == given {
+                return Ok(());
+            }
+            given = found;
+        }
+        Err(TooManyHandles)
+    }
+
+    /// The seat of another handle, which has seen what this one has.
+    pub fn another(&self, seat: &mut Seat) -> Result<Seat, TooManyHandles>
+        requires table { IsSeatOf self.now seat.old }
+        requires named { IsNamed seat.old.me.0 }
+        ensures seat { IsSameSeat seat.old seat.new }
+        ensures me { seat.new.me ≡ seat.old.me }
+        ensures other { IfOk result (λ other. IsSeatOf self.now other) }
+        ensures given { IfOk result (λ other.
+            other.me ≡ (named_view other.me.0.caller (new_view seat.old.me.0), [])) }
+        ensures own { IfOk result (λ other. commands_by other.me.0.caller seat.old.me.0.seen ≡ []) }
+    {
+        let mut other = self.cut(seat);
+        self.name(&mut other)?;
+        Ok(other)
+    }
+
+    /// Takes another seat in, which had seen a beginning of all that this one has seen then. It is for the proof alone: no
+    /// word changes.
+    pub fn take(&self, seat: &mut Seat, other: Seat)
+        requires table { IsSeatOf self.now seat.old }
+        requires rests { Rests seat.old.me }
+        requires other { IsSeatOf self.now other }
+        requires other_rests { Rests other.me }
+        ensures seat { IsSameSeat seat.old seat.new }
+        ensures sees { Sees (both_views seat.old.me.0 other.me.0, seat.old.me.1) seat.new.me }
+    {
+        self.table.shared.join_seat::<Take>(seat, other);
+        let _found = self.table.shared.load::<See>(seat, LOCK);
+    }
+
+    /// Gives the memory of the table back, and what lies in it.
+    pub fn end(self, seat: Seat) -> Ended
+        requires table { IsSeatOf self seat }
+        requires named { IsNamed seat.me.0 }
+        ensures { IsEndOf seat.me.0 result }
+    {
+        let Shared { table } = self;
+        let mut closed = table.close_with(seat);
+        let is_left = closed.word(LOCK) == FREE;
+        let handles = closed.word(GIVEN);
+        let connection = closed.take(0);
+        closed.free();
+        Ended {
+            connection,
+            handles,
+            is_left,
+        }
+    }
+}

@@ -1,0 +1,33 @@
+//! What a seat at the table knows. No value of it is made: it stands in contracts and proofs alone.
+
+use crate::call::Call;
+use ob_types::{Command, Estimate, WaterMark};
+use std::collections::LinkedList;
+
+/// What a seat knows, which no other seat changes.
+pub struct View {
+    /// The marks that the connection was opened with.
+    pub marks: WaterMark,
+    /// How it counts messages.
+    pub estimate: Estimate,
+    /// Whether it is the seat of a handle.
+    pub named: bool,
+    /// Whether another seat took it in.
+    pub spent: bool,
+    /// The number of its handle.
+    pub caller: u64,
+    /// Whether it is the one that takes messages away.
+    pub sends: bool,
+    /// Whether it has the lock.
+    pub holds: bool,
+    /// What was accepted from its handle, in order.
+    pub mine: LinkedList<Command>,
+    /// The accepted calls that it has seen, which are a beginning of all.
+    pub seen: LinkedList<Call>,
+    /// What the seat had seen that it took in last.
+    pub told: LinkedList<Call>,
+    /// How many other handles it stands for, whose seats it took in.
+    pub others: u64,
+    /// How many calls were accepted from those.
+    pub handed: u64,
+}
