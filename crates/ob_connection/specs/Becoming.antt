@@ -77,7 +77,7 @@ abbrev pub IsFirstRefusal : Connected → Command → Option Refusal → Type 0
 IsFirstRefusal connection command refusal =
     (past : Past connection) → refusal ≡ first_of_step (held past) (step_within connection_limit command (held past))
 
--- a message of this size, or of none, is admitted if nothing refuses a write of it but want of memory; its size is
+-- a message of this size, or of none, is admitted if nothing refuses a write of it but lack of memory; its size is
 -- returned then, and else the first refusal
 pub record Admits (connection : Connected) (size : Result ℕ Refusal) (result : Result ℕ Refusal) : Type 0 where
   pub first : (message : Message) → size ≡ pending_size_of connection.unsent.settings.estimate message →

@@ -47,7 +47,7 @@ pub fn pending_size_of_block(bytes: &[u8], estimate: Estimate) -> Result<u32, Re
     counted(bytes.len() as u64, estimate)
 }
 
-/// What a message counts of so many readable bytes.
+/// What a message counts, by its readable bytes.
 fn counted(readable: u64, estimate: Estimate) -> Result<u32, Refusal>
     requires { readable ≤ greatest_region }
     ensures { result ≡ (if nat_lt greatest_pending_size (readable + estimate.overhead) then Err Refusal.Oversize

@@ -46,7 +46,7 @@ impl Inner {
         }
     }
 
-    /// What a message of this size counts, unless the connection refuses it for another reason than want of memory.
+    /// What a message of this size counts, unless a connection refuses it that has all the memory it asks for.
     // Its callers are a write and what asks before one: as at `write`.
     #[inline(always)]
     fn admits(&self, size: Result<u32, Refusal>) -> Result<u32, Refusal>
