@@ -55,20 +55,20 @@ is_end id view words slots lock handles connection named final lock_at handles_a
     λ index value is. at_read s.words index value 0
     (ap (λ (all : List ℕ). get_elem? all index) final.2 ∙ is) in
     record {
-      log = ruled.log;
+      log = ruled.past.log;
       part = mine.part;
-      own = mine.own named.there ∙ ap (λ (seat : ℕ). commands_by seat ruled.log) (sym (mine.numbered named.named));
-      left = λ free. (let home = ruled.free (word 0 lock lock_at ∙ eqb-true lock 0 free) in
+      own = mine.own named.there ∙ ap (λ (seat : ℕ). commands_by seat ruled.past.log) (sym (mine.numbered named.named));
+      left = λ free. (let home = (ruled.free (word 0 lock lock_at ∙ eqb-true lock 0 free)).home in
           let here = final.4 0 home.connection
           (ap (λ (homes : List (Option Connected)). get_elem? homes 0) home.here) in
-          subst (λ (settings : Settings). IsLeftBy settings ruled.log connection) (sym (mine.opened named.there))
-          (subst (λ (connected : Connected). IsLeftBy ruled.settings ruled.log connected)
+          subst (λ (settings : Settings). IsLeftBy settings ruled.past.log connection) (sym (mine.opened named.there))
+          (subst (λ (connected : Connected). IsLeftBy ruled.past.settings ruled.past.log connected)
           (some-injective home.connection connection (sym here ∙ slot_at)) home.left));
-      counted = λ all. (let given = ruled.given in
+      counted = λ all. (let given = ruled.counts.given in
           let count = word 1 handles handles_at in
           let stands_for : handles_of view ≡ 1 + view.others =
           ap (λ (one : Bool). count_if one (1 + view.others)) named.named in
           let made : calls_with view ≡ length view.mine + view.handed =
           ap (λ (one : Bool). count_if one (length view.mine + view.handed)) named.named in
-          ruled.counted ∙ one_for_all s.views id view at (omega arith) ∙ made);
+          ruled.counts.counted ∙ one_for_all s.views id view at (omega arith) ∙ made);
     }

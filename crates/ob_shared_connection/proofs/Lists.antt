@@ -1,9 +1,9 @@
 -- Lists of calls, and lists of views.
 use Rattle.std.proofs.Common.{◌≡◌, ◌≢◌, ◌⊎◌, inl, inr, ⊎_elim, ℕ, zero, suc, Bool, true, false, List, [], ◌∷◌, ◌++◌, ◌<◌, ◌+◌, ◌||◌, map}
 use Rattle.std.proofs.Common.{refl, sym, ap, ◌∙◌, subst, append_assoc, ne_eqb, eq-eqb, eqb, if◌then◌else◌, set, get_or, length, arith}
-use Rattle.std.specs.List.{list_all, sum_by}
+use Rattle.std.specs.List.{All, list_all, sum_by}
 use Rattle.std.proofs.lemmas.List.{append-nil, map-append}
-use Rattle.std.proofs.lemmas.List.Elements.{All-map}
+use Rattle.std.proofs.lemmas.List.Elements.{All-cons, All-head, All-map, All-nil, All-tail}
 use Rattle.std.proofs.lemmas.List.Sums.{AllPass-from_list_all, sum_by-set}
 use mathlib.Core.Option.{some, some-injective, some-ne-none}
 use lib.ListN.{get_elem?}
@@ -22,9 +22,30 @@ pub first_of_nothing : {A : Type 0} (first rest : List A) → first ++ rest ≡ 
 first_of_nothing [] rest e = refl
 first_of_nothing (x ∷ first) rest e = cc e
 
+-- two lists with one beginning
+pub append_cancels : {A : Type 0} (first rest other : List A) → first ++ rest ≡ first ++ other → rest ≡ other
+append_cancels [] rest other e = e
+append_cancels (x ∷ first) rest other e = append_cancels first rest other (cc e)
+
+-- what holds of each of two lists together holds of each of either
+pub both_parts : {A : Type 0} (P : A → Type 0) (first rest : List A) → All P (first ++ rest)
+    → All P first × All P rest
+both_parts P [] rest all = (All-nil P, all)
+both_parts P (x ∷ first) rest all =
+    let more = both_parts P first rest (All-tail P x (first ++ rest) all) in
+    (All-cons P x first (All-head P x (first ++ rest) all) more.0, more.1)
+
 -- calls begin themselves
 pub begins_itself : (log : List Call) → IsBeginning log log
 begins_itself log = record { rest = []; whole = append-nil log }
+
+-- what begins a beginning begins the whole
+pub begins_further : (first more all : List Call) → IsBeginning first more → IsBeginning more all → IsBeginning first all
+begins_further first more all begins further = record {
+  rest = begins.rest ++ further.rest;
+  whole = sym (append_assoc first begins.rest further.rest)
+      ∙ ap (λ (calls : List Call). calls ++ further.rest) begins.whole ∙ further.whole;
+}
 
 -- what one handle asked in two lists
 pub commands_by-append : (caller : ℕ) (first rest : List Call)

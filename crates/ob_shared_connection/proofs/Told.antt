@@ -1,20 +1,24 @@
 -- What a handle is told at the lock, and what a call leaves.
-use Rattle.std.proofs.Common.{◌≡◌, ℕ, List, [], ◌∷◌, ◌++◌, refl, sym, ap, ◌∙◌, subst, Result, Ok}
+use Rattle.std.proofs.Common.{◌≡◌, ℕ, ◌<◌, ◌^◌, List, [], ◌∷◌, ◌++◌, refl, sym, ap, ◌∙◌, subst, append_assoc, Result, Ok}
+use Rattle.std.proofs.lemmas.List.{append-nil}
 use Rattle.atomic_table.specs.Seated.{TableId}
 use Rattle.atomic_table.specs.Table.{rest}
+use Rattle.ob_types.specs.Packed.{packed}
 use Rattle.ob_types.specs.declared.command.Command.{Command}
 use Rattle.ob_types.specs.declared.refusal.Refusal.{Refusal}
 use Rattle.ob_connection.specs.Connected.{Connected}
 use Rattle.ob_connection.specs.Standing.{StandsFor}
 use Rattle.ob_shared_connection.specs.Acts.{Continues}
 use Rattle.ob_shared_connection.specs.Calls.{IsCall, IsLock}
+use Rattle.ob_shared_connection.specs.Glances.{IsGlance, IsLegal, glance_after}
 use Rattle.ob_shared_connection.specs.Log.{calls_of, commands_by, commands_of}
 use Rattle.ob_shared_connection.specs.Ruled.{settings_of, view_with}
-use Rattle.ob_shared_connection.specs.Steps.{HasLock, Holds, IsNamed, Knows, Locks, Rests, connected_in, handle_of, held_of}
+use Rattle.ob_shared_connection.specs.Steps.{HasLock, Holds, IsNamed, Knows, Locks, Reads, Rests, connected_in, handle_of, held_of}
 use Rattle.ob_shared_connection.specs.Values.{HandleValue, IsLeft, IsLeftBy, handle_with}
 use Rattle.ob_shared_connection.specs.declared.call.Call.{Call}
+use Rattle.ob_shared_connection.specs.declared.glance.Glance.{Glance}
 use Rattle.ob_shared_connection.specs.declared.view.View.{View}
-use Rattle.ob_shared_connection.proofs.Lists.{commands_by-append, commands_of-more, nothing_more, own_added}
+use Rattle.ob_shared_connection.proofs.Lists.{commands_by-append, commands_of-more, first_of_nothing, nothing_more, own_added}
 
 -- what a lock told
 module _ (old new : Knows) (named : IsNamed old.0) (locks : Locks old new) where
@@ -55,6 +59,66 @@ module _ (old new : Knows) (named : IsNamed old.0) (locks : Locks old new) where
     untouched = locks.untouched;
     left = seat_left;
   }
+
+abbrev glance_of : ℕ → ℕ → Glance
+glance_of word total = record { word = word; total = total }
+
+-- what a read told
+module _ (old : Knows) (found : ℕ) (new : Knows) (rests : Rests old) (reads : Reads old found new) where
+  abbrev caller : ℕ
+  caller = old.0.caller
+
+  abbrev read : List Call
+  read = old.0.seen ++ reads.between
+
+  -- it told of calls of other handles alone
+  others_made : commands_by caller reads.between ≡ []
+  others_made =
+      first_of_nothing (commands_by caller reads.between) (commands_by caller reads.later)
+      (nothing_more (commands_by caller old.0.seen)
+      (commands_by caller reads.between ++ commands_by caller reads.later)
+      (sym (append_assoc (commands_by caller old.0.seen) (commands_by caller reads.between)
+      (commands_by caller reads.later))
+      ∙ ap (λ (first : List Command). first ++ commands_by caller reads.later)
+      (sym (commands_by-append caller old.0.seen reads.between))
+      ∙ sym (commands_by-append caller read reads.later)
+      ∙ sym (reads.own rests.seat.named rests.seat.there) ∙ rests.seat.own))
+
+  own_read : old.0.mine ≡ commands_by caller read
+  own_read =
+      rests.seat.own ∙ sym (append-nil (commands_by caller old.0.seen))
+      ∙ ap (λ (more : List Command). commands_by caller old.0.seen ++ more) (sym others_made)
+      ∙ sym (commands_by-append caller old.0.seen reads.between)
+
+  -- the seat is at rest still
+  pub still_rests : Rests new
+  still_rests = subst (λ (me : Knows). Rests me) (sym reads.is) (record {
+    seat = record { named = rests.seat.named; there = rests.seat.there; own = own_read };
+    free = rests.free;
+    slots = rests.slots;
+  })
+
+  -- and what is read is as contracts say it
+  pub is_glance : (table : TableId) (word total : ℕ)
+      → ((w t : ℕ) → t < 2 ^ 32 → packed w t ≡ found → (word ≡ w) × (total ≡ t))
+      → IsGlance (handle_of table old.0) (record { word = word; total = total }) (handle_of table new.0)
+  is_glance table word total undoes =
+      let after = glance_after (settings_of old.0) read in
+      let parts = undoes after.word after.total (reads.small rests.seat.there) (sym (reads.shows rests.seat.there)) in
+      let seen : new.0.seen ≡ read = ap (λ (me : Knows). me.0.seen) reads.is in record {
+        between = reads.between;
+        sees = ap (λ (me : Knows). handle_of table me.0) reads.is;
+        shows = glance_parts word total after parts.0 parts.1
+            ∙ ap (λ (log : List Call). glance_after (settings_of old.0) log) (sym seen);
+        legal = subst (λ (log : List Call). IsLegal (settings_of old.0) log) (sym seen)
+            (reads.legal rests.seat.there);
+        own = own_read ∙ ap (λ (log : List Call). commands_by caller log) (sym seen);
+        others = others_made;
+        untouched = reads.untouched;
+      }
+    where
+      glance_parts : (w t : ℕ) (glance : Glance) → w ≡ glance.word → t ≡ glance.total → glance_of w t ≡ glance
+      glance_parts w t glance same_word same_total = λ i. glance_of (same_word i) (same_total i)
 
 -- what an accepted call leaves
 module _ (me : Knows) (commands : List Command) (before after : Connected) (holds : Holds me)

@@ -1,6 +1,7 @@
 pub mod Acts
 pub mod Callers
 pub mod Calls
+pub mod Glances
 pub mod Handles
 pub mod Log
 pub mod Looking

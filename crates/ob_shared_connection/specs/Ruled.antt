@@ -1,8 +1,8 @@
 -- What holds of the words, of the connection and of what each seat knows, between any two steps. No public clause cites
 -- it.
-use Rattle.std.specs.Prelude.{◌≡◌, ◌≤◌, ◌+◌, ℕ, Bool, true, false, List, [], ◌∷◌, ◌++◌, length, slice_index}
+use Rattle.std.specs.Prelude.{◌≡◌, ◌<◌, ◌≤◌, ◌+◌, ℕ, Bool, true, false, List, [], ◌∷◌, ◌++◌, length, slice_index}
 use Rattle.std.specs.List.{sum_by}
-use mathlib.Core.Option.{some}
+use mathlib.Core.Option.{Option, some}
 use lib.ListN.{get_elem?}
 use Rattle.atomic_table.specs.Table.{State}
 use Rattle.ob_types.specs.WaterMark.{Marks}
@@ -10,6 +10,7 @@ use Rattle.ob_types.specs.declared.command.Command.{Command}
 use Rattle.ob_types.specs.declared.estimate.Estimate.{Estimate}
 use Rattle.ob_seq.specs.Settings.{Settings}
 use Rattle.ob_connection.specs.Connected.{Connected}
+use Rattle.ob_shared_connection.specs.Glances.{IsLegal, glance_after, packed_glance}
 use Rattle.ob_shared_connection.specs.Log.{IsBeginning, calls_of, commands_by}
 use Rattle.ob_shared_connection.specs.Removals.{NoneRemoves}
 use Rattle.ob_shared_connection.specs.Values.{IsLeftBy}
@@ -30,6 +31,7 @@ first_view about = record {
   caller = 0;
   sends = true;
   holds = false;
+  shows = false;
   mine = [];
   seen = [];
   told = [];
@@ -47,6 +49,7 @@ new_view view = record {
   caller = 0;
   sends = false;
   holds = false;
+  shows = false;
   mine = [];
   seen = view.seen;
   told = [];
@@ -60,7 +63,11 @@ named_view caller view = record view { named = true; caller = caller }
 
 -- once it has the lock, and has seen these calls
 abbrev pub held_view : List Call → View → View
-held_view log view = record view { holds = true; seen = log }
+held_view log view = record view { holds = true; shows = true; seen = log }
+
+-- once it has published the glance after all calls
+abbrev pub shown_view : View → View
+shown_view view = record view { shows = true }
 
 -- once it let the lock go
 abbrev pub free_view : View → View
@@ -73,6 +80,7 @@ seeing_view log view = record view { seen = log; told = [] }
 -- once these commands were accepted from its handle
 abbrev pub view_with : List Command → View → View
 view_with commands view = record view {
+  shows = false;
   mine = view.mine ++ commands;
   seen = view.seen ++ calls_of view.caller commands;
 }
@@ -95,6 +103,7 @@ spent_view = record {
   caller = 0;
   sends = false;
   holds = false;
+  shows = false;
   mine = [];
   seen = [];
   told = [];
@@ -115,42 +124,71 @@ handles_of view = count_if view.named (1 + view.others)
 abbrev pub calls_with : View → ℕ
 calls_with view = count_if view.named (length view.mine + view.handed)
 
--- what the seat with this number knows fits the calls: it has seen a beginning of them, and was told of one; those of its own number are its
--- own; if it has the lock it is the only one, and has seen all; and if it is the one that takes messages away, it is the
--- only one, and nothing that it has not seen did
-pub record Fits (settings : Settings) (holder sender : ℕ) (log : List Call) (seat : ℕ) (view : View) : Type 0 where
-  pub opened : view.spent ≡ false → settings_of view ≡ settings
-  pub part : IsBeginning view.seen log
-  pub told : IsBeginning view.told log
+-- what is behind the words and the connection: what was opened, all accepted calls, those after which the glance was
+-- published, which seat had the lock last, and which one sends
+pub record Past : Type 0 where
+  pub settings : Settings
+  pub log : List Call
+  pub shown : List Call
+  pub holder : ℕ
+  pub sender : ℕ
+
+-- what the seat with this number knows fits that: it has seen a beginning of the calls; those of its own number are its
+-- own; if it has the lock it is the only one, has seen all, and knows if all are published; if it has not, what it has
+-- seen is published, and so is what it was told of; and if it is the one that sends, it is the only one, and nothing that
+-- it has not seen took flushed messages away
+pub record Fits (past : Past) (seat : ℕ) (view : View) : Type 0 where
+  pub opened : view.spent ≡ false → settings_of view ≡ past.settings
+  pub part : IsBeginning view.seen past.log
+  pub told : IsBeginning view.told past.shown
   pub numbered : view.named ≡ true → view.caller ≡ seat
-  pub own : view.spent ≡ false → view.mine ≡ commands_by seat log
-  pub one : view.holds ≡ true → seat ≡ holder
-  pub whole : view.holds ≡ true → view.seen ≡ log
-  pub sender_is : view.sends ≡ true → seat ≡ sender
+  pub own : view.spent ≡ false → view.mine ≡ commands_by seat past.log
+  pub one : view.holds ≡ true → seat ≡ past.holder
+  pub whole : view.holds ≡ true → view.seen ≡ past.log
+  pub current : view.holds ≡ true → view.shows ≡ true → past.shown ≡ past.log
+  pub seen_shown : view.holds ≡ false → IsBeginning view.seen past.shown
+  pub sender_is : view.sends ≡ true → seat ≡ past.sender
   pub untouched : view.sends ≡ true → NoneRemoves part.rest
 
 -- all seats fit
-abbrev pub AllFit : Settings → ℕ → ℕ → List Call → List View → Type 0
-AllFit settings holder sender log views =
-    (seat : ℕ) (view : View) → get_elem? views seat ≡ some view → Fits settings holder sender log seat view
+abbrev pub AllFit : Past → List View → Type 0
+AllFit past views = (seat : ℕ) (view : View) → get_elem? views seat ≡ some view → Fits past seat view
 
--- the connection is at home, is what the calls leave, and nobody has the lock
-pub record AtHome (settings : Settings) (log : List Call) (state : State Connected View) : Type 0 where
+-- nobody has the lock
+abbrev pub IsNobodys : List View → Type 0
+IsNobodys views = (seat : ℕ) (view : View) → get_elem? views seat ≡ some view → view.holds ≡ false
+
+-- the connection is at home, and is what the calls leave; the glance after all of them is published
+pub record AtHome (past : Past) (homes : List (Option Connected)) : Type 0 where
   pub connection : Connected
-  pub here : state.homes ≡ some connection ∷ []
-  pub left : IsLeftBy settings log connection
-  pub nobody : (seat : ℕ) (view : View) → get_elem? state.views seat ≡ some view → view.holds ≡ false
+  pub here : homes ≡ some connection ∷ []
+  pub left : IsLeftBy past.settings past.log connection
+  pub all_shown : past.shown ≡ past.log
 
--- there is one list of calls, which the views of all seats fit; while the lock is free the connection is at home; the
--- handles that there ever were are counted, and each call is of one of them
+-- nobody has the lock, and the connection is at home
+pub record IsFree (past : Past) (homes : List (Option Connected)) (views : List View) : Type 0 where
+  pub home : AtHome past homes
+  pub nobody : IsNobodys views
+
+-- this number is the glance after a beginning of the calls
+pub record IsShown (past : Past) (number : ℕ) : Type 0 where
+  pub begins : IsBeginning past.shown past.log
+  pub legal : IsLegal past.settings past.shown
+  pub published : number ≡ packed_glance (glance_after past.settings past.shown)
+  pub small : (glance_after past.settings past.shown).total < 4294967296
+
+-- this is the number of handles that there ever were, and each call is of one of them
+pub record AreCounted (log : List Call) (number : ℕ) (views : List View) : Type 0 where
+  pub none_yet : (seat : ℕ) → length views ≤ seat → commands_by seat log ≡ []
+  pub given : number ≡ sum_by handles_of views
+  pub counted : length log ≡ sum_by calls_with views
+
+-- there is one list of calls, which the views of all seats fit; while the first word is 0 the connection is at home; the
+-- second counts the handles, and the third is published
 pub record Ruled (state : State Connected View) : Type 0 where
-  pub settings : Settings
-  pub log : List Call
-  pub holder : ℕ
-  pub sender : ℕ
+  pub past : Past
   pub words : length state.words ≡ 8
-  pub free : slice_index state.words 0 ≡ 0 → AtHome settings log state
-  pub fits : AllFit settings holder sender log state.views
-  pub none_yet : (seat : ℕ) → length state.views ≤ seat → commands_by seat log ≡ []
-  pub given : slice_index state.words 1 ≡ sum_by handles_of state.views
-  pub counted : length log ≡ sum_by calls_with state.views
+  pub free : slice_index state.words 0 ≡ 0 → IsFree past state.homes state.views
+  pub fits : AllFit past state.views
+  pub counts : AreCounted past.log (slice_index state.words 1) state.views
+  pub shown : IsShown past (slice_index state.words 2)

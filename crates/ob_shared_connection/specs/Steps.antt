@@ -1,13 +1,14 @@
 -- What a seat is between two steps, and what a step tells it. No public clause cites it.
-use Rattle.std.specs.Prelude.{◌≡◌, ◌≢◌, ℕ, true, false, List, [], ◌∷◌, ◌++◌}
+use Rattle.std.specs.Prelude.{◌≡◌, ◌≢◌, ◌<◌, ℕ, true, false, List, [], ◌∷◌, ◌++◌}
 use Rattle.atomic_table.specs.Seated.{TableId}
 use Rattle.atomic_table.specs.Table.{Me}
 use Rattle.ob_connection.specs.Connected.{Connected}
 use Rattle.ob_seq.specs.Unsent.{nothing_unsent}
+use Rattle.ob_shared_connection.specs.Glances.{IsLegal, glance_after, packed_glance}
 use Rattle.ob_shared_connection.specs.Handles.{IsEnd}
 use Rattle.ob_shared_connection.specs.Log.{IsBeginning, commands_by}
 use Rattle.ob_shared_connection.specs.Removals.{NoneRemoves}
-use Rattle.ob_shared_connection.specs.Ruled.{held_view, named_view, seeing_view, settings_of}
+use Rattle.ob_shared_connection.specs.Ruled.{held_view, named_view, seeing_view, settings_of, shown_view}
 use Rattle.ob_shared_connection.specs.Values.{HandleValue, Held, IsLeftBy}
 use Rattle.ob_shared_connection.specs.declared.call.Call.{Call}
 use Rattle.ob_shared_connection.specs.declared.ended.Ended.{Ended}
@@ -82,19 +83,37 @@ pub record Tries (old : Knows) (found : ℕ) (new : Knows) : Type 0 where
   pub taken : found ≡ 0 → Locks old new
   pub missed : found ≢ 0 → new ≡ old
 
+-- this number is the glance after all calls that a seat has seen
+pub record IsNow (view : View) (number : ℕ) : Type 0 where
+  pub legal : IsLegal (settings_of view) view.seen
+  pub is : number ≡ packed_glance (glance_after (settings_of view) view.seen)
+  pub small : (glance_after (settings_of view) view.seen).total < 4294967296
+
+-- the seat that has the lock finds that the glance after all calls is published already, or not
+pub record Finds (number : ℕ) (old : Knows) (found : ℕ) (new : Knows) : Type 0 where
+  pub shown : found ≡ number → new ≡ (shown_view old.0, old.1)
+  pub other : found ≢ number → new ≡ old
+
 -- a seat gets its number if it found what it had expected, and else nothing changes
 pub record Names (expected : ℕ) (old : Knows) (found : ℕ) (new : Knows) : Type 0 where
   pub named : found ≡ expected → new ≡ (named_view new.0.caller old.0, old.1)
   pub own : found ≡ expected → old.0.spent ≡ false → old.0.mine ≡ [] → commands_by new.0.caller old.0.seen ≡ []
   pub missed : found ≢ expected → new ≡ old
 
--- a seat sees all calls, which begin with what it was told of
-pub record Sees (old new : Knows) : Type 0 where
+-- a read finds the glance after what is seen then: legal calls, which begin with all that was seen before, and with what
+-- the seat was told of
+pub record Reads (old : Knows) (found : ℕ) (new : Knows) : Type 0 where
   pub between : List Call
   pub is : new ≡ (seeing_view (old.0.seen ++ between) old.0, old.1)
+  pub shows : old.0.spent ≡ false
+      → found ≡ packed_glance (glance_after (settings_of old.0) (old.0.seen ++ between))
+  pub small : old.0.spent ≡ false → (glance_after (settings_of old.0) (old.0.seen ++ between)).total < 4294967296
+  pub legal : old.0.spent ≡ false → IsLegal (settings_of old.0) (old.0.seen ++ between)
   pub told : IsBeginning old.0.told (old.0.seen ++ between)
-  pub own : old.0.named ≡ true → old.0.spent ≡ false → old.0.mine ≡ commands_by old.0.caller (old.0.seen ++ between)
   pub untouched : old.0.sends ≡ true → NoneRemoves between
+  pub later : List Call
+  pub own : old.0.named ≡ true → old.0.spent ≡ false
+      → old.0.mine ≡ commands_by old.0.caller ((old.0.seen ++ between) ++ later)
 
 -- the end of a table, as a seat knows it
 abbrev pub IsEndOf : View → Ended → Type 0

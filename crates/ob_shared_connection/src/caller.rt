@@ -4,10 +4,12 @@ ghost use Rattle.std.specs.Arc.{arc_value};
 use crate::act::Act;
 use crate::ask::Ask;
 use crate::ended::Ended;
+use crate::glance::Glance;
 use crate::handle::TooManyHandles;
+use crate::looks::Look;
 use crate::plays::Accepted;
 use crate::shared::{Seat, Shared};
-use ob_types::{Estimate, Refusal, WaterMark};
+use ob_types::{Estimate, Refusal, WaterMark, pack, unpack};
 use std::alloc::Global;
 use std::marker::Brand;
 use std::sync::{Arc, Wait};
@@ -24,6 +26,7 @@ impl Caller {
     ghost use Rattle.ob_types.specs.Limits.{greatest_overhead, greatest_unknown};
     ghost use Rattle.ob_shared_connection.specs.Handles.{IsAnother, IsEnd, IsFirst, IsJoined};
     ghost use Rattle.ob_shared_connection.specs.Calls.{IsCall, IsLock};
+    ghost use Rattle.ob_shared_connection.specs.Glances.{IsGlance};
     ghost use Rattle.ob_shared_connection.specs.Looking.{IsLook};
     ghost use Rattle.ob_shared_connection.specs.Removals.{MayGive};
     ghost use Rattle.ob_shared_connection.specs.Callers.{caller_handle, caller_held, IsFree, IsHolder};
@@ -70,7 +73,20 @@ impl Caller {
         ensures free { IsFree self.new }
         ensures same { caller_handle self.new ≡ caller_handle self.old }
     {
+        let look = self.ask(Look);
+        self.shared
+            .publish(&mut self.seat, pack(look.word, look.total));
         self.shared.unlock(&mut self.seat);
+    }
+
+    /// Reads the word and the total without the lock.
+    pub fn glance(&mut self) -> Glance
+        requires { IsFree self.old }
+        ensures free { IsFree self.new }
+        ensures glance { IsGlance (caller_handle self.old) result (caller_handle self.new) }
+    {
+        let (word, total) = unpack(self.shared.read(&mut self.seat));
+        Glance { word, total }
     }
 
     /// Does something to the connection under the lock.

@@ -1,6 +1,7 @@
 ghost use Rattle.std.specs.Prelude.{◌≡◌, ◌≤◌, IfErr, IfOk, IsOkUnless};
 ghost use Rattle.ob_types.specs.Limits.{greatest_overhead, greatest_unknown};
 ghost use Rattle.ob_shared_connection.specs.Calls.{IsCall, IsLock, UnderLock};
+ghost use Rattle.ob_shared_connection.specs.Glances.{IsGlance};
 ghost use Rattle.ob_shared_connection.specs.Handles.{IsAnother, IsEnd, IsFirst, IsJoined};
 ghost use Rattle.ob_shared_connection.specs.Looking.{IsLook};
 ghost use Rattle.ob_shared_connection.specs.Log.{commands_by};
@@ -12,6 +13,7 @@ use crate::act::Act;
 use crate::ask::Ask;
 use crate::caller::Caller;
 use crate::ended::Ended;
+use crate::glance::Glance;
 use crate::guard::Guard;
 use ob_types::{Estimate, Refusal, WaterMark};
 use std::alloc::{AllocError, Global};
@@ -94,6 +96,16 @@ impl Handle {
         ensures { self.now.mine ≡ commands_by self.now.caller self.now.seen }
     {
         let _caller = &self.caller;
+    }
+
+    /// The word and the total after accepted calls that begin with all that this handle has seen: never older than its
+    /// last call or glance, and perhaps older than another handle's newest call, or than those of one that has the lock
+    /// still. One load: it takes no lock, waits for nobody and does not allocate. Our own: Netty's readers look at two
+    /// fields, and race.
+    pub fn glance(&mut self) -> Glance
+        ensures { IsGlance self.old result self.new }
+    {
+        self.caller.glance()
     }
 
     /// Takes the lock, for several calls. It does not allocate.

@@ -8,6 +8,7 @@ mod call;
 mod caller;
 mod commands;
 mod ended;
+mod glance;
 mod guard;
 mod handle;
 mod looks;
@@ -18,5 +19,6 @@ mod view;
 
 pub use call::Call;
 pub use ended::Ended;
+pub use glance::Glance;
 pub use guard::Guard;
 pub use handle::{Handle, TooManyHandles};

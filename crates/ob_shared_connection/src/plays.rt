@@ -1,8 +1,8 @@
 //! What each kind of step tells the seat that makes it.
 ghost use Rattle.std.specs.Prelude.{◌≡◌};
 ghost use Rattle.atomic_table.specs.Table.{rest};
-ghost use Rattle.ob_shared_connection.specs.Steps.{Names, Sees, Tries};
-ghost use Rattle.ob_shared_connection.specs.Ruled.{free_view, view_with};
+ghost use Rattle.ob_shared_connection.specs.Steps.{Finds, Names, Reads, Tries};
+ghost use Rattle.ob_shared_connection.specs.Ruled.{free_view, shown_view, view_with};
 
 use crate::view::View;
 use atomic_table::{Join, Play, Split};
@@ -54,11 +54,38 @@ impl Play<Connection, View> for Name {
     ghost then = { λ step old found new. Names step.first old found new };
 }
 
-/// A look at the list of calls, which no word tells: it is for the proof alone.
-pub struct See;
+/// A read of what is published.
+pub struct Read;
 
-impl Play<Connection, View> for See {
-    ghost then = { λ _ old _ new. Sees old new };
+impl Play<Connection, View> for Read {
+    ghost then = { λ _ old found new. Reads old found new };
+}
+
+/// A number that is to be published. A load is told none when the program runs.
+pub trait Published {
+    ghost use Rattle.std.specs.Prelude.{ℕ};
+
+    ghost number: { ℕ };
+}
+
+impl Published for Brand {
+    ghost number = { 0 };
+}
+
+/// A look whether it is published already.
+pub struct Find<N> {
+    number: PhantomData<N>,
+}
+
+impl<N: Published> Play<Connection, View> for Find<N> {
+    ghost then = { λ _ old found new. Finds N.number old found new };
+}
+
+/// A number is published.
+pub struct Publish;
+
+impl Play<Connection, View> for Publish {
+    ghost then = { λ _ old _ new. new ≡ (shown_view old.0, old.1) };
 }
 
 /// A new seat, which has seen what this one has.

@@ -12,6 +12,9 @@ pub const LOCK: usize = 0;
 /// The word that counts the handles that there ever were.
 pub const GIVEN: usize = 1;
 
+/// The word that is published: the word and the total of the connection, as `ob_types::pack` lays them out.
+pub const PUBLISHED: usize = 2;
+
 /// Nobody has the lock.
 pub const FREE: u64 = 0;
 

@@ -1,14 +1,15 @@
-ghost use Rattle.std.specs.Prelude.{◌≡◌, ◌≤◌, false, true, [], IfOk, OnOk, IsOkUnless};
+ghost use Rattle.std.specs.Prelude.{◌≡◌, ◌≤◌, ℕ, false, true, [], IfOk, OnOk, IsOkUnless};
 
 use crate::ended::Ended;
 use crate::handle::TooManyHandles;
-use crate::plays::{Accepted, Cut, List, Lock, Name, See, Take, Unlock};
-use crate::rule::{FREE, GIVEN, LOCK, Rule, TAKEN, WAITED, WORDS};
+use crate::plays::{Accepted, Cut, Find, List, Lock, Name, Publish, Published, Read, Take, Unlock};
+use crate::rule::{FREE, GIVEN, LOCK, PUBLISHED, Rule, TAKEN, WAITED, WORDS};
 use crate::view::View;
 use atomic_table::{Refused, Table};
 use ob_connection::Connection;
 use ob_types::{Estimate, Refusal, WaterMark};
 use std::alloc::Global;
+use std::marker::Brand;
 use std::sync::Wait;
 use std::thread::{Parker, yield_now};
 use std::time::Duration;
@@ -35,10 +36,10 @@ pub struct Shared {
 
 impl Shared {
     ghost use Rattle.ob_types.specs.Limits.{greatest_overhead, greatest_unknown};
-    ghost use Rattle.ob_shared_connection.specs.Ruled.{both_views, first_view, free_view, named_view, new_view, view_with};
+    ghost use Rattle.ob_shared_connection.specs.Ruled.{both_views, first_view, free_view, named_view, new_view, shown_view, view_with};
     ghost use Rattle.ob_shared_connection.specs.Log.{commands_by};
     ghost use Rattle.ob_shared_connection.specs.Removals.{MayGive};
-    ghost use Rattle.ob_shared_connection.specs.Steps.{HasLock, Holds, IsEndOf, IsNamed, Locks, Rests, Sees};
+    ghost use Rattle.ob_shared_connection.specs.Steps.{HasLock, Holds, IsEndOf, IsNamed, IsNow, Locks, Reads, Rests};
     ghost use Rattle.ob_shared_connection.specs.Tables.{IsSeatOf, IsSameSeat};
 
     /// A table with a connection that has nothing written, and its first seat.
@@ -146,6 +147,7 @@ impl Shared {
     pub fn unlock(&self, seat: &mut Seat)
         requires table { IsSeatOf self.now seat.old }
         requires holds { Holds seat.old.me }
+        requires shows { seat.old.me.0.shows ≡ true }
         ensures seat { IsSameSeat seat.old seat.new }
         ensures view { seat.new.me.0 ≡ free_view seat.old.me.0 }
         ensures slots { seat.new.me.1 ≡ [] }
@@ -154,6 +156,43 @@ impl Shared {
         if found == WAITED {
             self.table.shared.wake_one(LOCK);
         }
+    }
+
+    /// Publishes the glance after all calls.
+    pub fn publish(&self, seat: &mut Seat, number: u64)
+        requires table { IsSeatOf self.now seat.old }
+        requires lock { HasLock seat.old.me }
+        requires now { IsNow seat.old.me.0 number }
+        ensures seat { IsSameSeat seat.old seat.new }
+        ensures me { seat.new.me ≡ (shown_view seat.old.me.0, seat.old.me.1) }
+    {
+        // a store costs more than a load
+        if !self.is_published::<Brand>(seat, number) {
+            self.table.shared.store::<Publish>(seat, PUBLISHED, number);
+        }
+    }
+
+    /// Whether the glance after all calls is published already.
+    fn is_published<N: Published>(&self, seat: &mut Seat, number: u64) -> bool
+        requires table { IsSeatOf self.now seat.old }
+        requires lock { HasLock seat.old.me }
+        requires now { IsNow seat.old.me.0 number }
+        requires number { N.number ≡ number }
+        ensures seat { IsSameSeat seat.old seat.new }
+        ensures shown { result ≡ true → seat.new.me ≡ (shown_view seat.old.me.0, seat.old.me.1) }
+        ensures other { result ≡ false → seat.new.me ≡ seat.old.me }
+    {
+        self.table.shared.load::<Find<N>>(seat, PUBLISHED) == number
+    }
+
+    /// Reads what is published. One load.
+    pub fn read(&self, seat: &mut Seat) -> u64
+        requires table { IsSeatOf self.now seat.old }
+        requires free { seat.old.me.0.holds ≡ false }
+        ensures seat { IsSameSeat seat.old seat.new }
+        ensures reads { Reads seat.old.me result seat.new.me }
+    {
+        self.table.shared.load::<Read>(seat, PUBLISHED)
     }
 
     /// Puts commands that were just accepted behind the list. It is for the proof alone: no word changes.
@@ -171,6 +210,7 @@ impl Shared {
     fn cut(&self, seat: &mut Seat) -> Seat
         requires table { IsSeatOf self.now seat.old }
         requires there { seat.old.me.0.spent ≡ false }
+        requires free { seat.old.me.0.holds ≡ false }
         ensures seat { IsSameSeat seat.old seat.new }
         ensures me { seat.new.me ≡ seat.old.me }
         ensures other { IsSeatOf self.now result }
@@ -207,7 +247,7 @@ impl Shared {
     /// The seat of another handle, which has seen what this one has.
     pub fn another(&self, seat: &mut Seat) -> Result<Seat, TooManyHandles>
         requires table { IsSeatOf self.now seat.old }
-        requires named { IsNamed seat.old.me.0 }
+        requires rests { Rests seat.old.me }
         ensures seat { IsSameSeat seat.old seat.new }
         ensures me { seat.new.me ≡ seat.old.me }
         ensures other { IfOk result (λ other. IsSeatOf self.now other) }
@@ -228,10 +268,10 @@ impl Shared {
         requires other { IsSeatOf self.now other }
         requires other_rests { Rests other.me }
         ensures seat { IsSameSeat seat.old seat.new }
-        ensures sees { Sees (both_views seat.old.me.0 other.me.0, seat.old.me.1) seat.new.me }
+        ensures reads { (found : ℕ) × Reads (both_views seat.old.me.0 other.me.0, seat.old.me.1) found seat.new.me }
     {
         self.table.shared.join_seat::<Take>(seat, other);
-        let _found = self.table.shared.load::<See>(seat, LOCK);
+        let _found = self.table.shared.load::<Read>(seat, PUBLISHED);
     }
 
     /// Gives the memory of the table back, and what lies in it.

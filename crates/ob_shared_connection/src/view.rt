@@ -20,6 +20,8 @@ pub struct View {
     pub sends: bool,
     /// Whether it has the lock.
     pub holds: bool,
+    /// Whether what is published is after all calls, if it has the lock.
+    pub shows: bool,
     /// What was accepted from its handle, in order.
     pub mine: LinkedList<Command>,
     /// The accepted calls that it has seen, which are a beginning of all.

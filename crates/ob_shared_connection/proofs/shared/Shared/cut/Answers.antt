@@ -8,5 +8,5 @@ split_seat-requires c =
     let seat = c.args.seat.now in (
       c.requires.table,
       omega (arith, shared.words),
-      may_cut seat.id seat.me.0 c.requires.there,
+      may_cut seat.id seat.me.0 c.requires.there c.requires.free,
     )

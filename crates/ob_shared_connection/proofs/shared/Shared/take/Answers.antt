@@ -1,5 +1,6 @@
-use Rattle.std.proofs.Common.{◌∙◌, arith}
-use Rattle.ob_shared_connection.proofs.Keeping.{may_see, may_take}
+use Rattle.std.proofs.Common.{ap, ◌∙◌, arith}
+use Rattle.ob_shared_connection.specs.Steps.{Knows}
+use Rattle.ob_shared_connection.proofs.Keeping.{may_read, may_take}
 use Rattle.ob_shared_connection.proofs.shared.Shared.take.Goals as goal
 
 pub join_seat-requires : goal.join_seat-requires
@@ -12,7 +13,7 @@ join_seat-requires c =
       c.requires.other_rests.slots,
       omega (arith, shared.words),
       may_take seat.id seat.me.0 other.id other.me.0 c.requires.rests.seat.named c.requires.rests.free
-          c.requires.other_rests.seat.named,
+          c.requires.other_rests.seat.named c.requires.other_rests.free,
     )
 
 pub load-found-requires : goal.load-found-requires
@@ -21,5 +22,6 @@ load-found-requires c =
     let seat = c.join_seat.new.seat in (
       c.join_seat.ensures.0 ∙ c.requires.table,
       omega (arith, shared.words),
-      may_see shared.table.shared.table_id.slots seat.id seat.me 0,
+      may_read shared.table.shared.table_id.slots seat.id seat.me
+          (ap (λ (me : Knows). me.0.holds) c.join_seat.ensures.2 ∙ c.requires.rests.free),
     )

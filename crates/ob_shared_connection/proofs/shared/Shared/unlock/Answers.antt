@@ -8,5 +8,6 @@ swap-found-requires c =
     let seat = c.args.seat.now in (
       c.requires.table,
       omega (arith, shared.words),
-      may_unlock shared.table.shared.table_id.slots seat.id seat.me shared.slots c.requires.holds,
+      may_unlock shared.table.shared.table_id.slots seat.id seat.me shared.slots c.requires.holds
+          c.requires.shows,
     )
