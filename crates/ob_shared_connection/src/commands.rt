@@ -21,7 +21,10 @@ impl Act for Write {
     ghost does = { λ act. Obeying written_reply (command.Write act.0) };
 
     fn act(self, connection: &mut Connection) -> Result<Written, Refusal> {
-        connection.write(self.0).map_err(|refused| refused.refusal)
+        match connection.write(self.0) {
+            Ok(written) => Ok(written),
+            Err(refused) => Err(refused.refusal),
+        }
     }
 }
 
