@@ -8,13 +8,14 @@
  *
  *     struct limekeel_connection connection = LIMEKEEL_CONNECTION;
  *     limekeel_open(&connection, 32768, 65536, 96, 8);
- *     limekeel_write(&connection, "hello", 5);
+ *     if (limekeel_write(&connection, "hello", 5).change == LIMEKEEL_UNWRITABLE)
+ *         stop = true; // read no more from this client
  *     limekeel_flush(&connection);
- *     struct limekeel_piece pieces[LIMEKEEL_PIECES];
- *     struct limekeel_gathered front = limekeel_gather(&connection, pieces, LIMEKEEL_PIECES, UINT32_MAX);
- *     ssize_t sent = writev(socket, (struct iovec *)pieces, (int)front.count); // again at EINTR; ignore SIGPIPE
- *     if (sent >= 0)
- *         limekeel_take_sent(&connection, (uint64_t)sent);
+ *     struct iovec slices[LIMEKEEL_PIECES];
+ *     struct limekeel_gathered front = limekeel_gather_iovec(&connection, slices, LIMEKEEL_PIECES, UINT32_MAX);
+ *     ssize_t sent = writev(socket, slices, (int)front.count); // again at EINTR; ignore SIGPIPE
+ *     if (sent >= 0 && limekeel_take_sent(&connection, (uint64_t)sent).change == LIMEKEEL_WRITABLE)
+ *         stop = false;
  *     limekeel_free(&connection);
  *
  * Linking. Compile limekeel.s and heap.c into the program: `cc server.c limekeel.s heap.c`. Or link
@@ -51,12 +52,35 @@
 #include <stddef.h>
 #include <stdint.h>
 
+/* Whether <sys/uio.h> is there and wanted: LIMEKEEL_NO_IOVEC leaves it out. */
+#if defined(__has_include) && !defined(LIMEKEEL_NO_IOVEC)
+#if __has_include(<sys/uio.h>)
+#include <sys/uio.h>
+#define LIMEKEEL_IOVEC 1
+#endif
+#endif
+
 #ifdef __cplusplus
 extern "C" {
 #endif
 
-/* The statuses. */
-enum {
+#define LIMEKEEL_VERSION "0.1.0"
+
+/* A number of the structs, functions and numbers of this header. limekeel_open says LIMEKEEL_OTHER_VERSION to an archive of
+ * another. Before 1.0 each version may have another. */
+#define LIMEKEEL_EDGE 2717791969u
+
+/* What may tell a change of writability is not to be dropped. */
+#if (defined(__cplusplus) && __cplusplus >= 201703L) || (defined(__STDC_VERSION__) && __STDC_VERSION__ >= 202311L)
+#define LIMEKEEL_TOLD [[nodiscard]]
+#elif defined(__GNUC__)
+#define LIMEKEEL_TOLD __attribute__((warn_unused_result))
+#else
+#define LIMEKEEL_TOLD
+#endif
+
+/* The statuses, whose texts limekeel_strstatus has. */
+enum limekeel_status {
     LIMEKEEL_OK = 0,
     LIMEKEEL_OVERSIZE = 1,         /* the message counts more than 2147483647 bytes, or a region is longer than INT64_MAX */
     LIMEKEEL_BAD_MARKS = 2,        /* the low mark is above the high mark, or that above 2147483647 */
@@ -72,18 +96,19 @@ enum {
     LIMEKEEL_NOT_OPEN = 13,        /* the connection or block owns nothing */
     LIMEKEEL_ALREADY_OPEN = 14,    /* it owns something already */
     LIMEKEEL_BAD_ESTIMATE = 15,    /* the overhead or the unknown size is above 65535 */
-    LIMEKEEL_NO_BLOCK = 16         /* the block that is to be written owns nothing */
+    LIMEKEEL_NO_BLOCK = 16,        /* the block that is to be written owns nothing */
+    LIMEKEEL_OTHER_VERSION = 17    /* the archive is of another version than this header */
 };
 
 /* How a call changed writability. Each change is reported once: act on it. */
-enum {
+enum limekeel_change {
     LIMEKEEL_UNCHANGED = 0,
     LIMEKEEL_UNWRITABLE = 1, /* stop writing */
     LIMEKEEL_WRITABLE = 2    /* go on */
 };
 
 /* How a promise was settled. */
-enum {
+enum limekeel_outcome {
     LIMEKEEL_NO_OUTCOME = 0,
     LIMEKEEL_SUCCESS = 1,  /* the message was sent */
     LIMEKEEL_FAILED = 2,   /* it was given up, for the cause that is reported */
@@ -91,7 +116,7 @@ enum {
 };
 
 /* What has become of a promise. */
-enum {
+enum limekeel_promise_state {
     LIMEKEEL_UNKNOWN = 0,       /* no write was accepted under it */
     LIMEKEEL_WAITING = 1,       /* it may still be cancelled */
     LIMEKEEL_FIXED = 2,         /* it can no longer be cancelled */
@@ -100,7 +125,7 @@ enum {
 };
 
 /* What stands in front: limekeel_gathered.front. */
-enum {
+enum limekeel_front_kind {
     LIMEKEEL_FRONT_NOTHING = 0,
     LIMEKEEL_FRONT_BLOCKS = 1,
     LIMEKEEL_FRONT_EMPTY_BLOCKS = 2, /* limekeel_take_sent(c, 0) takes them away */
@@ -108,8 +133,8 @@ enum {
     LIMEKEEL_FRONT_OTHER = 4         /* do what it stands for, then limekeel_remove */
 };
 
-/* The kind of the first flushed message: limekeel_current.kind. */
-enum {
+/* The kind of the first flushed message: limekeel_current_told.kind. */
+enum limekeel_current_kind {
     LIMEKEEL_CURRENT_NOTHING = 0,
     LIMEKEEL_CURRENT_BLOCK = 1,
     LIMEKEEL_CURRENT_REGION = 2,
@@ -123,15 +148,19 @@ enum {
 struct limekeel_connection {
     uint8_t *at;
 };
+#ifdef __cplusplus
+#define LIMEKEEL_CONNECTION {nullptr}
+#else
 #define LIMEKEEL_CONNECTION {0}
+#endif
 
 /* A block of bytes that any number of writes share. Its member is Limekeel's. */
 struct limekeel_block {
     uint8_t *at;
 };
-#define LIMEKEEL_BLOCK {0}
+#define LIMEKEEL_BLOCK LIMEKEEL_CONNECTION
 
-/* A piece of memory that is to be sent: as struct iovec, which it may be cast to. */
+/* A piece of memory that is to be sent: struct iovec by another name. */
 struct limekeel_piece {
     const uint8_t *at;
     size_t length;
@@ -181,7 +210,7 @@ struct limekeel_changed {
     uint32_t change;
 };
 
-struct limekeel_look {
+struct limekeel_look_told {
     uint32_t status;
     uint32_t total;             /* the pending bytes */
     uint32_t word;              /* bit 0: the mark; bit i: user bit i. 0: writable */
@@ -196,20 +225,20 @@ struct limekeel_truth {
     bool holds;
 };
 
-struct limekeel_promise {
+struct limekeel_promise_told {
     uint32_t status;
     uint32_t state;
     uint32_t outcome; /* of LIMEKEEL_SETTLED */
     uint32_t cause;
 };
 
-struct limekeel_front {
+struct limekeel_front_told {
     uint32_t status;
     bool any;    /* whether a message is flushed */
     uint64_t id; /* its promise */
 };
 
-struct limekeel_current {
+struct limekeel_current_told {
     uint32_t status;
     uint32_t kind;
     uint64_t number; /* the bytes that are left of a block or of a region, or the number of another message */
@@ -239,20 +268,25 @@ LIMEKEEL_LAYOUT(limekeel_removed, 32, settled, 9);
 LIMEKEEL_LAYOUT(limekeel_taken, 40, to, 32);
 LIMEKEEL_LAYOUT(limekeel_cancelled, 8, in_time, 4);
 LIMEKEEL_LAYOUT(limekeel_changed, 8, change, 4);
-LIMEKEEL_LAYOUT(limekeel_look, 40, current_progress, 32);
+LIMEKEEL_LAYOUT(limekeel_look_told, 40, current_progress, 32);
 LIMEKEEL_LAYOUT(limekeel_truth, 8, holds, 4);
-LIMEKEEL_LAYOUT(limekeel_promise, 16, cause, 12);
-LIMEKEEL_LAYOUT(limekeel_front, 16, id, 8);
-LIMEKEEL_LAYOUT(limekeel_current, 16, number, 8);
+LIMEKEEL_LAYOUT(limekeel_promise_told, 16, cause, 12);
+LIMEKEEL_LAYOUT(limekeel_front_told, 16, id, 8);
+LIMEKEEL_LAYOUT(limekeel_current_told, 16, number, 8);
 LIMEKEEL_LAYOUT(limekeel_gathered, 16, count, 8);
-#undef LIMEKEEL_LAYOUT
 
 /* Opens a connection with nothing written. It is to stop above `high` pending bytes and to go on
  * below `low`; each message counts `overhead` bytes beside its own, and one that is neither a block
  * nor a region `unknown`. Netty's are 32768, 65536, 96 and 8. With a `low` of 0 a connection that was
- * once unwritable stays so for good, since no total is below 0. */
-uint32_t limekeel_open(struct limekeel_connection *connection, uint32_t low, uint32_t high, uint32_t overhead,
-                       uint32_t unknown);
+ * once unwritable stays so for good, since no total is below 0. Call limekeel_open, which says for
+ * which header it was compiled. */
+uint32_t limekeel_open_for(struct limekeel_connection *connection, uint32_t edge, uint32_t low, uint32_t high,
+                           uint32_t overhead, uint32_t unknown);
+static inline uint32_t limekeel_open(struct limekeel_connection *connection, uint32_t low, uint32_t high,
+                                     uint32_t overhead, uint32_t unknown)
+{
+    return limekeel_open_for(connection, LIMEKEEL_EDGE, low, high, overhead, unknown);
+}
 
 /* Keeps memory for what waits and for no more: none if nothing waits. For a connection that has sent all and is idle.
  * It changes nothing else, and if a smaller block is refused the connection keeps the one that it has. */
@@ -276,31 +310,32 @@ uint32_t limekeel_block_free(struct limekeel_block *block);
 
 /* Writes a copy of these bytes after all else. They wait, and are not sent before a flush. The copy
  * is made once nothing else refuses the write, so LIMEKEEL_NO_MEMORY comes last. */
-struct limekeel_written limekeel_write_bytes(struct limekeel_connection *connection, const uint8_t *bytes,
+LIMEKEEL_TOLD struct limekeel_written limekeel_write_bytes(struct limekeel_connection *connection, const uint8_t *bytes,
                                               size_t length);
 
 /* Writes the bytes of a block, which the message then shares: nothing is copied. */
-struct limekeel_written limekeel_write_block(struct limekeel_connection *connection,
+LIMEKEEL_TOLD struct limekeel_written limekeel_write_block(struct limekeel_connection *connection,
                                               const struct limekeel_block *block);
 
 /* Writes a region: `length` bytes of something that you send yourself, as of a file by sendfile. It
  * counts the overhead alone. */
-struct limekeel_written limekeel_write_region(struct limekeel_connection *connection, uint64_t length);
+LIMEKEEL_TOLD struct limekeel_written limekeel_write_region(struct limekeel_connection *connection, uint64_t length);
 
 /* Writes any other message, by a number that means something to you alone. */
-struct limekeel_written limekeel_write_other(struct limekeel_connection *connection, uint32_t value);
+LIMEKEEL_TOLD struct limekeel_written limekeel_write_other(struct limekeel_connection *connection, uint32_t value);
 
 /* Lets the transport have all that was written so far. Those messages can no longer be cancelled;
- * those that were become empty blocks, which take_sent takes away. */
+ * those that were become empty blocks, which take_sent takes away. It changes writability only if
+ * some were. */
 struct limekeel_flushed limekeel_flush(struct limekeel_connection *connection);
 
 /* Takes the first flushed message away, as sent; or as failed for this cause. */
-struct limekeel_removed limekeel_remove(struct limekeel_connection *connection);
-struct limekeel_removed limekeel_remove_with(struct limekeel_connection *connection, uint32_t cause);
+LIMEKEEL_TOLD struct limekeel_removed limekeel_remove(struct limekeel_connection *connection);
+LIMEKEEL_TOLD struct limekeel_removed limekeel_remove_with(struct limekeel_connection *connection, uint32_t cause);
 
 /* Takes n bytes off the flushed blocks in front, as sent: what writev returned. A message that is
  * sent whole is gone, and empty ones with it, so call it with 0 if only empty blocks stand in front. */
-struct limekeel_taken limekeel_take_sent(struct limekeel_connection *connection, uint64_t n);
+LIMEKEEL_TOLD struct limekeel_taken limekeel_take_sent(struct limekeel_connection *connection, uint64_t n);
 
 /* Adds n bytes to the progress of the first flushed message: of a region, as sendfile sent them. */
 uint32_t limekeel_progress(struct limekeel_connection *connection, uint64_t n);
@@ -309,7 +344,7 @@ uint32_t limekeel_progress(struct limekeel_connection *connection, uint64_t n);
 struct limekeel_cancelled limekeel_cancel(struct limekeel_connection *connection, uint64_t id);
 
 /* Takes all flushed messages away, as failed for this cause. Without `notify` the word stays as it was. */
-struct limekeel_taken limekeel_fail_flushed(struct limekeel_connection *connection, uint32_t cause, bool notify);
+LIMEKEEL_TOLD struct limekeel_taken limekeel_fail_flushed(struct limekeel_connection *connection, uint32_t cause, bool notify);
 
 /* Closes for good: takes away what no flush has reached, as failed for this cause. Each command is
  * refused after it. */
@@ -321,25 +356,25 @@ struct limekeel_taken limekeel_close(struct limekeel_connection *connection, uin
 struct limekeel_taken limekeel_give_up(struct limekeel_connection *connection, uint32_t cause);
 
 /* Sets the user bit 1 to 31, which makes the connection unwritable, or clears it if `writable` is set. */
-struct limekeel_changed limekeel_user_bit(struct limekeel_connection *connection, uint32_t index, bool writable);
+LIMEKEEL_TOLD struct limekeel_changed limekeel_user_bit(struct limekeel_connection *connection, uint32_t index, bool writable);
 
 /* Sets other marks. They change nothing by themselves: the next rise or fall goes by them. */
 uint32_t limekeel_set_marks(struct limekeel_connection *connection, uint32_t low, uint32_t high);
 
 /* What is pending now; whether writers may go on; whether a close was accepted; whether no message is
  * flushed and not yet removed. */
-struct limekeel_look limekeel_look(const struct limekeel_connection *connection);
+struct limekeel_look_told limekeel_look(const struct limekeel_connection *connection);
 struct limekeel_truth limekeel_is_writable(const struct limekeel_connection *connection);
 struct limekeel_truth limekeel_is_closed(const struct limekeel_connection *connection);
 struct limekeel_truth limekeel_is_empty(const struct limekeel_connection *connection);
 
 /* What has become of a promise. */
-struct limekeel_promise limekeel_promise(const struct limekeel_connection *connection, uint64_t id);
+struct limekeel_promise_told limekeel_promise(const struct limekeel_connection *connection, uint64_t id);
 
 /* The promise of the first flushed message; and what is left of that message: of a region its length less
  * the progress that was told, or 0 if that is more, which is what sendfile is still to send. */
-struct limekeel_front limekeel_front(const struct limekeel_connection *connection);
-struct limekeel_current limekeel_current(const struct limekeel_connection *connection);
+struct limekeel_front_told limekeel_front(const struct limekeel_connection *connection);
+struct limekeel_current_told limekeel_current(const struct limekeel_connection *connection);
 
 /* Fills pieces with where the flushed blocks in front lie that hold a byte, up to the first message
  * that is no block: at most `length` and LIMEKEEL_PIECES of them, and at most max_bytes bytes, but
@@ -360,14 +395,13 @@ struct limekeel_memory limekeel_alloc(size_t size, size_t align);
 struct limekeel_memory limekeel_realloc(uint8_t *at, size_t kept, size_t size, size_t align);
 void limekeel_dealloc(uint8_t *at);
 
-/* The three calls that take bytes or pieces, for callers that may have none: NULL is good then, and
- * the pointer may be to anything that lies as bytes or pieces do. Call these. */
+/* The three calls that take bytes or pieces, for callers that may have none: NULL is good then. Call these. */
 static inline uint32_t limekeel_block_new(struct limekeel_block *block, const void *bytes, size_t length)
 {
     return limekeel_block_of_bytes(block, length > 0 ? (const uint8_t *)bytes : (const uint8_t *)"", length);
 }
 
-static inline struct limekeel_written limekeel_write(struct limekeel_connection *connection, const void *bytes,
+LIMEKEEL_TOLD static inline struct limekeel_written limekeel_write(struct limekeel_connection *connection, const void *bytes,
                                                      size_t length)
 {
     return limekeel_write_bytes(connection, length > 0 ? (const uint8_t *)bytes : (const uint8_t *)"", length);
@@ -379,6 +413,44 @@ static inline struct limekeel_gathered limekeel_gather(const struct limekeel_con
 {
     struct limekeel_piece none = {(const uint8_t *)"", 0};
     return limekeel_gather_pieces(connection, length > 0 ? pieces : &none, length, max_bytes);
+}
+
+#ifdef LIMEKEEL_IOVEC
+/* The same for writev, which a piece lies as. */
+LIMEKEEL_LAYOUT(iovec, 16, iov_len, offsetof(struct limekeel_piece, length));
+
+static inline struct limekeel_gathered limekeel_gather_iovec(const struct limekeel_connection *connection,
+                                                             struct iovec *slices, size_t length,
+                                                             uint32_t max_bytes)
+{
+    return limekeel_gather(connection, (struct limekeel_piece *)slices, length, max_bytes);
+}
+#endif
+#undef LIMEKEEL_LAYOUT
+
+/* The text of a status. */
+static inline const char *limekeel_strstatus(uint32_t status)
+{
+    switch (status) {
+    case LIMEKEEL_OK: return "done";
+    case LIMEKEEL_OVERSIZE: return "the message is too large to be counted";
+    case LIMEKEEL_BAD_MARKS: return "the low mark is above the high mark, or the high mark above 2147483647";
+    case LIMEKEEL_TOO_MUCH: return "too much is pending, or too many writes were accepted";
+    case LIMEKEEL_CLOSED: return "the connection is closed";
+    case LIMEKEEL_NOTHING_FLUSHED: return "no message is flushed";
+    case LIMEKEEL_TOO_FAR: return "the progress of the message would pass 9223372036854775807";
+    case LIMEKEEL_TOO_MANY_BYTES: return "the flushed blocks in front hold fewer bytes";
+    case LIMEKEEL_BAD_INDEX: return "the index of a user bit is 1 to 31";
+    case LIMEKEEL_FLUSHED_LEFT: return "flushed messages are left";
+    case LIMEKEEL_UNKNOWN_PROMISE: return "no write has this promise";
+    case LIMEKEEL_NO_MEMORY: return "out of memory";
+    case LIMEKEEL_NOT_OPEN: return "the connection or block owns nothing";
+    case LIMEKEEL_ALREADY_OPEN: return "the connection or block owns something already";
+    case LIMEKEEL_BAD_ESTIMATE: return "the overhead or the size of unknown messages is above 65535";
+    case LIMEKEEL_NO_BLOCK: return "the block that is to be written owns nothing";
+    case LIMEKEEL_OTHER_VERSION: return "the archive is of another version than the header";
+    default: return "no status of this version";
+    }
 }
 
 #ifdef __cplusplus

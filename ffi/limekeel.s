@@ -4,7 +4,7 @@
 #
 # kit: rattle-kit-13b logic dac8208d650f15bf
 # proved: logic=proved functions=79 axioms=3 target=x86_64-unknown-linux-gnu cpu=x86-64-v2
-# sources: 051fb00b7ba75d0d3c8cbffb14f8c57bd22ac2ab8f272a8eef77d1b2097f140d (ob_types, ob_seq, ob_connection, ob_c)
+# sources: c65974df1d28d133c44be118f80a0b4e26fb4285b6c6f48a17fc12e78e5ba14c (ob_types, ob_seq, ob_connection, ob_c)
 	.file	"rattle"
 	.section	".text.std_alloc::vec::deque::VecDeque::drop::<#654463e68ebe2f84>","ax",@progbits
 	.p2align	6                               # -- Begin function std_alloc::vec::deque::VecDeque::drop::<#654463e68ebe2f84>
@@ -7146,34 +7146,38 @@ limekeel_block_of_bytes:                # @limekeel_block_of_bytes
 	.size	limekeel_block_of_bytes, .Lfunc_end15-limekeel_block_of_bytes
 	.cfi_endproc
                                         # -- End function
-	.section	.text.limekeel_open,"ax",@progbits
-	.globl	limekeel_open                   # -- Begin function limekeel_open
+	.section	.text.limekeel_open_for,"ax",@progbits
+	.globl	limekeel_open_for               # -- Begin function limekeel_open_for
 	.p2align	6
-	.type	limekeel_open,@function
-limekeel_open:                          # @limekeel_open
+	.type	limekeel_open_for,@function
+limekeel_open_for:                      # @limekeel_open_for
 	.cfi_startproc
 # %bb.0:                                # %start
-                                        # kill: def $edx killed $edx def $rdx
+                                        # kill: def $ecx killed $ecx def $rcx
 	movl	$14, %eax
 	cmpq	$0, (%rdi)
 	je	.LBB16_1
-.LBB16_7:                               # %"ob_c::opening::limekeel_open.exit"
+.LBB16_8:                               # %"ob_c::opening::limekeel_open_for.exit"
 	retq
 .LBB16_1:                               # %join.3.i
-	cmpl	%esi, %edx
-	setb	%r9b
-	testl	%edx, %edx
+	movl	$17, %eax
+	cmpl	$-1577175327, %esi              # imm = 0xA1FE36E1
+	jne	.LBB16_8
+# %bb.2:                                # %join.6.i
+	cmpl	%edx, %ecx
+	setb	%sil
+	testl	%ecx, %ecx
 	sets	%r10b
 	movl	$2, %eax
-	orb	%r9b, %r10b
-	jne	.LBB16_7
-# %bb.2:                                # %arm.4.i
-	movl	%r8d, %r9d
-	orl	%ecx, %r9d
+	orb	%sil, %r10b
+	jne	.LBB16_8
+# %bb.3:                                # %arm.7.i
+	movl	%r9d, %esi
+	orl	%r8d, %esi
 	movl	$15, %eax
-	cmpl	$65535, %r9d                    # imm = 0xFFFF
-	ja	.LBB16_7
-# %bb.3:                                # %after.8.i
+	cmpl	$65535, %esi                    # imm = 0xFFFF
+	ja	.LBB16_8
+# %bb.4:                                # %after.11.i
 	pushq	%rbp
 	.cfi_def_cfa_offset 16
 	pushq	%r15
@@ -7191,17 +7195,17 @@ limekeel_open:                          # @limekeel_open
 	.cfi_offset %r14, -32
 	.cfi_offset %r15, -24
 	.cfi_offset %rbp, -16
-	movl	%esi, %r15d
-	movq	%rdx, %r12
-	movl	%ecx, %r14d
-	movl	%r8d, %ebp
+	movl	%edx, %r15d
+	movq	%rcx, %r12
+	movl	%r8d, %r14d
+	movl	%r9d, %ebp
 	movq	%rdi, %rbx
 	movl	$96, %edi
 	movl	$8, %esi
 	callq	limekeel_alloc@PLT
 	testb	$1, %al
-	je	.LBB16_5
-# %bb.4:                                # %arm.18.i
+	je	.LBB16_6
+# %bb.5:                                # %arm.21.i
 	movq	%r12, %rax
 	shlq	$32, %rax
 	movl	%r15d, %ecx
@@ -7220,8 +7224,8 @@ limekeel_open:                          # @limekeel_open
 	movups	%xmm0, 80(%rdx)
 	movq	%rdx, (%rbx)
 	xorl	%eax, %eax
-	jmp	.LBB16_6
-.LBB16_5:                               # %arm.21.i
+	jmp	.LBB16_7
+.LBB16_6:                               # %arm.24.i
 	movq	%rsp, %rax
 	movq	%rax, 8(%rsp)
 	xorps	%xmm0, %xmm0
@@ -7230,7 +7234,7 @@ limekeel_open:                          # @limekeel_open
 	leaq	8(%rsp), %rdi
 	callq	"std_alloc::vec::deque::VecDeque::drop::<#654463e68ebe2f84>"
 	movl	$12, %eax
-.LBB16_6:
+.LBB16_7:
 	addq	$48, %rsp
 	.cfi_def_cfa_offset 48
 	popq	%rbx
@@ -7250,7 +7254,7 @@ limekeel_open:                          # @limekeel_open
 	.cfi_restore %rbp
 	retq
 .Lfunc_end16:
-	.size	limekeel_open, .Lfunc_end16-limekeel_open
+	.size	limekeel_open_for, .Lfunc_end16-limekeel_open_for
 	.cfi_endproc
                                         # -- End function
 	.section	.text.limekeel_block_piece,"ax",@progbits

@@ -97,11 +97,11 @@ static void write_some(struct sender *sender)
     note_change(sender, flushed.change);
 }
 
-/* What the socket takes of the pieces, or -1: with EAGAIN if it has no room. A signal in the midst is no answer, so the
+/* What the socket takes of the slices, or -1: with EAGAIN if it has no room. A signal in the midst is no answer, so the
  * call is made again; and a peer that is gone is an error here, and no SIGPIPE. */
-static ssize_t send_pieces(int socket, struct limekeel_piece *pieces, size_t count)
+static ssize_t send_slices(int socket, struct iovec *slices, size_t count)
 {
-    struct msghdr message = {.msg_iov = (struct iovec *)(void *)pieces, .msg_iovlen = count};
+    struct msghdr message = {.msg_iov = slices, .msg_iovlen = count};
     ssize_t sent;
     do
         sent = sendmsg(socket, &message, MSG_NOSIGNAL);
@@ -113,14 +113,14 @@ static ssize_t send_pieces(int socket, struct limekeel_piece *pieces, size_t cou
 static void send_some(struct sender *sender, int socket)
 {
     for (;;) {
-        struct limekeel_piece pieces[LIMEKEEL_PIECES];
+        struct iovec slices[LIMEKEEL_PIECES];
         struct limekeel_gathered front =
-            limekeel_gather(&sender->connection, pieces, LIMEKEEL_PIECES, UINT32_MAX);
+            limekeel_gather_iovec(&sender->connection, slices, LIMEKEEL_PIECES, UINT32_MAX);
         if (front.front == LIMEKEEL_FRONT_NOTHING)
             return;
         ssize_t sent = 0;
         if (front.count > 0) {
-            sent = send_pieces(socket, pieces, front.count);
+            sent = send_slices(socket, slices, front.count);
             if (sent < 0 && errno == EAGAIN)
                 return;
             if (sent < 0)
@@ -177,6 +177,8 @@ static void misuse(void)
     expect("free of none", limekeel_free(&none) == LIMEKEEL_NOT_OPEN);
     expect("bad marks", limekeel_open(&none, 2, 1, 96, 8) == LIMEKEEL_BAD_MARKS);
     expect("bad estimate", limekeel_open(&none, 1, 2, 65536, 8) == LIMEKEEL_BAD_ESTIMATE);
+    uint32_t other = limekeel_open_for(&none, LIMEKEEL_EDGE + 1, 1, 2, 96, 8);
+    expect("another version", other == LIMEKEEL_OTHER_VERSION && strstr(limekeel_strstatus(other), "version"));
     expect("open", limekeel_open(&none, 100, 200, 96, 8) == LIMEKEEL_OK);
     expect("open again", limekeel_open(&none, 100, 200, 96, 8) == LIMEKEEL_ALREADY_OPEN);
     expect("no block", limekeel_write_block(&none, &no_block).status == LIMEKEEL_NO_BLOCK);
@@ -219,7 +221,7 @@ static void gives_up(void)
     expect("it is not empty", empty.status == LIMEKEEL_OK && !empty.holds);
     expect("one more", limekeel_write(&connection, "waits", 5).change == LIMEKEEL_UNWRITABLE);
     expect("shrink", limekeel_shrink_to_fit(&connection) == LIMEKEEL_OK);
-    struct limekeel_look look = limekeel_look(&connection);
+    struct limekeel_look_told look = limekeel_look(&connection);
     expect("what waits stays", look.size == 1 && look.total == 96 + 7 + 96 + 5);
     struct limekeel_taken taken = limekeel_give_up(&connection, 7);
     expect("both fail", taken.status == LIMEKEEL_OK && taken.from == 0 && taken.to == 2 && taken.count == 2);
@@ -247,16 +249,16 @@ static void many_pieces(const int *ends)
     expect("flush", limekeel_flush(&connection).count == MANY);
     size_t came = 0;
     for (uint32_t first = 0; first < MANY; first += LIMEKEEL_PIECES) {
-        struct limekeel_piece pieces[LIMEKEEL_PIECES];
-        struct limekeel_gathered front = limekeel_gather(&connection, pieces, LIMEKEEL_PIECES, UINT32_MAX);
-        expect("as many pieces as fit", front.count == (first == 0 ? LIMEKEEL_PIECES : 6));
+        struct iovec slices[LIMEKEEL_PIECES];
+        struct limekeel_gathered front = limekeel_gather_iovec(&connection, slices, LIMEKEEL_PIECES, UINT32_MAX);
+        expect("as many slices as fit", front.count == (first == 0 ? LIMEKEEL_PIECES : 6));
         size_t place = came;
         for (uint32_t at = 0; at < front.count; at++) {
-            expect("of the message's length", pieces[at].length == first + at + 1);
-            expect("and where it lies", memcmp(pieces[at].at, wanted + place, pieces[at].length) == 0);
-            place += pieces[at].length;
+            expect("of the message's length", slices[at].iov_len == first + at + 1);
+            expect("and where it lies", memcmp(slices[at].iov_base, wanted + place, slices[at].iov_len) == 0);
+            place += slices[at].iov_len;
         }
-        expect("the socket takes all", send_pieces(ends[0], pieces, front.count) == (ssize_t)(place - came));
+        expect("the socket takes all", send_slices(ends[0], slices, front.count) == (ssize_t)(place - came));
         uint8_t bytes[sizeof wanted];
         expect("all of it comes", read(ends[1], bytes, sizeof bytes) == (ssize_t)(place - came));
         expect("as it was written", memcmp(bytes, wanted + came, place - came) == 0);

@@ -53,7 +53,7 @@ static void expect(const char *what, bool holds)
     }
 }
 
-static bool same(struct limekeel_look one, struct limekeel_look other)
+static bool same(struct limekeel_look_told one, struct limekeel_look_told other)
 {
     return one.status == other.status && one.total == other.total && one.word == other.word && one.size == other.size &&
            one.before_unwritable == other.before_unwritable && one.before_writable == other.before_writable &&
@@ -66,7 +66,7 @@ static int wanted;
 static struct limekeel_written written(struct limekeel_connection *connection, struct limekeel_block *block,
                                        const char *text)
 {
-    struct limekeel_look before = limekeel_look(connection);
+    struct limekeel_look_told before = limekeel_look(connection);
     for (;;) {
         struct limekeel_written told = text ? limekeel_write(connection, text, strlen(text))
                                             : limekeel_write_block(connection, block);

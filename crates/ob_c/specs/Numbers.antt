@@ -31,6 +31,10 @@ bad_estimate = 15
 abbrev pub no_block : ℕ
 no_block = 16
 
+-- the status of an opening for another edge than this one
+abbrev pub other_version : ℕ
+other_version = 17
+
 -- what a call has to report: its reply, or else the status of a handle that holds nothing, or of its refusal
 abbrev pub accepted : {A : Type 0} → Option (Result A Refusal) → Result A ℕ
 accepted None = Err not_open

@@ -1,5 +1,5 @@
 -- What an export promises of an opening, and of new marks.
-use Rattle.std.specs.Prelude.{◌≡◌, ℕ, ◌||◌, [], nat_lt, if◌then◌else◌, Option, Some, None, Result, Ok, Err}
+use Rattle.std.specs.Prelude.{◌≡◌, ℕ, Bool, true, false, ◌||◌, [], nat_lt, if◌then◌else◌, Option, Some, None, Result, Ok, Err}
 use Rattle.ob_types.specs.Limits.{greatest_overhead, greatest_unknown}
 use Rattle.ob_types.specs.Refusal.{number_of}
 use Rattle.ob_types.specs.WaterMark.{Marks, water_mark_of}
@@ -9,7 +9,7 @@ use Rattle.ob_seq.specs.Settings.{Settings}
 use Rattle.ob_connection.specs.Connected.{Connected}
 use Rattle.ob_connection.specs.Replies.{done_reply}
 use Rattle.ob_connection.specs.Standing.{StandsFor}
-use Rattle.ob_c.specs.Numbers.{done, no_memory, not_open, already_open, bad_estimate, status_in_c}
+use Rattle.ob_c.specs.Numbers.{done, no_memory, not_open, already_open, bad_estimate, other_version, status_in_c}
 use Rattle.ob_c.specs.Obeying.{ObeysFrugallyFor}
 
 -- the settings of these marks, or the status of marks or of an estimate that are refused
@@ -22,6 +22,11 @@ settings_with (Ok marks) overhead unknown =
 -- the settings of four numbers of bytes
 abbrev pub settings_of : ℕ → ℕ → ℕ → ℕ → Result Settings ℕ
 settings_of low high overhead unknown = settings_with (water_mark_of low high) overhead unknown
+
+-- the settings for a caller that was compiled for this edge; any other is refused
+abbrev pub settings_for : Bool → Result Settings ℕ → Result Settings ℕ
+settings_for true settings = settings
+settings_for false settings = Err other_version
 
 -- a connection with these settings and nothing written is opened, unless there is one already, they are refused, or
 -- memory runs out

@@ -1,13 +1,13 @@
 //! The opening of a connection, the memory that it gives back, and its end: the handle that is freed.
 
-ghost use Rattle.std.specs.Prelude.{◌≡◌, ◌≤◌, IfOk, OnErr, []};
+ghost use Rattle.std.specs.Prelude.{◌≡◌, ◌≤◌, IfOk, OnErr, [], nat_eq};
 ghost use Rattle.ob_types.specs.Limits.{greatest_overhead, greatest_unknown};
 ghost use Rattle.ob_connection.specs.Standing.{StandsFor};
 ghost use Rattle.ob_c.specs.Blocks.{IsLetGo};
-ghost use Rattle.ob_c.specs.Opening.{Opens, StaysAsItIs, settings_of};
+ghost use Rattle.ob_c.specs.Opening.{Opens, StaysAsItIs, settings_for, settings_of};
 
 use crate::handle::Handle;
-use crate::numbers::{ALREADY_OPEN, BAD_ESTIMATE, DONE, NO_MEMORY, NOT_OPEN};
+use crate::numbers::{ALREADY_OPEN, BAD_ESTIMATE, DONE, EDGE, NO_MEMORY, NOT_OPEN, OTHER_VERSION};
 use ob_connection::Connection;
 use ob_types::{Estimate, WaterMark};
 use std::alloc::Global;
@@ -15,24 +15,29 @@ use std::alloc::Global;
 /// The greatest overhead, and the greatest size of an unknown message, in bytes.
 const MAX_ESTIMATE: u32 = 65535;
 
-/// Opens a connection with nothing written. The marks, the overhead of a message and the size of a message that is
+/// Opens a connection with nothing written, for a caller that was compiled for this edge. The marks, the overhead of a message and the size of a message that is
 /// neither a block nor a region are in bytes.
 ///
-/// The status is 14 if the handle holds a connection, 2 for bad marks, 15 for a bad estimate and 12 if it is out of
-/// memory.
+/// The status is 14 if the handle holds a connection, then 17 for another edge, 2 for bad marks, 15 for a bad estimate and 12
+/// if it is out of memory.
 #[unsafe(no_mangle)]
-pub extern "C" fn limekeel_open(
+pub extern "C" fn limekeel_open_for(
     alloc: Global,
     handle: &mut Handle,
+    edge: u32,
     low: u32,
     high: u32,
     overhead: u32,
     unknown: u32,
 ) -> u32
-    ensures { Opens handle.old.value (settings_of low high overhead unknown) result handle.new.value }
+    ensures { Opens handle.old.value (settings_for (nat_eq edge EDGE) (settings_of low high overhead unknown)) result
+        handle.new.value }
 {
     if handle.is_open() {
         return ALREADY_OPEN;
+    }
+    if edge != EDGE {
+        return OTHER_VERSION;
     }
     let marks = match WaterMark::new(low, high) {
         Ok(marks) => marks,

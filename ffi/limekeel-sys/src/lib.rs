@@ -22,6 +22,9 @@ mod heap;
 /// The most pieces that one `limekeel_gather_pieces` fills.
 pub const PIECES: usize = 64;
 
+/// A number of these declarations, which `limekeel_open_for` compares with the archive's.
+pub const EDGE: u32 = 2717791969;
+
 macro_rules! numbers {
     ($($name:ident = $number:literal),* $(,)?) => {
         $(#[allow(missing_docs)] pub const $name: u32 = $number;)*
@@ -32,7 +35,7 @@ macro_rules! numbers {
 numbers! {
     OK = 0, OVERSIZE = 1, BAD_MARKS = 2, TOO_MUCH = 3, CLOSED = 4, NOTHING_FLUSHED = 5, TOO_FAR = 6, TOO_MANY_BYTES = 7,
     BAD_INDEX = 8, FLUSHED_LEFT = 9, UNKNOWN_PROMISE = 10, NO_MEMORY = 12, NOT_OPEN = 13, ALREADY_OPEN = 14,
-    BAD_ESTIMATE = 15, NO_BLOCK = 16,
+    BAD_ESTIMATE = 15, NO_BLOCK = 16, OTHER_VERSION = 17,
     UNCHANGED = 0, UNWRITABLE = 1, WRITABLE = 2,
     NO_OUTCOME = 0, SUCCESS = 1, FAILED = 2, CANCELLED = 3,
     UNKNOWN = 0, WAITING = 1, FIXED = 2, SETTLED = 3, SETTLED_BEFORE = 4,
@@ -92,18 +95,18 @@ plain! {
     Cancelled 8 { status at 0: u32, in_time at 4: bool }
     /// `struct limekeel_changed`.
     Changed 8 { status at 0: u32, change at 4: u32 }
-    /// `struct limekeel_look`.
+    /// `struct limekeel_look_told`.
     Look 40 {
         status at 0: u32, total at 4: u32, word at 8: u32, before_unwritable at 12: u32, before_writable at 16: u32,
         size at 24: u64, current_progress at 32: u64,
     }
     /// `struct limekeel_truth`.
     Truth 8 { status at 0: u32, holds at 4: bool }
-    /// `struct limekeel_promise`.
+    /// `struct limekeel_promise_told`.
     Promise 16 { status at 0: u32, state at 4: u32, outcome at 8: u32, cause at 12: u32 }
-    /// `struct limekeel_front`.
+    /// `struct limekeel_front_told`.
     Front 16 { status at 0: u32, any at 4: bool, id at 8: u64 }
-    /// `struct limekeel_current`.
+    /// `struct limekeel_current_told`.
     Current 16 { status at 0: u32, kind at 4: u32, number at 8: u64 }
     /// `struct limekeel_gathered`.
     Gathered 16 { status at 0: u32, front at 4: u32, count at 8: usize }
@@ -113,7 +116,14 @@ const _: () = assert!(size_of::<Connection>() == 8 && size_of::<Block>() == 8);
 
 #[allow(missing_docs)]
 unsafe extern "C" {
-    pub fn limekeel_open(connection: *mut Connection, low: u32, high: u32, overhead: u32, unknown: u32) -> u32;
+    pub fn limekeel_open_for(
+        connection: *mut Connection,
+        edge: u32,
+        low: u32,
+        high: u32,
+        overhead: u32,
+        unknown: u32,
+    ) -> u32;
     pub fn limekeel_shrink_to_fit(connection: *mut Connection) -> u32;
     pub fn limekeel_free(connection: *mut Connection) -> u32;
     pub fn limekeel_block_of_bytes(block: *mut Block, bytes: *const u8, length: usize) -> u32;

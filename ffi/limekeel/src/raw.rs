@@ -60,8 +60,13 @@ impl Handle {
         Handle { inner: sys::Connection { at: null_mut() } }
     }
 
+    /// Opens a connection of an archive of this version.
+    pub(crate) fn open(&mut self, low: u32, high: u32, overhead: u32, unknown: u32) -> u32 {
+        self.open_for(sys::EDGE, low, high, overhead, unknown)
+    }
+
     commands! {
-        open(low: u32, high: u32, overhead: u32, unknown: u32) -> u32 = limekeel_open;
+        open_for(edge: u32, low: u32, high: u32, overhead: u32, unknown: u32) -> u32 = limekeel_open_for;
         shrink_to_fit() -> u32 = limekeel_shrink_to_fit;
         free() -> u32 = limekeel_free;
         write_region(length: u64) -> sys::Written = limekeel_write_region;

@@ -34,6 +34,8 @@ pub enum Refusal {
     NoMemory,
     /// The overhead or the size of unknown messages is above 65535.
     BadEstimate,
+    /// The archive that `LIMEKEEL_LIB_DIR` named is of another version than this crate.
+    OtherVersion,
     /// A status that this crate does not know; it names no call that this crate makes.
     Unknown(u32),
 }
@@ -55,6 +57,7 @@ impl Refusal {
             Refusal::UnknownPromise => sys::UNKNOWN_PROMISE,
             Refusal::NoMemory => sys::NO_MEMORY,
             Refusal::BadEstimate => sys::BAD_ESTIMATE,
+            Refusal::OtherVersion => sys::OTHER_VERSION,
             Refusal::Unknown(status) => status,
         }
     }
@@ -74,6 +77,7 @@ impl Refusal {
             sys::UNKNOWN_PROMISE => Refusal::UnknownPromise,
             sys::NO_MEMORY => Refusal::NoMemory,
             sys::BAD_ESTIMATE => Refusal::BadEstimate,
+            sys::OTHER_VERSION => Refusal::OtherVersion,
             other => Refusal::Unknown(other),
         }
     }
@@ -94,6 +98,7 @@ impl fmt::Display for Refusal {
             Refusal::UnknownPromise => "no write has this promise",
             Refusal::NoMemory => "out of memory",
             Refusal::BadEstimate => "the overhead or the size of unknown messages is above 65535",
+            Refusal::OtherVersion => "the archive is of another version than the crate",
             Refusal::Unknown(status) => return write!(f, "status {status}"),
         })
     }
