@@ -48,9 +48,10 @@ fn a_thread_writes_and_the_one_with_the_socket_sends(rt: HostRuntime) -> Result<
     let connection = Mutex::new(open(rt.alloc())?);
     let mut socket = Slow::new(rt.alloc(), false);
     let bytes = || Bytes::from_static(b"four");
-    let ids = [0; 2].map(|_| respond_from_any_thread(&rt, &connection, bytes()).map(
-        |done| done.id,
-    ));
+    let ids = [0; 2].map(|_| match respond_from_any_thread(&rt, &connection, bytes()) {
+        Ok(written) => Ok(written.id),
+        Err(refused) => Err(refused.refusal),
+    });
     let sent = [0; 3].map(|_| send_from_one_thread(&rt, &connection, &mut socket).map(
         |sent| sent.bytes,
     ));
