@@ -1,13 +1,18 @@
 //! Says which targets there are, and where the archive is if `LIMEKEEL_LIB_DIR` names its folder. Without that the crate has
 //! it as assembly, and needs no C compiler and nothing built before.
 
-use std::env;
-use std::path::PathBuf;
+use std::path::{Path, PathBuf};
+use std::{env, fs};
+
+/// What this crate is made of beside its sources: in a package it lies in the crate, in the repository one folder above.
+const LAID_BESIDE: [&str; 2] = ["limekeel.h", "limekeel.s"];
 
 fn main() {
     println!("cargo::rustc-check-cfg=cfg(limekeel_lib_dir)");
     println!("cargo::rerun-if-env-changed=LIMEKEEL_LIB_DIR");
-    println!("cargo::metadata=include={}", read("CARGO_MANIFEST_DIR"));
+    let out = read("OUT_DIR");
+    LAID_BESIDE.iter().for_each(|name| copy(name, Path::new(&out)));
+    println!("cargo::metadata=include={out}");
     let target = ["ARCH", "OS", "POINTER_WIDTH"].map(|what| read(&format!("CARGO_CFG_TARGET_{what}")));
     if target != ["x86_64", "linux", "64"] {
         println!("cargo::error=limekeel is compiled for x86-64 Linux alone, and not for {}", read("TARGET"));
@@ -15,6 +20,20 @@ fn main() {
     }
     if let Some(folder) = env::var_os("LIMEKEEL_LIB_DIR").map(PathBuf::from) {
         link(&folder.join("liblimekeel.a"));
+    }
+}
+
+/// Copies a file to where this crate is built.
+fn copy(name: &str, out: &Path) {
+    let here = PathBuf::from(read("CARGO_MANIFEST_DIR"));
+    let places = [here.join(name), here.join("..").join(name)];
+    let Some(place) = places.iter().find(|place| place.exists()) else {
+        println!("cargo::error={name} is neither in this crate nor in the folder above: dist/crates lays packages out");
+        return;
+    };
+    println!("cargo::rerun-if-changed={}", place.display());
+    if let Err(error) = fs::copy(place, out.join(name)) {
+        println!("cargo::error={}: {error}", place.display());
     }
 }
 

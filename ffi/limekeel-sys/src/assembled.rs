@@ -9,7 +9,7 @@ core::arch::global_asm!(
     ".set limekeel_alloc, {alloc}",
     ".set limekeel_realloc, {realloc}",
     ".set limekeel_dealloc, {dealloc}",
-    include_str!("../limekeel.s"),
+    include_str!(concat!(env!("OUT_DIR"), "/limekeel.s")),
     alloc = sym heap::alloc,
     realloc = sym heap::realloc,
     dealloc = sym heap::dealloc,

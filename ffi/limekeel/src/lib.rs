@@ -65,5 +65,5 @@ pub use views::{Current, Front, Look, Promise};
 
 /// The code of `ffi/README.md`, which a test compiles and runs.
 #[cfg(doctest)]
-#[doc = include_str!("../README.md")]
+#[doc = include_str!("../../README.md")]
 pub struct Readme;

@@ -1,1 +1,0 @@
-../limekeel.s
