@@ -1,5 +1,5 @@
 -- The numbers on an axis of a picture.
-use Rattle.std.specs.Prelude.{◌*◌, ◌/◌, ℕ, List, [], ◌∷◌, filter, find, nat_le, nat_lt}
+use Rattle.std.specs.Prelude.{◌*◌, ℕ, List, [], ◌∷◌, filter, find, nat_le, nat_lt}
 use Rattle.std.specs.Option.{unwrap_or}
 
 -- the round numbers: those of one digit, and these with zeros behind them
@@ -10,7 +10,7 @@ round_numbers =
 
 -- how far two numbers on an axis are apart that shows up to this one: the least round number of which five are more
 abbrev pub step_of : ℕ → ℕ
-step_of most = unwrap_or (find (λ step. nat_lt (most / 5) step) round_numbers) 1000000000
+step_of most = unwrap_or (find (λ step. nat_lt most (5 * step)) round_numbers) 1000000000
 
 -- the numbers on an axis that shows up to this one: the multiples of the step, from 0 on
 abbrev pub ticks_of : ℕ → List ℕ

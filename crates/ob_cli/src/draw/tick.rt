@@ -1,6 +1,6 @@
 //! The numbers on an axis of a picture.
 
-ghost use Rattle.std.specs.Prelude.{◌≡◌, ◌≤◌, ◌/◌, IfOk, find, nat_lt};
+ghost use Rattle.std.specs.Prelude.{◌≡◌, ◌≤◌, ◌*◌, IfOk, find, nat_lt};
 ghost use Rattle.ob_cli.specs.Draw.Tick.{round_numbers, step_of, ticks_of};
 
 use std::alloc::{AllocError, Global};
@@ -38,7 +38,11 @@ fn step_of(most: u32) -> u32
 
 /// The least round number of which five are more than this one, if 32 bits have it.
 fn first_round(most: u32) -> Option<u32>
-    ensures { result ≡ find (λ step. nat_lt (most / 5) step) round_numbers }
+    ensures { result ≡ find (λ step. nat_lt most (5 * step)) round_numbers }
 {
-    ROUND.iter().copied().find(|step| most / 5 < *step)
+    // five of the greatest have more than 32 bits
+    ROUND
+        .iter()
+        .copied()
+        .find(|step| u64::from(most) < 5 * u64::from(*step))
 }

@@ -1,4 +1,4 @@
-use Rattle.std.proofs.Common.{◌≡◌, ◌≤◌, ◌/◌, ◌∙◌, ap, refl, subst, sym}
+use Rattle.std.proofs.Common.{◌≡◌, ◌≤◌, ◌*◌, ◌∙◌, ap, refl, subst, sym}
 use Rattle.std.specs.Prelude.{nat_lt}
 use Rattle.std.specs.Option.{unwrap_or}
 use Rattle.ob_cli.specs.Draw.Tick.{round_numbers, step_of}
@@ -10,4 +10,4 @@ returns-clause-small c =
     let value : c.unwrap_or.result ≡ step_of c.args.most =
     c.unwrap_or.ensures ∙ ap (λ found. unwrap_or found 1000000000) c.first_round.ensures in
     subst (λ step. step ≤ 1000000000) (sym value)
-    (first_within (λ step. nat_lt (c.args.most / 5) step) round_numbers refl)
+    (first_within (λ step. nat_lt c.args.most (5 * step)) round_numbers refl)
