@@ -1,10 +1,11 @@
-ghost use Rattle.std.specs.Prelude.{◌≡◌};
+ghost use Rattle.std.specs.Prelude.{◌≡◌, true};
 
 mod commands;
 mod looks;
 
 use crate::caller::Caller;
 use crate::handle::Handle;
+use crate::transport::Transport;
 use std::marker::Model;
 
 /// The connection in the hands of one handle, which has the lock until the guard is let go. Contracts see the connection,
@@ -47,6 +48,17 @@ impl Guard {
         let Guard { mut caller } = self;
         caller.unlock();
         Handle::new(caller)
+    }
+
+    /// Lets the lock go, and gives the transport back whose guard it is. It does not allocate.
+    pub fn unlock_transport(self) -> Transport
+        requires { self.handle.sends ≡ true }
+        ensures { result ≡ self.handle }
+    {
+        let Guard { caller } = self;
+        let mut sender = caller;
+        sender.unlock();
+        Transport::new(sender)
     }
 
     /// The connection is what all calls leave that the handle has seen. It does nothing.

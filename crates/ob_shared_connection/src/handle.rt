@@ -1,4 +1,4 @@
-ghost use Rattle.std.specs.Prelude.{◌≡◌, ◌≤◌, IfErr, IfOk, IsOkUnless};
+ghost use Rattle.std.specs.Prelude.{◌≡◌, ◌≤◌, true, IfErr, IfOk, IsOkUnless};
 ghost use Rattle.ob_types.specs.Limits.{greatest_overhead, greatest_unknown};
 ghost use Rattle.ob_shared_connection.specs.Calls.{IsCall, IsLock, UnderLock};
 ghost use Rattle.ob_shared_connection.specs.Glances.{IsGlance};
@@ -15,6 +15,7 @@ use crate::caller::Caller;
 use crate::ended::Ended;
 use crate::glance::Glance;
 use crate::guard::Guard;
+use crate::transport::Transport;
 use ob_types::{Estimate, Refusal, WaterMark};
 use std::alloc::{AllocError, Global};
 use std::marker::Model;
@@ -88,6 +89,15 @@ impl Handle {
         ensures same { self.new ≡ self.old }
     {
         Ok(Handle::new(self.caller.another()?))
+    }
+
+    /// The role of the transport, in a type of its own.
+    pub fn into_transport(self) -> Transport
+        requires { self.sends ≡ true }
+        ensures { result ≡ self }
+    {
+        let Handle { caller } = self;
+        Transport::new(caller)
     }
 
     /// What was accepted from this handle are the calls of its number that it has seen, each once, in order. It does

@@ -15,6 +15,7 @@ mod looks;
 mod plays;
 mod rule;
 mod shared;
+mod transport;
 mod view;
 
 pub use call::Call;
@@ -22,3 +23,4 @@ pub use ended::Ended;
 pub use glance::Glance;
 pub use guard::Guard;
 pub use handle::{Handle, TooManyHandles};
+pub use transport::Transport;

@@ -1,15 +1,13 @@
-//! One call for each command, which takes the lock for it.
-ghost use Rattle.std.specs.Prelude.{◌≡◌, true, false, ⊤};
+//! The calls that take nothing away, each of which takes the lock for it.
+ghost use Rattle.std.specs.Prelude.{⊤};
 ghost use Rattle.ob_types.specs.declared.command.Command.TheVariants as command;
-ghost use Rattle.ob_types.specs.declared.promise.Outcome.TheVariants.{Success, Failed};
-ghost use Rattle.ob_connection.specs.Replies.{written_reply, flushed_reply, removed_reply, taken_reply, cancelled_reply};
-ghost use Rattle.ob_connection.specs.Replies.{bit_reply, done_reply};
-ghost use Rattle.ob_shared_connection.specs.Calls.{GivingUp, IsCall, Makes, Obeying, ObeyingFreely, Taking};
-ghost use Rattle.ob_shared_connection.specs.Calls.{TakingQuietly, UnderLock, giving_up};
+ghost use Rattle.ob_types.specs.declared.promise.Outcome.TheVariants.{Failed};
+ghost use Rattle.ob_connection.specs.Replies.{written_reply, flushed_reply, cancelled_reply, bit_reply, done_reply};
+ghost use Rattle.ob_shared_connection.specs.Calls.{Makes, Obeying, ObeyingFreely, TakingQuietly, UnderLock};
 
 use crate::commands;
 use crate::handle::Handle;
-use ob_connection::{Flushed, Removed, Taken, Written};
+use ob_connection::{Flushed, Taken, Written};
 use ob_types::{Cause, Change, Message, Refusal, WaterMark};
 use std::sync::Wait;
 
@@ -28,30 +26,6 @@ impl Handle {
         self.call(rt, commands::Flush)
     }
 
-    /// Takes the first flushed message away, as sent, as `Connection::remove`. Of the handle that sends.
-    pub fn remove<R: Wait>(&mut self, rt: &R) -> Result<Removed, Refusal>
-        requires { self.old.sends ≡ true }
-        ensures { UnderLock self.old (Makes (ObeyingFreely removed_reply) command.Remove result) self.new }
-    {
-        self.call(rt, commands::Remove)
-    }
-
-    /// Takes the first flushed message away, as failed, as `Connection::remove_with`. Of the handle that sends.
-    pub fn remove_with<R: Wait>(&mut self, rt: &R, cause: Cause) -> Result<Removed, Refusal>
-        requires { self.old.sends ≡ true }
-        ensures { UnderLock self.old (Makes (ObeyingFreely removed_reply) (command.RemoveWith cause) result) self.new }
-    {
-        self.call(rt, commands::RemoveWith(cause))
-    }
-
-    /// Takes *n* bytes off the flushed blocks in front, as sent, as `Connection::take_sent`. Of the handle that sends.
-    pub fn take_sent<R: Wait>(&mut self, rt: &R, n: u64) -> Result<Taken, Refusal>
-        requires { self.old.sends ≡ true }
-        ensures { UnderLock self.old (Makes (Taking Success) (command.RemoveBytes n) result) self.new }
-    {
-        self.call(rt, commands::TakeSent(n))
-    }
-
     /// Adds *n* bytes to the progress of the first flushed message, as `Connection::progress`.
     pub fn progress<R: Wait>(&mut self, rt: &R, n: u64) -> Result<(), Refusal>
         ensures { UnderLock self.old (Makes (ObeyingFreely done_reply) (command.Progress n) result) self.new }
@@ -66,34 +40,11 @@ impl Handle {
         self.call(rt, commands::Cancel(id))
     }
 
-    /// Takes all flushed messages away, as failed, as `Connection::fail_flushed`. Of the handle that sends.
-    pub fn fail_flushed<R: Wait>(
-        &mut self,
-        rt: &R,
-        cause: Cause,
-        notify: bool,
-    ) -> Result<Taken, Refusal>
-        requires { self.old.sends ≡ true }
-        ensures { UnderLock self.old (Makes (TakingQuietly (Failed cause) (notify ≡ false)) (command.FailFlushed cause notify) result) self.new }
-    {
-        self.call(rt, commands::FailFlushed(cause, notify))
-    }
-
     /// Closes the connection for good, as `Connection::close`.
     pub fn close<R: Wait>(&mut self, rt: &R, cause: Cause) -> Result<Taken, Refusal>
         ensures { UnderLock self.old (Makes (TakingQuietly (Failed cause) ⊤) (command.Close cause) result) self.new }
     {
         self.call(rt, commands::Close(cause))
-    }
-
-    /// Fails what is flushed and closes the connection, as `Connection::give_up`: two calls of the list. Of the handle
-    /// that sends.
-    pub fn give_up<R: Wait>(&mut self, rt: &R, cause: Cause) -> Result<Taken, Refusal>
-        requires { self.old.sends ≡ true }
-        ensures { UnderLock self.old
-            (λ before after. IsCall (GivingUp cause) (giving_up cause) before result after) self.new }
-    {
-        self.call(rt, commands::GiveUp(cause))
     }
 
     /// Sets a user bit or clears it, as `Connection::user_bit`.

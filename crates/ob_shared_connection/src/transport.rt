@@ -1,0 +1,111 @@
+ghost use Rattle.std.specs.Prelude.{◌≡◌, true, IfOk};
+ghost use Rattle.ob_shared_connection.specs.Calls.{IsCall, IsLock, UnderLock};
+ghost use Rattle.ob_shared_connection.specs.Handles.{IsAnother};
+ghost use Rattle.ob_shared_connection.specs.Looking.{Gathers, IsLook};
+
+mod commands;
+
+use crate::act::Act;
+use crate::ask::Ask;
+use crate::caller::Caller;
+use crate::guard::Guard;
+use crate::handle::{Handle, TooManyHandles};
+use crate::looks;
+use bytes::Bytes;
+use ob_types::Refusal;
+use std::marker::Model;
+use std::sync::Wait;
+
+/// The one handle of a connection that sends: flushed messages, and bytes of them, are taken away through it alone. It may
+/// go to another thread. Contracts see it as the handle that it is.
+///
+/// Each call takes the lock and lets it go, as a call of `Handle` does.
+#[derive(Drop)]
+pub struct Transport {
+    caller: Caller,
+}
+
+impl Model for Transport {
+    ghost use Rattle.std.specs.Prelude.{◌≡◌, true};
+    ghost use Rattle.ob_shared_connection.specs.Values.{HandleValue};
+    ghost use Rattle.ob_shared_connection.specs.Callers.{IsFree, caller_handle};
+
+    ghost Value = { HandleValue };
+
+    ghost view = { λ transport. caller_handle transport.caller };
+
+    ghost invariant = { λ transport. IsFree transport.caller × ((caller_handle transport.caller).sends ≡ true) };
+}
+
+impl Transport {
+    ghost use Rattle.ob_shared_connection.specs.Callers.{IsFree, caller_handle};
+
+    /// The transport of a caller that sends, and does not have the lock.
+    pub(crate) fn new(caller: Caller) -> Transport
+        requires free { IsFree caller }
+        requires sends { (caller_handle caller).sends ≡ true }
+        ensures { result ≡ caller_handle caller }
+    {
+        Transport { caller }
+    }
+
+    /// The handle that it is, which can be joined to another or finished.
+    pub fn into_handle(self) -> Handle
+        ensures handle { result ≡ self }
+        ensures sends { result.sends ≡ true }
+    {
+        let Transport { caller } = self;
+        Handle::new(caller)
+    }
+
+    /// A handle of the same connection, for another thread, as `Handle::another`.
+    pub fn another(&mut self) -> Result<Handle, TooManyHandles>
+        ensures other { IfOk result (λ other. IsAnother self.old other) }
+        ensures same { self.new ≡ self.old }
+    {
+        Ok(Handle::new(self.caller.another()?))
+    }
+
+    /// Takes the lock, for several calls. `Guard::unlock_transport` gives the transport back. It does not allocate.
+    pub fn lock<R: Wait>(self, rt: &R) -> Guard
+        ensures locks { IsLock self result }
+        ensures sends { result.handle.sends ≡ true }
+    {
+        let Transport { mut caller } = self;
+        caller.lock(rt);
+        Guard::new(caller)
+    }
+
+    /// The flushed blocks in front that can be sent at once, as `Connection::gather`. They share their memory with the
+    /// connection, and the lock is let go by then: what was gathered stays in front until it is taken away here.
+    pub fn gather<R: Wait>(
+        &mut self,
+        rt: &R,
+        max_count: u32,
+        max_bytes: u32,
+    ) -> Result<Vec<Bytes>, Refusal>
+        ensures { UnderLock self.old (IsLook (Gathers (λ blocks. blocks.items) max_count max_bytes) result) self.new }
+    {
+        self.ask(rt, looks::Gather(max_count, max_bytes))
+    }
+
+    /// One call, which takes the lock and lets it go.
+    fn call<A: Act, R: Wait>(&mut self, rt: &R, act: A) -> Result<A::Answer, Refusal>
+        ensures { UnderLock self.old (λ before after. IsCall (A.does act) (A.commands act) before result after) self.new }
+    {
+        self.caller.lock(rt);
+        let answer = self.caller.act(act);
+        self.caller.unlock();
+        answer
+    }
+
+    /// One look, which takes the lock and lets it go.
+    fn ask<A: Ask, R: Wait>(&mut self, rt: &R, ask: A) -> A::Answer
+        ensures { UnderLock self.old (IsLook (A.shows ask) result) self.new }
+    {
+        self.caller.lock(rt);
+        let answer = self.caller.ask(ask);
+        self.caller.unlock();
+        answer
+    }
+}

@@ -1,0 +1,55 @@
+//! The calls that take flushed messages away, each of which takes the lock for it.
+ghost use Rattle.std.specs.Prelude.{◌≡◌, false};
+ghost use Rattle.ob_types.specs.declared.command.Command.TheVariants as command;
+ghost use Rattle.ob_types.specs.declared.promise.Outcome.TheVariants.{Success, Failed};
+ghost use Rattle.ob_connection.specs.Replies.{removed_reply};
+ghost use Rattle.ob_shared_connection.specs.Calls.{GivingUp, IsCall, Makes, ObeyingFreely, Taking, TakingQuietly, UnderLock, giving_up};
+
+use crate::commands;
+use crate::transport::Transport;
+use ob_connection::{Removed, Taken};
+use ob_types::{Cause, Refusal};
+use std::sync::Wait;
+
+impl Transport {
+    /// Takes the first flushed message away, as sent, as `Connection::remove`.
+    pub fn remove<R: Wait>(&mut self, rt: &R) -> Result<Removed, Refusal>
+        ensures { UnderLock self.old (Makes (ObeyingFreely removed_reply) command.Remove result) self.new }
+    {
+        self.call(rt, commands::Remove)
+    }
+
+    /// Takes the first flushed message away, as failed, as `Connection::remove_with`.
+    pub fn remove_with<R: Wait>(&mut self, rt: &R, cause: Cause) -> Result<Removed, Refusal>
+        ensures { UnderLock self.old (Makes (ObeyingFreely removed_reply) (command.RemoveWith cause) result) self.new }
+    {
+        self.call(rt, commands::RemoveWith(cause))
+    }
+
+    /// Takes *n* bytes off the flushed blocks in front, as sent, as `Connection::take_sent`.
+    pub fn take_sent<R: Wait>(&mut self, rt: &R, n: u64) -> Result<Taken, Refusal>
+        ensures { UnderLock self.old (Makes (Taking Success) (command.RemoveBytes n) result) self.new }
+    {
+        self.call(rt, commands::TakeSent(n))
+    }
+
+    /// Takes all flushed messages away, as failed, as `Connection::fail_flushed`.
+    pub fn fail_flushed<R: Wait>(
+        &mut self,
+        rt: &R,
+        cause: Cause,
+        notify: bool,
+    ) -> Result<Taken, Refusal>
+        ensures { UnderLock self.old (Makes (TakingQuietly (Failed cause) (notify ≡ false)) (command.FailFlushed cause notify) result) self.new }
+    {
+        self.call(rt, commands::FailFlushed(cause, notify))
+    }
+
+    /// Fails what is flushed and closes the connection, as `Connection::give_up`: two calls of the list.
+    pub fn give_up<R: Wait>(&mut self, rt: &R, cause: Cause) -> Result<Taken, Refusal>
+        ensures { UnderLock self.old
+            (λ before after. IsCall (GivingUp cause) (giving_up cause) before result after) self.new }
+    {
+        self.call(rt, commands::GiveUp(cause))
+    }
+}

@@ -1,0 +1,38 @@
+ghost use Rattle.std.specs.Prelude.{◌≡◌, true, IfOk};
+
+mod calls;
+mod threads;
+
+use bytes::Bytes;
+use ob_shared_connection::{Handle, Transport};
+use ob_types::{Estimate, Message, WaterMark};
+use std::alloc::Global;
+use std::sync::Wait;
+use std::test::Fail;
+
+/// The first handle of a connection with marks of 200 and 400 bytes, that counts 96 bytes with each message.
+fn opened(alloc: Global) -> Result<Handle, Fail>
+    ensures { IfOk result (λ handle. handle.sends ≡ true) }
+{
+    let estimate = Estimate {
+        overhead: 96,
+        unknown: 8,
+    };
+    Ok(Handle::open(alloc, WaterMark::new(200, 400)?, estimate)?)
+}
+
+/// Its transport, and a writer that has written and flushed this many blocks of four bytes, which count 100 each.
+fn flushed<R: Wait>(rt: &R, alloc: Global, count: u32) -> Result<(Transport, Handle), Fail> {
+    let mut transport = opened(alloc)?.into_transport();
+    let mut writer = transport.another()?;
+    for _ in 0..count {
+        let _written = writer.write(rt, four())?;
+    }
+    let _flushed = writer.flush(rt)?;
+    Ok((transport, writer))
+}
+
+/// A block of four bytes.
+fn four() -> Message {
+    Message::Block(Bytes::from_static(b"four"))
+}
