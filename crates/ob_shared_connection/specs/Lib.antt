@@ -7,6 +7,7 @@ pub mod Log
 pub mod Looking
 pub mod Removals
 pub mod Ruled
+pub mod Staying
 pub mod Steps
 pub mod Tables
 pub mod Values

@@ -1,7 +1,9 @@
-ghost use Rattle.std.specs.Prelude.{◌≡◌, true, IfOk};
+ghost use Rattle.std.specs.Prelude.{◌≡◌, ◌<◌, true, IfOk};
+ghost use Rattle.ob_seq.specs.Pieces.{bytes_in};
 ghost use Rattle.ob_shared_connection.specs.Calls.{IsCall, IsLock, UnderLock};
 ghost use Rattle.ob_shared_connection.specs.Handles.{IsAnother};
 ghost use Rattle.ob_shared_connection.specs.Looking.{Gathers, IsLook};
+ghost use Rattle.ob_shared_connection.specs.Staying.{AreInFront};
 
 mod commands;
 
@@ -84,14 +86,19 @@ impl Transport {
         max_count: u32,
         max_bytes: u32,
     ) -> Result<Vec<Bytes>, Refusal>
-        ensures { UnderLock self.old (IsLook (Gathers (λ blocks. blocks.items) max_count max_bytes) result) self.new }
+        ensures gathers { UnderLock self.old
+            (IsLook (Gathers (λ blocks. blocks.items) max_count max_bytes) result) self.new }
+        ensures in_front { IfOk result (λ blocks.
+            0 < bytes_in blocks.items → AreInFront self.new (bytes_in blocks.items)) }
     {
         self.ask(rt, looks::Gather(max_count, max_bytes))
     }
 
     /// One call, which takes the lock and lets it go.
     fn call<A: Act, R: Wait>(&mut self, rt: &R, act: A) -> Result<A::Answer, Refusal>
-        ensures { UnderLock self.old (λ before after. IsCall (A.does act) (A.commands act) before result after) self.new }
+        ensures under { UnderLock self.old
+            (λ before after. IsCall (A.does act) (A.commands act) before result after) self.new }
+        ensures sends { self.old.sends ≡ true }
     {
         self.caller.lock(rt);
         let answer = self.caller.act(act);

@@ -1,9 +1,11 @@
 //! The calls that take flushed messages away, each of which takes the lock for it.
-ghost use Rattle.std.specs.Prelude.{◌≡◌, false};
+ghost use Rattle.std.specs.Prelude.{◌≡◌, false, IsOk};
 ghost use Rattle.ob_types.specs.declared.command.Command.TheVariants as command;
 ghost use Rattle.ob_types.specs.declared.promise.Outcome.TheVariants.{Success, Failed};
 ghost use Rattle.ob_connection.specs.Replies.{removed_reply};
-ghost use Rattle.ob_shared_connection.specs.Calls.{GivingUp, IsCall, Makes, ObeyingFreely, Taking, TakingQuietly, UnderLock, giving_up};
+ghost use Rattle.ob_shared_connection.specs.Calls.{GivingUp, IsCall, Makes, ObeyingFreely, Taking, TakingQuietly};
+ghost use Rattle.ob_shared_connection.specs.Calls.{UnderLock, giving_up};
+ghost use Rattle.ob_shared_connection.specs.Staying.{AreInFront};
 
 use crate::commands;
 use crate::transport::Transport;
@@ -27,8 +29,13 @@ impl Transport {
     }
 
     /// Takes *n* bytes off the flushed blocks in front, as sent, as `Connection::take_sent`.
+    ///
+    /// It is accepted if as many bytes were in front when this transport had the lock last, as when it gathered them:
+    /// nobody else takes a flushed message away, and none can close the connection meanwhile. So gather, let go, write to
+    /// the socket, and then take away what it took.
     pub fn take_sent<R: Wait>(&mut self, rt: &R, n: u64) -> Result<Taken, Refusal>
-        ensures { UnderLock self.old (Makes (Taking Success) (command.RemoveBytes n) result) self.new }
+        ensures takes { UnderLock self.old (Makes (Taking Success) (command.RemoveBytes n) result) self.new }
+        ensures accepted { AreInFront self.old n → IsOk result }
     {
         self.call(rt, commands::TakeSent(n))
     }
