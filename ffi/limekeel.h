@@ -416,9 +416,9 @@ static inline struct limekeel_gathered limekeel_gather(const struct limekeel_con
 }
 
 #ifdef LIMEKEEL_IOVEC
-/* The same for writev, which a piece lies as. */
 LIMEKEEL_LAYOUT(iovec, 16, iov_len, offsetof(struct limekeel_piece, length));
 
+/* The same for writev: a piece lies as a struct iovec does. */
 static inline struct limekeel_gathered limekeel_gather_iovec(const struct limekeel_connection *connection,
                                                              struct iovec *slices, size_t length,
                                                              uint32_t max_bytes)

@@ -4,7 +4,7 @@
 #
 # kit: rattle-kit-13b logic dac8208d650f15bf
 # proved: logic=proved functions=80 axioms=3 target=x86_64-unknown-linux-gnu cpu=x86-64-v2
-# sources: ced1e8d6ffe915bfa42caa9f06256eee697a67f1c0105d6a05df9cde5b681f7f (ob_types, ob_seq, ob_connection, ob_c)
+# sources: 626eb14b329ae7224e448e691be42b909ff2ce2afce34fae8b42f397602e4133 (ob_types, ob_seq, ob_connection, ob_c)
 	.file	"rattle"
 	.section	".text.std_alloc::vec::deque::VecDeque::drop::<#654463e68ebe2f84>","ax",@progbits
 	.p2align	6                               # -- Begin function std_alloc::vec::deque::VecDeque::drop::<#654463e68ebe2f84>

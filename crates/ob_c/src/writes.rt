@@ -95,10 +95,7 @@ fn write_shared(
 /// Writes a message, of which a refusal tells the reason alone: the caller of C has what it is made of.
 // Else the message goes through memory once more: a third more instructions for a block that is shared.
 #[inline(always)]
-fn write(
-    connection: &mut Connection,
-    message: Message,
-) -> Result<ob_connection::Written, Refusal>
+fn write(connection: &mut Connection, message: Message) -> Result<ob_connection::Written, Refusal>
     ensures { Obeys connection.old (Write message) written_reply result connection.new }
 {
     connection.write(message).map_err(|refused| refused.refusal)

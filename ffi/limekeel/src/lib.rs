@@ -42,6 +42,21 @@
 //! drop(pieces);
 //! ```
 
+//!
+//! What tells a change is not to be dropped:
+//!
+//! ```compile_fail
+//! #![deny(unused_must_use)]
+//! # let mut connection = limekeel::Connection::open(limekeel::Marks::default(), limekeel::Estimate::default()).unwrap();
+//! connection.send_to(&mut Vec::new()).unwrap();
+//! ```
+//!
+//! ```compile_fail
+//! #![deny(unused_must_use)]
+//! # let mut connection = limekeel::Connection::open(limekeel::Marks::default(), limekeel::Estimate::default()).unwrap();
+//! connection.take_sent(0).unwrap();
+//! ```
+
 #![deny(unsafe_code, missing_docs)]
 
 mod block;

@@ -6,7 +6,8 @@ mod echo;
 use limekeel::Marks;
 use std::io::{Read, Write};
 use std::net::{Shutdown, SocketAddr, TcpListener, TcpStream};
-use std::sync::atomic::{AtomicBool, Ordering};
+use std::sync::Arc;
+use std::sync::atomic::{AtomicBool, AtomicU64, Ordering};
 use std::thread;
 use std::time::Duration;
 
@@ -21,10 +22,25 @@ fn byte_at(seed: u64, place: u64) -> u8 {
     (place.wrapping_mul(2654435761).wrapping_add(seed) >> 7) as u8
 }
 
-/// Sends `count` bytes from one thread, and reads them in another after a wait.
-fn echoes(address: SocketAddr, seed: u64, count: u64, wait: Duration) {
+/// Waits until no more is sent, since the server reads no more.
+fn wait_for_a_stop(sent: &AtomicU64) {
+    let mut before = 0;
+    loop {
+        thread::sleep(Duration::from_secs(1));
+        let now = sent.load(Ordering::Relaxed);
+        if now == before && now > 0 {
+            return;
+        }
+        before = now;
+    }
+}
+
+/// Sends `count` bytes from one thread, and reads them in another: at once, or once the server has stopped reading.
+fn echoes(address: SocketAddr, seed: u64, count: u64, slow: bool) {
     let socket = TcpStream::connect(address).expect("it connects");
     let mut sender = socket.try_clone().expect("it clones");
+    let sent = Arc::new(AtomicU64::new(0));
+    let counted = Arc::clone(&sent);
     let sends = thread::spawn(move || {
         let mut place = 0;
         while place < count {
@@ -32,11 +48,14 @@ fn echoes(address: SocketAddr, seed: u64, count: u64, wait: Duration) {
             let bytes: Vec<u8> = (place..until).map(|at| byte_at(seed, at)).collect();
             sender.write_all(&bytes).expect("the server takes it");
             place = until;
+            counted.store(place, Ordering::Relaxed);
         }
         sender.shutdown(Shutdown::Write).expect("it ends");
     });
     let (mut reader, mut place, mut bytes) = (socket, 0, [0; 8192]);
-    thread::sleep(wait);
+    if slow {
+        wait_for_a_stop(&sent);
+    }
     loop {
         let read = reader.read(&mut bytes).expect("the server answers");
         if read == 0 {
@@ -71,10 +90,10 @@ fn no_client_fills_the_memory_or_stops_another() {
         let server = scope.spawn(|| echo::serve(&listener, MARKS, &stop).expect("it serves"));
         let mut clients = Vec::new();
         for seed in 0..4 {
-            clients.push(scope.spawn(move || echoes(address, seed, FAST, Duration::ZERO)));
+            clients.push(scope.spawn(move || echoes(address, seed, FAST, false)));
         }
         for seed in 4..8 {
-            clients.push(scope.spawn(move || echoes(address, seed, SLOW, Duration::from_millis(700))));
+            clients.push(scope.spawn(move || echoes(address, seed, SLOW, true)));
         }
         for _ in 0..4 {
             clients.push(scope.spawn(move || dies(address)));
