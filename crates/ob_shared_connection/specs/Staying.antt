@@ -16,8 +16,7 @@ use Rattle.ob_shared_connection.specs.Values.{HandleValue}
 abbrev pub blocks_after : Settings → List Command → List (List ℕ)
 blocks_after settings commands = byte_run (rows_after settings.estimate commands)
 
--- the bytes in front still are, in front of what came to them, and are as many at least; and so many bytes of them, if
--- that is not none, can be taken away as sent
+-- the bytes in front still are, in front of what came to them, and any number of them can be taken away as sent
 pub record Stays (settings : Settings) (before after : List Command) : Type 0 where
   pub more : List (List ℕ)
   pub kept : blocks_after settings after ≡ blocks_after settings before ++ more

@@ -3,8 +3,8 @@
 
 ghost use Rattle.ob_shared_connection.specs.Staying.{BytesStay};
 
-/// What a transport gathered is in front still when it takes the lock again, and so many of those bytes, or fewer, can be
-/// taken away as sent: other handles cannot take flushed messages away, and none can close the connection meanwhile.
+/// What a transport gathered is in front still when it takes the lock again, and any number of those bytes can be taken
+/// away as sent: other handles cannot take flushed messages away, and none can close the connection meanwhile.
 pub fn what_was_gathered_stays_in_front()
     ensures { BytesStay }
 {}
