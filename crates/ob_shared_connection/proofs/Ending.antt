@@ -1,5 +1,5 @@
 -- What holds at the end.
-use Rattle.std.proofs.Common.{◌≡◌, ℕ, Bool, true, false, List, [], ◌∷◌, ◌+◌, set, length, get_or, refl, sym, ap, ◌∙◌, subst, arith, eqb, eqb-true}
+use Rattle.std.proofs.Common.{◌≡◌, ◌≤◌, ℕ, Bool, true, false, List, [], ◌∷◌, ◌+◌, set, length, get_or, refl, sym, ap, ◌∙◌, subst, arith, eqb, eqb-true}
 use Rattle.std.specs.List.{sum_by}
 use Rattle.std.proofs.lemmas.List.Sums.{sum_by-cons}
 use mathlib.Core.Option.{Option, some, some-injective}
@@ -41,6 +41,13 @@ one_for_all views id view at all =
     let others = nobody_made (set views id spent_view) (omega arith) in
     omega arith
 
+-- one seat stands for no more handles than there are
+one_of_all : (views : List View) (id : ℕ) (view : View) → get_elem? views id ≡ some view
+    → handles_of view ≤ sum_by handles_of views
+one_of_all views id view at =
+    let handles = sum_set handles_of views id view spent_view at in
+    omega arith
+
 -- what a seat that is left knows of the end
 pub is_end : (id : ℕ) (view : View) (words : List ℕ) (slots : List Connected) (lock handles : ℕ) (connection : Connected)
     → IsNamed view → Final (Seen Ruled id view) words slots → get_elem? words 0 ≡ some lock
@@ -54,6 +61,8 @@ is_end id view words slots lock handles connection named final lock_at handles_a
     let word : (index value : ℕ) → get_elem? words index ≡ some value → get_or s.words index 0 ≡ value =
     λ index value is. at_read s.words index value 0
     (ap (λ (all : List ℕ). get_elem? all index) final.2 ∙ is) in
+    let stands_for : handles_of view ≡ 1 + view.others =
+    ap (λ (one : Bool). count_if one (1 + view.others)) named.named in
     record {
       log = ruled.past.log;
       part = mine.part;
@@ -64,10 +73,12 @@ is_end id view words slots lock handles connection named final lock_at handles_a
           subst (λ (settings : Settings). IsLeftBy settings ruled.past.log connection) (sym (mine.opened named.there))
           (subst (λ (connected : Connected). IsLeftBy ruled.past.settings ruled.past.log connected)
           (some-injective home.connection connection (sym here ∙ slot_at)) home.left));
+      few = (let given = ruled.counts.given in
+          let count = word 1 handles handles_at in
+          let some = one_of_all s.views id view at in
+          omega (arith, stands_for));
       counted = λ all. (let given = ruled.counts.given in
           let count = word 1 handles handles_at in
-          let stands_for : handles_of view ≡ 1 + view.others =
-          ap (λ (one : Bool). count_if one (1 + view.others)) named.named in
           let made : calls_with view ≡ length view.mine + view.handed =
           ap (λ (one : Bool). count_if one (length view.mine + view.handed)) named.named in
           ruled.counts.counted ∙ one_for_all s.views id view at (omega arith) ∙ made);

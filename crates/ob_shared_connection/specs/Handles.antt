@@ -1,5 +1,5 @@
 -- How handles begin, and how they end.
-use Rattle.std.specs.Prelude.{◌≡◌, ◌+◌, true, false, List, [], ◌++◌, length}
+use Rattle.std.specs.Prelude.{◌≡◌, ◌≤◌, ◌+◌, true, false, List, [], ◌++◌, length}
 use Rattle.ob_seq.specs.Settings.{Settings}
 use Rattle.ob_shared_connection.specs.Log.{IsBeginning, commands_by}
 use Rattle.ob_shared_connection.specs.Values.{HandleValue, IsLeftBy}
@@ -31,11 +31,12 @@ pub record IsJoined (old other new : HandleValue) : Type 0 where
   pub part : IsBeginning other.seen new.seen
 
 -- the end of a connection: of the list of all calls the handle had seen a beginning, and its own are those of its number
--- in it; nobody had the lock, exactly if that is told, and then the connection is what the calls leave; and if as many
--- handles are told as this one stands for, there are as many calls as were accepted from those
+-- in it; if it is told that nobody had the lock, the connection is what the calls leave; at least as many handles are
+-- told as this one stands for, and if they are as many, there are as many calls as were accepted from those
 pub record IsEnd (handle : HandleValue) (ended : Ended) : Type 0 where
   pub log : List Call
   pub part : IsBeginning handle.seen log
   pub own : handle.mine ≡ commands_by handle.caller log
   pub left : ended.is_left ≡ true → IsLeftBy handle.settings log ended.connection
+  pub few : 1 + handle.others ≤ ended.handles
   pub counted : ended.handles ≡ 1 + handle.others → length log ≡ length handle.mine + handle.handed
