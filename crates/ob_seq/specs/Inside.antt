@@ -1,7 +1,7 @@
 -- How what waits to be sent is kept. No public clause cites this module.
 use Rattle.std.specs.List.{list_all}
 use Rattle.std.specs.Prelude.{◌≡◌, ◌≤◌, ℕ, Bool, true, false, not, List, sum_by, take, drop}
-use Rattle.std.specs.VecDeque.{deque_len}
+use Rattle.std.specs.VecDeque.{deque_capacity, deque_len}
 use Rattle.ob_types.specs.Limits.{greatest_overhead, greatest_unknown}
 use Rattle.ob_seq.specs.Unsent.{Unsent}
 use Rattle.ob_seq.specs.declared.entry.Entry.{Entry}
@@ -25,6 +25,7 @@ unsent_of inside = record {
   unflushed = drop inside.flushed inside.entries.items;
   word = inside.word;
   closed = inside.closed;
+  room = deque_capacity inside.entries;
 }
 
 -- what every call keeps: the line is within the entries, the numbers fit, the running total is the sum of the pending

@@ -18,6 +18,7 @@ pub mod Order
 pub mod Outcomes
 pub mod Pending
 pub mod Pieces
+pub mod Ring
 pub mod Room
 pub mod Row
 pub mod Settings

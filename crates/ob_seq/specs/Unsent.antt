@@ -11,7 +11,7 @@ use Rattle.ob_seq.specs.Settings.{Settings}
 use Rattle.ob_seq.specs.declared.entry.Entry.{Entry}
 
 -- what was opened, the marks in force, the entries in line and those that no flush has reached, each oldest first and
--- with whether its promise was taken back, the word, and whether it is closed
+-- with whether its promise was taken back, the word, whether it is closed, and for how many entries the ring has room
 pub record Unsent : Type 0 where
   pub settings : Settings
   pub marks : Marks
@@ -19,11 +19,19 @@ pub record Unsent : Type 0 where
   pub unflushed : List Entry
   pub word : ℕ
   pub closed : Bool
+  pub room : ℕ
 
--- nothing, as after the opening
+-- nothing, as after the opening, and no ring
 abbrev pub nothing_unsent : Settings → Unsent
-nothing_unsent settings =
-    record { settings = settings; marks = settings.marks; line = []; unflushed = []; word = 0; closed = false }
+nothing_unsent settings = record {
+  settings = settings;
+  marks = settings.marks;
+  line = [];
+  unflushed = [];
+  word = 0;
+  closed = false;
+  room = 0;
+}
 
 -- how many messages wait
 abbrev pub waiting_count : Unsent → ℕ

@@ -66,11 +66,14 @@ impl Contents {
         requires unknown { estimate.unknown ≤ greatest_unknown }
         ensures { result ≡ nothing_unsent (record { marks = marks; estimate = estimate }) }
     {
+        let mut entries = VecDeque::new(alloc);
+        // It has none, and a contract can say so only of a shrunk one.
+        entries.shrink_to_fit();
         Contents {
             opened: marks,
             marks,
             estimate,
-            entries: VecDeque::new(alloc),
+            entries,
             flushed: 0,
             total: 0,
             word: 0,
@@ -98,6 +101,13 @@ impl Contents {
         ensures { result ≡ waiting_count self.now }
     {
         self.entries.len()
+    }
+
+    /// For how many entries the ring has room.
+    pub fn room(&self) -> usize
+        ensures { result ≡ self.now.room }
+    {
+        self.entries.capacity()
     }
 
     /// The bytes that are pending.
@@ -131,6 +141,13 @@ impl Contents {
     /// Where its memory comes from.
     pub(crate) fn allocator(&self) -> Global {
         *self.entries.allocator()
+    }
+
+    /// The marks in force.
+    pub fn marks(&self) -> WaterMark
+        ensures { result ≡ self.now.marks }
+    {
+        self.marks
     }
 
     /// Puts these marks in force.

@@ -32,3 +32,8 @@ is_oversize estimate message = nat_lt greatest_pending_size (counted_bytes estim
 abbrev pub pending_size_of : Estimate → Message → Result ℕ Refusal
 pending_size_of estimate message =
     if is_oversize estimate message then Err Oversize else Ok (counted_bytes estimate message)
+
+-- the pending size of a block of this many bytes, or Oversize
+abbrev pub pending_size_of_bytes : Estimate → ℕ → Result ℕ Refusal
+pending_size_of_bytes estimate readable =
+    if nat_lt greatest_pending_size (readable + estimate.overhead) then Err Oversize else Ok (readable + estimate.overhead)

@@ -1,6 +1,5 @@
-ghost use Rattle.std.specs.Prelude.{◌≡◌, ◌≤◌, ◌+◌, nat_lt, if◌then◌else◌, Ok, Err};
-ghost use Rattle.ob_types.specs.Limits.{greatest_pending_size, greatest_region};
-ghost use Rattle.ob_types.specs.PendingSize.{pending_size_of};
+ghost use Rattle.std.specs.Prelude.{◌≡◌};
+ghost use Rattle.ob_types.specs.PendingSize.{pending_size_of, pending_size_of_bytes};
 ghost use Rattle.ob_types.specs.declared.message.Message.TheVariants.{Block};
 
 use crate::message::Message;
@@ -34,7 +33,7 @@ pub fn pending_size(message: &Message, estimate: Estimate) -> Result<u32, Refusa
         Message::Region(_) => 0,
         Message::Other(_) => u64::from(estimate.unknown),
     };
-    counted(readable, estimate)
+    pending_size_of_length(readable, estimate)
 }
 
 /// The bytes that a block of these bytes counts while it is pending: what `pending_size` returns for it. It does not
@@ -44,16 +43,17 @@ pub fn pending_size(message: &Message, estimate: Estimate) -> Result<u32, Refusa
 pub fn pending_size_of_block(bytes: &[u8], estimate: Estimate) -> Result<u32, Refusal>
     ensures { result ≡ pending_size_of estimate (Block bytes.now) }
 {
-    counted(bytes.len() as u64, estimate)
+    pending_size_of_length(bytes.len() as u64, estimate)
 }
 
-/// What a message counts, by its readable bytes.
-fn counted(readable: u64, estimate: Estimate) -> Result<u32, Refusal>
-    requires { readable ≤ greatest_region }
-    ensures { result ≡ (if nat_lt greatest_pending_size (readable + estimate.overhead) then Err Refusal.Oversize
-        else Ok (readable + estimate.overhead)) }
+/// The bytes that a block of *n* bytes counts while it is pending, whatever these are: what `pending_size` returns for
+/// it. It does not allocate.
+///
+/// `Oversize` comes exactly if this passes 2147483647.
+pub fn pending_size_of_length(readable: u64, estimate: Estimate) -> Result<u32, Refusal>
+    ensures { result ≡ pending_size_of_bytes estimate readable }
 {
-    let size = readable + u64::from(estimate.overhead);
+    let size = readable.saturating_add(u64::from(estimate.overhead));
     if size > MAX_PENDING_SIZE {
         return Err(Refusal::Oversize);
     }

@@ -12,7 +12,7 @@ mod settlements;
 mod water_mark;
 
 pub use command::Command;
-pub use estimate::{Estimate, pending_size, pending_size_of_block};
+pub use estimate::{Estimate, pending_size, pending_size_of_block, pending_size_of_length};
 pub use message::Message;
 pub use packed::{pack, unpack};
 pub use promise::{Cause, Outcome, PromiseId, PromiseState};

@@ -1,6 +1,8 @@
-ghost use Rattle.std.specs.Prelude.{◌≡◌, ◌+◌, ◌≤◌, [], List, IfErr, OnOk, OnErr};
+ghost use Rattle.std.specs.Prelude.{◌≡◌, ◌+◌, ◌<◌, ◌≤◌, max, [], List, IfErr, IsOk, OnOk, OnErr, true};
+ghost use Rattle.std.specs.VecDeque.{deque_capacity, deque_len};
 ghost use Rattle.ob_types.specs.Limits.{greatest_total};
 ghost use Rattle.ob_types.specs.declared.promise.Outcome.{Outcome};
+ghost use Rattle.ob_seq.specs.Ring.{grown_room, room_for_one_more, spares};
 ghost use Rattle.ob_seq.specs.Steps.Held.{pending_total};
 ghost use Rattle.ob_seq.specs.Steps.Write.{has_bytes_left, written};
 ghost use Rattle.ob_seq.specs.Unsent.{whole};
@@ -8,9 +10,14 @@ ghost use Rattle.ob_seq.specs.Unsent.{whole};
 use crate::contents::{Contents, word};
 use crate::entry::Entry;
 use ob_types::Message;
+use std::alloc::AllocError;
+use std::collections::VecDeque;
 
 /// The most bytes that may be pending. Our own limit.
 const MAX_TOTAL: u64 = 4294967295;
+
+/// For how many entries more the ring grows at least.
+const LEAST_ROOM: usize = 8;
 
 impl Contents {
     /// Whether `size` more bytes are not too many.
@@ -29,10 +36,12 @@ impl Contents {
         requires fits { pending_total (whole [] self.old) + size ≤ greatest_total }
         ensures ok { OnOk result ((gone : List Outcome) →
             whole gone self.new ≡ written (whole gone self.old) message size) }
+        ensures room { OnOk result (self.new.room ≡ room_for_one_more self.old) }
         ensures err { OnErr result (self.new ≡ self.old) }
+        ensures spares { spares self.old ≡ true → IsOk result }
         ensures returned { IfErr result (λ returned. returned ≡ message) }
     {
-        let Ok(()) = self.entries.reserve(1) else {
+        let Ok(()) = make_room(&mut self.entries) else {
             return Err(message);
         };
         self.entries.push_back_reserved(Entry {
@@ -45,4 +54,35 @@ impl Contents {
         self.word = word::after_rise(self.marks, self.word, size, self.total);
         Ok(())
     }
+}
+
+/// Makes room for one more entry. If that fails, all is as it was.
+#[inline(always)]
+fn make_room(entries: &mut VecDeque<Entry>) -> Result<(), AllocError>
+    ensures items { entries.new.items ≡ entries.old.items }
+    ensures len { deque_len entries.new ≡ deque_len entries.old }
+    ensures ok { OnOk result (deque_len entries.new < deque_capacity entries.new) }
+    ensures room { OnOk result (deque_capacity entries.new
+        ≡ grown_room (deque_len entries.old) (deque_capacity entries.old)) }
+    ensures err { OnErr result (deque_capacity entries.new ≡ deque_capacity entries.old) }
+    ensures spares { deque_len entries.old < deque_capacity entries.old → IsOk result }
+{
+    if entries.len() < entries.capacity() {
+        return Ok(());
+    }
+    grow(entries)
+}
+
+/// Makes room for as many entries again as there are, and for 8 more at least.
+// It is rare: apart, a write saves no registers for it.
+#[cold]
+#[inline(never)]
+fn grow(entries: &mut VecDeque<Entry>) -> Result<(), AllocError>
+    requires { deque_capacity entries.old ≡ deque_len entries.old }
+    ensures items { entries.new.items ≡ entries.old.items }
+    ensures len { deque_len entries.new ≡ deque_len entries.old }
+    ensures ok { OnOk result (deque_capacity entries.new ≡ deque_len entries.old + max 8 (deque_len entries.old)) }
+    ensures err { OnErr result (deque_capacity entries.new ≡ deque_capacity entries.old) }
+{
+    entries.reserve_exact(entries.len().max(LEAST_ROOM))
 }

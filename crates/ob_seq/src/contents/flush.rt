@@ -13,8 +13,9 @@ use std::mem;
 impl Contents {
     /// Puts all unflushed entries into line. It goes over them if a promise was taken back since the last flush.
     pub fn flush_all(&mut self)
-        ensures { (gone : List Outcome) →
+        ensures after { (gone : List Outcome) →
             whole gone self.new ≡ times (length self.old.unflushed) next_flushed (whole gone self.old) }
+        ensures room { self.new.room ≡ self.old.room }
     {
         if self.any_taken_back {
             self.flush_one_by_one();
@@ -28,8 +29,9 @@ impl Contents {
     #[cold]
     #[inline(never)]
     fn flush_one_by_one(&mut self)
-        ensures { (gone : List Outcome) →
+        ensures after { (gone : List Outcome) →
             whole gone self.new ≡ times (length self.old.unflushed) next_flushed (whole gone self.old) }
+        ensures room { self.new.room ≡ self.old.room }
     {
         for _ in 0..self.unflushed_count() {
             self.flush_next();
@@ -41,7 +43,8 @@ impl Contents {
     /// by standing there.
     fn flush_next(&mut self)
         requires { 0 < length self.old.unflushed }
-        ensures { (gone : List Outcome) → whole gone self.new ≡ next_flushed (whole gone self.old) }
+        ensures after { (gone : List Outcome) → whole gone self.new ≡ next_flushed (whole gone self.old) }
+        ensures room { self.new.room ≡ self.old.room }
     {
         if self.entries[self.flushed].taken_back {
             let size = void(&mut self.entries[self.flushed]);

@@ -38,8 +38,9 @@ impl Contents {
     pub fn tell_front(&mut self, n: u64)
         requires some { 0 < length self.old.line }
         requires fits { first_progress (pending_entries self.old.line) + n ≤ greatest_progress }
-        ensures { (gone : List Outcome) →
+        ensures after { (gone : List Outcome) →
             whole gone self.new ≡ front_changed (progressed_entry n) (whole gone self.old) }
+        ensures room { self.new.room ≡ self.old.room }
     {
         tell(&mut self.entries[0], n);
     }
@@ -47,7 +48,8 @@ impl Contents {
     /// Skips *n* bytes of the front; 0 of them need no front.
     pub fn skip_in_front(&mut self, n: u64)
         requires { n ≤ first_length (pending_entries self.old.line) }
-        ensures { (gone : List Outcome) → whole gone self.new ≡ front_skipped n (whole gone self.old) }
+        ensures after { (gone : List Outcome) → whole gone self.new ≡ front_skipped n (whole gone self.old) }
+        ensures room { self.new.room ≡ self.old.room }
     {
         if n > 0 {
             skip(&mut self.entries[0], n);

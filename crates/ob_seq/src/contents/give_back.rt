@@ -1,19 +1,19 @@
-ghost use Rattle.std.specs.Prelude.{◌≡◌};
+ghost use Rattle.ob_seq.specs.Ring.{GivesBack, Shrinks};
 
 use crate::contents::Contents;
 
 /// How many entries the ring keeps room for while it is open.
-const KEPT_ROOM: usize = 64;
+const KEPT_ROOM: usize = 8;
 
 impl Contents {
-    /// Gives memory back if little of it is used: if the ring has room for more than 64 entries, and at most a quarter of
-    /// that is used, it keeps room for twice as many as there are, and for 64 at least. Once it is closed it keeps none. It
+    /// Gives memory back if little of it is used: if the ring has room for more than 8 entries, and at most a quarter of
+    /// that is used, it keeps room for twice as many as there are, and for 8 at least. Once it is closed it keeps none. It
     /// cannot fail: if the allocator refuses the smaller block, the ring keeps the one that it has.
     ///
     /// A ring with as many entries as half its room gives nothing back until half of them are gone, and one that gave back
     /// does not grow until as many were written as it kept; so each entry is moved a few times at most.
     pub fn give_back(&mut self)
-        ensures { self.new ≡ self.old }
+        ensures { GivesBack self.old self.new }
     {
         let kept = if self.closed { 0 } else { KEPT_ROOM };
         let room = self.entries.capacity();
@@ -24,7 +24,7 @@ impl Contents {
 
     /// Keeps room for what waits and for no more, as `VecDeque::shrink_to_fit`. It cannot fail either.
     pub fn shrink_to_fit(&mut self)
-        ensures { self.new ≡ self.old }
+        ensures { Shrinks self.old self.new }
     {
         self.entries.shrink_to_fit();
     }

@@ -28,8 +28,9 @@ impl Contents {
     pub fn take_back(&mut self, place: usize)
         requires behind { length self.old.line ≤ place }
         requires some { place < waiting_count self.old }
-        ensures { (gone : List Outcome) →
+        ensures after { (gone : List Outcome) →
             whole gone self.new ≡ promise_set (length gone + place) (Settled Cancelled) (whole gone self.old) }
+        ensures room { self.new.room ≡ self.old.room }
     {
         self.entries[place].taken_back = true;
         self.any_taken_back = true;

@@ -15,6 +15,7 @@ impl Contents {
         ensures closed { (gone : List Outcome) (cause : Cause) →
             whole (gone ++ map (ended (Failed cause)) self.old.unflushed) self.new
             ≡ closed_pending cause (whole gone self.old) }
+        ensures room { self.new.room ≡ self.old.room }
     {
         self.entries.clear();
         self.total = 0;

@@ -16,6 +16,7 @@ impl Contents {
         ensures taken { (gone : List Outcome) (outcome : Outcome) →
             whole (gone ++ (if result then outcome else Cancelled) ∷ []) self.new
             ≡ front_taken notice outcome (whole gone self.old) }
+        ensures room { self.new.room ≡ self.old.room }
     {
         let Some(entry) = self.entries.pop_front() else {
             return false;

@@ -3,8 +3,8 @@ use Rattle.ob_seq.proofs.Words.{drop_all, whole, next_flushed, times}
 use Rattle.ob_seq.proofs.Inside.States.{all_fixed}
 use Rattle.ob_seq.proofs.contents.Contents.flush_all.Goals as goal
 
-pub returns-else-self : goal.returns-else-self
-returns-else-self c gone =
+pub returns-else-self-clause-after : goal.returns-else-self-clause-after
+returns-else-self-clause-after c gone =
     let inside = c.self.inside in
     let settings : Settings = record { marks = inside.opened; estimate = inside.estimate } in
     let items = inside.entries.items in

@@ -14,8 +14,8 @@ inner c =
     let rest = unflushed_count c.args.self.now c.self.inside c.self.view_is c.self.invariant in
     omega (arith, c.requires, c.self.inside.entries.ok)
 
-pub returns : goal.returns
-returns c gone =
+pub returns-clause-after : goal.returns-clause-after
+returns-clause-after c gone =
     let inside = c.self.inside in
     let settings : Settings = record { marks = inside.opened; estimate = inside.estimate } in
     let items = inside.entries.items in

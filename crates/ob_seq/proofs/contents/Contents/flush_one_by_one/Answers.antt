@@ -13,13 +13,13 @@ left_after now old n is =
 
 pub flush_next-requires : goal.flush_next-requires
 flush_next-requires c =
-    omega (arith, c.loop-test.true, c.unflushed_count-end.ensures, left_after c.loop.self c.args.self.now c.loop.counter (c.loop.invariant []))
+    omega (arith, c.loop-test.true, c.unflushed_count-end.ensures, left_after c.loop.self c.args.self.now c.loop.counter (c.loop.invariant.0 []))
 
 -- at the end none is left, and so none that was taken back
 pub invariant_of-self : goal.invariant_of-self
 invariant_of-self c =
     let sound = c.self-2.invariant in
-    let left = left_after c.loop.self c.args.self.now c.loop.counter (c.loop.invariant []) in
+    let left = left_after c.loop.self c.args.self.now c.loop.counter (c.loop.invariant.0 []) in
     let behind : List Entry = drop c.self-2.inside.flushed c.self-2.inside.entries.items in
     let is : behind ≡ c.loop.self.unflushed = ap (λ (held : Unsent). held.unflushed) c.self-2.view_is in
     let nothing : behind ≡ [] =

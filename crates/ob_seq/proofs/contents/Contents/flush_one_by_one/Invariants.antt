@@ -2,4 +2,5 @@ use Rattle.ob_seq.proofs.Words.{◌≡◌, List, next_flushed, times, whole, Out
 use Rattle.ob_seq.proofs.contents.Contents.flush_one_by_one.Given as goal
 
 abbrev pub invariant-loop : goal.invariant-loop
-invariant-loop l = (gone : List Outcome) → whole gone l.self ≡ times l.counter next_flushed (whole gone l.fn.self)
+invariant-loop l = ((gone : List Outcome) → whole gone l.self ≡ times l.counter next_flushed (whole gone l.fn.self))
+    × (l.self.room ≡ l.fn.self.room)

@@ -4,8 +4,8 @@ use Rattle.ob_seq.proofs.Inside.Fields.{entry_count, line_count}
 use Rattle.ob_seq.proofs.Inside.States.{kept_back}
 use Rattle.ob_seq.proofs.contents.Contents.take_back.Goals as goal
 
-pub returns : goal.returns
-returns c gone =
+pub returns-clause-after : goal.returns-clause-after
+returns-clause-after c gone =
     let inside = c.self.inside in
     let settings : Settings = record { marks = inside.opened; estimate = inside.estimate } in
     let place = c.args.place in

@@ -14,7 +14,7 @@ skip_in_front-requires c =
 pub invariant_of-self : goal.invariant_of-self
 invariant_of-self c =
     let old = c.self-2.inside.contents in
-    let step = ap (λ (held : Pending). length held.promises) (c.skip_in_front.ensures [])
+    let step = ap (λ (held : Pending). length held.promises) (c.skip_in_front.ensures.after [])
     ∙ skipped_promises c.in-Some.cut.rest (whole [] old) in
     let same = same_waiting old c.skip_in_front.new.self step in record {
       few_writes = omega (arith, same, c.self-2.invariant.few_writes);

@@ -35,7 +35,7 @@ pub invariant_of-self : goal.invariant_of-self
 invariant_of-self c =
     let old = c.self.inside.contents in
     let same = set_waiting (0 + (c.args.id - c.len.result)) (Settled Cancelled) old c.take_back.new.self
-    (c.take_back.ensures []) in record {
+    (c.take_back.ensures.after []) in record {
       few_writes = omega (arith, same, c.self.invariant.few_writes);
       room = omega (arith, same, c.self.invariant.room);
     }
@@ -46,6 +46,6 @@ returns c =
     let late = behind inside.gone.list inside.contents c.args.self.now c.args.id c.self.view_is c.requires.waits in
     let place : length inside.gone.list + (c.args.id - c.len.result) ≡ c.args.id =
     omega (arith, c.len.ensures) in
-    c.take_back.ensures inside.gone.list
+    c.take_back.ensures.after inside.gone.list
     ∙ ap (λ id. promise_set id (Settled Cancelled) (whole inside.gone.list inside.contents)) place
     ∙ ap (promise_set c.args.id (Settled Cancelled)) c.self.view_is
