@@ -1,13 +1,16 @@
 -- Which messages a connection admits.
-use Rattle.ob_connection.proofs.Words.{[], ◌≡◌, ℕ, ◌⊎◌, inl, inr, refl, sym, ap, ◌∙◌, arith, Past, held, whole}
+use Rattle.ob_connection.proofs.Words.{[], ◌≡◌, ℕ, List, length, nat_tests, ◌⊎◌, inl, inr, refl, sym, ap, ◌∙◌, arith, Past, held, whole}
 use Rattle.ob_connection.proofs.Words.{connection_limit, accepted_writes, Connected, most_ids, ◌<◌, false, true}
 use Rattle.ob_connection.proofs.Words.{Some, None, Result, Ok, Err, IsErrOf, Refusal, Closed, NoMemory}
-use Rattle.ob_types.specs.PendingSize.{counted_bytes, pending_size_of}
+use Rattle.ob_types.specs.Limits.{greatest_pending_size}
+use Rattle.ob_types.specs.PendingSize.{counted_bytes, pending_size_of, pending_size_of_bytes}
 use Rattle.ob_types.specs.declared.estimate.Estimate.{Estimate}
 use Rattle.ob_types.specs.declared.message.Message.{Message}
-use Rattle.ob_types.specs.declared.refusal.Refusal.TheVariants.{TooMuch}
+use Rattle.ob_types.specs.declared.message.Message.TheVariants.{Block}
+use Rattle.ob_types.specs.declared.refusal.Refusal.TheVariants.{Oversize, TooMuch}
 use Rattle.ob_seq.specs.Steps.Write.{has_bytes_left, write_step_within}
-use Rattle.ob_connection.specs.Becoming.{Admits}
+use Rattle.ob_types.specs.declared.command.Command.TheVariants.{Write}
+use Rattle.ob_connection.specs.Becoming.{Admits, IsFirstRefusal}
 use Rattle.ob_connection.proofs.Kept.{accepted_there, ids_are, no_room, oversize_is, size_is, too_much}
 use Rattle.ob_connection.proofs.Making.{first_where_open}
 
@@ -15,6 +18,19 @@ use Rattle.ob_connection.proofs.Making.{first_where_open}
 pub size_wants_none : (estimate : Estimate) (message : Message) {size : Result ℕ Refusal} →
     size ≡ pending_size_of estimate message → ¬ IsErrOf size NoMemory
 size_wants_none estimate message is wants = grind arith
+
+pub size_of_bytes_wants_none : (estimate : Estimate) (count : ℕ) {size : Result ℕ Refusal} →
+    size ≡ pending_size_of_bytes estimate count → ¬ IsErrOf size NoMemory
+size_of_bytes_wants_none estimate count is wants = grind arith
+
+-- what a block counts goes by how many bytes it has
+pub size_of_block : (estimate : Estimate) (count : ℕ) (bytes : List ℕ) → length bytes ≡ count →
+    pending_size_of_bytes estimate count ≡ pending_size_of estimate (Block bytes)
+size_of_block estimate count bytes is = grind (arith, nat_tests)
+
+too_long : (estimate : Estimate) (bytes : List ℕ) → greatest_pending_size < length bytes →
+    Err Oversize ≡ pending_size_of estimate (Block bytes)
+too_long estimate bytes long = grind (arith, nat_tests)
 
 module _ {now : Connected} {size : Result ℕ Refusal} where
   -- a closed connection admits none
@@ -89,3 +105,14 @@ module _ {inside now : Connected} (view : inside ≡ now) {size : Result ℕ Ref
 
   pub accepted_past : (past : Past inside) → (write_step_within connection_limit message (held past)).refusal ≡ None
   accepted_past past = accepted_there view message n (sym is ∙ admits.same) admits.few light_there past
+
+-- a message that is too long is refused
+pub first_of_too_long : {now : Connected} (bytes : List ℕ) → greatest_pending_size < length bytes → (refusal : Refusal) →
+    ((now.unsent.closed ≡ true) × (refusal ≡ Closed)) ⊎ ((now.unsent.closed ≡ false) × (refusal ≡ Oversize)) →
+    IsFirstRefusal now (Write (Block bytes)) (Some refusal)
+first_of_too_long {now} bytes long refusal which =
+    let estimate = now.unsent.settings.estimate in
+    elim which [
+      | inl closed ↦ rw closed.1 ((admits_none {size = Err Oversize} closed.0).first (Block bytes) (too_long estimate bytes long))
+      | inr unclosed ↦ rw unclosed.1 ((admits_no_large {size = Err Oversize} unclosed.0 Oversize refl).first (Block bytes) (too_long estimate bytes long))
+    ]

@@ -53,8 +53,8 @@ one_more turns earlier now TurnsUsed before ends =
     (All-append TookBytes earlier now before.0 ends.0, omega (arith, length-append earlier now, before.1, ends.1))
 one_more turns earlier now Blocked before ends =
     (stopped_later earlier now Blocked before.0 ends.0, omega (arith, length-append earlier now, before.1, ends.1))
-one_more turns earlier now Broken before ends =
-    (stopped_later earlier now Broken before.0 ends.0, omega (arith, length-append earlier now, before.1, ends.1))
+one_more turns earlier now (Broken error) before ends =
+    (stopped_later earlier now (Broken error) before.0 ends.0, omega (arith, length-append earlier now, before.1, ends.1))
 
 -- a sending that ended before its turns were used up would have ended so within more of them
 more_turns : (few many : ℕ) (answers : List Answered) (ending : Ending) → ¬ (ending ≡ TurnsUsed) → few ≤ many →
@@ -63,7 +63,7 @@ more_turns few many answers Drained other fit ends = (ends.0, omega (arith, ends
 more_turns few many answers OtherInFront other fit ends = (ends.0, omega (arith, ends.1, fit))
 more_turns few many answers TurnsUsed other fit ends = absurd (other refl)
 more_turns few many answers Blocked other fit ends = (ends.0, omega (arith, ends.1, fit))
-more_turns few many answers Broken other fit ends = (ends.0, omega (arith, ends.1, fit))
+more_turns few many answers (Broken error) other fit ends = (ends.0, omega (arith, ends.1, fit))
 
 abbrev answers_of : List Call → List Answered
 answers_of made = map (λ call. call.answer) made
@@ -80,7 +80,7 @@ pub due_at_once : (Due : ℕ → List (List ℕ) → Type 0) {pieces : List (Lis
 due_at_once Due Nothing due = tt
 due_at_once Due (Took count) due = (due (λ same. absurd (cc)), tt)
 due_at_once Due AskedBlocked due = (due (λ same. absurd (cc)), tt)
-due_at_once Due AskedBroken due = (due (λ same. absurd (cc)), tt)
+due_at_once Due (AskedBroken error) due = (due (λ same. absurd (cc)), tt)
 
 -- the bytes of the one call that there is
 pub taken_by : (pieces : List (List ℕ)) (offer : Offer) →
@@ -88,7 +88,7 @@ pub taken_by : (pieces : List (List ℕ)) (offer : Offer) →
 taken_by pieces Nothing = refl
 taken_by pieces (Took count) = omega arith
 taken_by pieces AskedBlocked = refl
-taken_by pieces AskedBroken = refl
+taken_by pieces (AskedBroken error) = refl
 
 module _ (Due : ℕ → List (List ℕ) → Type 0) where
   -- what is due by another rule is due by this one, some bytes further on

@@ -6,6 +6,7 @@ pub mod Kept
 pub mod Making
 pub mod Obeyed
 pub mod Offered
+pub mod Parts
 pub mod Sending
 pub mod Settling
 pub mod TurnOffers

@@ -3,7 +3,8 @@ use Rattle.ob_connection.proofs.Words.{◌≡◌, refl, sym, subst, List, true, 
 use Rattle.ob_connection.proofs.Words.{NoMemory, Reply, PromiseState, Pending, Step, Makes, Past, held, Steps, Connected}
 use Rattle.ob_connection.proofs.Words.{first_of_step, change_between, ℕ, Option, arith, Command, Moves, step_within}
 use Rattle.ob_connection.proofs.Words.{connection_limit}
-use Rattle.ob_connection.specs.Becoming.{IsFirstRefusal}
+use Rattle.ob_connection.specs.Becoming.{Becomes, IsFirstRefusal}
+use Rattle.ob_connection.specs.Keeping.{room_in, roomed}
 
 -- what an open connection refuses is what its step refuses
 pub first_where_open : (old : Pending) (step : Step) (value : Option Refusal) → old.closed ≡ false → step.refusal ≡ value →
@@ -105,3 +106,19 @@ first_refused command tell refusal other first = record {
   makes = λ past. (past, makes_refused (held past) (step_within connection_limit command (held past)) refusal other (sym (first past)));
   refused = refl;
 }
+
+-- what is held does not tell how much room the ring has
+pub becomes_roomed : (step : Pending → Pending) {old : Connected} (now : Connected) {new : Connected} →
+    new ≡ roomed (room_in new) now → Becomes step old now → Becomes step old new
+becomes_roomed step {old} now same becomes = subst (λ one. Becomes step old one) (sym same) (λ past.
+    let there = becomes past in (record { outcomes = there.0.outcomes; count = there.0.count }, there.1))
+
+pub steps_roomed : {A : Type 0} {step : Pending → Step} {tell : List PromiseState → A → Reply} {value : A}
+    {old : Connected} (now : Connected) {new : Connected} → new ≡ roomed (room_in new) now →
+    Steps step old tell (Ok value) now → Steps step old tell (Ok value) new
+steps_roomed {step} {tell} {value} {old} now same steps = subst (λ one. Steps step old tell (Ok value) one) (sym same) (record {
+  makes = λ past.
+      let there = steps.makes past in
+      (record { outcomes = there.0.outcomes; count = there.0.count }, there.1);
+  refused = tt;
+})

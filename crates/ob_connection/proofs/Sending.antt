@@ -111,7 +111,7 @@ ends_are now NoRoom some = is_not_empty now some
 ends_are now OtherInFront left =
     (is_not_empty now left.0, λ commands stands. sym left.1 ∙ ap bytes_in (run_after now commands stands))
 ends_are now TurnsUsed some = is_not_empty now some
-ends_are now IsBroken some = is_not_empty now some
+ends_are now (IsBroken error) some = is_not_empty now some
 
 -- an open connection has no more bytes in front than may be pending
 pub few_in_front : (now : Connected) (commands : List Command) → StandsFor now commands →
@@ -136,7 +136,7 @@ asked_for : (offer : Offer) (blocks : List (List ℕ)) → (offer ≡ Nothing �
 asked_for Nothing blocks nothing something = rw (nothing refl) refl
 asked_for (Took count) blocks nothing something = let some = something (λ same. absurd (cc)) in grind (arith, nat_tests)
 asked_for AskedBlocked blocks nothing something = let some = something (λ same. absurd (cc)) in grind (arith, nat_tests)
-asked_for AskedBroken blocks nothing something = let some = something (λ same. absurd (cc)) in grind (arith, nat_tests)
+asked_for (AskedBroken error) blocks nothing something = let some = something (λ same. absurd (cc)) in grind (arith, nat_tests)
 
 -- what an open connection asks of a socket that it made an offer, and reports
 pub asks_by : {inside now : Connected} → inside ≡ now → Gives now closed_after false → (max_count max_bytes : ℕ) →

@@ -1,5 +1,8 @@
 -- The calls of a socket.
-use Rattle.std.specs.Prelude.{ℕ, nat_eq, Bool, true, false, List, [], ◌∷◌, Option, Some, None, Result, Ok, Err}
+use Rattle.std.specs.Prelude.{◌≡◌, ℕ, nat_eq, Bool, true, false, List, [], ◌∷◌, Option, Some, None, Result, Ok, Err}
+use Rattle.std.specs.IoError.{error_kind}
+use Rattle.std.specs.declared.io.Error.{Error}
+use Rattle.std.specs.declared.io.ErrorKind.TheVariants.{WouldBlock}
 use Rattle.ob_connection.specs.declared.socket.SocketFault.{SocketFault}
 use Rattle.ob_connection.specs.declared.socket.SocketFault.TheVariants.{Blocked, Broken}
 
@@ -10,7 +13,7 @@ pub record Call : Type 0 where
 
 -- how many pieces a socket is offered at once, at most
 abbrev pub most_pieces : ℕ
-most_pieces = 64
+most_pieces = 1024
 
 -- what a socket returned, as a list
 abbrev pub answers_in : Option (Result ℕ SocketFault) → List (Result ℕ SocketFault)
@@ -32,4 +35,9 @@ abbrev pub had_no_room : Option (Result ℕ SocketFault) → Bool
 had_no_room None = false
 had_no_room (Some (Ok count)) = nat_eq count 0
 had_no_room (Some (Err Blocked)) = true
-had_no_room (Some (Err Broken)) = false
+had_no_room (Some (Err (Broken error))) = false
+
+-- what a call that failed so says of its socket: it has no room if the call would have blocked, and else it is broken
+pub record IsFaultOf (error : Error) (fault : SocketFault) : Type 0 where
+  pub no_room : error_kind error ≡ WouldBlock → fault ≡ Blocked
+  pub for_good : ¬ (error_kind error ≡ WouldBlock) → fault ≡ Broken error

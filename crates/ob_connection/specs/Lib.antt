@@ -3,10 +3,12 @@ pub mod Calls
 pub mod Connected
 pub mod GivingUp
 pub mod Inside
+pub mod Keeping
 pub mod Limit
 pub mod Looks
 pub mod Obeying
 pub mod Offering
+pub mod Parts
 pub mod Replies
 pub mod Sending
 pub mod Standing

@@ -1,13 +1,16 @@
 -- What a connection shows of its history, by the definitions of a buffer.
-use Rattle.std.specs.Prelude.{ℕ, List, nat_lt, if◌then◌else◌, Option, Some, None, option_map}
+use Rattle.std.specs.Prelude.{ℕ, ◌+◌, List, length, nat_lt, if◌then◌else◌, Option, Some, None, option_map}
 use Rattle.ob_types.specs.declared.command.Command.{Command}
 use Rattle.ob_types.specs.declared.message.Message.{Message}
 use Rattle.ob_types.specs.declared.promise.PromiseState.{PromiseState}
 use Rattle.ob_types.specs.declared.promise.PromiseState.TheVariants.{Waiting as StillWaiting, Fixed as IsFixed, Settled as IsSettled}
 use Rattle.ob_types.specs.declared.refusal.Refusal.{Refusal}
 use Rattle.ob_seq.specs.Answer.{first_refusal_within}
+use Rattle.ob_seq.specs.Effect.{rows_after}
 use Rattle.ob_seq.specs.Gathering.{gathered_after}
+use Rattle.ob_seq.specs.Line.{line, unflushed}
 use Rattle.ob_seq.specs.Looks.{look_after, promise_after, current_after, front_promise_after, flushed_after}
+use Rattle.ob_seq.specs.Settings.{Settings}
 use Rattle.ob_seq.specs.declared.look.Look.{Look as BufferLook}
 use Rattle.ob_connection.specs.Connected.{Connected}
 use Rattle.ob_connection.specs.Limit.{connection_limit}
@@ -30,6 +33,15 @@ look_told look = record {
 -- whatever history the connection stands for, the look is the look after it
 abbrev pub Shows : Connected → Look → Type 0
 Shows connection look = Gives connection look_after (look_told look)
+
+-- how many messages no flush has reached after a history
+abbrev pub unflushed_count_after : Settings → List Command → ℕ
+unflushed_count_after settings commands = length (unflushed (rows_after settings.estimate commands))
+
+-- how many messages wait after a history, those in line and those that no flush has reached
+abbrev pub waiting_count_after : Settings → List Command → ℕ
+waiting_count_after settings commands =
+    length (line (rows_after settings.estimate commands)) + unflushed_count_after settings commands
 
 -- what is reported of a promise with this id: its state, but not the outcome of one whose message is gone
 abbrev pub status_of : ℕ → ℕ → Option PromiseState → Option Status

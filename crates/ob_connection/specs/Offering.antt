@@ -29,14 +29,14 @@ abbrev pub bytes_taken : Offer → ℕ
 bytes_taken Nothing = 0
 bytes_taken (Took bytes) = bytes
 bytes_taken Blocked = 0
-bytes_taken Broken = 0
+bytes_taken (Broken error) = 0
 
 -- what the socket returned, if it was asked
 abbrev pub answer_of : Offer → Option (Result ℕ SocketFault)
 answer_of Nothing = None
 answer_of (Took bytes) = Some (Ok bytes)
 answer_of Blocked = Some (Err HasNoRoom)
-answer_of Broken = Some (Err IsBroken)
+answer_of (Broken error) = Some (Err (IsBroken error))
 
 -- a socket that had these bytes took the first of those that it was offered, and was not asked only if there were none
 pub record Offers (max_count max_bytes : ℕ) (unsent : Unsent) (sent_before : Option (List ℕ))
@@ -63,4 +63,4 @@ EndsAt unsent Drained = length unsent.line ≡ 0
 EndsAt unsent EndsBlocked = 0 < length unsent.line
 EndsAt unsent OtherInFront = (0 < length unsent.line) × (bytes_in (run_of unsent) ≡ 0)
 EndsAt unsent TurnsUsed = 0 < length unsent.line
-EndsAt unsent EndsBroken = 0 < length unsent.line
+EndsAt unsent (EndsBroken error) = 0 < length unsent.line

@@ -44,7 +44,7 @@ pub record Sends (max_count max_bytes : ℕ) (old : Connected) (sent_before : Op
   pub next : (let result : Result Taken Refusal = Ok done.taken in IsNext old Success result new)
   pub more : Gives new (λ settings commands. not (empty_after settings commands)) done.more
 
--- what a socket is offered at once: what is gathered, and at most 64 blocks
+-- what a socket is offered at once: what is gathered, and at most 1024 blocks
 abbrev pub offered_after : ℕ → ℕ → Settings → List Command → List (List ℕ)
 offered_after max_count max_bytes settings commands =
     gathered_after settings commands (min most_pieces max_count) max_bytes
@@ -56,7 +56,7 @@ sent_or_fault true answer = Err Closed
 sent_or_fault false None = Ok 0
 sent_or_fault false (Some (Ok count)) = Ok count
 sent_or_fault false (Some (Err HasNoRoom)) = Ok 0
-sent_or_fault false (Some (Err FailedForGood)) = Err Broken
+sent_or_fault false (Some (Err (FailedForGood error))) = Err (Broken error)
 
 -- how many bytes a sending at once reported, or its fault
 abbrev pub bytes_or_fault : Result Sent SendFault → Result ℕ SendFault
@@ -84,7 +84,7 @@ Ends new Drained = Gives new empty_after true
 Ends new Blocked = Gives new empty_after false
 Ends new OtherInFront = Gives new empty_after false × Gives new bytes_in_front_after 0
 Ends new TurnsUsed = Gives new empty_after false
-Ends new IsBroken = Gives new empty_after false
+Ends new (IsBroken error) = Gives new empty_after false
 
 -- these pieces are what a turn offers once `taken` bytes were taken away: what is gathered then, and that is not nothing
 pub record IsDue (max_bytes : ℕ) (old : Connected) (taken : ℕ) (pieces : List (List ℕ)) : Type 0 where
@@ -112,4 +112,4 @@ pub record SendsInTurns (max_turns max_bytes : ℕ) (old : Connected) (sent_befo
 abbrev pub EndsSending : {A : Type 0} → Connected → Result A SendFault → Type 0
 EndsSending old (Ok done) = Gives old closed_after false
 EndsSending old (Err Closed) = Gives old closed_after true
-EndsSending old (Err Broken) = Gives old closed_after false
+EndsSending old (Err (Broken error)) = Gives old closed_after false

@@ -13,7 +13,7 @@ abbrev pub ended_by : Result ℕ SocketFault → Option Ending
 ended_by (Ok zero) = Some Blocked
 ended_by (Ok (suc more)) = None
 ended_by (Err HasNoRoom) = Some Blocked
-ended_by (Err IsBroken) = Some Broken
+ended_by (Err (IsBroken error)) = Some (Broken error)
 
 -- each of these answers reported bytes
 abbrev pub AllTook : List (Result ℕ SocketFault) → Type 0
@@ -34,7 +34,7 @@ EndsWithin turns answers Drained = AllTook answers × (length answers ≤ turns)
 EndsWithin turns answers OtherInFront = AllTook answers × (length answers < turns)
 EndsWithin turns answers TurnsUsed = AllTook answers × (length answers ≡ turns)
 EndsWithin turns answers Blocked = Stopped answers Blocked × (length answers ≤ turns)
-EndsWithin turns answers Broken = Stopped answers Broken × (length answers ≤ turns)
+EndsWithin turns answers (Broken error) = Stopped answers (Broken error) × (length answers ≤ turns)
 
 -- the calls of a socket after it took `taken` bytes: each was offered what is due past the bytes that it took until
 -- then

@@ -2,8 +2,10 @@ ghost use Rattle.std.specs.Prelude.{◌≡◌, ◌≤◌, List, []};
 ghost use Rattle.ob_types.specs.Limits.{greatest_overhead, greatest_unknown};
 ghost use Rattle.ob_types.specs.declared.command.Command.{Command};
 ghost use Rattle.ob_connection.specs.Standing.{StandsFor};
+ghost use Rattle.ob_connection.specs.Keeping.{Shrinks, room_in};
 
 mod commands;
+mod copying;
 mod looks;
 mod sending;
 mod state;
@@ -22,7 +24,7 @@ use std::marker::Model;
 ///
 /// Only a write can run out of memory, and what is gone takes none. What waits takes one ring of entries of 64 bytes,
 /// beside the memory of the blocks. A connection with nothing written has no ring. After each removal and each failing
-/// a ring with room for more than 64 entries has room for fewer than four times as many as wait, or for 64; a close
+/// a ring with room for more than 8 entries has room for fewer than four times as many as wait, or for 8; a close
 /// gives it all back. If the allocator refuses the smaller ring, the connection keeps the one that it has until the
 /// next removal.
 #[derive(Debug, Drop)]
@@ -50,6 +52,7 @@ impl Connection {
         requires unknown { estimate.unknown ≤ greatest_unknown }
         ensures settings { result.unsent.settings ≡ record { marks = marks; estimate = estimate } }
         ensures stands { StandsFor result [] }
+        ensures room { room_in result ≡ 0 }
     {
         Connection {
             inner: Inner::new(alloc, marks, estimate),
@@ -60,7 +63,7 @@ impl Connection {
     /// smaller block, the connection keeps the one that it has. For a connection that has sent all and is idle: each
     /// next write allocates anew. Our own; the name is Rust's.
     pub fn shrink_to_fit(&mut self)
-        ensures { self.new ≡ self.old }
+        ensures { Shrinks self.old self.new }
     {
         self.inner.shrink_to_fit();
     }

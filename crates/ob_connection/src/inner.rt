@@ -1,10 +1,11 @@
-ghost use Rattle.std.specs.Prelude.{◌≡◌, ◌≤◌};
+ghost use Rattle.std.specs.Prelude.{◌≡◌, ◌≤◌, true};
 ghost use Rattle.ob_types.specs.Change.{change_between};
 ghost use Rattle.ob_types.specs.Limits.{greatest_overhead, greatest_unknown};
-ghost use Rattle.ob_seq.specs.Unsent.{nothing_unsent};
+ghost use Rattle.ob_seq.specs.Unsent.{nothing_unsent, waiting_count};
 ghost use Rattle.ob_connection.specs.Connected.{Connected, accepted_writes};
 ghost use Rattle.ob_connection.specs.Inside.{connected_of, HasIds};
 ghost use Rattle.ob_connection.specs.Limit.{most_ids};
+ghost use Rattle.ob_connection.specs.Keeping.{Shrinks, TakesNoRoom, room_in, roomed};
 
 mod bits;
 mod cancel;
@@ -15,6 +16,7 @@ mod take;
 mod turns;
 mod write;
 
+use crate::chunk::Chunks;
 use ob_seq::Contents;
 use ob_types::{Change, Estimate, WaterMark};
 use std::alloc::Global;
@@ -26,6 +28,8 @@ use std::marker::Model;
 pub struct Inner {
     contents: Contents,
     gone: u64,
+    /// What copied messages share.
+    chunks: Chunks,
 }
 
 impl Model for Inner {
@@ -49,6 +53,7 @@ impl Inner {
         Inner {
             contents: Contents::new(alloc, marks, estimate),
             gone: 0,
+            chunks: Chunks::new(alloc),
         }
     }
 
@@ -76,16 +81,21 @@ impl Inner {
 
     /// As `Connection::shrink_to_fit`.
     pub fn shrink_to_fit(&mut self)
-        ensures { self.new ≡ self.old }
+        ensures { Shrinks self.old self.new }
     {
         self.contents.shrink_to_fit();
     }
 
-    /// Gives memory back that what waits does not need, as `Contents::give_back`.
+    /// Gives memory back that what waits does not need, as `Contents::give_back`. If nothing waits no chunk is kept.
     fn give_back(&mut self)
-        ensures { self.new ≡ self.old }
+        ensures same { self.new ≡ roomed (room_in self.new) self.old }
+        ensures less { TakesNoRoom self.old self.new }
+        ensures closed { self.old.unsent.closed ≡ true → waiting_count self.old.unsent ≡ 0 → room_in self.new ≡ 0 }
     {
         self.contents.give_back();
+        if self.contents.count() == 0 {
+            self.chunks.close();
+        }
     }
 
     /// The change of writability since the word was this one.

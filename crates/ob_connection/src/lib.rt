@@ -2,6 +2,7 @@
 //! `ob_seq`'s buffer do, and it keeps what waits and nothing of what is gone but its number.
 #![tactic(auto)]
 
+mod chunk;
 mod connection;
 mod ending;
 mod inner;

@@ -70,7 +70,7 @@ impl Taken {
 
 /// What a sending of several turns returns.
 #[must_use]
-#[derive(Clone, Copy, Debug, PartialEq, Eq)]
+#[derive(Clone, Copy, Debug)]
 pub struct SentTurns {
     /// How many bytes the socket took in all turns together.
     pub bytes: u64,

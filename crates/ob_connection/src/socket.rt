@@ -2,21 +2,36 @@
 
 ghost use Rattle.std.specs.Io.Slices.{io_slice_bytes, io_slices_bytes};
 ghost use Rattle.std.specs.Prelude.{◌≡◌, ◌≤◌, [], ◌∷◌, List, ℕ, length, map, take, Option, IfOk, OnErr};
-ghost use Rattle.ob_connection.specs.Calls.{Call};
+ghost use Rattle.ob_connection.specs.Calls.{Call, IsFaultOf};
 ghost use Rattle.ob_connection.specs.Telling.{with_more};
 
+use std::io;
 use std::io::IoSlice;
 use thiserror::Error;
 
 /// Why a socket took nothing.
-#[derive(Clone, Copy, Debug, PartialEq, Eq, Error)]
+#[derive(Clone, Copy, Debug, Error)]
 pub enum SocketFault {
     /// It has no room now: it is to be written to again when it is ready.
     #[error("the socket has no room")]
     Blocked,
-    /// It is broken: it takes nothing any more.
-    #[error("the socket is broken")]
-    Broken,
+    /// It is broken, with its own error: it takes nothing any more.
+    #[error("the socket is broken: {0}")]
+    Broken(io::Error),
+}
+
+/// A call that would have blocked found no room, and any other error broke the socket. A call that was interrupted
+/// (`EINTR`) took nothing and is to be made again, so a socket does that itself.
+impl From<io::Error> for SocketFault {
+    ghost from_gives = { λ error fault. IsFaultOf error fault };
+
+    fn from(error: io::Error) -> SocketFault {
+        if error.kind() == io::ErrorKind::WouldBlock {
+            SocketFault::Blocked
+        } else {
+            SocketFault::Broken(error)
+        }
+    }
 }
 
 /// A socket that does not block.

@@ -8,11 +8,11 @@ use Rattle.ob_connection.specs.GivingUp.{GivesUp}
 use Rattle.ob_connection.specs.Sending.{SendsInTurns}
 use Rattle.ob_connection.specs.Standing.{Gives}
 use Rattle.ob_connection.specs.declared.ending.Ending.{Ending}
-use Rattle.ob_connection.specs.declared.ending.Ending.TheVariants.{Drained, Blocked, OtherInFront, TurnsUsed, Broken}
+use Rattle.ob_connection.specs.declared.ending.Ending.TheVariants.{Drained, Blocked, OtherInFront, TurnsUsed, Broken as EndsBroken}
 use Rattle.ob_connection.specs.declared.replies.SentTurns.{SentTurns}
 use Rattle.ob_connection.specs.declared.replies.Taken.{Taken}
 use Rattle.ob_patterns.specs.declared.next.Next.{Next}
-use Rattle.ob_patterns.specs.declared.next.Next.TheVariants.{Rest, WaitForRoom, ComeAgain, SendFront, Closed}
+use Rattle.ob_patterns.specs.declared.next.Next.TheVariants.{Rest, WaitForRoom, ComeAgain, SendFront, Closed, Broken}
 
 -- the cause for which a connection is given up whose socket is broken
 abbrev pub broken : Cause
@@ -32,7 +32,7 @@ next_after Drained = Rest
 next_after Blocked = WaitForRoom
 next_after OtherInFront = SendFront
 next_after TurnsUsed = ComeAgain
-next_after Broken = Closed
+next_after (EndsBroken error) = Broken error
 
 -- a connection is given up for this cause; one that was closed stays as it was
 abbrev pub IsGivenUp : Connected → Cause → Connected → Type 0
@@ -45,7 +45,7 @@ Leaves Drained left new = new ≡ left
 Leaves Blocked left new = new ≡ left
 Leaves OtherInFront left new = new ≡ left
 Leaves TurnsUsed left new = new ≡ left
-Leaves Broken left new = IsGivenUp left broken new
+Leaves (EndsBroken error) left new = IsGivenUp left broken new
 
 -- a connection sent in turns, it is said what is next by how that ended, and it was given up if the socket is broken
 pub record SendsOpen (turns : ℕ) (old : Connected) (sent_before : Option (List ℕ)) (calls_before : Option (List Call))

@@ -1,6 +1,8 @@
+use std::io;
+
 /// What to do for a connection next: each pattern that sends returns it. Whether to read from the peer is not in it:
 /// ask `is_writable`.
-#[derive(Clone, Copy, Debug, PartialEq, Eq)]
+#[derive(Clone, Copy, Debug)]
 pub enum Next {
     /// All that is flushed is sent: ask for readiness to write no more.
     Rest,
@@ -10,6 +12,8 @@ pub enum Next {
     ComeAgain,
     /// A region or another message is in front: look at `current`, send it by your own means, and `remove` it.
     SendFront,
-    /// The connection is closed, since its socket is broken or since you closed it: drop both.
+    /// The connection was closed before: drop it and its socket.
     Closed,
+    /// The socket is broken, with its own error, and the connection was given up: drop both.
+    Broken(io::Error),
 }

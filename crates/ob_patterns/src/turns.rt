@@ -29,9 +29,9 @@ pub fn spin<S: Socket>(connection: &mut Connection, socket: &mut S, turns: u32) 
         Ending::Blocked => Next::WaitForRoom,
         Ending::TurnsUsed => Next::ComeAgain,
         Ending::OtherInFront => Next::SendFront,
-        Ending::Broken => {
+        Ending::Broken(error) => {
             give_up_broken(connection);
-            Next::Closed
+            Next::Broken(error)
         }
     }
 }
@@ -70,7 +70,8 @@ pub fn serve<P: Peer>(connection: &mut Connection, peer: &mut P, turns: u32) -> 
         let hears_more = !was_stopped && peer.answer(connection);
         let next = spin(connection, peer, 16);
         let reads_again = hears_more || (was_stopped && connection.is_writable());
-        if next == Next::Closed || !reads_again {
+        let is_over = matches!(next, Next::Closed | Next::Broken(_));
+        if is_over || !reads_again {
             return next;
         }
     }

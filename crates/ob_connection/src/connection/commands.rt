@@ -1,6 +1,6 @@
 //! One call for each command.
 
-ghost use Rattle.std.specs.Prelude.{◌≡◌, false, is_err, IfErr, IfOk, IsErrOf, OnErr};
+ghost use Rattle.std.specs.Prelude.{◌≡◌, false, is_err, IfErr, IfOk, IsErrOf, OnErr, OnOk, true};
 ghost use Rattle.ob_types.specs.declared.command.Command.TheVariants.{Write, Flush, Remove, RemoveWith, RemoveBytes};
 ghost use Rattle.ob_types.specs.declared.command.Command.TheVariants.{Progress, Cancel, FailFlushed, Close, UserBit};
 ghost use Rattle.ob_types.specs.declared.command.Command.TheVariants.{SetMarks};
@@ -11,6 +11,8 @@ ghost use Rattle.ob_connection.specs.Obeying.{IsNext, IsQuiet, Obeys};
 ghost use Rattle.ob_connection.specs.Standing.{Gives};
 ghost use Rattle.ob_connection.specs.Replies.{answer_of_write, written_reply, flushed_reply, removed_reply, taken_reply, cancelled_reply};
 ghost use Rattle.ob_connection.specs.Replies.{bit_reply, done_reply};
+ghost use Rattle.ob_connection.specs.Keeping.{KeepsRoom, TakesNoRoom, room_in};
+ghost use Rattle.ob_seq.specs.Ring.{room_for_one_more, spares};
 
 use crate::connection::Connection;
 use crate::refused::Refused;
@@ -28,6 +30,8 @@ impl Connection {
     #[inline(always)]
     pub fn write(&mut self, message: Message) -> Result<Written, Refused>
         ensures obeys { Obeys self.old (Write message) written_reply (answer_of_write result) self.new }
+        ensures room { OnOk result (room_in self.new ≡ room_for_one_more self.old.unsent) }
+        ensures spares { spares self.old.unsent ≡ true → ¬ IsErrOf (answer_of_write result) Refusal.NoMemory }
         ensures returned { IfErr result (λ refused. refused.message ≡ message) }
     {
         self.inner.write(message)
@@ -42,6 +46,7 @@ impl Connection {
     pub fn flush(&mut self) -> Result<Flushed, Refusal>
         ensures obeys { Obeys self.old Flush flushed_reply result self.new }
         ensures frugal { ¬ IsErrOf result Refusal.NoMemory }
+        ensures room { KeepsRoom self.old self.new }
     {
         self.inner.flush()
     }
@@ -54,6 +59,7 @@ impl Connection {
     pub fn remove(&mut self) -> Result<Removed, Refusal>
         ensures obeys { Obeys self.old Remove removed_reply result self.new }
         ensures frugal { ¬ IsErrOf result Refusal.NoMemory }
+        ensures room { TakesNoRoom self.old self.new }
     {
         self.inner.remove(Outcome::Success)
     }
@@ -65,6 +71,7 @@ impl Connection {
     pub fn remove_with(&mut self, cause: Cause) -> Result<Removed, Refusal>
         ensures obeys { Obeys self.old (RemoveWith cause) removed_reply result self.new }
         ensures frugal { ¬ IsErrOf result Refusal.NoMemory }
+        ensures room { TakesNoRoom self.old self.new }
     {
         self.inner.remove(Outcome::Failed(cause))
     }
@@ -83,6 +90,7 @@ impl Connection {
         ensures obeys { Obeys self.old (RemoveBytes n) taken_reply result self.new }
         ensures next { IsNext self.old Success result self.new }
         ensures frugal { ¬ IsErrOf result Refusal.NoMemory }
+        ensures room { TakesNoRoom self.old self.new }
     {
         self.inner.take_sent(n)
     }
@@ -95,6 +103,7 @@ impl Connection {
     pub fn progress(&mut self, n: u64) -> Result<(), Refusal>
         ensures obeys { Obeys self.old (Progress n) done_reply result self.new }
         ensures frugal { ¬ IsErrOf result Refusal.NoMemory }
+        ensures room { KeepsRoom self.old self.new }
     {
         self.inner.progress(n)
     }
@@ -107,6 +116,7 @@ impl Connection {
     pub fn cancel(&mut self, id: u64) -> Result<bool, Refusal>
         ensures obeys { Obeys self.old (Cancel (record { 0 = id })) (cancelled_reply id) result self.new }
         ensures frugal { ¬ IsErrOf result Refusal.NoMemory }
+        ensures room { KeepsRoom self.old self.new }
     {
         self.inner.cancel(id)
     }
@@ -122,6 +132,7 @@ impl Connection {
         ensures next { IsNext self.old (Failed cause) result self.new }
         ensures quiet { notify ≡ false → IsQuiet result }
         ensures frugal { ¬ IsErrOf result Refusal.NoMemory }
+        ensures room { TakesNoRoom self.old self.new }
     {
         self.inner.fail_flushed(cause, notify)
     }
@@ -138,6 +149,7 @@ impl Connection {
         ensures next { IsNext self.old (Failed cause) result self.new }
         ensures quiet { IsQuiet result }
         ensures frugal { ¬ IsErrOf result Refusal.NoMemory }
+        ensures room { OnOk result (room_in self.new ≡ 0) }
     {
         self.inner.close(cause)
     }
@@ -153,6 +165,7 @@ impl Connection {
         ensures open { Gives self.old closed_after (is_err result) }
         ensures refused { OnErr result (self.new ≡ self.old) }
         ensures closed { IfErr result (λ refusal. refusal ≡ Refusal.Closed) }
+        ensures room { OnOk result (room_in self.new ≡ 0) }
     {
         if self.is_closed() {
             return Err(Refusal::Closed);
@@ -168,6 +181,7 @@ impl Connection {
     pub fn user_bit(&mut self, index: u32, writable: bool) -> Result<Option<Change>, Refusal>
         ensures obeys { Obeys self.old (UserBit index writable) bit_reply result self.new }
         ensures frugal { ¬ IsErrOf result Refusal.NoMemory }
+        ensures room { KeepsRoom self.old self.new }
     {
         self.inner.user_bit(index, writable)
     }
@@ -181,6 +195,7 @@ impl Connection {
     pub fn set_marks(&mut self, marks: WaterMark) -> Result<(), Refusal>
         ensures obeys { Obeys self.old (SetMarks marks) done_reply result self.new }
         ensures frugal { ¬ IsErrOf result Refusal.NoMemory }
+        ensures room { KeepsRoom self.old self.new }
     {
         self.inner.set_marks(marks)
     }

@@ -1,14 +1,16 @@
 //! How a connection sends.
 
 ghost use Rattle.std.specs.Prelude.{◌≡◌, false, IfOk, IfErr, OnErr};
-ghost use Rattle.ob_connection.specs.declared.connection.sending.SendFault.TheVariants.{Broken as IsBroken, Closed as IsClosed};
+ghost use Rattle.ob_connection.specs.declared.connection.sending.SendFault.TheVariants.{Closed as IsClosed};
 ghost use Rattle.ob_connection.specs.Offering.{answer_of, bytes_taken};
 ghost use Rattle.ob_connection.specs.Sending.{Asks, EndsSending, sent_or_fault, Sends, SendsInTurns};
+ghost use Rattle.ob_connection.specs.Keeping.{TakesNoRoom};
 
 use crate::connection::Connection;
 use crate::inner::offer::Offer;
 use crate::replies::{SentTurns, Taken};
 use crate::socket::Socket;
+use std::io;
 use thiserror::Error;
 
 /// What a connection sent at once.
@@ -27,19 +29,19 @@ pub struct Sent {
 }
 
 /// Why a connection sent nothing. It is as it was.
-#[derive(Clone, Copy, Debug, PartialEq, Eq, Error)]
+#[derive(Clone, Copy, Debug, Error)]
 pub enum SendFault {
     /// The connection is closed.
     #[error("the connection is closed")]
     Closed,
-    /// The socket is broken, and took nothing.
-    #[error("the socket is broken")]
-    Broken,
+    /// The socket is broken, with its own error, and took nothing.
+    #[error("the socket is broken: {0}")]
+    Broken(io::Error),
 }
 
 impl Connection {
     /// Offers a socket once the flushed blocks in front, as `gather_into` gives them, and takes away what it took: the
-    /// messages that are sent whole, empty and voided ones along with the others. At most 64 blocks are offered at
+    /// messages that are sent whole, empty and voided ones along with the others. At most 1024 blocks are offered at
     /// once, whatever `max_count` is; what is left is for the next call. It never runs out of memory.
     ///
     /// If nothing is gathered the socket is not asked, and the empty messages in front are taken away all the same. A
@@ -58,6 +60,7 @@ impl Connection {
         ensures asks { Asks max_count max_bytes self.old (S.calls socket.old) result (S.calls socket.new) }
         ensures kept { OnErr result (self.new ≡ self.old) }
         ensures unsent { OnErr result (S.sent socket.new ≡ S.sent socket.old) }
+        ensures room { TakesNoRoom self.old self.new }
     {
         if self.is_closed() {
             return Err(SendFault::Closed);
@@ -81,7 +84,7 @@ impl Connection {
 impl Connection {
     /// Offers a socket the flushed blocks in front, turn by turn as `send_once` does, until no flushed message is left, a
     /// region or any other message is in front, the socket takes nothing more, or `max_turns` turns were made; one turn
-    /// is made at least. A turn offers at most 64 blocks, and together at most `max_bytes` bytes, but the first however
+    /// is made at least. A turn offers at most 1024 blocks, and together at most `max_bytes` bytes, but the first however
     /// long it is. It never runs out of memory.
     ///
     /// What the turns took away is reported as one interval, and the change of writability once, over all of them. A
@@ -104,6 +107,7 @@ impl Connection {
         ensures unasked { OnErr result (S.calls socket.new ≡ S.calls socket.old) }
         ensures ends { EndsSending self.old result }
         ensures closed { IfErr result (λ fault. fault ≡ IsClosed) }
+        ensures room { TakesNoRoom self.old self.new }
     {
         if self.is_closed() {
             return Err(SendFault::Closed);
@@ -117,12 +121,11 @@ impl Connection {
 fn taken_of(offer: Offer) -> Result<u64, SendFault>
     ensures taken { IfOk result (λ bytes. bytes ≡ bytes_taken offer) }
     ensures none { OnErr result (bytes_taken offer ≡ 0) }
-    ensures broken { IfErr result (λ fault. fault ≡ IsBroken) }
     ensures told { result ≡ sent_or_fault false (answer_of offer) }
 {
     match offer {
         Offer::Took(bytes) => Ok(bytes),
         Offer::Nothing | Offer::Blocked => Ok(0),
-        Offer::Broken => Err(SendFault::Broken),
+        Offer::Broken(error) => Err(SendFault::Broken(error)),
     }
 }

@@ -1,16 +1,18 @@
 //! The looks at the state of a connection.
 
-ghost use Rattle.std.specs.Prelude.{◌≡◌, Some};
+ghost use Rattle.std.specs.Prelude.{◌≡◌, ℕ, List, length, Some};
 ghost use Rattle.ob_types.specs.declared.command.Command.TheVariants.{Write};
 ghost use Rattle.ob_types.specs.declared.message.Message.TheVariants.{Block};
-ghost use Rattle.ob_connection.specs.Looks.{Refuses, Shows, Tells};
+ghost use Rattle.ob_seq.specs.MarksInForce.{marks_after};
+ghost use Rattle.ob_connection.specs.Keeping.{room_in};
+ghost use Rattle.ob_connection.specs.Looks.{Refuses, Shows, Tells, unflushed_count_after, waiting_count_after};
 ghost use Rattle.ob_connection.specs.Standing.{Gives};
 ghost use Rattle.ob_seq.specs.State.{writable_after, empty_after, closed_after};
 
 use crate::connection::Connection;
 use crate::look::Look;
 use crate::status::Status;
-use ob_types::{PromiseState, Refusal};
+use ob_types::{Estimate, PromiseState, Refusal, WaterMark};
 
 impl Connection {
     /// What is pending now. It changes nothing, takes the same few steps whatever is pending, and does not allocate.
@@ -44,6 +46,44 @@ impl Connection {
         self.inner.contents().line_count() == 0
     }
 
+    /// How many messages no flush has reached. It does not allocate. Netty shows them to nobody; our own.
+    pub fn unflushed_count(&self) -> u64
+        ensures { Gives self.now unflushed_count_after result }
+    {
+        self.inner.contents().unflushed_count() as u64
+    }
+
+    /// How many messages wait: those that are flushed and not yet removed, voided ones too, and those that no flush has
+    /// reached. If it is 0 nothing that was accepted is left. It does not allocate. Our own.
+    pub fn waiting_count(&self) -> u64
+        ensures { Gives self.now waiting_count_after result }
+    {
+        self.inner.contents().count() as u64
+    }
+
+    /// For how many messages its ring has room. A message takes one place of 64 bytes as long as it waits. A write takes
+    /// memory for the ring only if no place is left, and then for as many again, and for 8 more at least. It does not
+    /// allocate. Our own; Rust's `capacity`.
+    pub fn room(&self) -> usize
+        ensures { result ≡ room_in self.now }
+    {
+        self.inner.contents().room()
+    }
+
+    /// The marks in force: those of the last `set_marks`, and before it those of the opening. It does not allocate.
+    pub fn marks(&self) -> WaterMark
+        ensures { Gives self.now marks_after result }
+    {
+        self.inner.contents().marks()
+    }
+
+    /// By what messages are counted: the estimate of the opening. It does not allocate.
+    pub fn estimate(&self) -> Estimate
+        ensures { result ≡ self.now.unsent.settings.estimate }
+    {
+        self.inner.contents().estimate()
+    }
+
     /// Whether a close was accepted: from then on each command is refused as `Closed`. It does not allocate.
     pub fn is_closed(&self) -> bool
         ensures { Gives self.now closed_after result }
@@ -58,7 +98,15 @@ impl Connection {
         ensures first { Refuses self.now (Write (Block bytes.now)) result }
         ensures other { ¬ (result ≡ Some Refusal.NoMemory) }
     {
-        self.inner.refusal_of_block(bytes)
+        self.refusal_of_length(bytes.len())
+    }
+
+    /// As `refusal_of_block`, of any block of *n* bytes.
+    pub fn refusal_of_length(&self, n: usize) -> Option<Refusal>
+        ensures first { (bytes : List ℕ) → length bytes ≡ n → Refuses self.now (Write (Block bytes)) result }
+        ensures other { ¬ (result ≡ Some Refusal.NoMemory) }
+    {
+        self.inner.refusal_of_length(n)
     }
 
     /// What has become of a promise, or nothing if no write was accepted under the id. It takes the same few steps

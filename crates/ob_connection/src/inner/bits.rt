@@ -4,6 +4,7 @@ ghost use Rattle.std.specs.Prelude.{IsErrOf};
 ghost use Rattle.ob_types.specs.declared.command.Command.TheVariants.{Progress, UserBit, SetMarks};
 ghost use Rattle.ob_connection.specs.Becoming.{Moves};
 ghost use Rattle.ob_connection.specs.Replies.{bit_reply, done_reply};
+ghost use Rattle.ob_connection.specs.Keeping.{KeepsRoom};
 
 use crate::inner::Inner;
 use ob_types::{Change, Refusal, WaterMark};
@@ -13,6 +14,7 @@ impl Inner {
     pub fn progress(&mut self, n: u64) -> Result<(), Refusal>
         ensures moves { Moves self.old (Progress n) done_reply result self.new }
         ensures frugal { ¬ IsErrOf result Refusal.NoMemory }
+        ensures room { KeepsRoom self.old self.new }
     {
         if self.contents.is_closed() {
             return Err(Refusal::Closed);
@@ -31,6 +33,7 @@ impl Inner {
     pub fn user_bit(&mut self, index: u32, writable: bool) -> Result<Option<Change>, Refusal>
         ensures moves { Moves self.old (UserBit index writable) bit_reply result self.new }
         ensures frugal { ¬ IsErrOf result Refusal.NoMemory }
+        ensures room { KeepsRoom self.old self.new }
     {
         if self.contents.is_closed() {
             return Err(Refusal::Closed);
@@ -47,6 +50,7 @@ impl Inner {
     pub fn set_marks(&mut self, marks: WaterMark) -> Result<(), Refusal>
         ensures moves { Moves self.old (SetMarks marks) done_reply result self.new }
         ensures frugal { ¬ IsErrOf result Refusal.NoMemory }
+        ensures room { KeepsRoom self.old self.new }
     {
         if self.contents.is_closed() {
             return Err(Refusal::Closed);

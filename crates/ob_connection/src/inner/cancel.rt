@@ -2,6 +2,7 @@ ghost use Rattle.std.specs.Prelude.{IsErrOf};
 ghost use Rattle.ob_types.specs.declared.command.Command.TheVariants.{Cancel};
 ghost use Rattle.ob_connection.specs.Becoming.{Moves};
 ghost use Rattle.ob_connection.specs.Replies.{cancelled_reply};
+ghost use Rattle.ob_connection.specs.Keeping.{KeepsRoom};
 
 use crate::inner::Inner;
 use ob_types::Refusal;
@@ -11,6 +12,7 @@ impl Inner {
     pub fn cancel(&mut self, id: u64) -> Result<bool, Refusal>
         ensures moves { Moves self.old (Cancel (record { 0 = id })) (cancelled_reply id) result self.new }
         ensures frugal { ¬ IsErrOf result Refusal.NoMemory }
+        ensures room { KeepsRoom self.old self.new }
     {
         if self.contents.is_closed() {
             return Err(Refusal::Closed);

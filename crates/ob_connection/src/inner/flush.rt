@@ -2,6 +2,7 @@ ghost use Rattle.std.specs.Prelude.{IsErrOf};
 ghost use Rattle.ob_types.specs.declared.command.Command.TheVariants.{Flush};
 ghost use Rattle.ob_connection.specs.Becoming.{Moves};
 ghost use Rattle.ob_connection.specs.Replies.{flushed_reply};
+ghost use Rattle.ob_connection.specs.Keeping.{KeepsRoom};
 
 use crate::inner::Inner;
 use crate::replies::Flushed;
@@ -12,6 +13,7 @@ impl Inner {
     pub fn flush(&mut self) -> Result<Flushed, Refusal>
         ensures moves { Moves self.old Flush flushed_reply result self.new }
         ensures frugal { ¬ IsErrOf result Refusal.NoMemory }
+        ensures room { KeepsRoom self.old self.new }
     {
         if self.contents.is_closed() {
             return Err(Refusal::Closed);

@@ -9,13 +9,17 @@ ghost use Rattle.ob_connection.specs.Telling.{with_more};
 
 use crate::inner::Inner;
 use crate::socket::{Socket, SocketFault};
+use std::io;
 use std::io::IoSlice;
 
-/// How many pieces a socket is offered at once, at most.
-const MOST_PIECES: usize = 64;
+/// How many pieces a socket is offered at once, at most: what one call of Linux takes.
+const MOST_PIECES: usize = 1024;
+
+/// For how many pieces there is room if no more messages are flushed.
+const FEW_PIECES: usize = 64;
 
 /// What a socket made of an offer.
-#[derive(Clone, Copy, Debug, PartialEq, Eq)]
+#[derive(Clone, Copy, Debug)]
 pub enum Offer {
     /// There was nothing to offer, so it was not asked.
     Nothing,
@@ -23,8 +27,8 @@ pub enum Offer {
     Took(u64),
     /// It has no room now.
     Blocked,
-    /// It is broken.
-    Broken,
+    /// It is broken, with its own error.
+    Broken(io::Error),
 }
 
 impl Offer {
@@ -34,7 +38,7 @@ impl Offer {
     {
         match self {
             Offer::Took(bytes) => bytes,
-            Offer::Nothing | Offer::Blocked | Offer::Broken => 0,
+            Offer::Nothing | Offer::Blocked | Offer::Broken(_) => 0,
         }
     }
 
@@ -45,20 +49,58 @@ impl Offer {
         match self {
             Offer::Took(bytes) => bytes == 0,
             Offer::Blocked => true,
-            Offer::Nothing | Offer::Broken => false,
+            Offer::Nothing | Offer::Broken(_) => false,
         }
     }
 }
 
 impl Inner {
-    /// Offers a socket the blocks in front, at most `max_count` of them and at most 64, and together at most
+    /// Offers a socket the blocks in front, at most `max_count` of them and at most 1024, and together at most
     /// `max_bytes` bytes, but the first however long it is. It does not allocate.
     pub fn offer<S: Socket>(&self, socket: &mut S, max_count: u32, max_bytes: u32) -> Offer
         ensures { Offers (min most_pieces max_count) max_bytes self.now.unsent (S.sent socket.old)
             (S.calls socket.old) result (S.sent socket.new) (S.calls socket.new) }
     {
+        if self.contents.line_count() <= FEW_PIECES {
+            self.offer_few(socket, max_count, max_bytes)
+        } else {
+            self.offer_many(socket, max_count, max_bytes)
+        }
+    }
+
+    /// The same, if at most 64 messages are flushed.
+    fn offer_few<S: Socket>(&self, socket: &mut S, max_count: u32, max_bytes: u32) -> Offer
+        requires { length self.now.unsent.line ≤ 64 }
+        ensures { Offers (min most_pieces max_count) max_bytes self.now.unsent (S.sent socket.old)
+            (S.calls socket.old) result (S.sent socket.new) (S.calls socket.new) }
+    {
+        let mut pieces = [IoSlice::new(&[]); FEW_PIECES];
+        self.offer_at_most(socket, &mut pieces, max_count, max_bytes)
+    }
+
+    /// The same, whatever is flushed.
+    // Its pieces take 16 KiB of the stack, for which a sending of a few messages is not to pay.
+    #[inline(never)]
+    fn offer_many<S: Socket>(&self, socket: &mut S, max_count: u32, max_bytes: u32) -> Offer
+        ensures { Offers (min most_pieces max_count) max_bytes self.now.unsent (S.sent socket.old)
+            (S.calls socket.old) result (S.sent socket.new) (S.calls socket.new) }
+    {
         let mut pieces = [IoSlice::new(&[]); MOST_PIECES];
-        let most = MOST_PIECES.min(max_count as usize);
+        self.offer_at_most(socket, &mut pieces, max_count, max_bytes)
+    }
+
+    /// The same by at most `max_count` of these pieces.
+    fn offer_at_most<'a, S: Socket>(
+        &'a self,
+        socket: &mut S,
+        pieces: &mut [IoSlice<'a>],
+        max_count: u32,
+        max_bytes: u32,
+    ) -> Offer
+        ensures { Offers (min (length pieces.old) max_count) max_bytes self.now.unsent (S.sent socket.old)
+            (S.calls socket.old) result (S.sent socket.new) (S.calls socket.new) }
+    {
+        let most = pieces.len().min(max_count as usize);
         self.offer_by(socket, &mut pieces[..most], max_bytes)
     }
 
@@ -92,6 +134,6 @@ fn ask<S: Socket>(socket: &mut S, pieces: &[IoSlice<'_>]) -> Offer
     match socket.write_vectored(pieces) {
         Ok(bytes) => Offer::Took(bytes as u64),
         Err(SocketFault::Blocked) => Offer::Blocked,
-        Err(SocketFault::Broken) => Offer::Broken,
+        Err(SocketFault::Broken(error)) => Offer::Broken(error),
     }
 }

@@ -2,6 +2,7 @@ ghost use Rattle.std.specs.Prelude.{IsErrOf};
 ghost use Rattle.ob_seq.specs.Steps.Remove.{removal_step};
 ghost use Rattle.ob_connection.specs.Becoming.{Steps};
 ghost use Rattle.ob_connection.specs.Replies.{removed_reply};
+ghost use Rattle.ob_connection.specs.Keeping.{TakesNoRoom};
 
 use crate::inner::Inner;
 use crate::replies::Removed;
@@ -12,6 +13,7 @@ impl Inner {
     pub fn remove(&mut self, outcome: Outcome) -> Result<Removed, Refusal>
         ensures steps { Steps (removal_step outcome) self.old removed_reply result self.new }
         ensures frugal { ¬ IsErrOf result Refusal.NoMemory }
+        ensures room { TakesNoRoom self.old self.new }
     {
         if self.contents.is_closed() {
             return Err(Refusal::Closed);

@@ -12,6 +12,7 @@ ghost use Rattle.ob_seq.specs.Unsent.{pending_entries};
 ghost use Rattle.ob_connection.specs.Becoming.{Becomes, FailsAll, HasNoLine, Moves};
 ghost use Rattle.ob_connection.specs.Obeying.{IsNext, IsQuiet};
 ghost use Rattle.ob_connection.specs.Replies.{taken_reply};
+ghost use Rattle.ob_connection.specs.Keeping.{KeepsRoom, TakesNoRoom, room_in};
 
 use crate::inner::Inner;
 use crate::replies::Taken;
@@ -24,6 +25,7 @@ impl Inner {
         ensures moves { Moves self.old (RemoveBytes n) taken_reply result self.new }
         ensures next { IsNext self.old Success result self.new }
         ensures frugal { ¬ IsErrOf result Refusal.NoMemory }
+        ensures room { TakesNoRoom self.old self.new }
     {
         if self.contents.is_closed() {
             return Err(Refusal::Closed);
@@ -44,6 +46,7 @@ impl Inner {
         ensures answers { self.old.unsent.closed ≡ false → IsOk result }
         ensures cleared { OnOk result (HasNoLine self.new) }
         ensures frugal { ¬ IsErrOf result Refusal.NoMemory }
+        ensures room { TakesNoRoom self.old self.new }
     {
         if self.contents.is_closed() {
             return Err(Refusal::Closed);
@@ -61,6 +64,7 @@ impl Inner {
         ensures quiet { IsQuiet result }
         ensures answers { HasNoLine self.old → IsOk result }
         ensures frugal { ¬ IsErrOf result Refusal.NoMemory }
+        ensures room { OnOk result (room_in self.new ≡ 0) }
     {
         if self.contents.is_closed() {
             return Err(Refusal::Closed);
@@ -79,7 +83,8 @@ impl Inner {
     /// The steps of `Connection::give_up`.
     pub fn give_up(&mut self, cause: Cause) -> Taken
         requires { self.old.unsent.closed ≡ false }
-        ensures { FailsAll self.old cause result self.new }
+        ensures all { FailsAll self.old cause result self.new }
+        ensures room { room_in self.new ≡ 0 }
     {
         let from = self.gone;
         let Ok(_failed) = self.fail_flushed(cause, false) else {
@@ -103,6 +108,7 @@ impl Inner {
         requires rest { cut.rest ≤ first_length (drop cut.whole (pending_entries self.old.unsent.line)) }
         ensures becomes { Becomes (bytes_removed cut) self.old self.new }
         ensures gone { self.new.gone ≡ self.old.gone + cut.whole }
+        ensures room { TakesNoRoom self.old self.new }
     {
         self.take_first(cut.whole, true);
         self.contents.skip_in_front(cut.rest);
@@ -113,6 +119,7 @@ impl Inner {
         requires { count ≤ length self.old.unsent.line }
         ensures becomes { (outcome : Outcome) → Becomes (times count (front_taken notice outcome)) self.old self.new }
         ensures gone { self.new.gone ≡ self.old.gone + count }
+        ensures room { TakesNoRoom self.old self.new }
     {
         for _ in 0..count {
             self.take_front(notice);
@@ -125,6 +132,7 @@ impl Inner {
         requires { 0 < length self.old.unsent.line }
         ensures becomes { (outcome : Outcome) → Becomes (front_taken notice outcome) self.old self.new }
         ensures gone { self.new.gone ≡ self.old.gone + 1 }
+        ensures room { KeepsRoom self.old self.new }
     {
         self.contents.take_front(notice);
         self.gone += 1;

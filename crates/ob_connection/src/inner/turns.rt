@@ -12,6 +12,7 @@ ghost use Rattle.ob_connection.specs.Calls.{answers_in};
 ghost use Rattle.ob_connection.specs.Offering.{answer_of, bytes_taken, EndsAt, IsLeft, run_of};
 ghost use Rattle.ob_connection.specs.Telling.{with_more};
 ghost use Rattle.ob_connection.specs.Turns.{AsksInTurns, EndsWithin};
+ghost use Rattle.ob_connection.specs.Keeping.{TakesNoRoom};
 
 use crate::ending::Ending;
 use crate::inner::Inner;
@@ -37,11 +38,12 @@ impl Inner {
         ensures asks { AsksInTurns (IsLeft max_bytes self.old) (max 1 max_turns) result.bytes (S.calls socket.old)
             result.ending (S.calls socket.new) }
         ensures ends { EndsAt self.new.unsent result.ending }
+        ensures room { TakesNoRoom self.old self.new }
     {
         let (before, from) = (self.contents.word(), self.gone);
         let (mut bytes, mut ending) = self.send_turn(socket, max_bytes);
         for _ in 1..max_turns {
-            if ending != Ending::TurnsUsed {
+            if !ending.goes_on() {
                 break;
             }
             let (more, after) = self.send_turn(socket, max_bytes);
@@ -66,6 +68,7 @@ impl Inner {
         ensures asks { AsksInTurns (IsLeft max_bytes self.old) 1 result.0 (S.calls socket.old) result.1
             (S.calls socket.new) }
         ensures ends { EndsAt self.new.unsent result.1 }
+        ensures room { TakesNoRoom self.old self.new }
     {
         let offer = self.offer(socket, u32::MAX, max_bytes);
         let bytes = offer.bytes();
@@ -78,6 +81,7 @@ impl Inner {
         requires { n ≤ bytes_in (run_of self.old.unsent) }
         ensures becomes { Becomes (removed n) self.old self.new }
         ensures gone { self.new.gone ≡ self.old.gone + (whole_cut n (run_of self.old.unsent)).whole }
+        ensures room { TakesNoRoom self.old self.new }
     {
         let Some(cut) = self.contents.find_cut(n) else {
             unreachable!();
@@ -100,7 +104,7 @@ impl Inner {
             Offer::Took(_) if is_drained => Ending::Drained,
             Offer::Took(_) => Ending::TurnsUsed,
             Offer::Blocked => Ending::Blocked,
-            Offer::Broken => Ending::Broken,
+            Offer::Broken(error) => Ending::Broken(error),
         }
     }
 }

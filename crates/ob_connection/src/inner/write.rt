@@ -1,25 +1,67 @@
-ghost use Rattle.std.specs.Prelude.{◌≡◌, IfErr, IsErrOf, Some};
+ghost use Rattle.std.specs.Prelude.{◌≡◌, ◌<◌, ℕ, List, length, IfErr, IfOk, IsErrOf, Some, OnOk, true};
+ghost use Rattle.ob_types.specs.Limits.{greatest_pending_size};
+ghost use Rattle.ob_connection.specs.Parts.{joined};
 ghost use Rattle.ob_types.specs.declared.command.Command.TheVariants.{Write};
 ghost use Rattle.ob_types.specs.declared.message.Message.TheVariants.{Block};
 ghost use Rattle.ob_connection.specs.Becoming.{Admits, IsFirstRefusal, Moves};
 ghost use Rattle.ob_connection.specs.Replies.{answer_of_write, written_reply};
+ghost use Rattle.ob_connection.specs.Keeping.{room_in};
+ghost use Rattle.ob_seq.specs.Ring.{room_for_one_more, spares};
+ghost use Rattle.ob_types.specs.declared.refusal.Refusal.TheVariants.{NoMemory};
 
 use crate::inner::Inner;
 use crate::refused::Refused;
 use crate::replies::Written;
-use ob_types::{Message, Refusal, pending_size, pending_size_of_block};
+use bytes::Bytes;
+use ob_types::{Message, Refusal, pending_size, pending_size_of_length};
+use std::alloc::AllocError;
+
+/// How many messages wait at least when the next one shares a chunk.
+const SHARING: usize = 4;
 
 /// The most writes that a connection accepts.
 const MAX_WRITES: u64 = 18446744073709551615;
 
 impl Inner {
-    /// As `Connection::refusal_of_block`.
-    pub fn refusal_of_block(&self, bytes: &[u8]) -> Option<Refusal>
-        ensures first { IsFirstRefusal self.now (Write (Block bytes.now)) result }
+    /// As `Connection::refusal_of_length`.
+    pub fn refusal_of_length(&self, count: usize) -> Option<Refusal>
+        ensures first { (bytes : List ℕ) → length bytes ≡ count → IsFirstRefusal self.now (Write (Block bytes)) result }
         ensures other { ¬ (result ≡ Some Refusal.NoMemory) }
     {
-        self.admits(pending_size_of_block(bytes, self.contents.estimate()))
+        self.admits(pending_size_of_length(count as u64, self.contents.estimate()))
             .err()
+    }
+
+    /// Why a block is refused that is longer than any message may be.
+    pub fn refusal_of_too_long(&self) -> Refusal
+        ensures first { (bytes : List ℕ) → greatest_pending_size < length bytes
+            → IsFirstRefusal self.now (Write (Block bytes)) (Some result) }
+        ensures other { ¬ (result ≡ Refusal.NoMemory) }
+    {
+        if self.contents.is_closed() {
+            Refusal::Closed
+        } else {
+            Refusal::Oversize
+        }
+    }
+
+    /// A copy of these bytes as a block, for a message that is to be written. Few that wait share no chunk: they would pay
+    /// for one.
+    pub fn copy(&mut self, bytes: &[u8]) -> Result<Bytes, AllocError>
+        ensures block { IfOk result (λ block. block ≡ bytes.now) }
+        ensures same { self.new ≡ self.old }
+    {
+        self.chunks.copy(bytes, self.contents.count() >= SHARING)
+    }
+
+    /// A copy of these parts as one block, of `count` bytes together.
+    pub fn copy_parts(&mut self, parts: &[&[u8]], count: usize) -> Result<Bytes, AllocError>
+        requires { count ≡ length (joined parts.now) }
+        ensures block { IfOk result (λ block. block ≡ joined parts.now) }
+        ensures same { self.new ≡ self.old }
+    {
+        self.chunks
+            .copy_parts(parts, count, self.contents.count() >= SHARING)
     }
 
     /// The step of `Connection::write`.
@@ -27,6 +69,8 @@ impl Inner {
     #[inline(always)]
     pub fn write(&mut self, message: Message) -> Result<Written, Refused>
         ensures moves { Moves self.old (Write message) written_reply (answer_of_write result) self.new }
+        ensures room { OnOk result (room_in self.new ≡ room_for_one_more self.old.unsent) }
+        ensures spares { spares self.old.unsent ≡ true → ¬ IsErrOf (answer_of_write result) NoMemory }
         ensures returned { IfErr result (λ refused. refused.message ≡ message) }
     {
         let size = match self.admits(pending_size(&message, self.contents.estimate())) {

@@ -9,7 +9,7 @@ give_up-requires c =
     some.1.leaves.closed ∙ sym (c.is_closed.ensures some.0 stands) ∙ c.if-is_closed.false
 
 pub invariant_of-self : goal.invariant_of-self
-invariant_of-self c = still_stands c.self.invariant c.give_up.ensures
+invariant_of-self c = still_stands c.self.invariant c.give_up.ensures.all
 
 pub returns-clause-gives_up : goal.returns-clause-gives_up
-returns-clause-gives_up c = gives_up c.self.invariant c.give_up.ensures c.self.view_is
+returns-clause-gives_up c = gives_up c.self.invariant c.give_up.ensures.all c.self.view_is

@@ -45,7 +45,7 @@ pub invariant_of-self : goal.invariant_of-self
 invariant_of-self c =
     let old = c.self.inside.contents in
     let same = set_waiting (0 + (c.args.id - c.self.inside.gone)) (Settled Cancelled) old c.take_back.new.self
-    (c.take_back.ensures []) in
+    (c.take_back.ensures.after []) in
     omega (arith, same, c.self.invariant)
 
 pub returns-then-waits-clause-moves : goal.returns-then-waits-clause-moves
@@ -65,7 +65,7 @@ returns-then-waits-clause-moves c =
     (λ past. cancel_replied c.args.id (held past) c.is_waiting-waits.result (waits past))
     (λ past. (
       record { outcomes = past.outcomes; count = past.count },
-      c.take_back.ensures past.outcomes ∙ ap (λ (id : ℕ). promise_set id (Settled Cancelled) (held past)) (at past)
+      c.take_back.ensures.after past.outcomes ∙ ap (λ (id : ℕ). promise_set id (Settled Cancelled) (held past)) (at past)
           ∙ cancelled_in_time c.args.id (held past) (sym (waits past) ∙ c.if-waits.true),
     ))
 

@@ -1,6 +1,5 @@
 use Rattle.ob_connection.proofs.Words.{[], ◌≡◌, ◌+◌, ◌++◌, sym, ap, ◌∙◌, arith, length, map, Pending, held}
-use Rattle.ob_connection.proofs.Words.{accepted_writes, subst, Result, Ok, Refusal, Moves}
-use Rattle.ob_types.specs.declared.command.Command.TheVariants.{Close}
+use Rattle.ob_connection.proofs.Words.{accepted_writes}
 use Rattle.ob_connection.specs.declared.replies.Taken.{Taken}
 use Rattle.std.proofs.Common.{length-append}
 use Rattle.std.proofs.lemmas.List.{length-map}
@@ -9,7 +8,7 @@ use Rattle.ob_seq.specs.Steps.Close.{closing_step}
 use Rattle.ob_seq.specs.Unsent.{ended, pending_entry}
 use Rattle.ob_connection.specs.Replies.{taken_reply}
 use Rattle.ob_connection.proofs.Kept.{nothing_told, same_change}
-use Rattle.ob_connection.proofs.Making.{closed, refused, taken}
+use Rattle.ob_connection.proofs.Making.{closed, refused, steps_roomed, taken}
 use Rattle.ob_connection.proofs.Settling.{close_replied, flushed_left, none_left}
 use Rattle.ob_connection.proofs.inner.Inner.close.Goals as goal
 
@@ -32,8 +31,7 @@ returns-clause-moves c =
     c.accepted_writes-self-inside.ensures.count ∙ ap accepted_writes (sym c.self.view_is) ∙ omega (arith, empty) in
     let gone = map (ended (Failed c.args.cause)) old.unflushed in
     let count = length-map old.unflushed (ended (Failed c.args.cause)) in
-    let result : Result Taken Refusal = Ok c.taken_since-taken.result in
-    subst (λ new. Moves c.args.self.now (Close c.args.cause) taken_reply result new) (sym c.give_back.ensures)
+    steps_roomed (record { unsent = c.shut.new.self; gone = c.accepted_writes-self-inside.result }) c.give_back.ensures.same
     (taken (closing_step c.args.cause) taken_reply c.self.view_is (sym c.is_closed.ensures ∙ c.if-is_closed.false)
     c.taken_since-taken.result (λ past. none_left c.args.cause (held past) (seen ∙ empty))
     (λ past. ap (taken_reply (held past).promises) c.taken_since-taken.ensures
@@ -53,3 +51,8 @@ returns-clause-quiet c =
     ap (λ (one : Taken). one.change) c.taken_since-taken.ensures
     ∙ nothing_told (c.word-before.ensures
     ∙ sym (ap (λ (one : Pending). one.word) (c.shut.ensures.closed [] c.args.cause)))
+
+pub returns-clause-room : goal.returns-clause-room
+returns-clause-room c =
+    let shut = ap (λ (one : Pending). one.closed) (c.shut.ensures.closed [] c.args.cause) in
+    c.give_back.ensures.closed shut c.shut.ensures.none

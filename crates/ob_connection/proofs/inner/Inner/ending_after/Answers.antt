@@ -36,4 +36,5 @@ pub returns-in-Blocked-clause-asked : goal.returns-in-Blocked-clause-asked
 returns-in-Blocked-clause-asked c = by_offer Blocked c.in-Blocked.is (stopped_at_once _ Blocked refl, omega arith)
 
 pub returns-in-Broken-clause-asked : goal.returns-in-Broken-clause-asked
-returns-in-Broken-clause-asked c = by_offer Broken c.in-Broken.is (stopped_at_once _ Broken refl, omega arith)
+returns-in-Broken-clause-asked c =
+    by_offer (Broken c.in-Broken.error) c.in-Broken.is (stopped_at_once _ (Broken c.in-Broken.error) refl, omega arith)

@@ -18,7 +18,7 @@ returns-then-is_closed-clause-moves c =
 pub invariant_of-self : goal.invariant_of-self
 invariant_of-self c =
     let old = c.self.inside.contents in
-    let step = ap (λ (one : Pending). length one.promises) (c.flush_all.ensures [])
+    let step = ap (λ (one : Pending). length one.promises) (c.flush_all.ensures.after [])
     ∙ flushed_promises (length old.unflushed) (whole [] old) in
     omega (arith, same_waiting old c.flush_all.new.self step, c.self.invariant)
 
@@ -27,7 +27,7 @@ returns-clause-moves c =
     let old = c.self.inside.contents in
     let count = length-map old.unflushed unreached_entry in
     let after : (past : List Outcome) → whole past c.flush_all.new.self ≡ all_flushed (whole past old) =
-    λ past. c.flush_all.ensures past ∙ ap (λ n. times n next_flushed (whole past old)) (sym count) in
+    λ past. c.flush_all.ensures.after past ∙ ap (λ n. times n next_flushed (whole past old)) (sym count) in
     taken flush_step flushed_reply c.self.view_is (sym c.is_closed.ensures ∙ c.if-is_closed.false)
     (record { count = c.unflushed_count-count.result; change = c.change_since.result })
     (λ past. refl)

@@ -19,8 +19,8 @@ pub unreachable-requires : goal.unreachable-requires
 unreachable-requires c =
     never_refused c.fail_flushed.result c.in_default.field-0 c.in_default.is (c.fail_flushed.ensures.answers c.requires)
 
-pub returns : goal.returns
-returns c = record {
+pub returns-clause-all : goal.returns-clause-all
+returns-clause-all c = record {
   between = c.fail_flushed.new.self;
   failed = c.in-Ok._failed;
   closed = c.in-Ok-close._closed;

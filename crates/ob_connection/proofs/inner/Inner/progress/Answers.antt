@@ -29,7 +29,7 @@ returns-then-not-has_progress_left-clause-moves c =
 pub invariant_of-self : goal.invariant_of-self
 invariant_of-self c =
     let old = c.self.inside.contents in
-    let step = ap (λ (one : Pending). length one.promises) (c.tell_front.ensures []) in
+    let step = ap (λ (one : Pending). length one.promises) (c.tell_front.ensures.after []) in
     omega (arith, same_waiting old c.tell_front.new.self step, c.self.invariant)
 
 pub returns-clause-moves : goal.returns-clause-moves
@@ -39,4 +39,4 @@ returns-clause-moves c =
     (λ past. near c.args.n (held past) (omega (arith, count, c.line_count.ensures, c.if-line_count-eq0.false))
     (sym c.has_progress_left.ensures ∙ c.if-not-has_progress_left.false))
     (λ past. rw nothing_turned refl)
-    (λ past. (record { outcomes = past.outcomes; count = past.count }, c.tell_front.ensures past.outcomes))
+    (λ past. (record { outcomes = past.outcomes; count = past.count }, c.tell_front.ensures.after past.outcomes))

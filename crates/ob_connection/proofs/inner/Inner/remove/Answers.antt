@@ -1,5 +1,5 @@
 use Rattle.ob_connection.proofs.Words.{[], ◌<◌, ◌+◌, ◌∷◌, ◌++◌, None, true, false, refl, sym, ap, ◌∙◌, arith, length, if◌then◌else◌}
-use Rattle.ob_connection.proofs.Words.{Pending, held, subst, Result, Ok, Refusal, Steps}
+use Rattle.ob_connection.proofs.Words.{Pending, held}
 use Rattle.ob_connection.specs.declared.replies.Removed.{Removed}
 use Rattle.std.proofs.Common.{length-append}
 use Rattle.std.proofs.lemmas.List.{length-map}
@@ -12,7 +12,7 @@ use Rattle.ob_seq.proofs.Rows.Acceptance.{same_reply}
 use Rattle.ob_connection.specs.Replies.{removed_reply, settled_if}
 use Rattle.ob_connection.proofs.Kept.{front_id_there, front_is_removed, front_replied, nothing_removed, nothing_replied}
 use Rattle.ob_connection.proofs.Kept.{same_change, settled_front}
-use Rattle.ob_connection.proofs.Making.{closed, taken, unchanged}
+use Rattle.ob_connection.proofs.Making.{closed, steps_roomed, taken, unchanged}
 use Rattle.ob_connection.proofs.inner.Inner.remove.Goals as goal
 
 pub returns-then-is_closed-clause-steps : goal.returns-then-is_closed-clause-steps
@@ -41,8 +41,7 @@ returns-clause-steps c =
     let front = settled_front (is_first_voided (pending_entries old.line)) c.take_front-settles.result c.self.inside.gone
     c.args.outcome c.take_front-settles.ensures.settles in
     let removed : Removed = record { any = true; settled = c.then_some.result; change = c.change_since-change.result } in
-    let result : Result Removed Refusal = Ok removed in
-    subst (λ new. Steps (removal_step c.args.outcome) c.args.self.now removed_reply result new) (sym c.give_back.ensures)
+    steps_roomed (record { unsent = c.take_front-settles.new.self; gone = c.self.inside.gone + 1 }) c.give_back.ensures.same
     (taken (removal_step c.args.outcome) removed_reply c.self.view_is (sym c.is_closed.ensures ∙ c.if-is_closed.false)
     removed (λ past. refl)
     (λ past. same_reply refl (ap settled_if c.then_some.ensures ∙ front

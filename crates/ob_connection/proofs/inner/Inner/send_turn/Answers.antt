@@ -82,4 +82,5 @@ returns g c =
         ends = rw (answers_are pieces (answer_of c.offer-offer.result)) c.ending_after.ensures.asked;
       };
       ends = c.ending_after.ensures.left;
+      room = c.take_bytes.ensures.room;
     }

@@ -8,9 +8,6 @@ use Rattle.ob_connection.specs.Becoming.{removed}
 use Rattle.ob_connection.specs.Offering.{IsLeft, run_of}
 use Rattle.ob_connection.specs.Replies.{taken_reply}
 use Rattle.ob_connection.specs.Telling.{with_more}
-use denote.Enum.Bare.{differs_false, differs_true}
-use Rattle.ob_connection.specs.contracts.ending.Ending.{the_type}
-use Rattle.ob_connection.specs.declared.ending.Ending.TheVariants.{TurnsUsed}
 use Rattle.ob_connection.proofs.Answered.{asks_all, asks_more, asks_within}
 use Rattle.ob_connection.proofs.Kept.{same_change}
 use Rattle.ob_connection.proofs.Making.{taken}
@@ -18,7 +15,7 @@ use Rattle.ob_connection.proofs.Offered.{taken_twice}
 use Rattle.ob_connection.proofs.Settling.{line_replied}
 use Rattle.ob_connection.proofs.TurnOffers.{left_further}
 use Rattle.ob_connection.proofs.Turns.{both_become, both_sent, both_whole, both_within, few_gone, not_too_many}
-use Rattle.ob_connection.proofs.inner.Inner.send_turns.Goals.{else-loop-test, then-loop-test+then-ne}
+use Rattle.ob_connection.proofs.inner.Inner.send_turns.Goals.{else-loop-test, then-loop-test+then-not-goes_on}
 use Rattle.ob_connection.proofs.inner.Inner.send_turns.Goals as goal
 
 pub overflow_add-bytes : goal.overflow_add-bytes
@@ -55,10 +52,11 @@ loop-preserved g c =
           (both_sent old c.loop.self c.loop.bytes now.becomes now.within new more turn.becomes turn.within);
       few = omega (arith, c.loop-test.true);
       asks = asks_more (IsLeft c.args.max_bytes old)
-          (differs_false the_type tt c.loop.ending TurnsUsed (sym c.ne.ensures ∙ c.if-ne.false))
+          (c.goes_on.ensures.yes c.if-not-goes_on.false)
           (IsLeft c.args.max_bytes c.loop.self)
           (left_further old c.loop.self c.loop.bytes now.becomes now.within c.args.max_bytes) now.asks turn.asks;
       ends = turn.ends;
+      room = omega (arith, turn.room, now.room);
     }
 
 pub returns-clause-moves : goal.returns-clause-moves
@@ -87,6 +85,6 @@ returns-clause-asks g c =
     let due = IsLeft c.args.max_bytes c.args.self.now in
     elim c.loop-test.branch [
       | else-loop-test w ↦ asks_all due (omega (arith, few, w.loop-test.false, c.loop.auto.counter)) asks
-      | then-loop-test+then-ne w ↦ asks_within due
-          (differs_true the_type c.loop.ending TurnsUsed (sym w.ne.ensures ∙ w.if-ne.true)) few asks
+      | then-loop-test+then-not-goes_on w ↦ asks_within due
+          (w.goes_on.ensures.no w.if-not-goes_on.true) few asks
     ]

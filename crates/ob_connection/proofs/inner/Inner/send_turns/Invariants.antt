@@ -4,6 +4,7 @@ use Rattle.std.specs.Prelude.{max}
 use Rattle.ob_seq.specs.Pieces.{bytes_in}
 use Rattle.ob_seq.specs.Steps.RemoveBytes.{whole_cut}
 use Rattle.ob_connection.specs.Becoming.{removed}
+use Rattle.ob_connection.specs.Keeping.{TakesNoRoom}
 use Rattle.ob_connection.specs.Offering.{EndsAt, IsLeft, run_of}
 use Rattle.ob_connection.specs.Telling.{with_more}
 use Rattle.ob_connection.specs.Turns.{AsksInTurns}
@@ -20,4 +21,5 @@ invariant-loop g l = record {
   asks : AsksInTurns (IsLeft l.fn.max_bytes l.fn.self) l.counter l.bytes (g.S.Socket.calls l.fn.socket) l.ending
       (g.S.Socket.calls l.socket);
   ends : EndsAt l.self.unsent l.ending;
+  room : TakesNoRoom l.fn.self l.self;
 }

@@ -23,7 +23,7 @@ skip_in_front-requires c =
 pub invariant_of-self : goal.invariant_of-self
 invariant_of-self c =
     let old = c.self.inside.contents in
-    let step = ap (λ (one : Pending). length one.promises) (c.skip_in_front.ensures [])
+    let step = ap (λ (one : Pending). length one.promises) (c.skip_in_front.ensures.after [])
     ∙ skipped_promises c.args.cut.rest (whole [] old) in
     omega (arith, same_waiting old c.skip_in_front.new.self step, c.self.invariant)
 
@@ -35,5 +35,5 @@ returns-clause-becomes c past =
     subst (λ one. Becomes (times cut.whole (front_taken true Success)) old one) (sym c.self.view_is)
     (c.take_first.ensures.becomes Success) in (
       record { outcomes = (becomes past).0.outcomes; count = (becomes past).0.count },
-      c.skip_in_front.ensures (becomes past).0.outcomes ∙ ap (front_skipped cut.rest) (becomes past).1,
+      c.skip_in_front.ensures.after (becomes past).0.outcomes ∙ ap (front_skipped cut.rest) (becomes past).1,
     )

@@ -1,4 +1,4 @@
-use Rattle.ob_connection.proofs.Words.{◌≡◌, ℕ, refl, sym, subst, ap, ◌∙◌, arith, length, Pending, held, Becomes, Connected}
+use Rattle.ob_connection.proofs.Words.{◌≡◌, ℕ, refl, ap, ◌∙◌, arith, length, Pending, held, Connected}
 use Rattle.std.proofs.Common.{add-one}
 use Rattle.std.proofs.lemmas.List.{length-drop, length-map}
 use Rattle.ob_types.specs.declared.promise.Outcome.TheVariants.{Success}
@@ -7,10 +7,11 @@ use Rattle.ob_seq.specs.Steps.Remove.{front_taken}
 use Rattle.ob_seq.specs.Unsent.{pending_entry}
 use Rattle.ob_seq.proofs.Inside.Times.{line_of_times}
 use Rattle.ob_connection.proofs.Kept.{some_past}
+use Rattle.ob_connection.proofs.Making.{becomes_roomed}
 use Rattle.ob_connection.proofs.inner.Inner.take_first.Goals as goal
 
 pub loop-init : goal.loop-init
-loop-init c = record { becomes = λ outcome past. (past, refl); gone = omega arith }
+loop-init c = record { becomes = λ outcome past. (past, refl); gone = omega arith; room = refl }
 
 pub take_front-requires : goal.take_front-requires
 take_front-requires c =
@@ -36,17 +37,18 @@ loop-preserved c = record {
       let second = c.take_front.ensures.becomes outcome first.0 in
       rw add-one (second.0, second.1 ∙ ap (front_taken c.args.notice outcome) first.1);
   gone = omega (arith, c.take_front.ensures.gone, c.loop.invariant.gone);
+  room = c.take_front.ensures.room ∙ c.loop.invariant.room;
 }
 
 pub returns-clause-becomes : goal.returns-clause-becomes
 returns-clause-becomes c outcome =
     let all : c.loop.counter ≡ c.args.count = omega (arith, c.loop-test.false, c.loop.auto.counter-end) in
     let step = front_taken c.args.notice outcome in
-    subst (λ new. Becomes (times c.args.count step) c.args.self.now new) (sym c.give_back.ensures) (λ past.
+    becomes_roomed (times c.args.count step) c.loop.self c.give_back.ensures.same (λ past.
     let now = c.loop.invariant.becomes outcome past in
     (now.0, now.1 ∙ ap (λ (n : ℕ). times n step (held past)) all))
 
 pub returns-clause-gone : goal.returns-clause-gone
 returns-clause-gone c =
-    ap (λ (new : Connected). new.gone) c.give_back.ensures
+    ap (λ (new : Connected). new.gone) c.give_back.ensures.same
     ∙ omega (arith, c.loop.invariant.gone, c.loop-test.false, c.loop.auto.counter-end)

@@ -1,0 +1,6 @@
+use Rattle.ob_connection.proofs.Words.{◌≡◌, length, take}
+use Rattle.ob_connection.specs.Parts.{joined}
+use Rattle.ob_connection.proofs.chunk.length_of.Given as goal
+
+abbrev pub invariant-loop-part : goal.invariant-loop-part
+invariant-loop-part l = l.count ≡ length (joined (take l.part-index l.fn.parts))

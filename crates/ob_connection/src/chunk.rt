@@ -1,0 +1,181 @@
+//! The memory that copied messages share.
+
+ghost use Rattle.std.specs.Prelude.{◌≡◌, ◌+◌, ◌≤◌, ◌<◌, ◌++◌, length, box_value, IfOk, IfSome, None};
+ghost use Rattle.ob_types.specs.Limits.{greatest_pending_size};
+ghost use Rattle.ob_connection.specs.Parts.{joined};
+
+use bytes::{Bytes, BytesMut};
+use std::alloc::{AllocError, Global};
+use std::marker::Model;
+
+/// The longest message that shares a chunk, in bytes. A longer one takes memory of its own, so that a chunk ends with
+/// little unused.
+const LONGEST: usize = 2048;
+
+/// How large the first chunk is, in bytes.
+const FIRST: usize = 1024;
+
+/// How large a chunk is at most, in bytes.
+const LARGEST: usize = 16384;
+
+/// A block of memory that messages are copied into, one behind the other: each message is a part of it, and it lives as
+/// long as the last of them.
+#[derive(Debug, Drop)]
+struct Chunk {
+    /// What is left of it. It holds no byte between two calls: each message takes its own.
+    rest: BytesMut,
+    /// How large it was.
+    size: usize,
+}
+
+impl Model for Chunk {
+    ghost use Rattle.std.specs.Prelude.{◌≡◌, ℕ, []};
+
+    ghost Value = { ℕ };
+
+    ghost view = { λ chunk. chunk.rest.spare };
+
+    ghost invariant = { λ chunk. chunk.rest.items ≡ [] };
+}
+
+impl Chunk {
+    /// A chunk of this size.
+    fn new(alloc: Global, size: usize) -> Result<Chunk, AllocError>
+        ensures { IfOk result (λ chunk. size ≤ chunk) }
+    {
+        Ok(Chunk {
+            rest: BytesMut::with_capacity(alloc, size)?,
+            size,
+        })
+    }
+
+    /// How many bytes it has room for.
+    fn room(&self) -> usize
+        ensures { result ≡ self.now }
+    {
+        self.rest.capacity()
+    }
+
+    /// Copies these bytes into it.
+    fn copy(&mut self, bytes: &[u8]) -> Result<Bytes, AllocError>
+        requires { length bytes.now ≤ self.old }
+        ensures { IfOk result (λ block. block ≡ bytes.now) }
+    {
+        self.rest.extend_reserved(bytes);
+        let block = self.rest.freeze_to(bytes.len());
+        if block.is_err() {
+            self.rest.truncate(0);
+        }
+        block
+    }
+
+    /// Copies these parts into it, one behind the other, of `count` bytes together.
+    fn copy_parts(&mut self, parts: &[&[u8]], count: usize) -> Result<Bytes, AllocError>
+        requires fits { count ≤ self.old }
+        requires count { count ≡ length (joined parts.now) }
+        ensures { IfOk result (λ block. block ≡ joined parts.now) }
+    {
+        fill(&mut self.rest, parts);
+        let block = self.rest.freeze_to(count);
+        if block.is_err() {
+            self.rest.truncate(0);
+        }
+        block
+    }
+}
+
+/// The chunk that the next messages are copied into, if there is one. A contract sees nothing of it: what a message is
+/// does not depend on where its bytes lie.
+#[derive(Debug, Drop)]
+pub struct Chunks {
+    open: Option<Box<Chunk>>,
+    alloc: Global,
+}
+
+impl Chunks {
+    /// None yet. It does not allocate.
+    pub fn new(alloc: Global) -> Chunks {
+        Chunks { open: None, alloc }
+    }
+
+    /// Lets the chunk go: it lives on for the messages that share it.
+    pub fn close(&mut self) {
+        self.open = None;
+    }
+
+    /// A copy of these bytes as a block: in the chunk if it may share and they are few, and else in memory of its own.
+    pub fn copy(&mut self, bytes: &[u8], shares: bool) -> Result<Bytes, AllocError>
+        ensures { IfOk result (λ block. block ≡ bytes.now) }
+    {
+        if !shares || bytes.len() > LONGEST {
+            return Bytes::copy_from_slice(self.alloc, bytes);
+        }
+        let mut chunk = self.with_room(bytes.len())?;
+        let block = chunk.copy(bytes);
+        self.open = Some(chunk);
+        block
+    }
+
+    /// A copy of these parts as one block, one behind the other, of `count` bytes together.
+    pub fn copy_parts(
+        &mut self,
+        parts: &[&[u8]],
+        count: usize,
+        shares: bool,
+    ) -> Result<Bytes, AllocError>
+        requires { count ≡ length (joined parts.now) }
+        ensures { IfOk result (λ block. block ≡ joined parts.now) }
+    {
+        if !shares || count > LONGEST {
+            return Chunk::new(self.alloc, count)?.copy_parts(parts, count);
+        }
+        let mut chunk = self.with_room(count)?;
+        let block = chunk.copy_parts(parts, count);
+        self.open = Some(chunk);
+        block
+    }
+
+    /// The chunk that is open, if it has room for `count` bytes, and else a new one.
+    fn with_room(&mut self, count: usize) -> Result<Box<Chunk>, AllocError>
+        ensures { IfOk result (λ chunk. count ≤ box_value chunk) }
+    {
+        match self.open.take() {
+            Some(chunk) if chunk.room() >= count => Ok(chunk),
+            Some(chunk) => larger(self.alloc, chunk.size.saturating_mul(2), count),
+            None => larger(self.alloc, FIRST, count),
+        }
+    }
+}
+
+/// A chunk of this size, but with room for `count` bytes at least, and no larger than a chunk may be otherwise.
+fn larger(alloc: Global, size: usize, count: usize) -> Result<Box<Chunk>, AllocError>
+    ensures { IfOk result (λ chunk. count ≤ box_value chunk) }
+{
+    Ok(Box::new(alloc, Chunk::new(alloc, size.min(LARGEST).max(count))?)?)
+}
+
+/// Copies these parts behind what is there, for which there is room.
+fn fill(rest: &mut BytesMut, parts: &[&[u8]])
+    requires { length (joined parts.now) ≤ rest.old.spare }
+    ensures items { rest.new.items ≡ rest.old.items ++ joined parts.now }
+    ensures spare { rest.new.spare + length (joined parts.now) ≡ rest.old.spare }
+{
+    for part in parts {
+        rest.extend_reserved(part);
+    }
+}
+
+/// How many bytes these parts are together, unless no message is so long.
+pub fn length_of(parts: &[&[u8]]) -> Option<usize>
+    ensures some { IfSome result (λ count. count ≡ length (joined parts.now)) }
+    ensures none { result ≡ None → greatest_pending_size < length (joined parts.now) }
+{
+    let mut count: usize = 0;
+    for part in parts {
+        let Some(more) = count.checked_add(part.len()) else {
+            return None;
+        };
+        count = more;
+    }
+    Some(count)
+}

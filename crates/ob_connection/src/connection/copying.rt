@@ -1,0 +1,67 @@
+//! Messages that are written as bytes.
+
+ghost use Rattle.std.specs.Prelude.{◌≡◌, ◌<◌, ℕ, List, length, Some};
+ghost use Rattle.ob_types.specs.Limits.{greatest_pending_size};
+ghost use Rattle.ob_types.specs.declared.command.Command.TheVariants.{Write};
+ghost use Rattle.ob_types.specs.declared.message.Message.TheVariants.{Block};
+ghost use Rattle.ob_connection.specs.Looks.{Refuses};
+ghost use Rattle.ob_connection.specs.Obeying.{Obeys};
+ghost use Rattle.ob_connection.specs.Parts.{joined};
+ghost use Rattle.ob_connection.specs.Replies.{written_reply};
+
+use crate::chunk::length_of;
+use crate::connection::Connection;
+use crate::replies::Written;
+use bytes::Bytes;
+use ob_types::{Message, Refusal};
+
+impl Connection {
+    /// Adds a copy of these bytes behind all others, as `write` adds a block, and returns its promise. Small messages
+    /// that wait together share memory: once four wait, up to 2048 bytes are copied into a chunk of 1 to 16 KiB, which
+    /// lives as long as the last message in it; any other message takes memory of its own. Our own.
+    ///
+    /// Refusals are those of `write`, in its order, and come before anything is copied; `NoMemory` comes also if the
+    /// allocator refused the memory of the copy.
+    pub fn write_copy(&mut self, bytes: &[u8]) -> Result<Written, Refusal>
+        ensures obeys { Obeys self.old (Write (Block bytes.now)) written_reply result self.new }
+    {
+        if let Some(refusal) = self.refusal_of_block(bytes) {
+            return Err(refusal);
+        }
+        let block = self.inner.copy(bytes)?;
+        self.write_block(block)
+    }
+
+    /// Adds a copy of these parts behind all others as one block, one part behind the other, as a header and a body; else
+    /// as `write_copy`.
+    pub fn write_parts(&mut self, parts: &[&[u8]]) -> Result<Written, Refusal>
+        ensures obeys { Obeys self.old (Write (Block (joined parts.now))) written_reply result self.new }
+    {
+        let Some(count) = length_of(parts) else {
+            return Err(self.refusal_of_too_long());
+        };
+        if let Some(refusal) = self.refusal_of_length(count) {
+            return Err(refusal);
+        }
+        let block = self.inner.copy_parts(parts, count)?;
+        self.write_block(block)
+    }
+
+    /// Why a block is refused that is longer than any message may be.
+    fn refusal_of_too_long(&self) -> Refusal
+        ensures first { (bytes : List ℕ) → greatest_pending_size < length bytes
+            → Refuses self.now (Write (Block bytes)) (Some result) }
+        ensures other { ¬ (result ≡ Refusal.NoMemory) }
+    {
+        self.inner.refusal_of_too_long()
+    }
+
+    /// Writes a block, which is let go if it is refused.
+    #[inline(always)]
+    fn write_block(&mut self, block: Bytes) -> Result<Written, Refusal>
+        ensures { Obeys self.old (Write (Block block)) written_reply result self.new }
+    {
+        self.write(Message::Block(block))
+            .map_err(|refused| refused.refusal)
+    }
+}
