@@ -11,16 +11,14 @@
  *     if (limekeel_write(&connection, "hello", 5).change == LIMEKEEL_UNWRITABLE)
  *         stop = true; // read no more from this client
  *     limekeel_flush(&connection);
- *     struct iovec slices[LIMEKEEL_PIECES];
- *     struct limekeel_gathered front = limekeel_gather_iovec(&connection, slices, LIMEKEEL_PIECES, UINT32_MAX);
- *     ssize_t sent = writev(socket, slices, (int)front.count); // again at EINTR; ignore SIGPIPE
- *     if (sent >= 0 && limekeel_take_sent(&connection, (uint64_t)sent).change == LIMEKEEL_WRITABLE)
- *         stop = false;
+ *     if (limekeel_send(&connection, socket, 16).taken.change == LIMEKEEL_WRITABLE)
+ *         stop = false; // and wait for room if its ending is LIMEKEEL_ENDED_BLOCKED
  *     limekeel_free(&connection);
  *
- * Linking. Compile limekeel.s and heap.c into the program: `cc server.c limekeel.s heap.c`. Or link
- * liblimekeel.a, which has both: `pkg-config --cflags --libs limekeel` gives the flags. It needs
- * memcpy, memmove, memset and malloc of the C library, starts no thread and takes no lock.
+ * Linking. Compile limekeel.s, heap.c and send.c into the program: `cc server.c limekeel.s heap.c send.c`.
+ * Or link liblimekeel.a, which has all three: `pkg-config --cflags --libs limekeel` gives the flags. It
+ * needs memcpy, memmove, memset and malloc of the C library, and send.c sendmsg and errno; it starts no
+ * thread and takes no lock.
  *
  * Ownership. A connection and a block are made as LIMEKEEL_CONNECTION and LIMEKEEL_BLOCK, which
  * own nothing, and are filled by limekeel_open and limekeel_block_new. Each is let go once, by
@@ -42,8 +40,8 @@
  * why the call did nothing. A call that did not return LIMEKEEL_OK left everything as it was, and
  * all else in its struct is 0. A handle that owns nothing is LIMEKEEL_NOT_OPEN and no crash. No
  * call reads errno, aborts, or calls back; LIMEKEEL_NO_MEMORY leaves in errno what malloc did.
- * Pointers may not be NULL, but for the bytes and pieces of limekeel_write, limekeel_block_new and
- * limekeel_gather if there are none.
+ * Pointers may not be NULL, but for the bytes, parts and pieces of limekeel_write, limekeel_write_parts,
+ * limekeel_block_new and limekeel_gather if there are none.
  */
 #ifndef LIMEKEEL_H
 #define LIMEKEEL_H
@@ -68,7 +66,7 @@ extern "C" {
 
 /* A number of the structs, functions and numbers of this header. limekeel_open says LIMEKEEL_OTHER_VERSION to an archive of
  * another. Before 1.0 each version may have another. */
-#define LIMEKEEL_EDGE 2717791969u
+#define LIMEKEEL_EDGE 3843793401u
 
 /* What may tell a change of writability is not to be dropped. */
 #if (defined(__cplusplus) && __cplusplus >= 201703L) || (defined(__STDC_VERSION__) && __STDC_VERSION__ >= 202311L)
@@ -141,8 +139,8 @@ enum limekeel_current_kind {
     LIMEKEEL_CURRENT_OTHER = 3
 };
 
-/* The most pieces that one limekeel_gather fills. */
-#define LIMEKEEL_PIECES 64
+/* As many pieces as Linux takes in one sendmsg or writev. */
+#define LIMEKEEL_PIECES 1024
 
 /* A connection. Its member is Limekeel's. */
 struct limekeel_connection {
@@ -220,6 +218,20 @@ struct limekeel_look_told {
     uint64_t current_progress;  /* the progress of the first of them */
 };
 
+struct limekeel_counts_told {
+    uint32_t status;
+    uint64_t unflushed; /* how many messages no flush has reached */
+    uint64_t waiting;   /* how many wait, flushed or not; 0: nothing is left to send */
+};
+
+struct limekeel_settings_told {
+    uint32_t status;
+    uint32_t low;      /* the marks in force, in bytes */
+    uint32_t high;
+    uint32_t overhead; /* the estimate of the opening, in bytes */
+    uint32_t unknown;
+};
+
 struct limekeel_truth {
     uint32_t status;
     bool holds;
@@ -269,6 +281,8 @@ LIMEKEEL_LAYOUT(limekeel_taken, 40, to, 32);
 LIMEKEEL_LAYOUT(limekeel_cancelled, 8, in_time, 4);
 LIMEKEEL_LAYOUT(limekeel_changed, 8, change, 4);
 LIMEKEEL_LAYOUT(limekeel_look_told, 40, current_progress, 32);
+LIMEKEEL_LAYOUT(limekeel_counts_told, 24, waiting, 16);
+LIMEKEEL_LAYOUT(limekeel_settings_told, 20, unknown, 16);
 LIMEKEEL_LAYOUT(limekeel_truth, 8, holds, 4);
 LIMEKEEL_LAYOUT(limekeel_promise_told, 16, cause, 12);
 LIMEKEEL_LAYOUT(limekeel_front_told, 16, id, 8);
@@ -309,9 +323,15 @@ uint32_t limekeel_block_piece(const struct limekeel_block *block, struct limekee
 uint32_t limekeel_block_free(struct limekeel_block *block);
 
 /* Writes a copy of these bytes after all else. They wait, and are not sent before a flush. The copy
- * is made once nothing else refuses the write, so LIMEKEEL_NO_MEMORY comes last. */
+ * is made once nothing else refuses the write, so LIMEKEEL_NO_MEMORY comes last. Small messages that
+ * wait together share memory. */
 LIMEKEEL_TOLD struct limekeel_written limekeel_write_bytes(struct limekeel_connection *connection, const uint8_t *bytes,
                                               size_t length);
+
+/* Writes a copy of these parts as one message, one behind the other: a header and a body. No part may be
+ * at NULL, not even an empty one. Else it is as limekeel_write_bytes. */
+LIMEKEEL_TOLD struct limekeel_written limekeel_write_pieces(struct limekeel_connection *connection,
+                                                            const struct limekeel_piece *parts, size_t length);
 
 /* Writes the bytes of a block, which the message then shares: nothing is copied. */
 LIMEKEEL_TOLD struct limekeel_written limekeel_write_block(struct limekeel_connection *connection,
@@ -368,6 +388,10 @@ struct limekeel_truth limekeel_is_writable(const struct limekeel_connection *con
 struct limekeel_truth limekeel_is_closed(const struct limekeel_connection *connection);
 struct limekeel_truth limekeel_is_empty(const struct limekeel_connection *connection);
 
+/* How many messages wait; and the marks in force, which limekeel_set_marks sets, with the estimate. */
+struct limekeel_counts_told limekeel_counts(const struct limekeel_connection *connection);
+struct limekeel_settings_told limekeel_settings(const struct limekeel_connection *connection);
+
 /* What has become of a promise. */
 struct limekeel_promise_told limekeel_promise(const struct limekeel_connection *connection, uint64_t id);
 
@@ -377,10 +401,35 @@ struct limekeel_front_told limekeel_front(const struct limekeel_connection *conn
 struct limekeel_current_told limekeel_current(const struct limekeel_connection *connection);
 
 /* Fills pieces with where the flushed blocks in front lie that hold a byte, up to the first message
- * that is no block: at most `length` and LIMEKEEL_PIECES of them, and at most max_bytes bytes, but
- * the first in any case. The other pieces stay as they were. It does not allocate. */
+ * that is no block: at most `length` of them, and at most max_bytes bytes, but the first in any case.
+ * The other pieces stay as they were. It does not allocate. */
 struct limekeel_gathered limekeel_gather_pieces(const struct limekeel_connection *connection,
                                                 struct limekeel_piece *pieces, size_t length, uint32_t max_bytes);
+
+/* How limekeel_send ended. */
+enum limekeel_ending {
+    LIMEKEEL_ENDED_DRAINED = 0,  /* no flushed message is left */
+    LIMEKEEL_ENDED_BLOCKED = 1,  /* the socket has no room now: send again when it is ready */
+    LIMEKEEL_ENDED_OTHER = 2,    /* a region or another message is in front, which is yours to send */
+    LIMEKEEL_ENDED_BY_TURNS = 3, /* flushed messages are left: send again when the others had their turn */
+    LIMEKEEL_ENDED_BROKEN = 4    /* the socket is broken: `error` says why, and nothing more was sent */
+};
+
+struct limekeel_sent {
+    uint32_t status; /* LIMEKEEL_OK, or why nothing was done */
+    uint32_t ending;
+    int error;                   /* the errno of a broken socket, else 0 */
+    uint64_t bytes;              /* how many bytes the socket took */
+    struct limekeel_taken taken; /* which messages are gone by that, and how it changed writability */
+};
+
+/* Sends what is flushed to a stream socket, and takes away what the socket took: gather, sendmsg and take_sent,
+ * turn by turn, until nothing is left, another message than a block is in front, the socket has no room, or
+ * `max_turns` turns were made; one is made in any case. A turn offers at most LIMEKEEL_PIECES pieces, and blocks
+ * that lie together in memory as one. It never waits, and a peer that is gone raises no signal. A socket that
+ * took less than it was offered has no room. EINTR asks again, and EMSGSIZE with half as many pieces. Empty
+ * messages in front are taken away in each case. It is in send.c, over the archive; it needs 16 KB of stack. */
+LIMEKEEL_TOLD struct limekeel_sent limekeel_send(struct limekeel_connection *connection, int socket, uint32_t max_turns);
 
 /* The heap. Limekeel allocates through these three alone. heap.c defines them over malloc, weakly: a
  * program that defines all three itself gets its own. They are of one heap; a block is aligned to each
@@ -395,7 +444,7 @@ struct limekeel_memory limekeel_alloc(size_t size, size_t align);
 struct limekeel_memory limekeel_realloc(uint8_t *at, size_t kept, size_t size, size_t align);
 void limekeel_dealloc(uint8_t *at);
 
-/* The three calls that take bytes or pieces, for callers that may have none: NULL is good then. Call these. */
+/* The calls that take bytes, parts or pieces, for callers that may have none: NULL is good then. Call these. */
 static inline uint32_t limekeel_block_new(struct limekeel_block *block, const void *bytes, size_t length)
 {
     return limekeel_block_of_bytes(block, length > 0 ? (const uint8_t *)bytes : (const uint8_t *)"", length);
@@ -405,6 +454,14 @@ LIMEKEEL_TOLD static inline struct limekeel_written limekeel_write(struct limeke
                                                      size_t length)
 {
     return limekeel_write_bytes(connection, length > 0 ? (const uint8_t *)bytes : (const uint8_t *)"", length);
+}
+
+LIMEKEEL_TOLD static inline struct limekeel_written limekeel_write_parts(struct limekeel_connection *connection,
+                                                                         const struct limekeel_piece *parts,
+                                                                         size_t length)
+{
+    struct limekeel_piece none = {(const uint8_t *)"", 0};
+    return limekeel_write_pieces(connection, length > 0 ? parts : &none, length);
 }
 
 static inline struct limekeel_gathered limekeel_gather(const struct limekeel_connection *connection,

@@ -112,27 +112,14 @@ static ssize_t send_slices(int socket, struct iovec *slices, size_t count)
 /* Sends what the socket takes. */
 static void send_some(struct sender *sender, int socket)
 {
-    for (;;) {
-        struct iovec slices[LIMEKEEL_PIECES];
-        struct limekeel_gathered front =
-            limekeel_gather_iovec(&sender->connection, slices, LIMEKEEL_PIECES, UINT32_MAX);
-        if (front.front == LIMEKEEL_FRONT_NOTHING)
-            return;
-        ssize_t sent = 0;
-        if (front.count > 0) {
-            sent = send_slices(socket, slices, front.count);
-            if (sent < 0 && errno == EAGAIN)
-                return;
-            if (sent < 0)
-                fail("sendmsg", (uint32_t)errno);
-        }
-        struct limekeel_taken taken = limekeel_take_sent(&sender->connection, (uint64_t)sent);
-        if (taken.status != LIMEKEEL_OK)
-            fail("take_sent", taken.status);
-        expect("promises are settled in order", taken.from == sender->settled);
-        sender->settled = taken.to;
-        note_change(sender, taken.change);
-    }
+    struct limekeel_sent sent = limekeel_send(&sender->connection, socket, 16);
+    if (sent.status != LIMEKEEL_OK)
+        fail("send", sent.status);
+    if (sent.ending == LIMEKEEL_ENDED_BROKEN)
+        fail("sendmsg", (uint32_t)sent.error);
+    expect("promises are settled in order", sent.taken.from == sender->settled);
+    sender->settled = sent.taken.to;
+    note_change(sender, sent.taken.change);
 }
 
 /* Reads what has come, but little at once, and checks it. */
@@ -213,6 +200,8 @@ static void gives_up(void)
     expect("give up none", limekeel_give_up(&connection, 7).status == LIMEKEEL_NOT_OPEN);
     expect("shrink none", limekeel_shrink_to_fit(&connection) == LIMEKEEL_NOT_OPEN);
     expect("none is not empty", limekeel_is_empty(&connection).status == LIMEKEEL_NOT_OPEN);
+    expect("none has no counts", limekeel_counts(&connection).status == LIMEKEEL_NOT_OPEN);
+    expect("none has no marks", limekeel_settings(&connection).status == LIMEKEEL_NOT_OPEN);
     expect("open", limekeel_open(&connection, 100, 200, 96, 8) == LIMEKEEL_OK);
     expect("write", limekeel_write(&connection, "flushed", 7).id == 0);
     expect("no flush has reached it", limekeel_is_empty(&connection).holds);
@@ -223,6 +212,12 @@ static void gives_up(void)
     expect("shrink", limekeel_shrink_to_fit(&connection) == LIMEKEEL_OK);
     struct limekeel_look_told look = limekeel_look(&connection);
     expect("what waits stays", look.size == 1 && look.total == 96 + 7 + 96 + 5);
+    struct limekeel_counts_told counts = limekeel_counts(&connection);
+    expect("one of two is not flushed", counts.status == LIMEKEEL_OK && counts.unflushed == 1 && counts.waiting == 2);
+    expect("other marks", limekeel_set_marks(&connection, 5, 6) == LIMEKEEL_OK);
+    struct limekeel_settings_told settings = limekeel_settings(&connection);
+    expect("they are in force", settings.status == LIMEKEEL_OK && settings.low == 5 && settings.high == 6);
+    expect("with the estimate", settings.overhead == 96 && settings.unknown == 8);
     struct limekeel_taken taken = limekeel_give_up(&connection, 7);
     expect("both fail", taken.status == LIMEKEEL_OK && taken.from == 0 && taken.to == 2 && taken.count == 2);
     expect("for the cause", taken.outcome == LIMEKEEL_FAILED && taken.cause == 7 && taken.change == LIMEKEEL_UNCHANGED);
@@ -231,9 +226,10 @@ static void gives_up(void)
     expect("free", limekeel_free(&connection) == LIMEKEEL_OK);
 }
 
-#define MANY (LIMEKEEL_PIECES + 6u)
+#define SLICES 64u
+#define MANY (SLICES + 6u)
 
-/* More messages than one call has pieces: each piece lies where the bytes of its message do, and each byte comes.
+/* By hand, and more messages than one call is given slices: each piece lies where the bytes of its message do, and each byte comes.
  * Message n is n + 1 times the byte n. */
 static void many_pieces(const int *ends)
 {
@@ -248,10 +244,10 @@ static void many_pieces(const int *ends)
     }
     expect("flush", limekeel_flush(&connection).count == MANY);
     size_t came = 0;
-    for (uint32_t first = 0; first < MANY; first += LIMEKEEL_PIECES) {
-        struct iovec slices[LIMEKEEL_PIECES];
-        struct limekeel_gathered front = limekeel_gather_iovec(&connection, slices, LIMEKEEL_PIECES, UINT32_MAX);
-        expect("as many slices as fit", front.count == (first == 0 ? LIMEKEEL_PIECES : 6));
+    for (uint32_t first = 0; first < MANY; first += SLICES) {
+        struct iovec slices[SLICES];
+        struct limekeel_gathered front = limekeel_gather_iovec(&connection, slices, SLICES, UINT32_MAX);
+        expect("as many slices as fit", front.count == (first == 0 ? SLICES : 6));
         size_t place = came;
         for (uint32_t at = 0; at < front.count; at++) {
             expect("of the message's length", slices[at].iov_len == first + at + 1);

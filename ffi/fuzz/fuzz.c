@@ -230,6 +230,19 @@ static void frees(struct side *side)
     same_status(told, model_free(&side->model));
 }
 
+/* Writes these bytes in parts, which are cut anywhere. */
+static struct limekeel_written in_parts(struct side *side, const uint8_t *bytes, size_t length)
+{
+    struct limekeel_piece parts[40];
+    size_t count = below(40) + 1, from = 0;
+    for (size_t at = 0; at < count; at++) {
+        size_t left = length - from, part = at + 1 == count ? left : below(left / 2 + 1);
+        parts[at] = (struct limekeel_piece){bytes + from, part};
+        from += part;
+    }
+    return limekeel_write_parts(&side->connection, parts, count);
+}
+
 /* Bytes of one's own, or so many that they are refused before one is read. */
 static void writes_bytes(struct side *side)
 {
@@ -247,7 +260,9 @@ static void writes_bytes(struct side *side)
     }
     bool none = row.number == 0 && chance(2);
     allocating("write");
-    struct limekeel_written told = limekeel_write(&side->connection, none ? NULL : row.is_own ? bytes : space, row.number);
+    const uint8_t *from = none ? NULL : row.is_own ? bytes : space;
+    struct limekeel_written told = from && chance(3) ? in_parts(side, from, row.number)
+                                                     : limekeel_write(&side->connection, from, row.number);
     /* what was handed in is the caller's again */
     memset(bytes, 0xee, row.is_own ? row.number : 0);
     written(side, told, row);
@@ -460,8 +475,8 @@ static void works_on_a_block(void)
 
 static void looks_at_pieces(const struct side *side)
 {
-    struct limekeel_piece pieces[80], places[LIMEKEEL_PIECES];
-    size_t length = chance(3) ? below(80) : LIMEKEEL_PIECES;
+    struct limekeel_piece pieces[80], places[80];
+    size_t length = chance(3) ? below(80) : 80;
     uint32_t max_bytes = chance(2) ? UINT32_MAX : (uint32_t)number();
     memset(pieces, 0x5a, sizeof pieces);
     struct limekeel_gathered told = limekeel_gather(&side->connection, length > 0 ? pieces : NULL, length, max_bytes);
@@ -503,6 +518,24 @@ static void looks_at_the_front(const struct side *side)
     kinds[current.kind % 4]++;
 }
 
+static void looks_at_counts(const struct side *side)
+{
+    const struct model *model = &side->model;
+    uint64_t unflushed = 0;
+    for (size_t at = 0; at < model->count; at++)
+        unflushed += !model->rows[at].flushed;
+    struct limekeel_counts_told counts = limekeel_counts(&side->connection);
+    same_status(counts.status, model->open ? LIMEKEEL_OK : LIMEKEEL_NOT_OPEN);
+    same("unflushed", counts.unflushed, model->open ? unflushed : 0);
+    same("waiting", counts.waiting, model->open ? model->count : 0);
+    struct limekeel_settings_told settings = limekeel_settings(&side->connection);
+    same_status(settings.status, counts.status);
+    same("low", settings.low, model->open ? model->low : 0);
+    same("high", settings.high, model->open ? model->high : 0);
+    same("overhead", settings.overhead, model->open ? model->overhead : 0);
+    same("unknown", settings.unknown, model->open ? model->unknown : 0);
+}
+
 static void truth(const char *what, struct limekeel_truth told, const struct model *model, bool holds)
 {
     same_status(told.status, model->open ? LIMEKEEL_OK : LIMEKEEL_NOT_OPEN);
@@ -525,6 +558,7 @@ static void looks(const struct side *side)
     truth("is_writable", limekeel_is_writable(&side->connection), model, model->word == 0);
     truth("is_closed", limekeel_is_closed(&side->connection), model, model->closed);
     truth("is_empty", limekeel_is_empty(&side->connection), model, wanted.size == 0);
+    looks_at_counts(side);
     looks_at_the_front(side);
     looks_at_a_promise(side);
     looks_at_pieces(side);

@@ -382,9 +382,9 @@ struct limekeel_gathered model_gather(const struct model *model, struct limekeel
                                       uint32_t max_bytes)
 {
     struct limekeel_gathered told = {model->open ? LIMEKEEL_OK : LIMEKEEL_NOT_OPEN, LIMEKEEL_FRONT_NOTHING, 0};
-    size_t run = model->open ? byte_run(model) : 0, most = length < LIMEKEEL_PIECES ? length : LIMEKEEL_PIECES;
+    size_t run = model->open ? byte_run(model) : 0;
     uint64_t bytes = 0;
-    for (size_t at = 0; at < run && told.count < most; at++) {
+    for (size_t at = 0; at < run && told.count < length; at++) {
         const struct row *row = &model->rows[at];
         if (unread(row) == 0)
             continue;

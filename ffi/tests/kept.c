@@ -9,9 +9,10 @@
 
 #include "limekeel.h"
 
-#define SMALL 64   /* entries for which a ring keeps room */
+#define SMALL 8    /* entries for which a ring keeps room */
 #define ENTRY 64   /* bytes of an entry, at most */
 #define COPY 64    /* bytes of a copy's own memory beside its bytes, at most */
+#define CHUNK 20000 /* bytes of a chunk that small copies share, with what it takes beside its own, at most */
 #define OPENED 128 /* bytes of a connection where nothing waits and nothing ever did, at most */
 #define MANY 100000
 
@@ -81,10 +82,11 @@ static void a_burst(struct limekeel_connection *connection, size_t opened, int c
     write_bytes(connection, count);
     expect("what waits takes what it counts for: two entries, and a copy's own memory",
            live <= opened + (size_t)count * (2 * ENTRY + COPY + 1) + SMALL * ENTRY);
+    expect("small copies share memory", live <= opened + (size_t)count * (2 * ENTRY + 2) + 2 * CHUNK);
     long before = asked;
     expect("all is flushed", limekeel_flush(connection).count == (uint64_t)count);
     expect("all is sent", limekeel_take_sent(connection, (uint64_t)count).count == (uint64_t)count);
-    expect("what is gone takes room for few entries", live <= opened + 2 * SMALL * ENTRY);
+    expect("what is gone takes room for few entries, and no chunk", live <= opened + SMALL * ENTRY);
     expect("a connection is shrunk", limekeel_shrink_to_fit(connection) == LIMEKEEL_OK);
     expect("and takes what it took when it was opened", live == opened);
     /* a ring that gets smaller asks for the smaller one, and for no list of what it takes away */

@@ -76,6 +76,8 @@ static void look_at(const struct limekeel_connection *connection, uint64_t size,
     expect("is_writable", limekeel_is_writable(connection).status == LIMEKEEL_OK);
     expect("is_closed", !limekeel_is_closed(connection).holds);
     expect("is_empty", limekeel_is_empty(connection).holds == (size == 0));
+    expect("counts", limekeel_counts(connection).waiting >= size);
+    expect("settings", limekeel_settings(connection).high == 200);
     expect("promise", limekeel_promise(connection, 0).status == LIMEKEEL_OK);
     expect("front", limekeel_front(connection).any == (size > 0));
     expect("current", limekeel_current(connection).kind == kind);

@@ -48,6 +48,7 @@ static void mark(void)
 static const char *const CALLS[] = {
     "write_block", "a flush of one cancelled message", "a flush of nothing", "gather", "progress", "take_sent", "remove",
     "remove_with", "a cancellation too late", "user_bit", "set_marks", "look", "is_writable", "promise", "current",
+    "a flush of many, of which none was cancelled",
 };
 
 /* Each call once, where MANY messages wait. */
@@ -72,6 +73,9 @@ static void calls(struct limekeel_connection *connection, struct limekeel_block 
     COUNTED(holds = holds && !limekeel_is_writable(connection).holds);
     COUNTED(holds = holds && limekeel_promise(connection, MANY - 1).status == LIMEKEEL_OK);
     COUNTED(holds = holds && limekeel_current(connection).number == 1);
+    for (int count = 0; count < MANY; count++)
+        holds = holds && limekeel_write_block(connection, block).status == LIMEKEEL_OK;
+    COUNTED(holds = holds && limekeel_flush(connection).count == MANY);
     expect("a call told something else", holds);
 }
 

@@ -1,6 +1,8 @@
+pub mod Gathered
 pub mod Holder
 pub mod Holders
 pub mod Keeping
+pub mod Listing
 pub mod Loosened
 pub mod Putting
 pub mod Reaching

@@ -1,5 +1,5 @@
 -- What an export promises of what it gathers.
-use Rattle.std.specs.Prelude.{◌≡◌, ℕ, ◌&&◌, List, length, map, take, min, nat_eq, if◌then◌else◌, Option, Some, None}
+use Rattle.std.specs.Prelude.{◌≡◌, ℕ, ◌&&◌, List, length, map, take, nat_eq, if◌then◌else◌, Option, Some, None}
 use Rattle.core.specs.Ptr.{as_ptr}
 use denote.Ref.{Bor}
 use Rattle.ob_types.specs.declared.message.Message.{Message}
@@ -9,10 +9,6 @@ use Rattle.ob_connection.specs.Looks.{AreGathered, IsCurrent}
 use Rattle.ob_c.specs.Numbers.{done, not_open}
 use Rattle.ob_c.specs.declared.gather.Gathered.{Gathered}
 use Rattle.ob_c.specs.declared.pieces.Piece.{Piece}
-
--- the most pieces that are given at once
-abbrev pub most_pieces : ℕ
-most_pieces = 64
 
 -- the piece of memory behind a reference to bytes: where they lie, and how many they are
 abbrev pub piece_of : Bor (List ℕ) → Piece
@@ -39,10 +35,6 @@ gathered_as connection most max_bytes count pieces =
     (blocks : List (List ℕ)) × AreGathered connection most max_bytes blocks × (count ≡ length blocks)
     × AreAt blocks (take count pieces)
 
--- the same for `given` pieces, of which at most 64 are filled
-abbrev pub AreLaid : Connected → ℕ → ℕ → ℕ → List Piece → Type 0
-AreLaid connection given max_bytes count pieces = gathered_as connection (min most_pieces given) max_bytes count pieces
-
 -- with no connection C is told so, and else how many pieces were filled and what stands in front; the handle stays as it
 -- was
 abbrev pub Gathers : Option Connected → ℕ → ℕ → Gathered → List Piece → Option Connected → Type 0
@@ -51,4 +43,4 @@ Gathers None given max_bytes told pieces new =
 Gathers (Some old) given max_bytes told pieces new =
     (front : Option Message) × IsCurrent old front
     × (told ≡ record { status = done; front = front_number front told.count; count = told.count })
-    × AreLaid old given max_bytes told.count pieces × (new ≡ Some old)
+    × gathered_as old given max_bytes told.count pieces × (new ≡ Some old)

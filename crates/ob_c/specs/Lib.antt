@@ -5,6 +5,7 @@ pub mod Looks
 pub mod Numbers
 pub mod Obeying
 pub mod Opening
+pub mod Parts
 pub mod Reaching
 pub mod Replies
 pub mod Shared

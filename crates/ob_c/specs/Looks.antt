@@ -1,21 +1,27 @@
 -- What an export promises of a look.
 use Rattle.std.specs.Prelude.{◌≡◌, ℕ, ◌-◌, Bool, true, false, List, length, Option, Some, None, option_map}
+use Rattle.ob_types.specs.WaterMark.{Marks}
 use Rattle.ob_types.specs.declared.command.Command.{Command}
+use Rattle.ob_types.specs.declared.estimate.Estimate.{Estimate}
 use Rattle.ob_types.specs.declared.message.Message.{Message}
 use Rattle.ob_types.specs.declared.message.Message.TheVariants.{Block, Region, Other}
 use Rattle.ob_seq.specs.Looks.{current_after, look_after}
+use Rattle.ob_seq.specs.MarksInForce.{marks_after}
 use Rattle.ob_seq.specs.Settings.{Settings}
 use Rattle.ob_connection.specs.Connected.{Connected}
+use Rattle.ob_connection.specs.Looks.{unflushed_count_after, waiting_count_after}
 use Rattle.ob_connection.specs.Standing.{Gives}
 use Rattle.ob_connection.specs.declared.look.Look.{Look as LookReply}
 use Rattle.ob_connection.specs.declared.status.Status.{Status}
 use Rattle.ob_connection.specs.declared.status.Status.TheVariants.{Waiting, Fixed, Settled, SettledBefore}
 use Rattle.ob_c.specs.Numbers.{done, not_open, outcome_number, cause_number}
 use Rattle.ob_c.specs.Obeying.{Relays}
+use Rattle.ob_c.specs.declared.views.Counts.{Counts}
 use Rattle.ob_c.specs.declared.views.Current.{Current}
 use Rattle.ob_c.specs.declared.views.Front.{Front}
 use Rattle.ob_c.specs.declared.views.Look.{Look}
 use Rattle.ob_c.specs.declared.views.Promise.{Promise}
+use Rattle.ob_c.specs.declared.views.Settings.{Settings as InForce}
 use Rattle.ob_c.specs.declared.views.Truth.{Truth}
 
 -- C is told what is so of the connection, if there is one, and nothing changes
@@ -43,6 +49,32 @@ look_in_c (Some look) = record {
   before_writable = look.before_writable;
   size = look.size;
   current_progress = look.current_progress;
+}
+
+-- whatever history the connection stands for, as many messages no flush has reached after it, and as many wait
+abbrev pub AreCounted : Connected → ℕ × ℕ → Type 0
+AreCounted connection counts =
+    Gives connection unflushed_count_after counts.0 × Gives connection waiting_count_after counts.1
+
+-- how many messages wait
+abbrev pub counts_in_c : Option (ℕ × ℕ) → Counts
+counts_in_c None = record { status = not_open; unflushed = 0; waiting = 0 }
+counts_in_c (Some counts) = record { status = done; unflushed = counts.0; waiting = counts.1 }
+
+-- whatever history the connection stands for, these marks are in force after it, and it was opened with this estimate
+abbrev pub AreInForce : Connected → Marks × Estimate → Type 0
+AreInForce connection settings =
+    Gives connection marks_after settings.0 × (settings.1 ≡ connection.unsent.settings.estimate)
+
+-- by what a connection goes
+abbrev pub settings_in_c : Option (Marks × Estimate) → InForce
+settings_in_c None = record { status = not_open; low = 0; high = 0; overhead = 0; unknown = 0 }
+settings_in_c (Some settings) = record {
+  status = done;
+  low = settings.0.low;
+  high = settings.0.high;
+  overhead = settings.1.overhead;
+  unknown = settings.1.unknown;
 }
 
 -- yes or no

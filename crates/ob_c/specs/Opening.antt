@@ -7,6 +7,7 @@ use Rattle.ob_types.specs.declared.command.Command.TheVariants.{SetMarks}
 use Rattle.ob_types.specs.declared.refusal.Refusal.{Refusal}
 use Rattle.ob_seq.specs.Settings.{Settings}
 use Rattle.ob_connection.specs.Connected.{Connected}
+use Rattle.ob_connection.specs.Keeping.{Shrinks}
 use Rattle.ob_connection.specs.Replies.{done_reply}
 use Rattle.ob_connection.specs.Standing.{StandsFor}
 use Rattle.ob_c.specs.Numbers.{done, no_memory, not_open, already_open, bad_estimate, other_version, status_in_c}
@@ -36,10 +37,10 @@ Opens None (Err refused) status new = (status ≡ refused) × (new ≡ None)
 Opens None (Ok settings) status None = status ≡ no_memory
 Opens None (Ok settings) status (Some new) = (status ≡ done) × (new.unsent.settings ≡ settings) × StandsFor new []
 
--- C is told whether there is a connection, which stays as it is
-abbrev pub StaysAsItIs : Option Connected → ℕ → Option Connected → Type 0
-StaysAsItIs None status new = (status ≡ not_open) × (new ≡ None)
-StaysAsItIs (Some old) status new = (status ≡ done) × (new ≡ Some old)
+-- C is told whether there is a connection, which keeps room for what waits and stays as it is else
+abbrev pub ShrinksFor : Option Connected → ℕ → Option Connected → Type 0
+ShrinksFor None status new = (status ≡ not_open) × (new ≡ None)
+ShrinksFor (Some old) status new = (status ≡ done) × (after : Connected) × (new ≡ Some after) × Shrinks old after
 
 -- marks are set, if there is a connection and they are marks
 abbrev pub SetsMarks : Option Connected → Result Marks Refusal → ℕ → Option Connected → Type 0

@@ -1,22 +1,14 @@
 //! What can be sent at once, as pieces for `writev`.
 
-ghost use Rattle.std.specs.Io.Slices.{io_slice_bytes};
 ghost use Rattle.std.specs.Option.{option_copied};
-ghost use Rattle.std.specs.Prelude.{◌≡◌, ◌≤◌, length, map, take, drop};
-ghost use Rattle.ob_c.specs.Gathering.{AreAt, AreLaid, Gathers, front_number, gathered_as};
+ghost use Rattle.std.specs.Prelude.{◌≡◌, ◌&&◌, ◌||◌, nat_le, nat_lt, length, drop};
+ghost use Rattle.ob_c.specs.Gathering.{Gathers, front_number, gathered_as};
 
 use crate::handle::Handle;
 use crate::numbers::{DONE, NOT_OPEN};
 use crate::pieces::Piece;
 use ob_connection::Connection;
 use ob_types::Message;
-use std::io::IoSlice;
-
-/// The most pieces that are given at once.
-const MOST_PIECES: usize = 64;
-
-/// Up to this many pieces are found in less room.
-const FEW_PIECES: usize = 16;
 
 /// What was gathered.
 #[repr(C)]
@@ -30,8 +22,8 @@ pub struct Gathered {
     pub count: usize,
 }
 
-/// Fills pieces with where the flushed blocks in front lie that hold a byte, as many as there are pieces but at most 64,
-/// and together at most `max_bytes` bytes, but the first in any case. The other pieces stay as they were.
+/// Fills pieces with where the flushed blocks in front lie that hold a byte, as many as there are pieces, and together at
+/// most `max_bytes` bytes, but the first in any case. The other pieces stay as they were.
 #[unsafe(no_mangle)]
 pub extern "C" fn limekeel_gather_pieces(
     handle: &mut Handle,
@@ -59,43 +51,33 @@ pub extern "C" fn limekeel_gather_pieces(
 
 /// Fills pieces from a connection, and returns how many.
 fn lay(connection: &Connection, pieces: &mut [Piece], max_bytes: u32) -> usize
-    ensures laid { AreLaid connection.now (length pieces.old) max_bytes result pieces.new }
+    ensures laid { gathered_as connection.now (length pieces.old) max_bytes result pieces.new }
     ensures rest { drop result pieces.new ≡ drop result pieces.old }
 {
-    if pieces.len() <= FEW_PIECES {
-        let mut slices = [IoSlice::new(&[]); FEW_PIECES];
-        return lay_by(connection, &mut slices[..pieces.len()], pieces, max_bytes);
+    let mut count = 0;
+    let mut room = u64::from(max_bytes);
+    for message in connection.flushed() {
+        let Message::Block(bytes) = message else {
+            break;
+        };
+        let length = bytes.len() as u64;
+        if length > 0 {
+            if !goes_along(count, pieces.len(), length, room) {
+                break;
+            }
+            pieces[count] = Piece::of(bytes.as_slice());
+            count += 1;
+            room = room.saturating_sub(length);
+        }
     }
-    let mut slices = [IoSlice::new(&[]); MOST_PIECES];
-    let limit = pieces.len().min(MOST_PIECES);
-    lay_by(connection, &mut slices[..limit], pieces, max_bytes)
-}
-
-/// Fills pieces from a connection by way of as many slices.
-fn lay_by<'a>(
-    connection: &'a Connection,
-    slices: &mut [IoSlice<'a>],
-    pieces: &mut [Piece],
-    max_bytes: u32,
-) -> usize
-    requires { length slices.old ≤ length pieces.old }
-    ensures laid { gathered_as connection.now (length slices.old) max_bytes result pieces.new }
-    ensures rest { drop result pieces.new ≡ drop result pieces.old }
-{
-    let count = connection.gather_into(slices, max_bytes);
-    place(&slices[..count], pieces);
     count
 }
 
-/// Puts where these slices lie into the first pieces.
-fn place(slices: &[IoSlice<'_>], pieces: &mut [Piece])
-    requires { length slices.now ≤ length pieces.old }
-    ensures placed { AreAt (map io_slice_bytes slices.now) (take (length slices.now) pieces.new) }
-    ensures rest { drop (length slices.now) pieces.new ≡ drop (length slices.now) pieces.old }
+/// Whether one more block goes along with `count` others, which left this much room: the first does in any case.
+fn goes_along(count: usize, most: usize, length: u64, room: u64) -> bool
+    ensures { result ≡ (nat_lt count most && (nat_le count 0 || nat_le length room)) }
 {
-    for at in 0..slices.len() {
-        pieces[at] = Piece::of(slices[at].as_slice());
-    }
+    count < most && (count == 0 || length <= room)
 }
 
 /// The number of what stands in front, if `count` pieces were filled.

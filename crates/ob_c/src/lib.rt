@@ -10,6 +10,7 @@ mod looks;
 mod loose;
 mod numbers;
 mod opening;
+mod parts;
 mod pieces;
 mod removals;
 mod replies;

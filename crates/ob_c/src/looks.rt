@@ -3,10 +3,10 @@
 ghost use Rattle.ob_seq.specs.State.{writable_after, closed_after, empty_after};
 ghost use Rattle.ob_connection.specs.Looks.{Shows, IsFrontPromise, Tells as TellsOf};
 ghost use Rattle.ob_connection.specs.Standing.{Gives};
-ghost use Rattle.ob_c.specs.Looks.{Tells, IsLeft, look_in_c, truth_in_c, promise_in_c, front_in_c, current_in_c};
+ghost use Rattle.ob_c.specs.Looks.{Tells, AreCounted, AreInForce, IsLeft, counts_in_c, look_in_c, settings_in_c, truth_in_c, promise_in_c, front_in_c, current_in_c};
 
 use crate::handle::Handle;
-use crate::views::{Current, Front, Look, Promise, Truth};
+use crate::views::{Counts, Current, Front, Look, Promise, Settings, Truth};
 
 /// What is pending now.
 #[unsafe(no_mangle)]
@@ -14,6 +14,22 @@ pub extern "C" fn limekeel_look(handle: &mut Handle) -> Look
     ensures { Tells handle.old.value Shows look_in_c result handle.new.value }
 {
     Look::of(handle.with(|connection| connection.look()))
+}
+
+/// How many messages no flush has reached, and how many wait.
+#[unsafe(no_mangle)]
+pub extern "C" fn limekeel_counts(handle: &mut Handle) -> Counts
+    ensures { Tells handle.old.value AreCounted counts_in_c result handle.new.value }
+{
+    Counts::of(handle.with(|connection| (connection.unflushed_count(), connection.waiting_count())))
+}
+
+/// The marks in force, and the estimate of the opening.
+#[unsafe(no_mangle)]
+pub extern "C" fn limekeel_settings(handle: &mut Handle) -> Settings
+    ensures { Tells handle.old.value AreInForce settings_in_c result handle.new.value }
+{
+    Settings::of(handle.with(|connection| (connection.marks(), connection.estimate())))
 }
 
 /// Whether writers may go on.

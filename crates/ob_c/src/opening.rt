@@ -4,7 +4,7 @@ ghost use Rattle.std.specs.Prelude.{◌≡◌, ◌≤◌, IfOk, OnErr, [], nat_e
 ghost use Rattle.ob_types.specs.Limits.{greatest_overhead, greatest_unknown};
 ghost use Rattle.ob_connection.specs.Standing.{StandsFor};
 ghost use Rattle.ob_c.specs.Blocks.{IsLetGo};
-ghost use Rattle.ob_c.specs.Opening.{Opens, StaysAsItIs, settings_for, settings_of};
+ghost use Rattle.ob_c.specs.Opening.{Opens, ShrinksFor, settings_for, settings_of};
 
 use crate::handle::Handle;
 use crate::numbers::{ALREADY_OPEN, BAD_ESTIMATE, DONE, EDGE, NO_MEMORY, NOT_OPEN, OTHER_VERSION};
@@ -61,7 +61,7 @@ pub extern "C" fn limekeel_open_for(
 /// The status is 13 if the handle holds no connection.
 #[unsafe(no_mangle)]
 pub extern "C" fn limekeel_shrink_to_fit(handle: &mut Handle) -> u32
-    ensures { StaysAsItIs handle.old.value result handle.new.value }
+    ensures { ShrinksFor handle.old.value result handle.new.value }
 {
     match handle.with(|connection| connection.shrink_to_fit()) {
         None => NOT_OPEN,

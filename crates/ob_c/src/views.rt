@@ -2,11 +2,11 @@
 
 ghost use Rattle.std.specs.Option.{option_copied};
 ghost use Rattle.std.specs.Prelude.{◌≡◌, option_map, Some, None};
-ghost use Rattle.ob_c.specs.Looks.{look_in_c, truth_in_c, promise_in_c, front_in_c, less_progress, current_in_c};
+ghost use Rattle.ob_c.specs.Looks.{counts_in_c, settings_in_c, look_in_c, truth_in_c, promise_in_c, front_in_c, less_progress, current_in_c};
 
 use crate::numbers::{DONE, NOT_OPEN, cause_number, outcome_number};
 use ob_connection::Status;
-use ob_types::Message;
+use ob_types::{Estimate, Message, WaterMark};
 
 /// What is pending.
 #[repr(C)]
@@ -51,6 +51,78 @@ impl Look {
                 before_writable: look.before_writable,
                 size: look.size,
                 current_progress: look.current_progress,
+            },
+        }
+    }
+}
+
+/// How many messages wait.
+#[repr(C)]
+#[derive(Clone, Copy)]
+pub struct Counts {
+    /// 0, or why there is nothing to see.
+    pub status: u32,
+    /// How many messages no flush has reached.
+    pub unflushed: u64,
+    /// How many messages wait, flushed or not.
+    pub waiting: u64,
+}
+
+impl Counts {
+    /// What C gets for these numbers.
+    pub(crate) fn of(counts: Option<(u64, u64)>) -> Counts
+        ensures { result ≡ counts_in_c counts }
+    {
+        match counts {
+            None => Counts {
+                status: NOT_OPEN,
+                unflushed: 0,
+                waiting: 0,
+            },
+            Some((unflushed, waiting)) => Counts {
+                status: DONE,
+                unflushed,
+                waiting,
+            },
+        }
+    }
+}
+
+/// By what a connection goes.
+#[repr(C)]
+#[derive(Clone, Copy)]
+pub struct Settings {
+    /// 0, or why there is nothing to see.
+    pub status: u32,
+    /// The low mark in force, in bytes.
+    pub low: u32,
+    /// The high mark in force, in bytes.
+    pub high: u32,
+    /// The bytes that are added for each message.
+    pub overhead: u32,
+    /// The bytes of a message that is neither a block nor a region.
+    pub unknown: u32,
+}
+
+impl Settings {
+    /// What C gets for these marks and this estimate.
+    pub(crate) fn of(settings: Option<(WaterMark, Estimate)>) -> Settings
+        ensures { result ≡ settings_in_c settings }
+    {
+        match settings {
+            None => Settings {
+                status: NOT_OPEN,
+                low: 0,
+                high: 0,
+                overhead: 0,
+                unknown: 0,
+            },
+            Some((marks, estimate)) => Settings {
+                status: DONE,
+                low: marks.low(),
+                high: marks.high(),
+                overhead: estimate.overhead,
+                unknown: estimate.unknown,
             },
         }
     }

@@ -16,16 +16,15 @@ use crate::replies::Written;
 use bytes::Bytes;
 use ob_connection::Connection;
 use ob_types::{Message, Refusal};
-use std::alloc::Global;
 
 /// Writes a copy of these bytes.
 ///
 /// The status is 12 if it is out of memory, and nothing else refuses the write; the connection is as it was then.
 #[unsafe(no_mangle)]
-pub extern "C" fn limekeel_write_bytes(alloc: Global, handle: &mut Handle, bytes: &[u8]) -> Written
+pub extern "C" fn limekeel_write_bytes(handle: &mut Handle, bytes: &[u8]) -> Written
     ensures { ObeysFor handle.old.value (Write (AsBlock bytes.now)) written_reply written_in_c result handle.new.value }
 {
-    Written::of(handle.command(|connection| write_copy(alloc, connection, bytes)))
+    Written::of(handle.command(|connection| connection.write_copy(bytes)))
 }
 
 /// Writes the bytes of a block, which the message shares: no byte is copied.
@@ -61,21 +60,6 @@ pub extern "C" fn limekeel_write_other(handle: &mut Handle, value: u32) -> Writt
     ensures { ObeysFor handle.old.value (Write (AsOther value)) written_reply written_in_c result handle.new.value }
 {
     Written::of(handle.command(|connection| write(connection, Message::Other(value))))
-}
-
-/// Writes a copy of these bytes, which is made once nothing else refuses it.
-fn write_copy(
-    alloc: Global,
-    connection: &mut Connection,
-    bytes: &[u8],
-) -> Result<ob_connection::Written, Refusal>
-    ensures { Obeys connection.old (Write (AsBlock bytes.now)) written_reply result connection.new }
-{
-    if let Some(refusal) = connection.refusal_of_block(bytes) {
-        return Err(refusal);
-    }
-    let copy = Bytes::copy_from_slice(alloc, bytes)?;
-    write(connection, Message::Block(copy))
 }
 
 /// Writes these bytes, which the message shares.

@@ -19,11 +19,11 @@ mod assembled;
 #[cfg_attr(feature = "global-allocator", path = "global.rs")]
 mod heap;
 
-/// The most pieces that one `limekeel_gather_pieces` fills.
-pub const PIECES: usize = 64;
+/// As many pieces as Linux takes in one `sendmsg` or `writev`.
+pub const PIECES: usize = 1024;
 
 /// A number of these declarations, which `limekeel_open_for` compares with the archive's.
-pub const EDGE: u32 = 2717791969;
+pub const EDGE: u32 = 3843793401;
 
 macro_rules! numbers {
     ($($name:ident = $number:literal),* $(,)?) => {
@@ -100,6 +100,10 @@ plain! {
         status at 0: u32, total at 4: u32, word at 8: u32, before_unwritable at 12: u32, before_writable at 16: u32,
         size at 24: u64, current_progress at 32: u64,
     }
+    /// `struct limekeel_counts_told`.
+    Counts 24 { status at 0: u32, unflushed at 8: u64, waiting at 16: u64 }
+    /// `struct limekeel_settings_told`.
+    Settings 20 { status at 0: u32, low at 4: u32, high at 8: u32, overhead at 12: u32, unknown at 16: u32 }
     /// `struct limekeel_truth`.
     Truth 8 { status at 0: u32, holds at 4: bool }
     /// `struct limekeel_promise_told`.
@@ -131,6 +135,7 @@ unsafe extern "C" {
     pub fn limekeel_block_piece(block: *const Block, piece: *mut Piece) -> u32;
     pub fn limekeel_block_free(block: *mut Block) -> u32;
     pub fn limekeel_write_bytes(connection: *mut Connection, bytes: *const u8, length: usize) -> Written;
+    pub fn limekeel_write_pieces(connection: *mut Connection, parts: *const Piece, length: usize) -> Written;
     pub fn limekeel_write_block(connection: *mut Connection, block: *const Block) -> Written;
     pub fn limekeel_write_region(connection: *mut Connection, length: u64) -> Written;
     pub fn limekeel_write_other(connection: *mut Connection, value: u32) -> Written;
@@ -149,6 +154,8 @@ unsafe extern "C" {
     pub fn limekeel_is_writable(connection: *const Connection) -> Truth;
     pub fn limekeel_is_closed(connection: *const Connection) -> Truth;
     pub fn limekeel_is_empty(connection: *const Connection) -> Truth;
+    pub fn limekeel_counts(connection: *const Connection) -> Counts;
+    pub fn limekeel_settings(connection: *const Connection) -> Settings;
     pub fn limekeel_promise(connection: *const Connection, id: u64) -> Promise;
     pub fn limekeel_front(connection: *const Connection) -> Front;
     pub fn limekeel_current(connection: *const Connection) -> Current;

@@ -2,7 +2,8 @@ use crate::block::Block;
 use crate::promises::{Node, Promises};
 use crate::raw::{Handle, Pieces};
 use crate::replies::{Change, Flushed, Refusal, Removed, Taken, Written, done};
-use crate::views::{Current, Look, Promise};
+use crate::views::{Counts, Current, Look, Promise};
+use std::io::IoSlice;
 use std::mem::take;
 
 /// The two marks, in bytes: writers stop above the high one, and go on below the low one. The default is Netty's.
@@ -55,10 +56,26 @@ impl Connection {
         Ok(Connection { handle, cancelled: Promises::default() })
     }
 
-    /// Writes a copy of these bytes after all else. They are not sent before a flush.
+    /// Writes a copy of these bytes after all else. They are not sent before a flush. Small messages that wait together
+    /// share memory.
     #[inline]
     pub fn write(&mut self, bytes: &[u8]) -> Result<Written, Refusal> {
         Written::of(self.handle.write(bytes))
+    }
+
+    /// Writes a copy of these parts as one message, one behind the other.
+    ///
+    /// ```
+    /// use limekeel::{Connection, Estimate, Marks};
+    /// use std::io::IoSlice;
+    ///
+    /// let mut connection = Connection::open(Marks::default(), Estimate::default())?;
+    /// let written = connection.write_parts(&[IoSlice::new(b"5\n"), IoSlice::new(b"hello")])?;
+    /// assert_eq!((written.id, connection.look().total), (0, 7 + 96));
+    /// # Ok::<(), limekeel::Refusal>(())
+    /// ```
+    pub fn write_parts(&mut self, parts: &[IoSlice<'_>]) -> Result<Written, Refusal> {
+        Written::of(self.handle.write_parts(parts))
     }
 
     /// Writes the bytes of a block, which the message then shares: nothing is copied.
@@ -188,6 +205,39 @@ impl Connection {
         self.handle.is_empty().holds
     }
 
+    /// How many messages no flush has reached, and how many wait.
+    ///
+    /// ```
+    /// use limekeel::{Connection, Estimate, Marks};
+    ///
+    /// let mut connection = Connection::open(Marks { low: 10, high: 20 }, Estimate::default())?;
+    /// let _ = connection.write(b"sent")?;
+    /// let _ = connection.flush()?;
+    /// let _ = connection.write(b"not yet")?;
+    /// connection.set_marks(Marks { low: 1, high: 2 })?;
+    /// assert_eq!((connection.counts().unflushed, connection.counts().waiting), (1, 2));
+    /// assert_eq!((connection.marks().low, connection.estimate().overhead), (1, 96));
+    /// # Ok::<(), limekeel::Refusal>(())
+    /// ```
+    #[must_use]
+    pub fn counts(&self) -> Counts {
+        Counts::of(self.handle.counts())
+    }
+
+    /// The marks in force: those of the last [`Connection::set_marks`], and before it those of the opening.
+    #[must_use]
+    pub fn marks(&self) -> Marks {
+        let told = self.handle.settings();
+        Marks { low: told.low, high: told.high }
+    }
+
+    /// By what messages are counted: the estimate of the opening.
+    #[must_use]
+    pub fn estimate(&self) -> Estimate {
+        let told = self.handle.settings();
+        Estimate { overhead: told.overhead, unknown: told.unknown }
+    }
+
     /// What has become of a promise, or nothing if no write was accepted under it.
     #[must_use]
     pub fn promise(&self, id: u64) -> Option<Promise> {
@@ -207,9 +257,8 @@ impl Connection {
         Current::of(self.handle.current())
     }
 
-    /// Where the flushed blocks in front lie that hold a byte, up to the first message that is no block: at most *N* and 64
-    /// of them, and at most `max_bytes` bytes, but the first in any case. It borrows the connection, and does not
-    /// allocate.
+    /// Where the flushed blocks in front lie that hold a byte, up to the first message that is no block: at most *N* of them,
+    /// and at most `max_bytes` bytes, but the first in any case. It borrows the connection, and does not allocate.
     #[must_use]
     pub fn pieces<const N: usize>(&self, max_bytes: u32) -> Pieces<'_, N> {
         self.handle.pieces(max_bytes)

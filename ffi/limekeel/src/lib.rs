@@ -76,7 +76,7 @@ pub use raw::Pieces;
 pub use replies::{Change, Flushed, Outcome, Refusal, Removed, Settled, Taken, Written};
 pub use send::Sent;
 pub use shared::{Guard, Shared};
-pub use views::{Current, Front, Look, Promise};
+pub use views::{Counts, Current, Front, Look, Promise};
 
 /// The code of `ffi/README.md`, which a test compiles and runs.
 #[cfg(doctest)]

@@ -11,7 +11,10 @@
 //!   while another looks at the connection, since a look writes nothing.
 
 use limekeel_sys as sys;
+use std::fmt::{self, Debug, Formatter};
 use std::io::IoSlice;
+use std::marker::PhantomData;
+use std::mem::MaybeUninit;
 use std::ops::Deref;
 use std::ptr::{null, null_mut};
 use std::slice;
@@ -89,6 +92,8 @@ impl Handle {
         is_writable() -> sys::Truth = limekeel_is_writable;
         is_closed() -> sys::Truth = limekeel_is_closed;
         is_empty() -> sys::Truth = limekeel_is_empty;
+        counts() -> sys::Counts = limekeel_counts;
+        settings() -> sys::Settings = limekeel_settings;
         promise(id: u64) -> sys::Promise = limekeel_promise;
         front() -> sys::Front = limekeel_front;
         current() -> sys::Current = limekeel_current;
@@ -100,6 +105,12 @@ impl Handle {
         unsafe { sys::limekeel_write_bytes(&mut self.inner, bytes.as_ptr(), bytes.len()) }
     }
 
+    pub(crate) fn write_parts(&mut self, parts: &[IoSlice<'_>]) -> sys::Written {
+        // SAFETY: the handle is this value's own; the pointer and the length are those of one slice, whose `IoSlice`s are laid
+        // out as `Piece`s and are not null.
+        unsafe { sys::limekeel_write_pieces(&mut self.inner, parts.as_ptr().cast(), parts.len()) }
+    }
+
     #[inline]
     pub(crate) fn write_block(&mut self, block: &Slot) -> sys::Written {
         // SAFETY: both handles are their values' own, and two values; neither type is `Sync`, so that no other call uses
@@ -107,14 +118,74 @@ impl Handle {
         unsafe { sys::limekeel_write_block(&mut self.inner, &block.inner) }
     }
 
-    pub(crate) fn pieces<const N: usize>(&self, max_bytes: u32) -> Pieces<'_, N> {
-        let mut slices = [IoSlice::new(&[]); N];
-        // SAFETY: the handle is this value's own, as in a look. On Unix an `IoSlice` is laid out as `struct iovec`, which
-        // is what a `Piece` is. The archive fills the first `count` slices with where bytes of the connection lie, and
-        // they lie there until it changes, which the borrow in `Pieces` keeps off.
-        let told = unsafe { sys::limekeel_gather_pieces(&self.inner, slices.as_mut_ptr().cast(), N, max_bytes) };
-        Pieces { slices, count: told.count, front: Front::of(told.front) }
+    /// Fills places with where the flushed blocks in front lie, and returns how many were filled and what stands in front.
+    fn gather(&self, places: &mut [Place], max_bytes: u32) -> (usize, Front) {
+        // SAFETY: the handle is this value's own, as in a look; the pointer and the length are those of one slice. A place
+        // is laid out as a `Piece`, and the archive only writes there.
+        let told = unsafe {
+            sys::limekeel_gather_pieces(&self.inner, places.as_mut_ptr().cast(), places.len(), max_bytes)
+        };
+        (told.count, Front::of(told.front))
     }
+
+    pub(crate) fn pieces<const N: usize>(&self, max_bytes: u32) -> Pieces<'_, N> {
+        let mut places = [const { Place::uninit() }; N];
+        let (count, front) = self.gather(&mut places, max_bytes);
+        Pieces { places, count, front, connection: PhantomData }
+    }
+
+    /// The pieces that one vectored write is offered, by these places: those that lie together in memory are one.
+    pub(crate) fn offered<'a>(&'a self, places: &'a mut [Place]) -> &'a [IoSlice<'a>] {
+        let (count, _) = self.gather(places, u32::MAX);
+        // SAFETY: the archive filled the first `count` places, with where bytes of the connection lie; `joined` leaves as many
+        // as it says, with where the same bytes lie. They lie there until the connection changes, which its borrow keeps off.
+        unsafe {
+            let count = joined(as_pieces(&mut places[..count]));
+            as_slices(&places[..count])
+        }
+    }
+}
+
+/// Room for a piece.
+pub(crate) type Place = MaybeUninit<sys::Piece>;
+
+/// These places as the pieces that they hold.
+///
+/// # Safety
+///
+/// Each is filled.
+unsafe fn as_pieces(places: &mut [Place]) -> &mut [sys::Piece] {
+    // SAFETY: a `MaybeUninit` is laid out as what it holds, and the caller says that each is there.
+    unsafe { slice::from_raw_parts_mut(places.as_mut_ptr().cast(), places.len()) }
+}
+
+/// These places as the slices that they stand for.
+///
+/// # Safety
+///
+/// Each is filled with where bytes lie, which nobody changes during `'a`.
+unsafe fn as_slices<'r, 'a>(places: &'r [Place]) -> &'r [IoSlice<'a>] {
+    // SAFETY: on Unix an `IoSlice` is laid out as `struct iovec`, which is what a `Piece` is.
+    unsafe { slice::from_raw_parts(places.as_ptr().cast(), places.len()) }
+}
+
+/// Makes one piece of those that lie together in memory, and returns how many are left.
+///
+/// Two blocks that a heap lays side by side, with no byte of its own between them, are one piece then, though they are two
+/// allocations. Their pointers come out of the archive, into which no compiler of Rust sees, and the bytes are only read.
+fn joined(pieces: &mut [sys::Piece]) -> usize {
+    let mut count: usize = 0;
+    for at in 0..pieces.len() {
+        let piece = pieces[at];
+        match count.checked_sub(1).map(|last| &mut pieces[last]) {
+            Some(last) if last.at.wrapping_add(last.length) == piece.at => last.length += piece.length,
+            _ => {
+                pieces[count] = piece;
+                count += 1;
+            }
+        }
+    }
+    count
 }
 
 impl Drop for Handle {
@@ -136,12 +207,18 @@ const _: () = assert!(align_of::<IoSlice<'_>>() == align_of::<sys::Piece>());
 /// fn crosses_threads<T: Send + Sync>() {}
 /// crosses_threads::<limekeel::Pieces<64>>();
 /// ```
-#[derive(Debug)]
 pub struct Pieces<'a, const N: usize> {
-    slices: [IoSlice<'a>; N],
+    places: [Place; N],
     count: usize,
     front: Front,
+    connection: PhantomData<&'a Handle>,
 }
+
+// SAFETY: what it holds is where bytes lie that nobody changes while it lives, as an `IoSlice` does.
+unsafe impl<const N: usize> Send for Pieces<'_, N> {}
+
+// SAFETY: as of `Send`.
+unsafe impl<const N: usize> Sync for Pieces<'_, N> {}
 
 impl<const N: usize> Pieces<'_, N> {
     /// What stands in front.
@@ -155,7 +232,15 @@ impl<'a, const N: usize> Deref for Pieces<'a, N> {
     type Target = [IoSlice<'a>];
 
     fn deref(&self) -> &[IoSlice<'a>] {
-        &self.slices[..self.count]
+        // SAFETY: the archive filled the first `count` places, with where bytes of the connection lie. They lie there until
+        // it changes, which the borrow in `Pieces` keeps off.
+        unsafe { as_slices(&self.places[..self.count]) }
+    }
+}
+
+impl<const N: usize> Debug for Pieces<'_, N> {
+    fn fmt(&self, formatter: &mut Formatter<'_>) -> fmt::Result {
+        formatter.debug_struct("Pieces").field("slices", &&**self).field("front", &self.front).finish()
     }
 }
 
@@ -208,5 +293,23 @@ impl Drop for Slot {
     fn drop(&mut self) {
         // SAFETY: the handle is this value's own, and it is not used again.
         unsafe { sys::limekeel_block_free(&mut self.inner) };
+    }
+}
+
+#[cfg(test)]
+mod tests {
+    use super::{joined, sys};
+
+    #[test]
+    fn what_lies_together_is_one_piece_with_the_same_bytes() {
+        let bytes: Vec<u8> = (0..100).collect();
+        // from where, and how many: the second follows the first, the fourth follows the third, the last stands before it
+        let parts = [(0, 10), (10, 1), (20, 5), (25, 5), (11, 9)];
+        let mut pieces = parts.map(|(from, length)| sys::Piece { at: bytes[from..].as_ptr(), length });
+        let count = joined(&mut pieces);
+        let left: Vec<(usize, usize)> =
+            pieces[..count].iter().map(|piece| (piece.at as usize - bytes.as_ptr() as usize, piece.length)).collect();
+        assert_eq!(left, [(0, 11), (20, 10), (11, 9)]);
+        assert_eq!(joined(&mut []), 0);
     }
 }

@@ -1,12 +1,11 @@
 use crate::connection::Connection;
+use crate::raw::Place;
 use crate::replies::Taken;
+use limekeel_sys as sys;
 use std::io::{self, ErrorKind, IoSlice, Write};
 
-/// How many pieces one vectored write is given at most.
-const PIECES: usize = 64;
-
-/// How many it is given if no more messages are flushed: a quarter of the array is made in a quarter of the time.
-const FEW_PIECES: usize = 16;
+/// How many pieces one vectored write is given at most: as many as Linux takes.
+const PIECES: usize = sys::PIECES;
 
 /// What a connection sent at once.
 #[must_use = "nothing tells the change of writability or the settlements again"]
@@ -40,33 +39,31 @@ impl Connection {
         self.send_with(|pieces| writer.write_vectored(pieces))
     }
 
-    /// The same for what is no [`Write`]: `write` is given the pieces, at most 64, and returns how many of their bytes it
-    /// took, as a vectored write does.
+    /// The same for what is no [`Write`]: `write` is given the pieces, at most 1024, and returns how many of their bytes it
+    /// took, as a vectored write does. Messages that lie together in memory are one piece.
     pub fn send_with(&mut self, write: impl FnMut(&[IoSlice<'_>]) -> io::Result<usize>) -> io::Result<Sent> {
         if self.is_closed() {
             return Err(io::Error::new(ErrorKind::BrokenPipe, crate::Refusal::Closed));
         }
-        let (bytes, blocked) = if self.look().size <= FEW_PIECES as u64 {
-            self.write_once::<FEW_PIECES>(write)?
-        } else {
-            self.write_once::<PIECES>(write)?
-        };
+        let (bytes, blocked) = self.write_once(write)?;
         // no refusal is left that could come
         let taken = self.take_sent(bytes as u64).map_err(io::Error::other)?;
-        Ok(Sent { bytes, taken, blocked, more: self.look().size > 0 })
+        Ok(Sent { bytes, taken, blocked, more: !self.is_empty() })
     }
 
     /// How many bytes a writer took, and whether it would block.
-    fn write_once<const N: usize>(
+    fn write_once(
         &self,
         mut write: impl FnMut(&[IoSlice<'_>]) -> io::Result<usize>,
     ) -> io::Result<(usize, bool)> {
-        let pieces = self.pieces::<N>(u32::MAX);
+        // not filled beforehand: most often few are
+        let mut places = [const { Place::uninit() }; PIECES];
+        let pieces = self.handle.offered(&mut places);
         if pieces.is_empty() {
             return Ok((0, false));
         }
         loop {
-            match write(&pieces) {
+            match write(pieces) {
                 Ok(0) => return Err(ErrorKind::WriteZero.into()),
                 Ok(bytes) if bytes > pieces.iter().map(|piece| piece.len()).sum() => {
                     return Err(io::Error::new(ErrorKind::InvalidData, "a writer took more than it was given"));

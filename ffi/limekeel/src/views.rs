@@ -34,6 +34,22 @@ impl Look {
     }
 }
 
+/// How many messages wait.
+#[derive(Clone, Copy, Debug, PartialEq, Eq)]
+pub struct Counts {
+    /// How many messages no flush has reached.
+    pub unflushed: u64,
+    /// How many messages wait, flushed or not. If it is 0, nothing is left to send.
+    pub waiting: u64,
+}
+
+impl Counts {
+    pub(crate) fn of(told: sys::Counts) -> Counts {
+        debug_assert!(done(told.status).is_ok());
+        Counts { unflushed: told.unflushed, waiting: told.waiting }
+    }
+}
+
 /// What has become of a promise.
 #[derive(Clone, Copy, Debug, PartialEq, Eq)]
 pub enum Promise {

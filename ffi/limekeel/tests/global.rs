@@ -36,7 +36,7 @@ fn each_block_is_counted_and_comes_back() {
     let before = LIVE.get();
     let mut connection = Connection::open(Marks::default(), Estimate::default()).expect("there is memory");
     let opened = LIVE.get() - before;
-    assert!((96..=96 + 16).contains(&opened), "{opened}");
+    assert!((112..=112 + 16).contains(&opened), "{opened}");
     let block = Block::new(&[1; 1000]).expect("there is memory");
     assert!(LIVE.get() - before > 1000);
     for _ in 0..100 {
@@ -45,7 +45,8 @@ fn each_block_is_counted_and_comes_back() {
     }
     assert!(LIVE.get() - before > 100_000);
     REFUSES.set(true);
-    let refused = (connection.write(&[3]), Block::new(b"no"), block.try_clone());
+    // longer than what shares memory with the messages before it
+    let refused = (connection.write(&[3; 5000]), Block::new(b"no"), block.try_clone());
     REFUSES.set(false);
     assert!(matches!(refused, (Err(Refusal::NoMemory), Err(Refusal::NoMemory), Err(Refusal::NoMemory))));
     let _ = connection.flush().expect("it is open");

@@ -68,33 +68,31 @@ fn is_as_it_was(connection: &Connection, count: u64) -> bool {
 #[test]
 fn what_a_writer_took_is_gone_and_no_more() {
     let mut connection = with_bytes(100);
-    let mut socket = writer([Step::Takes(7), Step::Takes(1000), Step::Takes(1000)]);
+    let mut socket = writer([Step::Takes(7), Step::Takes(1000)]);
     let sent = connection.send_to(&mut socket).expect("it takes");
     assert_eq!((sent.bytes, sent.blocked, sent.more), (7, false, true));
     assert_eq!(sent.taken.settled().collect::<Vec<_>>(), (0..7).map(|id| (id, Outcome::Success)).collect::<Vec<_>>());
-    // 93 are left, and 64 pieces are offered at once
-    assert_eq!(connection.send_to(&mut socket).expect("it takes").bytes, 64);
-    assert_eq!(connection.send_to(&mut socket).expect("it takes").bytes, 29);
-    assert_eq!(socket.offered, [64, 64, 29]);
+    assert_eq!(connection.send_to(&mut socket).expect("it takes").bytes, 93);
+    assert_eq!(socket.offered, [100, 93]);
     assert_eq!(socket.took, (0..100).collect::<Vec<u8>>());
     assert!(is_as_it_was(&connection, 0));
 }
 
 #[test]
-fn seventy_messages_come_over_a_socket_in_two_calls() {
+fn a_thousand_messages_come_over_a_socket_in_two_calls() {
     let (mut socket, mut peer) = UnixStream::pair().expect("there are sockets");
     let mut connection = Connection::open(Marks::default(), Estimate::default()).expect("there is memory");
-    // message n is n + 1 times the byte n, so that no two pieces are alike
-    let messages: Vec<Vec<u8>> = (0..70u8).map(|byte| vec![byte; usize::from(byte) + 1]).collect();
+    // message n is the number n, and one more byte if n is odd, so that no two pieces beside each other are alike
+    let messages: Vec<Vec<u8>> =
+        (0..1030u16).map(|number| [&number.to_le_bytes()[..], &[9][..usize::from(number % 2)]].concat()).collect();
     for message in &messages {
         let _ = connection.write(message).expect("it is accepted");
     }
     let _ = connection.flush().expect("it is open");
-    let pieces = connection.pieces::<64>(u32::MAX);
-    assert!(pieces.iter().map(|piece| &piece[..]).eq(messages[..64].iter().map(|message| &message[..])));
+    let pieces = connection.pieces::<70>(u32::MAX);
+    assert!(pieces.iter().map(|piece| &piece[..]).eq(messages[..70].iter().map(|message| &message[..])));
     drop(pieces);
-    // 1 and so on to 64, and 65 and so on to 70
-    for (count, bytes) in [(64, 2080), (6, 405)] {
+    for (count, bytes) in [(1024, 2560), (6, 15)] {
         let sent = connection.send_to(&mut socket).expect("it takes");
         assert_eq!((sent.taken.count, sent.bytes), (count, bytes));
     }
@@ -105,9 +103,30 @@ fn seventy_messages_come_over_a_socket_in_two_calls() {
 }
 
 #[test]
+fn parts_are_one_message() {
+    let mut connection = with_bytes(0);
+    let bytes: Vec<u8> = (0..100).collect();
+    // part n has n bytes, and some have none
+    for count in [0, 1, 2, 13] {
+        let mut parts = Vec::new();
+        let mut wanted = Vec::new();
+        for length in 0..count {
+            parts.push(io::IoSlice::new(&bytes[length..2 * length]));
+            wanted.extend_from_slice(&bytes[length..2 * length]);
+        }
+        let written = connection.write_parts(&parts).expect("it is accepted");
+        assert_eq!(connection.look().total, wanted.len() as u32 + 96);
+        let _ = connection.flush().expect("it is open");
+        let mut socket = writer([Step::Takes(1000)]);
+        let sent = connection.send_to(&mut socket).expect("it takes");
+        assert_eq!((sent.taken.promises, socket.took), (written.id..written.id + 1, wanted));
+    }
+}
+
+#[test]
 fn a_writer_is_not_believed_past_what_it_was_offered() {
     let mut connection = with_bytes(100);
-    let error = connection.send_to(&mut writer([Step::Claims(65)])).expect_err("64 were offered");
+    let error = connection.send_to(&mut writer([Step::Claims(101)])).expect_err("100 were offered");
     assert_eq!(error.kind(), ErrorKind::InvalidData);
     assert!(is_as_it_was(&connection, 100));
 }

@@ -1,0 +1,6 @@
+use Rattle.std.proofs.Common.{◌≡◌, length, take}
+use Rattle.ob_c.specs.Parts.{joined}
+use Rattle.ob_c.proofs.parts.length_of.Given as goal
+
+abbrev pub invariant-loop-part : goal.invariant-loop-part
+invariant-loop-part l = l.count ≡ length (joined (take l.part-index l.fn.parts))

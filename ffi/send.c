@@ -1,0 +1,88 @@
+/*
+ * limekeel_send, over sendmsg. limekeel.h says what it does.
+ *
+ * It is made of calls of the archive, and not itself proved. liblimekeel.a has this file too.
+ */
+#define _POSIX_C_SOURCE 200809L
+#include <errno.h>
+#include <sys/socket.h>
+
+#include "limekeel.h"
+
+/* Makes one slice of those that lie together in memory, and returns how many are left. */
+static size_t joined(struct iovec *slices, size_t count)
+{
+    size_t last = 0;
+    for (size_t at = 1; at < count; at++) {
+        if ((const uint8_t *)slices[last].iov_base + slices[last].iov_len == (const uint8_t *)slices[at].iov_base)
+            slices[last].iov_len += slices[at].iov_len;
+        else
+            slices[++last] = slices[at];
+    }
+    return last + 1;
+}
+
+static size_t bytes_in(const struct iovec *slices, size_t count)
+{
+    size_t bytes = 0;
+    for (size_t at = 0; at < count; at++)
+        bytes += slices[at].iov_len;
+    return bytes;
+}
+
+/* Offers a socket these slices, and tells how many bytes it took. Returns how the sending ends by that, or
+ * LIMEKEEL_ENDED_DRAINED if the socket took all that it was offered. */
+static uint32_t offer(int socket, struct iovec *slices, size_t count, uint64_t *took, int *error)
+{
+    struct msghdr message = {.msg_iov = slices, .msg_iovlen = joined(slices, count)};
+    for (;;) {
+        ssize_t sent = sendmsg(socket, &message, MSG_NOSIGNAL | MSG_DONTWAIT);
+        if (sent >= 0) {
+            *took = (uint64_t)sent;
+            return *took == bytes_in(slices, message.msg_iovlen) ? LIMEKEEL_ENDED_DRAINED : LIMEKEEL_ENDED_BLOCKED;
+        }
+        if (errno == EAGAIN || errno == EWOULDBLOCK)
+            return LIMEKEEL_ENDED_BLOCKED;
+        if (errno == EMSGSIZE && message.msg_iovlen > 1) {
+            message.msg_iovlen /= 2;
+        } else if (errno != EINTR) {
+            *error = errno;
+            return LIMEKEEL_ENDED_BROKEN;
+        }
+    }
+}
+
+/* Takes away what was sent, along with what went before. */
+static void take(struct limekeel_connection *connection, uint64_t bytes, struct limekeel_sent *sent)
+{
+    struct limekeel_taken taken = limekeel_take_sent(connection, bytes);
+    if (sent->taken.outcome == LIMEKEEL_SUCCESS) {
+        /* the promises follow those before, and writability changed by one of them at most */
+        taken.from = sent->taken.from;
+        taken.count += sent->taken.count;
+        if (taken.change == LIMEKEEL_UNCHANGED)
+            taken.change = sent->taken.change;
+    }
+    sent->taken = taken;
+    sent->status = taken.status;
+    sent->bytes += bytes;
+}
+
+struct limekeel_sent limekeel_send(struct limekeel_connection *connection, int socket, uint32_t max_turns)
+{
+    struct limekeel_sent sent = {0};
+    for (uint32_t turn = 1;; turn++) {
+        struct iovec slices[LIMEKEEL_PIECES];
+        size_t count = limekeel_gather_iovec(connection, slices, LIMEKEEL_PIECES, UINT32_MAX).count;
+        uint64_t took = 0;
+        if (count > 0)
+            sent.ending = offer(socket, slices, count, &took, &sent.error);
+        take(connection, took, &sent);
+        if (sent.ending != LIMEKEEL_ENDED_DRAINED || sent.status != LIMEKEEL_OK || limekeel_is_empty(connection).holds)
+            return sent;
+        if (count == 0 || turn >= max_turns) {
+            sent.ending = count == 0 ? LIMEKEEL_ENDED_OTHER : LIMEKEEL_ENDED_BY_TURNS;
+            return sent;
+        }
+    }
+}
