@@ -1,7 +1,16 @@
+pub mod Bells
 pub mod Ending
 pub mod GivingUp
-pub mod Keeping
 pub mod Lists
+pub mod Locking
+pub mod Publishing
+pub mod Ringing
+pub mod Seating
+pub mod Sending
+pub mod Shares
 pub mod Staying
 pub mod Taking
 pub mod Told
+pub mod Turns
+pub mod Views
+pub mod Waiting

@@ -1,6 +1,6 @@
 -- What is flushed stays in front while commands are accepted that take none of it away.
-use Rattle.std.proofs.Common.{◌≡◌, ◌≤◌, ◌<◌, ◌+◌, ◌⊎◌, inl, inr, ⊎_elim, ℕ, zero, suc, Bool, true, false, cond, List, [], ◌∷◌, ◌++◌, map, length}
-use Rattle.std.proofs.Common.{refl, sym, ap, ◌∙◌, subst, arith, append_assoc, ◌&&◌, if◌then◌else◌, Some, None, filter, is_some}
+use Rattle.std.proofs.Common.{◌≡◌, ◌≤◌, ◌<◌, ℕ, zero, suc, Bool, true, false, cond, List, [], ◌∷◌, ◌++◌, map, length}
+use Rattle.std.proofs.Common.{refl, sym, ap, ◌∙◌, subst, arith, append_assoc, ◌&&◌, if◌then◌else◌, Some, None, is_some}
 use Rattle.std.proofs.lemmas.List.{append-nil, map-append}
 use Rattle.std.proofs.lemmas.List.Elements.{filter-append}
 use Rattle.std.proofs.lemmas.List.Sums.{fold-append, sum_by-append, take_while-cons}
@@ -13,10 +13,9 @@ use Rattle.ob_types.specs.declared.command.Command.TheVariants.{Cancel, FailFlus
 use Rattle.ob_types.specs.declared.estimate.Estimate.{Estimate}
 use Rattle.ob_types.specs.declared.message.Message.{Message}
 use Rattle.ob_types.specs.declared.promise.Cause.{Cause}
-use Rattle.ob_types.specs.declared.refusal.Refusal.{Refusal}
 use Rattle.ob_types.specs.declared.refusal.Refusal.TheVariants.{Closed, FlushedLeft, TooManyBytes}
 use Rattle.ob_seq.specs.Answer.{are_accepted_within, first_refusal_within, is_accepted_within, refusal_within}
-use Rattle.ob_seq.specs.ByteRun.{block_bytes, blocks_in_front, byte_run}
+use Rattle.ob_seq.specs.ByteRun.{block_bytes, blocks_in_front}
 use Rattle.ob_seq.specs.Closed.{is_close, is_closed}
 use Rattle.ob_seq.specs.Effect.{cancelled, closed_row, effect, flushed_row, progressed_row, reached_row, rows_after, with_cancelled, with_front}
 use Rattle.ob_seq.specs.Line.{front, is_in_line, line}

@@ -1,5 +1,5 @@
 -- A removal of what was in front is accepted.
-use Rattle.std.proofs.Common.{◌≡◌, ◌≤◌, ◌<◌, ℕ, Bool, true, false, List, ◌++◌, length, min, max, refl, sym, ap, ◌∙◌, subst, arith}
+use Rattle.std.proofs.Common.{◌≡◌, ◌≤◌, ◌<◌, ℕ, true, false, List, ◌++◌, length, min, max, refl, sym, ap, ◌∙◌, subst, arith}
 use Rattle.std.proofs.Common.{Result, Ok, Err, IfOk, IsOk, is_ok}
 use Rattle.std.proofs.lemmas.List.{map-append}
 use Rattle.std.proofs.lemmas.List.Folds.{list_all-map}
@@ -19,10 +19,11 @@ use Rattle.ob_connection.specs.Looks.{AreGathered}
 use Rattle.ob_connection.specs.Obeying.{promises_after}
 use Rattle.ob_connection.specs.Replies.{taken_reply, told_by}
 use Rattle.ob_connection.specs.declared.replies.Taken.{Taken}
-use Rattle.ob_shared_connection.specs.Calls.{Makes, Taking, UnderLock}
+use Rattle.ob_shared_connection.specs.Calls.{IsLock, Makes, Taking, UnderLock}
 use Rattle.ob_shared_connection.specs.Log.{commands_of}
 use Rattle.ob_shared_connection.specs.Looking.{Gathers, IsLook}
 use Rattle.ob_shared_connection.specs.Removals.{leaves_flushed}
+use Rattle.ob_shared_connection.specs.Sending.{Accepts}
 use Rattle.ob_shared_connection.specs.Staying.{AreInFront, blocks_after}
 use Rattle.ob_shared_connection.specs.Values.{HandleValue, Held, IsLeft}
 use Rattle.ob_shared_connection.specs.declared.call.Call.{Call}
@@ -37,37 +38,46 @@ accepted_is_ok tell (Err refusal) answer is accepted = absurd (no_answer (ap is_
     no_answer : false ≡ true → ⊥
     no_answer never = cc never
 
-pub taken_if_in_front : (old : HandleValue) (n : ℕ) (result : Result Taken Refusal) (new : HandleValue) → old.sends ≡ true
-    → UnderLock old (Makes (Taking Success) (RemoveBytes n) result) new → AreInFront old n → IsOk result
-taken_if_in_front old n result new sends under in_front =
-    let before = under.before in
-    let between = commands_of under.locks.between in
+-- what was in front when the lock was let go can be taken away when it is taken again
+pub accepted_if_in_front : (old : HandleValue) (n : ℕ) (before : Held) → old.sends ≡ true → IsLock old before
+    → AreInFront old n → Accepts before (RemoveBytes n)
+accepted_if_in_front old n before sends locks in_front =
+    let between = commands_of locks.between in
     let seen : commands_of before.handle.seen ≡ commands_of old.seen ++ between =
-    ap (λ (handle : HandleValue). commands_of handle.seen) under.locks.sees
-    ∙ map-append (λ (call : Call). call.command) old.seen under.locks.between in
-    let settings : before.connected.unsent.settings ≡ old.settings =
-    under.locks.left.settings_are ∙ ap (λ (handle : HandleValue). handle.settings) under.locks.sees in
-    let stands = under.locks.left.stands in
+    ap (λ (handle : HandleValue). commands_of handle.seen) locks.sees
+    ∙ map-append (λ (call : Call). call.command) old.seen locks.between in
+    let opened : before.handle.settings ≡ old.settings = ap (λ (handle : HandleValue). handle.settings) locks.sees in
+    let settings : before.connected.unsent.settings ≡ old.settings = locks.left.settings_are ∙ opened in
+    let stands = locks.left.stands in
     let accepted : connection_accepts_all old.settings (commands_of old.seen ++ between) ≡ true =
     subst (λ (commands : List Command). connection_accepts_all old.settings commands ≡ true) seen
     (subst (λ (opened : Settings). connection_accepts_all opened (commands_of before.handle.seen) ≡ true) settings
     stands.accepted) in
     let leaves : list_all leaves_flushed between ≡ true =
-    list_all-map leaves_flushed (λ (call : Call). call.command) under.locks.between
-    ∙ list_all-from_AllPass (λ (call : Call). leaves_flushed call.command) under.locks.between
-    (under.locks.untouched sends) in
+    list_all-map leaves_flushed (λ (call : Call). call.command) locks.between
+    ∙ list_all-from_AllPass (λ (call : Call). leaves_flushed call.command) locks.between
+    (locks.untouched sends) in
     let stays = bytes_stay old.settings (commands_of old.seen) between accepted leaves in_front.some in
+    subst (λ (settings_of : Settings).
+    connection_accepts settings_of (commands_of before.handle.seen) (RemoveBytes n) ≡ true) (sym opened)
+    (subst (λ (commands : List Command). connection_accepts old.settings commands (RemoveBytes n) ≡ true) (sym seen)
+    (stays.accepted n in_front.enough))
+
+pub taken_if_in_front : (old : HandleValue) (n : ℕ) (result : Result Taken Refusal) (new : HandleValue) → old.sends ≡ true
+    → UnderLock old (Makes (Taking Success) (RemoveBytes n) result) new → AreInFront old n → IsOk result
+taken_if_in_front old n result new sends under in_front =
+    let before = under.before in
+    let stands = under.locks.left.stands in
     let now : connection_accepts before.connected.unsent.settings (commands_of before.handle.seen) (RemoveBytes n) ≡ true =
     subst (λ (opened : Settings).
-    connection_accepts opened (commands_of before.handle.seen) (RemoveBytes n) ≡ true) (sym settings)
-    (subst (λ (commands : List Command). connection_accepts old.settings commands (RemoveBytes n) ≡ true) (sym seen)
-    (stays.accepted n in_front.enough)) in
+    connection_accepts opened (commands_of before.handle.seen) (RemoveBytes n) ≡ true)
+    (sym under.locks.left.settings_are) (accepted_if_in_front old n before sends under.locks in_front) in
     accepted_is_ok
     (taken_reply (promises_after before.connected.unsent.settings (commands_of before.handle.seen))) result _
     (under.does.does.obeys.answer under.does.does.frugal (commands_of before.handle.seen) stands) now
 
 -- what is gathered are bytes in front
-gathered_in_front : (settings : Settings) (commands : List Command) (max_count max_bytes : ℕ)
+pub gathered_in_front : (settings : Settings) (commands : List Command) (max_count max_bytes : ℕ)
     → bytes_in (gathered_after settings commands max_count max_bytes) ≤ bytes_in (blocks_after settings commands)
 gathered_in_front settings commands max_count max_bytes =
     let blocks = blocks_after settings commands in

@@ -5,7 +5,6 @@ use Rattle.atomic_table.specs.Seated.{TableId}
 use Rattle.atomic_table.specs.Table.{rest}
 use Rattle.ob_types.specs.Packed.{packed}
 use Rattle.ob_types.specs.declared.command.Command.{Command}
-use Rattle.ob_types.specs.declared.refusal.Refusal.{Refusal}
 use Rattle.ob_connection.specs.Connected.{Connected}
 use Rattle.ob_connection.specs.Standing.{StandsFor}
 use Rattle.ob_shared_connection.specs.Acts.{Continues}
@@ -13,8 +12,8 @@ use Rattle.ob_shared_connection.specs.Calls.{IsCall, IsLock}
 use Rattle.ob_shared_connection.specs.Glances.{IsGlance, IsLegal, glance_after}
 use Rattle.ob_shared_connection.specs.Log.{calls_of, commands_by, commands_of}
 use Rattle.ob_shared_connection.specs.Ruled.{settings_of, view_with}
-use Rattle.ob_shared_connection.specs.Steps.{HasLock, Holds, IsNamed, Knows, Locks, Reads, Rests, connected_in, handle_of, held_of}
-use Rattle.ob_shared_connection.specs.Values.{HandleValue, IsLeft, IsLeftBy, handle_with}
+use Rattle.ob_shared_connection.specs.Steps.{Holds, IsNamed, Knows, Locks, Reads, Rests, connected_in, handle_of, held_of}
+use Rattle.ob_shared_connection.specs.Values.{IsLeftBy}
 use Rattle.ob_shared_connection.specs.declared.call.Call.{Call}
 use Rattle.ob_shared_connection.specs.declared.glance.Glance.{Glance}
 use Rattle.ob_shared_connection.specs.declared.view.View.{View}
@@ -44,6 +43,7 @@ module _ (old new : Knows) (named : IsNamed old.0) (locks : Locks old new) where
       slot = locks.slot ∙ ap (λ (slots : List (ℕ × Connected)). (0, connected_in new.1) ∷ slots) none;
     };
     left = seat_left;
+    unheard_yet = ap (λ (view : View). view.bells) locks.view;
   }
 
   -- as contracts say it
@@ -154,10 +154,11 @@ module _ (me : Knows) (commands : List Command) (before after : Connected) (hold
       slot = ap (λ (slots : List (ℕ × Connected)). (0, after) ∷ rest slots) holds.lock.slot;
     };
     left = left_next;
+    unheard_yet = holds.unheard_yet;
   }
 
   -- and the call is as contracts say it
-  pub is_call : {A : Type 0} (Does : Connected → Result A Refusal → Connected → Type 0) (table : TableId) (answer : A)
+  pub is_call : {A E : Type 0} (Does : Connected → Result A E → Connected → Type 0) (table : TableId) (answer : A)
       → Does before (Ok answer) after → IsCall Does commands (held_of table me) (Ok answer) (held_of table next)
   is_call Does table answer does = record {
     does = subst (λ (connected : Connected). Does connected (Ok answer) after) (sym was) does;

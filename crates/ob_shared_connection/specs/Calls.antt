@@ -1,7 +1,8 @@
 -- What a handle is told at the lock, and what a call promises.
-use Rattle.std.specs.Prelude.{◌≡◌, ℕ, true, false, List, [], ◌∷◌, ◌++◌, Result, IfErr, IfOk, IsErrOf, OnErr, OnOk, is_err}
+use Rattle.std.specs.Prelude.{◌≡◌, true, false, List, [], ◌∷◌, ◌++◌, Result, IfErr, IfOk, IsErrOf, OnErr, OnOk, is_err}
 use Rattle.ob_types.specs.declared.command.Command.{Command}
-use Rattle.ob_types.specs.declared.command.Command.TheVariants.{Close, FailFlushed}
+use Rattle.ob_types.specs.declared.command.Command.TheVariants.{Close, FailFlushed, Write}
+use Rattle.ob_types.specs.declared.message.Message.{Message}
 use Rattle.ob_types.specs.declared.promise.Cause.{Cause}
 use Rattle.ob_types.specs.declared.promise.Outcome.{Outcome}
 use Rattle.ob_types.specs.declared.promise.PromiseState.{PromiseState}
@@ -12,9 +13,11 @@ use Rattle.ob_seq.specs.State.{closed_after}
 use Rattle.ob_connection.specs.Connected.{Connected}
 use Rattle.ob_connection.specs.GivingUp.{GivesUp}
 use Rattle.ob_connection.specs.Obeying.{IsNext, IsQuiet, Obeys}
-use Rattle.ob_connection.specs.Replies.{taken_reply}
+use Rattle.ob_connection.specs.Replies.{answer_of_write, taken_reply, written_reply}
+use Rattle.ob_connection.specs.declared.refused.Refused.{Refused}
 use Rattle.ob_connection.specs.Standing.{Gives}
 use Rattle.ob_connection.specs.declared.replies.Taken.{Taken}
+use Rattle.ob_connection.specs.declared.replies.Written.{Written}
 use Rattle.ob_shared_connection.specs.Log.{commands_by}
 use Rattle.ob_shared_connection.specs.Removals.{NoneRemoves}
 use Rattle.ob_shared_connection.specs.Values.{HandleValue, Held, IsLeft, handle_with}
@@ -33,8 +36,8 @@ pub record IsLock (old : HandleValue) (new : Held) : Type 0 where
 
 -- a call under the lock does this to the connection; if it is accepted, the list has its commands behind all others, and
 -- else nothing changed
-pub record IsCall {A : Type 0} (Does : Connected → Result A Refusal → Connected → Type 0) (commands : List Command)
-    (old : Held) (result : Result A Refusal) (new : Held) : Type 0 where
+pub record IsCall {A E : Type 0} (Does : Connected → Result A E → Connected → Type 0) (commands : List Command)
+    (old : Held) (result : Result A E) (new : Held) : Type 0 where
   pub does : Does old.connected result new.connected
   pub listed : OnOk result (new.handle ≡ handle_with commands old.handle)
   pub refused : OnErr result (new ≡ old)
@@ -53,10 +56,15 @@ pub record UnderLock (old : HandleValue) (Does : Held → Held → Type 0) (new 
   pub does : Does before after
   pub unlocks : new ≡ after.handle
 
--- it obeys the command, as the sequential connection does, and may run out of memory
-abbrev pub Obeying : {A : Type 0} → (List PromiseState → A → Reply) → Command → Connected → Result A Refusal → Connected
-    → Type 0
-Obeying tell command old result new = Obeys old command tell result new
+-- it writes a message, as the sequential connection does, may run out of memory, and gives a message back that it refuses
+pub record Writing (message : Message) (old : Connected) (result : Result Written Refused) (new : Connected)
+    : Type 0 where
+  pub obeys : Obeys old (Write message) written_reply (answer_of_write result) new
+  pub returned : IfErr result (λ refused. refused.message ≡ message)
+
+-- a call that writes a message
+abbrev pub Writes : Message → Result Written Refused → Held → Held → Type 0
+Writes message result old new = IsCall (Writing message) (Write message ∷ []) old result new
 
 -- it obeys the command, and never runs out of memory
 pub record ObeyingFreely {A : Type 0} (tell : List PromiseState → A → Reply) (command : Command) (old : Connected)

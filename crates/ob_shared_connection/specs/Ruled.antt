@@ -1,7 +1,7 @@
 -- What holds of the words, of the connection and of what each seat knows, between any two steps. No public clause cites
 -- it.
-use Rattle.std.specs.Prelude.{◌≡◌, ◌<◌, ◌≤◌, ◌+◌, ℕ, Bool, true, false, List, [], ◌∷◌, ◌++◌, length, slice_index}
-use Rattle.std.specs.List.{sum_by}
+use Rattle.std.specs.Prelude.{◌≡◌, ◌≢◌, ◌<◌, ◌≤◌, ◌+◌, ◌^◌, ℕ, Bool, true, false, List, [], ◌∷◌, ◌++◌, length, slice_index}
+use Rattle.std.specs.List.{All, sum_by}
 use mathlib.Core.Option.{Option, some}
 use lib.ListN.{get_elem?}
 use Rattle.atomic_table.specs.Table.{State}
@@ -10,11 +10,16 @@ use Rattle.ob_types.specs.declared.command.Command.{Command}
 use Rattle.ob_types.specs.declared.estimate.Estimate.{Estimate}
 use Rattle.ob_seq.specs.Settings.{Settings}
 use Rattle.ob_connection.specs.Connected.{Connected}
+use Rattle.ob_shared_connection.specs.Bells.{bell_word, is_silent, unheard}
 use Rattle.ob_shared_connection.specs.Glances.{IsLegal, glance_after, packed_glance}
-use Rattle.ob_shared_connection.specs.Log.{IsBeginning, calls_of, commands_by}
+use Rattle.ob_shared_connection.specs.Log.{IsBeginning, calls_of, commands_by, commands_of}
 use Rattle.ob_shared_connection.specs.Removals.{NoneRemoves}
+use Rattle.ob_shared_connection.specs.Shares.{halves, parts_in}
 use Rattle.ob_shared_connection.specs.Values.{IsLeftBy}
+use Rattle.ob_shared_connection.specs.Waiting.{is_due, moment_after}
+use Rattle.ob_shared_connection.specs.declared.bell.Waiter.{Waiter}
 use Rattle.ob_shared_connection.specs.declared.call.Call.{Call}
+use Rattle.ob_shared_connection.specs.declared.view.Bells.{Bells}
 use Rattle.ob_shared_connection.specs.declared.view.View.{View}
 
 -- what a seat's connection was opened with
@@ -37,6 +42,8 @@ first_view about = record {
   told = [];
   others = 0;
   handed = 0;
+  share = 0 ∷ [];
+  bells = unheard;
 }
 
 -- what a new seat knows that is cut off another one
@@ -55,7 +62,13 @@ new_view view = record {
   told = [];
   others = 0;
   handed = 0;
+  share = view.share;
+  bells = unheard;
 }
+
+-- what the seat knows that it was cut off
+abbrev pub sharing_view : View → View
+sharing_view view = record view { share = halves view.share }
 
 -- once it has its number
 abbrev pub named_view : ℕ → View → View
@@ -63,11 +76,15 @@ named_view caller view = record view { named = true; caller = caller }
 
 -- once it has the lock, and has seen these calls
 abbrev pub held_view : List Call → View → View
-held_view log view = record view { holds = true; shows = true; seen = log }
+held_view log view = record view { holds = true; shows = true; seen = log; bells = unheard }
 
 -- once it has published the glance after all calls
 abbrev pub shown_view : View → View
 shown_view view = record view { shows = true }
+
+-- once it knows this of the bells
+abbrev pub hearing_view : Bells → View → View
+hearing_view bells view = record view { bells = bells }
 
 -- once it let the lock go
 abbrev pub free_view : View → View
@@ -91,6 +108,7 @@ both_views view other = record view {
   told = other.seen;
   others = view.others + (1 + other.others);
   handed = view.handed + (length other.mine + other.handed);
+  share = view.share ++ other.share;
 }
 
 -- what a seat knows that was taken in
@@ -109,6 +127,8 @@ spent_view = record {
   told = [];
   others = 0;
   handed = 0;
+  share = [];
+  bells = unheard;
 }
 
 -- a number, if this holds, and else none
@@ -183,12 +203,41 @@ pub record AreCounted (log : List Call) (number : ℕ) (views : List View) : Typ
   pub given : number ≡ sum_by handles_of views
   pub counted : length log ≡ sum_by calls_with views
 
--- there is one list of calls, which the views of all seats fit; while the first word is 0 the connection is at home; the
--- second counts the handles, and the third is published
+-- a seat has a share unless it was taken in, and the whole is cut as finely as its parts
+pub record HasShare (fine : ℕ) (view : View) : Type 0 where
+  pub within : All (λ halved. halved ≤ fine) view.share
+  pub some : view.spent ≡ false → 0 < length view.share
+  pub there : view.named ≡ true → view.spent ≡ false
+
+-- the shares of all seats are together the whole
+pub record AreShared (views : List View) : Type 0 where
+  pub fine : ℕ
+  pub each : (seat : ℕ) (view : View) → get_elem? views seat ≡ some view → HasShare fine view
+  pub whole : sum_by (λ view. parts_in fine view.share) views ≡ 2 ^ fine
+
+-- the seat of a handle has the lock
+pub record IsTaken (views : List View) : Type 0 where
+  pub seat : ℕ
+  pub view : View
+  pub at : get_elem? views seat ≡ some view
+  pub holds : view.holds ≡ true
+  pub named : view.named ≡ true
+
+-- while the lock is free, nobody waits at a bell who may go on; and what the seat knows that has the lock is so
+pub record IsBell (waiter : Waiter) (past : Past) (lock bell : ℕ) (views : List View) : Type 0 where
+  pub rung : lock ≡ 0 → is_due (moment_after waiter past.settings (commands_of past.log)) ≡ true → bell ≡ 0
+  pub known : (seat : ℕ) (view : View) → get_elem? views seat ≡ some view → view.holds ≡ true
+      → is_silent waiter view.bells ≡ true → bell ≡ 0
+
+-- there is one list of calls, which the views of all seats fit; while the first word is 0 the connection is at home, and
+-- else a handle has it; the second counts the handles, the third is published, and the two after it are bells
 pub record Ruled (state : State Connected View) : Type 0 where
   pub past : Past
   pub words : length state.words ≡ 8
   pub free : slice_index state.words 0 ≡ 0 → IsFree past state.homes state.views
   pub fits : AllFit past state.views
+  pub taken : slice_index state.words 0 ≢ 0 → IsTaken state.views
   pub counts : AreCounted past.log (slice_index state.words 1) state.views
+  pub shares : AreShared state.views
+  pub bells : (waiter : Waiter) → IsBell waiter past (slice_index state.words 0) (slice_index state.words (bell_word waiter)) state.views
   pub shown : IsShown past (slice_index state.words 2)

@@ -1,6 +1,6 @@
 -- What stays in front while a connection is unlocked.
-use Rattle.std.specs.Prelude.{◌≡◌, ◌≤◌, ◌<◌, ℕ, true, false, List, ◌++◌}
-use Rattle.std.specs.List.{list_all, concat}
+use Rattle.std.specs.Prelude.{◌≡◌, ◌≤◌, ◌<◌, ℕ, true, List, ◌++◌}
+use Rattle.std.specs.List.{list_all}
 use Rattle.ob_types.specs.declared.command.Command.{Command}
 use Rattle.ob_types.specs.declared.command.Command.TheVariants.{RemoveBytes}
 use Rattle.ob_seq.specs.ByteRun.{byte_run}

@@ -1,15 +1,18 @@
 -- What a seat is between two steps, and what a step tells it. No public clause cites it.
-use Rattle.std.specs.Prelude.{◌≡◌, ◌≢◌, ◌<◌, ℕ, true, false, List, [], ◌∷◌, ◌++◌}
+use Rattle.std.specs.Prelude.{◌≡◌, ◌≢◌, ◌<◌, ℕ, Bool, true, false, List, [], ◌∷◌, ◌++◌}
 use Rattle.atomic_table.specs.Seated.{TableId}
 use Rattle.atomic_table.specs.Table.{Me}
 use Rattle.ob_connection.specs.Connected.{Connected}
 use Rattle.ob_seq.specs.Unsent.{nothing_unsent}
+use Rattle.ob_shared_connection.specs.Bells.{awaited, is_owed, is_silent, silent, unheard}
 use Rattle.ob_shared_connection.specs.Glances.{IsLegal, glance_after, packed_glance}
 use Rattle.ob_shared_connection.specs.Handles.{IsEnd}
-use Rattle.ob_shared_connection.specs.Log.{IsBeginning, commands_by}
+use Rattle.ob_shared_connection.specs.Log.{IsBeginning, commands_by, commands_of}
 use Rattle.ob_shared_connection.specs.Removals.{NoneRemoves}
-use Rattle.ob_shared_connection.specs.Ruled.{held_view, named_view, seeing_view, settings_of, shown_view}
+use Rattle.ob_shared_connection.specs.Ruled.{hearing_view, held_view, named_view, seeing_view, settings_of, shown_view}
 use Rattle.ob_shared_connection.specs.Values.{HandleValue, Held, IsLeftBy}
+use Rattle.ob_shared_connection.specs.Waiting.{is_due, moment_after}
+use Rattle.ob_shared_connection.specs.declared.bell.Waiter.{Waiter}
 use Rattle.ob_shared_connection.specs.declared.call.Call.{Call}
 use Rattle.ob_shared_connection.specs.declared.ended.Ended.{Ended}
 use Rattle.ob_shared_connection.specs.declared.view.View.{View}
@@ -41,6 +44,7 @@ handle_of table view = record {
   seen = view.seen;
   others = view.others;
   handed = view.handed;
+  share = view.share;
 }
 
 abbrev pub held_of : TableId → Knows → Held
@@ -64,10 +68,41 @@ pub record HasLock (me : Knows) : Type 0 where
   pub holds : me.0.holds ≡ true
   pub slot : me.1 ≡ (0, connected_in me.1) ∷ []
 
--- and the connection is what all calls leave
+-- and the connection is what all calls leave, and of the bells nothing is known yet
 pub record Holds (me : Knows) : Type 0 where
   pub lock : HasLock me
   pub left : IsLeftBy (settings_of me.0) me.0.seen (connected_in me.1)
+  pub unheard_yet : me.0.bells ≡ unheard
+
+-- who waits at the bell and may go on does not any more, as the seat knows that has the lock
+abbrev pub IsRung : Waiter → View → Type 0
+IsRung waiter view =
+    is_due (moment_after waiter (settings_of view) (commands_of view.seen)) ≡ true → is_silent waiter view.bells ≡ true
+
+-- and may let it go: it is told that all is published, and all bells have rung
+pub record MayLeave (me : Knows) : Type 0 where
+  pub lock : HasLock me
+  pub left : IsLeftBy (settings_of me.0) me.0.seen (connected_in me.1)
+  pub shows : me.0.shows ≡ true
+  pub rung : (waiter : Waiter) → IsRung waiter me.0
+
+-- the seat that has the lock hears that nobody waits at the bell, or not
+pub record Hears (waiter : Waiter) (old : Knows) (found : ℕ) (new : Knows) : Type 0 where
+  pub none : found ≡ 0 → new ≡ (hearing_view (silent waiter old.0.bells) old.0, old.1)
+  pub some_one : found ≢ 0 → new ≡ old
+
+-- it tells there that someone is to wait, by this number
+pub record Awaits (waiter : Waiter) (old : Knows) (number : ℕ) (new : Knows) : Type 0 where
+  pub is : new ≡ (hearing_view (awaited waiter old.0.bells) old.0, old.1)
+  pub told : number ≡ 1
+
+-- what it knows of the bells once it had this one ring if it had to: of the other it knows what it knew
+pub record Hushes (waiter : Waiter) (due owed : Bool) (old new : Knows) : Type 0 where
+  pub is : new ≡ (hearing_view new.0.bells old.0, old.1)
+  pub quiet : due ≡ true → is_silent waiter new.0.bells ≡ true
+  pub owes : owed ≡ is_owed waiter new.0.bells
+  pub others : (other : Waiter) → other ≢ waiter → (is_silent other new.0.bells ≡ is_silent other old.0.bells)
+      × (is_owed other new.0.bells ≡ is_owed other old.0.bells)
 
 -- a seat takes the lock: it has the connection then, which is what all calls leave
 pub record Locks (old new : Knows) : Type 0 where

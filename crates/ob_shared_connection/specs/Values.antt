@@ -6,11 +6,12 @@ use Rattle.ob_seq.specs.Settings.{Settings}
 use Rattle.ob_connection.specs.Connected.{Connected}
 use Rattle.ob_connection.specs.Standing.{StandsFor}
 use Rattle.ob_shared_connection.specs.Log.{calls_of, commands_of}
+use Rattle.ob_shared_connection.specs.Shares.{halves}
 use Rattle.ob_shared_connection.specs.declared.call.Call.{Call}
 
 -- a handle: which connection it is of, and what that was opened with; its number; whether it is the one that takes
--- messages away; what was accepted from it, in order; the accepted calls that it has seen; and how many other handles it
--- took in, with the number of calls that were accepted from those
+-- messages away; what was accepted from it, in order; the accepted calls that it has seen; how many other handles it took
+-- in, with the number of calls that were accepted from those; and its share of the connection
 pub record HandleValue : Type 0 where
   pub connection : TableId
   pub settings : Settings
@@ -20,6 +21,7 @@ pub record HandleValue : Type 0 where
   pub seen : List Call
   pub others : ℕ
   pub handed : ℕ
+  pub share : List ℕ
 
 -- what lies under the lock, and the handle that has it: what it has seen are all accepted calls
 pub record Held : Type 0 where
@@ -41,3 +43,7 @@ handle_with commands handle = record handle {
   mine = handle.mine ++ commands;
   seen = handle.seen ++ calls_of handle.caller commands;
 }
+
+-- the handle once another got half of its share
+abbrev pub sharing : HandleValue → HandleValue
+sharing handle = record handle { share = halves handle.share }

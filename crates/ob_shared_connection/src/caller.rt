@@ -1,18 +1,24 @@
-ghost use Rattle.std.specs.Prelude.{◌≡◌, ◌≤◌, IfErr, IfOk, IsOkUnless};
+ghost use Rattle.std.specs.Prelude.{◌≡◌, ◌≤◌, true, IfErr, IfOk, IsOkUnless, OnErr, OnOk};
 ghost use Rattle.std.specs.Arc.{arc_value};
+
+mod sending;
 
 use crate::act::Act;
 use crate::ask::Ask;
+use crate::bell::Bell;
 use crate::ended::Ended;
 use crate::glance::Glance;
 use crate::handle::TooManyHandles;
-use crate::looks::Look;
+use crate::looks::{At, Leave};
+use crate::moment::Moment;
+use crate::place::Place;
 use crate::plays::Accepted;
 use crate::shared::{Seat, Shared};
 use ob_types::{Estimate, Refusal, WaterMark, pack, unpack};
 use std::alloc::Global;
 use std::marker::Brand;
 use std::sync::{Arc, Wait};
+use std::time::{Clock, Duration, Instant};
 
 /// What a handle and a guard are made of: the table, and a seat at it.
 #[derive(Drop)]
@@ -24,11 +30,13 @@ pub struct Caller {
 
 impl Caller {
     ghost use Rattle.ob_types.specs.Limits.{greatest_overhead, greatest_unknown};
-    ghost use Rattle.ob_shared_connection.specs.Handles.{IsAnother, IsEnd, IsFirst, IsJoined};
+    ghost use Rattle.ob_shared_connection.specs.Handles.{IsAnother, IsButForShare, IsEnd, IsFirst, IsJoined};
+    ghost use Rattle.ob_shared_connection.specs.Values.{sharing};
     ghost use Rattle.ob_shared_connection.specs.Calls.{IsCall, IsLock};
     ghost use Rattle.ob_shared_connection.specs.Glances.{IsGlance};
     ghost use Rattle.ob_shared_connection.specs.Looking.{IsLook};
     ghost use Rattle.ob_shared_connection.specs.Removals.{MayGive};
+    ghost use Rattle.ob_shared_connection.specs.Waiting.{IsMoment, is_due};
     ghost use Rattle.ob_shared_connection.specs.Callers.{caller_handle, caller_held, IsFree, IsHolder};
 
     /// The first caller of a connection with nothing written.
@@ -49,7 +57,8 @@ impl Caller {
     pub fn another(&mut self) -> Result<Caller, TooManyHandles>
         requires { IsFree self.old }
         ensures free { IsFree self.new }
-        ensures same { caller_handle self.new ≡ caller_handle self.old }
+        ensures shares { OnOk result (caller_handle self.new ≡ sharing (caller_handle self.old)) }
+        ensures same { OnErr result (IsButForShare (caller_handle self.old) (caller_handle self.new)) }
         ensures other_free { IfOk result IsFree }
         ensures other { IfOk result (λ other. IsAnother (caller_handle self.old) (caller_handle other)) }
     {
@@ -73,10 +82,78 @@ impl Caller {
         ensures free { IsFree self.new }
         ensures same { caller_handle self.new ≡ caller_handle self.old }
     {
-        let look = self.ask(Look);
+        let parting = self.ask(Leave);
         self.shared
-            .publish(&mut self.seat, pack(look.word, look.total));
-        self.shared.unlock(&mut self.seat);
+            .publish(&mut self.seat, pack(parting.word, parting.total));
+        let writers = self.shared.hush(&mut self.seat, parting.writers);
+        let work = self.shared.hush(&mut self.seat, parting.work);
+        self.shared.unlock(&mut self.seat, writers, work);
+    }
+
+    /// Takes the lock, and waits at a bell until who waits there may go on.
+    pub fn wait<B: Bell, R: Wait>(&mut self, rt: &R) -> Moment
+        requires { IsFree self.old }
+        ensures holds { IsHolder self.new }
+        ensures locks { IsLock (caller_handle self.old) (caller_held self.new) }
+        ensures finds { IsMoment B.waiter (caller_held self.new) result }
+        ensures came { is_due result ≡ true }
+    {
+        self.lock(rt);
+        'waits: for _ in rt.forever() {
+            let moment = self.moment::<B>();
+            if moment.is_due() {
+                return moment;
+            }
+            let place = self.leave_to_wait::<B>();
+            self.shared.sleep(rt, place);
+            self.lock(rt);
+        }
+        unreachable!()
+    }
+
+    /// The same, until this time at the latest: if there is none, or the clock cannot be read, it looks once.
+    pub fn wait_within<B: Bell, R: Wait + Clock>(&mut self, rt: &R, limit: Duration) -> Moment
+        requires { IsFree self.old }
+        ensures holds { IsHolder self.new }
+        ensures locks { IsLock (caller_handle self.old) (caller_held self.new) }
+        ensures finds { IsMoment B.waiter (caller_held self.new) result }
+    {
+        let end = time_after(rt, limit);
+        self.lock(rt);
+        'waits: for _ in rt.forever() {
+            let moment = self.moment::<B>();
+            if moment.is_due() {
+                return moment;
+            }
+            let Some(left) = time_until(rt, end) else {
+                return moment;
+            };
+            let place = self.leave_to_wait::<B>();
+            self.shared.sleep_within(rt, place, left);
+            self.lock(rt);
+        }
+        unreachable!()
+    }
+
+    /// What who waits at a bell finds.
+    fn moment<B: Bell>(&mut self) -> Moment
+        requires { IsHolder self.old }
+        ensures holds { IsHolder self.new }
+        ensures same { caller_held self.new ≡ caller_held self.old }
+        ensures finds { IsMoment B.waiter (caller_held self.old) result }
+    {
+        self.ask(At::<B>::new())
+    }
+
+    /// Tells at a bell that this caller is to wait, and lets the lock go.
+    fn leave_to_wait<B: Bell>(&mut self) -> Place<B>
+        requires { IsHolder self.old }
+        ensures free { IsFree self.new }
+        ensures same { caller_handle self.new ≡ caller_handle self.old }
+    {
+        let place = self.shared.await_bell(&mut self.seat);
+        self.unlock();
+        place
     }
 
     /// Reads the word and the total without the lock.
@@ -90,7 +167,7 @@ impl Caller {
     }
 
     /// Does something to the connection under the lock.
-    pub fn act<A: Act>(&mut self, act: A) -> Result<A::Answer, Refusal>
+    pub fn act<A: Act>(&mut self, act: A) -> Result<A::Answer, A::Fault>
         requires holds { IsHolder self.old }
         requires may { MayGive (caller_handle self.old).sends (A.commands act) }
         ensures holds { IsHolder self.new }
@@ -99,7 +176,7 @@ impl Caller {
         self.act_for::<A, Brand>(act)
     }
 
-    fn act_for<A: Act, C: Accepted>(&mut self, act: A) -> Result<A::Answer, Refusal>
+    fn act_for<A: Act, C: Accepted>(&mut self, act: A) -> Result<A::Answer, A::Fault>
         requires holds { IsHolder self.old }
         requires may { MayGive (caller_handle self.old).sends (A.commands act) }
         requires commands { C.commands ≡ A.commands act }
@@ -148,4 +225,15 @@ impl Caller {
             Err(shared) => Err(Caller { shared, seat }),
         }
     }
+}
+
+/// When a limit of time is over that begins now. None if the clock cannot be read, or ends before that.
+fn time_after<C: Clock>(clock: &C, limit: Duration) -> Option<Instant> {
+    Instant::now(clock).ok()?.checked_add(limit)
+}
+
+/// How long it is until then. None if it is over, or the clock cannot be read.
+fn time_until<C: Clock>(clock: &C, end: Option<Instant>) -> Option<Duration> {
+    let left = end?.saturating_duration_since(Instant::now(clock).ok()?);
+    if left.is_zero() { None } else { Some(left) }
 }

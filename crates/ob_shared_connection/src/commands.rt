@@ -2,12 +2,12 @@
 ghost use Rattle.std.specs.Prelude.{◌≡◌, false, ⊤, [], ◌∷◌};
 ghost use Rattle.ob_types.specs.declared.command.Command.TheVariants as command;
 ghost use Rattle.ob_types.specs.declared.promise.Outcome.TheVariants.{Success, Failed};
-ghost use Rattle.ob_connection.specs.Replies.{written_reply, flushed_reply, removed_reply, taken_reply, cancelled_reply};
+ghost use Rattle.ob_connection.specs.Replies.{flushed_reply, removed_reply, taken_reply, cancelled_reply};
 ghost use Rattle.ob_connection.specs.Replies.{bit_reply, done_reply};
-ghost use Rattle.ob_shared_connection.specs.Calls.{GivingUp, Obeying, ObeyingFreely, Taking, TakingQuietly, giving_up};
+ghost use Rattle.ob_shared_connection.specs.Calls.{GivingUp, ObeyingFreely, Taking, TakingQuietly, Writing, giving_up};
 
 use crate::act::Act;
-use ob_connection::{Connection, Flushed, Removed, Taken, Written};
+use ob_connection::{Connection, Flushed, Refused, Removed, Taken, Written};
 use ob_types::{Cause, Change, Message, Refusal, WaterMark};
 
 #[derive(Drop)]
@@ -16,15 +16,14 @@ pub struct Write(pub Message);
 impl Act for Write {
     type Answer = Written;
 
+    type Fault = Refused;
+
     ghost commands = { λ act. command.Write act.0 ∷ [] };
 
-    ghost does = { λ act. Obeying written_reply (command.Write act.0) };
+    ghost does = { λ act. Writing act.0 };
 
-    fn act(self, connection: &mut Connection) -> Result<Written, Refusal> {
-        match connection.write(self.0) {
-            Ok(written) => Ok(written),
-            Err(refused) => Err(refused.refusal),
-        }
+    fn act(self, connection: &mut Connection) -> Result<Written, Refused> {
+        connection.write(self.0)
     }
 }
 
@@ -33,6 +32,8 @@ pub struct Flush;
 
 impl Act for Flush {
     type Answer = Flushed;
+
+    type Fault = Refusal;
 
     ghost commands = { λ _. command.Flush ∷ [] };
 
@@ -49,6 +50,8 @@ pub struct Remove;
 impl Act for Remove {
     type Answer = Removed;
 
+    type Fault = Refusal;
+
     ghost commands = { λ _. command.Remove ∷ [] };
 
     ghost does = { λ _. ObeyingFreely removed_reply command.Remove };
@@ -63,6 +66,8 @@ pub struct RemoveWith(pub Cause);
 
 impl Act for RemoveWith {
     type Answer = Removed;
+
+    type Fault = Refusal;
 
     ghost commands = { λ act. command.RemoveWith act.0 ∷ [] };
 
@@ -79,6 +84,8 @@ pub struct TakeSent(pub u64);
 impl Act for TakeSent {
     type Answer = Taken;
 
+    type Fault = Refusal;
+
     ghost commands = { λ act. command.RemoveBytes act.0 ∷ [] };
 
     ghost does = { λ act. Taking Success (command.RemoveBytes act.0) };
@@ -93,6 +100,8 @@ pub struct Progress(pub u64);
 
 impl Act for Progress {
     type Answer = ();
+
+    type Fault = Refusal;
 
     ghost commands = { λ act. command.Progress act.0 ∷ [] };
 
@@ -109,6 +118,8 @@ pub struct Cancel(pub u64);
 impl Act for Cancel {
     type Answer = bool;
 
+    type Fault = Refusal;
+
     ghost commands = { λ act. command.Cancel (record { 0 = act.0 }) ∷ [] };
 
     ghost does = { λ act. ObeyingFreely (cancelled_reply act.0) (command.Cancel (record { 0 = act.0 })) };
@@ -123,6 +134,8 @@ pub struct FailFlushed(pub Cause, pub bool);
 
 impl Act for FailFlushed {
     type Answer = Taken;
+
+    type Fault = Refusal;
 
     ghost commands = { λ act. command.FailFlushed act.0 act.1 ∷ [] };
 
@@ -139,6 +152,8 @@ pub struct Close(pub Cause);
 impl Act for Close {
     type Answer = Taken;
 
+    type Fault = Refusal;
+
     ghost commands = { λ act. command.Close act.0 ∷ [] };
 
     ghost does = { λ act. TakingQuietly (Failed act.0) ⊤ (command.Close act.0) };
@@ -153,6 +168,8 @@ pub struct GiveUp(pub Cause);
 
 impl Act for GiveUp {
     type Answer = Taken;
+
+    type Fault = Refusal;
 
     ghost commands = { λ act. giving_up act.0 };
 
@@ -169,6 +186,8 @@ pub struct UserBit(pub u32, pub bool);
 impl Act for UserBit {
     type Answer = Option<Change>;
 
+    type Fault = Refusal;
+
     ghost commands = { λ act. command.UserBit act.0 act.1 ∷ [] };
 
     ghost does = { λ act. ObeyingFreely bit_reply (command.UserBit act.0 act.1) };
@@ -183,6 +202,8 @@ pub struct SetMarks(pub WaterMark);
 
 impl Act for SetMarks {
     type Answer = ();
+
+    type Fault = Refusal;
 
     ghost commands = { λ act. command.SetMarks act.0 ∷ [] };
 

@@ -1,25 +1,31 @@
-ghost use Rattle.std.specs.Prelude.{◌≡◌, ◌≤◌, true, IfErr, IfOk, IsOkUnless};
+ghost use Rattle.std.specs.Prelude.{◌≡◌, ◌≤◌, true, IfErr, IfOk, IsOkUnless, OnErr, OnOk};
 ghost use Rattle.ob_types.specs.Limits.{greatest_overhead, greatest_unknown};
 ghost use Rattle.ob_shared_connection.specs.Calls.{IsCall, IsLock, UnderLock};
 ghost use Rattle.ob_shared_connection.specs.Glances.{IsGlance};
-ghost use Rattle.ob_shared_connection.specs.Handles.{IsAnother, IsEnd, IsFirst, IsJoined};
+ghost use Rattle.ob_shared_connection.specs.Handles.{IsAnother, IsButForShare, IsEnd, IsFirst, IsJoined};
 ghost use Rattle.ob_shared_connection.specs.Looking.{IsLook};
 ghost use Rattle.ob_shared_connection.specs.Log.{commands_by};
+ghost use Rattle.ob_shared_connection.specs.Values.{sharing};
+ghost use Rattle.ob_shared_connection.specs.Waiting.{IsMoment, is_due};
+ghost use Rattle.ob_shared_connection.specs.declared.bell.Waiter.TheVariants as waiter;
 
 mod commands;
 mod looks;
 
 use crate::act::Act;
 use crate::ask::Ask;
+use crate::bell::Writers;
 use crate::caller::Caller;
 use crate::ended::Ended;
 use crate::glance::Glance;
 use crate::guard::Guard;
+use crate::moment::Moment;
 use crate::transport::Transport;
 use ob_types::{Estimate, Refusal, WaterMark};
 use std::alloc::{AllocError, Global};
 use std::marker::Model;
 use std::sync::Wait;
+use std::time::{Clock, Duration};
 use thiserror::Error;
 
 /// A connection has had more handles than can be counted: 2^64 - 1 ever, or 2^63 - 1 at a time.
@@ -86,7 +92,8 @@ impl Handle {
     /// can be had at any time, waits for nobody and does not allocate.
     pub fn another(&mut self) -> Result<Handle, TooManyHandles>
         ensures other { IfOk result (λ other. IsAnother self.old other) }
-        ensures same { self.new ≡ self.old }
+        ensures shares { OnOk result (self.new ≡ sharing self.old) }
+        ensures same { OnErr result (IsButForShare self.old self.new) }
     {
         Ok(Handle::new(self.caller.another()?))
     }
@@ -127,6 +134,29 @@ impl Handle {
         Guard::new(caller)
     }
 
+    /// Takes the lock once the connection is writable or closed, and tells which: at that moment, under the lock. It sleeps
+    /// meanwhile, without the lock. Whoever makes the connection writable, or closes it, wakes all who wait here.
+    pub fn wait_writable<R: Wait>(self, rt: &R) -> (Guard, Moment)
+        ensures locks { IsLock self result.0 }
+        ensures finds { IsMoment waiter.Writer result.0 result.1 }
+        ensures came { is_due result.1 ≡ true }
+    {
+        let Handle { mut caller } = self;
+        let moment = caller.wait::<Writers, R>(rt);
+        (Guard::new(caller), moment)
+    }
+
+    /// The same, but for no longer than `limit`: then the moment is `NotYet`. If the clock cannot be read, or would end
+    /// before that, it looks once.
+    pub fn wait_writable_within<R: Wait + Clock>(self, rt: &R, limit: Duration) -> (Guard, Moment)
+        ensures locks { IsLock self result.0 }
+        ensures finds { IsMoment waiter.Writer result.0 result.1 }
+    {
+        let Handle { mut caller } = self;
+        let moment = caller.wait_within::<Writers, R>(rt, limit);
+        (Guard::new(caller), moment)
+    }
+
     /// Takes another handle of the same connection in, once its thread is done with it. It waits for nobody.
     pub fn join(&mut self, other: Handle)
         requires { other.connection ≡ self.old.connection }
@@ -139,8 +169,9 @@ impl Handle {
     /// Ends the connection, if no other handle of it is left that was neither joined nor dropped; else the handle is
     /// given back.
     ///
-    /// There is one list of all calls, which begins with what each handle had seen, and if as many handles there ever
-    /// were as this one stands for, it has as many calls as were accepted from those. The connection is what they leave.
+    /// There is one list of all calls, which begins with what this handle had seen, and the connection is what they leave.
+    /// If its share is the whole, since all others were joined, as many handles there ever were as it stands for, and as
+    /// many calls as were accepted from those. The share of a handle that is dropped is lost.
     pub fn finish(self) -> Result<Ended, Handle>
         ensures ended { IfOk result (λ ended. IsEnd self ended) }
         ensures back { IfErr result (λ handle. handle ≡ self) }
@@ -153,7 +184,7 @@ impl Handle {
     }
 
     /// One call, which takes the lock and lets it go.
-    fn call<A: Act, R: Wait>(&mut self, rt: &R, act: A) -> Result<A::Answer, Refusal>
+    fn call<A: Act, R: Wait>(&mut self, rt: &R, act: A) -> Result<A::Answer, A::Fault>
         requires { MayGive self.old.sends (A.commands act) }
         ensures { UnderLock self.old (λ before after. IsCall (A.does act) (A.commands act) before result after) self.new }
     {

@@ -4,6 +4,7 @@
 
 mod act;
 mod ask;
+mod bell;
 mod call;
 mod caller;
 mod commands;
@@ -13,6 +14,10 @@ mod guard;
 mod handle;
 mod laws;
 mod looks;
+mod moment;
+mod offered;
+mod owed;
+mod place;
 mod plays;
 mod rule;
 mod shared;
@@ -25,4 +30,5 @@ pub use glance::Glance;
 pub use guard::Guard;
 pub use handle::{Handle, TooManyHandles};
 pub use laws::what_was_gathered_stays_in_front;
-pub use transport::Transport;
+pub use moment::Moment;
+pub use transport::{SendFault, Transport};

@@ -5,11 +5,16 @@ ghost use Rattle.ob_seq.specs.State.{writable_after, empty_after, closed_after};
 ghost use Rattle.ob_connection.specs.Looks.{IsFrontPromise, Refuses, Shows, Tells};
 ghost use Rattle.ob_connection.specs.Standing.{Gives};
 ghost use Rattle.ob_shared_connection.specs.Looking.{Gathers, RefusesFreely};
+ghost use Rattle.ob_shared_connection.specs.Leaving.{IsParting};
+ghost use Rattle.ob_shared_connection.specs.Waiting.{moment_after};
 
 use crate::ask::Ask;
+use crate::bell::{Bell, Work, Writers};
+use crate::moment::Moment;
 use bytes::Bytes;
 use ob_connection::{Connection, Status};
 use ob_types::Refusal;
+use std::marker::PhantomData;
 
 #[derive(Drop)]
 pub struct Look;
@@ -112,5 +117,56 @@ impl Ask for Gather {
 
     fn ask(self, connection: &Connection) -> Result<Vec<Bytes>, Refusal> {
         connection.gather(self.0, self.1)
+    }
+}
+
+/// What a handle that waits at a bell finds.
+#[derive(Drop)]
+pub struct At<B> {
+    bell: PhantomData<B>,
+}
+
+impl<B: Bell> At<B> {
+    pub fn new() -> At<B> {
+        At { bell: PhantomData }
+    }
+}
+
+impl<B: Bell> Ask for At<B> {
+    type Answer = Moment;
+
+    ghost shows = { λ _ connected moment. Gives connected (moment_after B.waiter) moment };
+
+    fn ask(self, connection: &Connection) -> Moment {
+        B::moment(connection)
+    }
+}
+
+/// What whoever lets the lock go has to know.
+#[derive(Drop)]
+pub struct Leave;
+
+/// What that is: the word and the total, and whether writers and the transport may go on.
+#[derive(Clone, Copy)]
+pub struct Parting {
+    pub word: u32,
+    pub total: u32,
+    pub writers: bool,
+    pub work: bool,
+}
+
+impl Ask for Leave {
+    type Answer = Parting;
+
+    ghost shows = { λ _ connected parting. IsParting connected parting };
+
+    fn ask(self, connection: &Connection) -> Parting {
+        let look = connection.look();
+        Parting {
+            word: look.word,
+            total: look.total,
+            writers: Writers::moment(connection).is_due(),
+            work: Work::moment(connection).is_due(),
+        }
     }
 }

@@ -1,9 +1,11 @@
 //! What each kind of step tells the seat that makes it.
 ghost use Rattle.std.specs.Prelude.{◌≡◌};
 ghost use Rattle.atomic_table.specs.Table.{rest};
-ghost use Rattle.ob_shared_connection.specs.Steps.{Finds, Names, Reads, Tries};
-ghost use Rattle.ob_shared_connection.specs.Ruled.{free_view, shown_view, view_with};
+ghost use Rattle.ob_shared_connection.specs.Bells.{silenced};
+ghost use Rattle.ob_shared_connection.specs.Steps.{Awaits, Finds, Hears, Names, Reads, Tries};
+ghost use Rattle.ob_shared_connection.specs.Ruled.{free_view, hearing_view, shown_view, view_with};
 
+use crate::bell::Bell;
 use crate::view::View;
 use atomic_table::{Join, Play, Split};
 use ob_connection::Connection;
@@ -88,15 +90,42 @@ impl Play<Connection, View> for Publish {
     ghost then = { λ _ old _ new. new ≡ (shown_view old.0, old.1) };
 }
 
+/// A bell is heard by the seat that has the lock.
+pub struct Hear<B> {
+    bell: PhantomData<B>,
+}
+
+impl<B: Bell> Play<Connection, View> for Hear<B> {
+    ghost then = { λ _ old found new. Hears B.waiter old found new };
+}
+
+/// It silences a bell.
+pub struct Silence<B> {
+    bell: PhantomData<B>,
+}
+
+impl<B: Bell> Play<Connection, View> for Silence<B> {
+    ghost then = { λ _ old _ new. new ≡ (hearing_view (silenced B.waiter old.0.bells) old.0, old.1) };
+}
+
+/// It is to wait at a bell.
+pub struct Await<B> {
+    bell: PhantomData<B>,
+}
+
+impl<B: Bell> Play<Connection, View> for Await<B> {
+    ghost then = { λ _ old found new. Awaits B.waiter old found new };
+}
+
 /// A new seat, which has seen what this one has.
 pub struct Cut;
 
 impl Split<View> for Cut {
-    ghost use Rattle.ob_shared_connection.specs.Ruled.{new_view};
+    ghost use Rattle.ob_shared_connection.specs.Ruled.{new_view, sharing_view};
 
-    ghost left = { λ view. view };
+    ghost left = { sharing_view };
 
-    ghost right = { new_view };
+    ghost right = { λ view. new_view (sharing_view view) };
 }
 
 /// A seat takes another one in.

@@ -15,6 +15,18 @@ pub const GIVEN: usize = 1;
 /// The word that is published: the word and the total of the connection, as `ob_types::pack` lays them out.
 pub const PUBLISHED: usize = 2;
 
+/// The word at which those wait who wait until they may write.
+pub const WRITERS: usize = 3;
+
+/// The word at which the transport waits for flushed messages.
+pub const WORK: usize = 4;
+
+/// Nobody waits there.
+pub const SILENT: u64 = 0;
+
+/// Someone waits there.
+pub const AWAITED: u64 = 1;
+
 /// Nobody has the lock.
 pub const FREE: u64 = 0;
 

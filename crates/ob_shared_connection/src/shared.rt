@@ -1,9 +1,15 @@
 ghost use Rattle.std.specs.Prelude.{◌≡◌, ◌≤◌, ℕ, false, true, [], IfOk, OnOk, IsOkUnless};
 
+use crate::bell::{Bell, Work, Writers};
 use crate::ended::Ended;
 use crate::handle::TooManyHandles;
-use crate::plays::{Accepted, Cut, Find, List, Lock, Name, Publish, Published, Read, Take, Unlock};
-use crate::rule::{FREE, GIVEN, LOCK, PUBLISHED, Rule, TAKEN, WAITED, WORDS};
+use crate::owed::Owed;
+use crate::place::Place;
+use crate::plays::{
+    Accepted, Await, Cut, Find, Hear, List, Lock, Name, Publish, Published, Read, Silence, Take,
+    Unlock,
+};
+use crate::rule::{AWAITED, FREE, GIVEN, LOCK, PUBLISHED, Rule, SILENT, TAKEN, WAITED, WORDS};
 use crate::view::View;
 use atomic_table::{Refused, Table};
 use ob_connection::Connection;
@@ -36,10 +42,12 @@ pub struct Shared {
 
 impl Shared {
     ghost use Rattle.ob_types.specs.Limits.{greatest_overhead, greatest_unknown};
-    ghost use Rattle.ob_shared_connection.specs.Ruled.{both_views, first_view, free_view, named_view, new_view, shown_view, view_with};
+    ghost use Rattle.ob_shared_connection.specs.Bells.{awaited, is_owed, silenced, silent};
+    ghost use Rattle.ob_shared_connection.specs.declared.bell.Waiter.TheVariants as waiter;
+    ghost use Rattle.ob_shared_connection.specs.Ruled.{both_views, first_view, free_view, hearing_view, named_view, new_view, sharing_view, shown_view, view_with};
     ghost use Rattle.ob_shared_connection.specs.Log.{commands_by};
     ghost use Rattle.ob_shared_connection.specs.Removals.{MayGive};
-    ghost use Rattle.ob_shared_connection.specs.Steps.{HasLock, Holds, IsEndOf, IsNamed, IsNow, Locks, Reads, Rests};
+    ghost use Rattle.ob_shared_connection.specs.Steps.{HasLock, Hushes, IsEndOf, IsNamed, IsNow, Locks, MayLeave, Reads, Rests};
     ghost use Rattle.ob_shared_connection.specs.Tables.{IsSeatOf, IsSameSeat};
 
     /// A table with a connection that has nothing written, and its first seat.
@@ -143,11 +151,12 @@ impl Shared {
         false
     }
 
-    /// Lets the lock go, and wakes one who sleeps for it.
-    pub fn unlock(&self, seat: &mut Seat)
+    /// Lets the lock go, and wakes one who sleeps for it, and those who are owed it.
+    pub fn unlock(&self, seat: &mut Seat, writers: Owed<Writers>, work: Owed<Work>)
         requires table { IsSeatOf self.now seat.old }
-        requires holds { Holds seat.old.me }
-        requires shows { seat.old.me.0.shows ≡ true }
+        requires may { MayLeave seat.old.me }
+        requires writers { writers.waits ≡ is_owed waiter.Writer seat.old.me.0.bells }
+        requires work { work.waits ≡ is_owed waiter.Sender seat.old.me.0.bells }
         ensures seat { IsSameSeat seat.old seat.new }
         ensures view { seat.new.me.0 ≡ free_view seat.old.me.0 }
         ensures slots { seat.new.me.1 ≡ [] }
@@ -156,6 +165,78 @@ impl Shared {
         if found == WAITED {
             self.table.shared.wake_one(LOCK);
         }
+        writers.pay(self);
+        work.pay(self);
+    }
+
+    /// Has a bell ring if who waits there may go on: it is silent then, and what is owed is told.
+    pub fn hush<B: Bell>(&self, seat: &mut Seat, due: bool) -> Owed<B>
+        requires table { IsSeatOf self.now seat.old }
+        requires lock { HasLock seat.old.me }
+        requires unowed { is_owed B.waiter seat.old.me.0.bells ≡ false }
+        ensures seat { IsSameSeat seat.old seat.new }
+        ensures hushes { Hushes B.waiter due result.waits seat.old.me seat.new.me }
+    {
+        if !due || self.is_silent::<B>(seat) {
+            return Owed::new(false);
+        }
+        self.silence::<B>(seat);
+        Owed::new(true)
+    }
+
+    /// Whether nobody waits at a bell. One load.
+    fn is_silent<B: Bell>(&self, seat: &mut Seat) -> bool
+        requires table { IsSeatOf self.now seat.old }
+        requires lock { HasLock seat.old.me }
+        ensures seat { IsSameSeat seat.old seat.new }
+        ensures none { result ≡ true → seat.new.me ≡ (hearing_view (silent B.waiter seat.old.me.0.bells) seat.old.me.0, seat.old.me.1) }
+        ensures some_one { result ≡ false → seat.new.me ≡ seat.old.me }
+    {
+        self.table.shared.load::<Hear<B>>(seat, B::word()) == SILENT
+    }
+
+    /// Silences a bell: those who wait there are owed to be woken.
+    fn silence<B: Bell>(&self, seat: &mut Seat)
+        requires table { IsSeatOf self.now seat.old }
+        requires lock { HasLock seat.old.me }
+        ensures seat { IsSameSeat seat.old seat.new }
+        ensures me { seat.new.me ≡ (hearing_view (silenced B.waiter seat.old.me.0.bells) seat.old.me.0, seat.old.me.1) }
+    {
+        self.table
+            .shared
+            .store::<Silence<B>>(seat, B::word(), SILENT);
+    }
+
+    /// Tells at a bell that someone is to wait there.
+    pub fn await_bell<B: Bell>(&self, seat: &mut Seat) -> Place<B>
+        requires table { IsSeatOf self.now seat.old }
+        requires lock { HasLock seat.old.me }
+        ensures seat { IsSameSeat seat.old seat.new }
+        ensures me { seat.new.me ≡ (hearing_view (awaited B.waiter seat.old.me.0.bells) seat.old.me.0, seat.old.me.1) }
+    {
+        self.table
+            .shared
+            .store::<Await<B>>(seat, B::word(), AWAITED);
+        Place::new()
+    }
+
+    /// Sleeps at a bell unless it has rung since, until it rings. It may also return for no reason.
+    pub fn sleep<B: Bell, R: Wait>(&self, rt: &R, place: Place<B>) {
+        place.leave();
+        self.table.shared.park(rt, B::word(), AWAITED as u32);
+    }
+
+    /// The same, for no longer than this.
+    pub fn sleep_within<B: Bell, R: Wait>(&self, rt: &R, place: Place<B>, limit: Duration) {
+        place.leave();
+        self.table
+            .shared
+            .park_timeout(rt, B::word(), AWAITED as u32, limit);
+    }
+
+    /// Wakes all who sleep at a bell.
+    pub fn wake_all<B: Bell>(&self) {
+        self.table.shared.wake_all(B::word());
     }
 
     /// Publishes the glance after all calls.
@@ -206,15 +287,15 @@ impl Shared {
         let _found = self.table.shared.load::<List<C>>(seat, LOCK);
     }
 
-    /// A new seat, which has seen what this one has, and has no number yet.
+    /// A new seat, which has seen what this one has, gets half of its share, and has no number yet.
     fn cut(&self, seat: &mut Seat) -> Seat
         requires table { IsSeatOf self.now seat.old }
         requires there { seat.old.me.0.spent ≡ false }
         requires free { seat.old.me.0.holds ≡ false }
         ensures seat { IsSameSeat seat.old seat.new }
-        ensures me { seat.new.me ≡ seat.old.me }
+        ensures me { seat.new.me ≡ (sharing_view seat.old.me.0, seat.old.me.1) }
         ensures other { IsSeatOf self.now result }
-        ensures given { result.me ≡ (new_view seat.old.me.0, []) }
+        ensures given { result.me ≡ (new_view (sharing_view seat.old.me.0), []) }
     {
         self.table.shared.split_seat::<Cut>(seat)
     }
@@ -249,10 +330,10 @@ impl Shared {
         requires table { IsSeatOf self.now seat.old }
         requires rests { Rests seat.old.me }
         ensures seat { IsSameSeat seat.old seat.new }
-        ensures me { seat.new.me ≡ seat.old.me }
+        ensures me { seat.new.me ≡ (sharing_view seat.old.me.0, seat.old.me.1) }
         ensures other { IfOk result (λ other. IsSeatOf self.now other) }
         ensures given { IfOk result (λ other.
-            other.me ≡ (named_view other.me.0.caller (new_view seat.old.me.0), [])) }
+            other.me ≡ (named_view other.me.0.caller (new_view (sharing_view seat.old.me.0)), [])) }
         ensures own { IfOk result (λ other. commands_by other.me.0.caller seat.old.me.0.seen ≡ []) }
     {
         let mut other = self.cut(seat);
@@ -277,7 +358,7 @@ impl Shared {
     /// Gives the memory of the table back, and what lies in it.
     pub fn end(self, seat: Seat) -> Ended
         requires table { IsSeatOf self seat }
-        requires named { IsNamed seat.me.0 }
+        requires rests { Rests seat.me }
         ensures { IsEndOf seat.me.0 result }
     {
         let Shared { table } = self;

@@ -1,22 +1,31 @@
-ghost use Rattle.std.specs.Prelude.{◌≡◌, ◌<◌, true, IfOk};
+ghost use Rattle.std.specs.Prelude.{◌≡◌, ◌<◌, true, IfOk, OnErr, OnOk};
 ghost use Rattle.ob_seq.specs.Pieces.{bytes_in};
 ghost use Rattle.ob_shared_connection.specs.Calls.{IsCall, IsLock, UnderLock};
-ghost use Rattle.ob_shared_connection.specs.Handles.{IsAnother};
+ghost use Rattle.ob_shared_connection.specs.Handles.{IsAnother, IsButForShare};
 ghost use Rattle.ob_shared_connection.specs.Looking.{Gathers, IsLook};
 ghost use Rattle.ob_shared_connection.specs.Staying.{AreInFront};
+ghost use Rattle.ob_shared_connection.specs.Values.{sharing};
+ghost use Rattle.ob_shared_connection.specs.Waiting.{Waited, is_due};
+ghost use Rattle.ob_shared_connection.specs.declared.bell.Waiter.TheVariants as waiter;
 
 mod commands;
+mod sending;
+mod turns;
 
 use crate::act::Act;
 use crate::ask::Ask;
+use crate::bell::Work;
 use crate::caller::Caller;
 use crate::guard::Guard;
 use crate::handle::{Handle, TooManyHandles};
 use crate::looks;
+use crate::moment::Moment;
 use bytes::Bytes;
 use ob_types::Refusal;
+pub use sending::SendFault;
 use std::marker::Model;
 use std::sync::Wait;
+use std::time::{Clock, Duration};
 
 /// The one handle of a connection that sends: flushed messages, and bytes of them, are taken away through it alone. It may
 /// go to another thread. Contracts see it as the handle that it is.
@@ -63,7 +72,8 @@ impl Transport {
     /// A handle of the same connection, for another thread, as `Handle::another`.
     pub fn another(&mut self) -> Result<Handle, TooManyHandles>
         ensures other { IfOk result (λ other. IsAnother self.old other) }
-        ensures same { self.new ≡ self.old }
+        ensures shares { OnOk result (self.new ≡ sharing self.old) }
+        ensures same { OnErr result (IsButForShare self.old self.new) }
     {
         Ok(Handle::new(self.caller.another()?))
     }
@@ -94,8 +104,29 @@ impl Transport {
         self.ask(rt, looks::Gather(max_count, max_bytes))
     }
 
+    /// Waits until a flushed message is there or the connection is closed, and tells which. It sleeps meanwhile. A message
+    /// that is there stays there until it is taken away here.
+    pub fn wait_for_work<R: Wait>(&mut self, rt: &R) -> Moment
+        ensures waits { UnderLock self.old (Waited waiter.Sender result) self.new }
+        ensures came { is_due result ≡ true }
+    {
+        let moment = self.caller.wait::<Work, R>(rt);
+        self.caller.unlock();
+        moment
+    }
+
+    /// The same, but for no longer than `limit`: then the moment is `NotYet`. If the clock cannot be read, or would end
+    /// before that, it looks once.
+    pub fn wait_for_work_within<R: Wait + Clock>(&mut self, rt: &R, limit: Duration) -> Moment
+        ensures { UnderLock self.old (Waited waiter.Sender result) self.new }
+    {
+        let moment = self.caller.wait_within::<Work, R>(rt, limit);
+        self.caller.unlock();
+        moment
+    }
+
     /// One call, which takes the lock and lets it go.
-    fn call<A: Act, R: Wait>(&mut self, rt: &R, act: A) -> Result<A::Answer, Refusal>
+    fn call<A: Act, R: Wait>(&mut self, rt: &R, act: A) -> Result<A::Answer, A::Fault>
         ensures under { UnderLock self.old
             (λ before after. IsCall (A.does act) (A.commands act) before result after) self.new }
         ensures sends { self.old.sends ≡ true }

@@ -32,4 +32,20 @@ pub struct View {
     pub others: u64,
     /// How many calls were accepted from those.
     pub handed: u64,
+    /// Its share of the connection: the parts that it has, of each how often it was halved.
+    pub share: LinkedList<u64>,
+    /// What it knows of the bells, if it has the lock.
+    pub bells: Bells,
+}
+
+/// What the seat that has the lock knows of the bells.
+pub struct Bells {
+    /// Whether it knows that no writer waits.
+    pub writers_silent: bool,
+    /// Whether writers are to be woken.
+    pub writers_owed: bool,
+    /// Whether it knows that the transport does not wait.
+    pub work_silent: bool,
+    /// Whether the transport is to be woken.
+    pub work_owed: bool,
 }

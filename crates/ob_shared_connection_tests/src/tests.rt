@@ -1,6 +1,7 @@
 ghost use Rattle.std.specs.Prelude.{◌≡◌, true, IfOk};
 
 mod calls;
+mod sending;
 mod threads;
 
 use bytes::Bytes;

@@ -2,20 +2,20 @@
 ghost use Rattle.std.specs.Prelude.{◌≡◌, true, false, ⊤};
 ghost use Rattle.ob_types.specs.declared.command.Command.TheVariants as command;
 ghost use Rattle.ob_types.specs.declared.promise.Outcome.TheVariants.{Success, Failed};
-ghost use Rattle.ob_connection.specs.Replies.{written_reply, flushed_reply, removed_reply, taken_reply, cancelled_reply};
+ghost use Rattle.ob_connection.specs.Replies.{flushed_reply, removed_reply, taken_reply, cancelled_reply};
 ghost use Rattle.ob_connection.specs.Replies.{bit_reply, done_reply};
-ghost use Rattle.ob_shared_connection.specs.Calls.{GivingUp, IsCall, Makes, Obeying, ObeyingFreely, Taking};
-ghost use Rattle.ob_shared_connection.specs.Calls.{TakingQuietly, giving_up};
+ghost use Rattle.ob_shared_connection.specs.Calls.{GivingUp, IsCall, Makes, ObeyingFreely, Taking};
+ghost use Rattle.ob_shared_connection.specs.Calls.{TakingQuietly, Writes, giving_up};
 
 use crate::commands;
 use crate::guard::Guard;
-use ob_connection::{Flushed, Removed, Taken, Written};
+use ob_connection::{Flushed, Refused, Removed, Taken, Written};
 use ob_types::{Cause, Change, Message, Refusal, WaterMark};
 
 impl Guard {
-    /// Adds a message behind all others, as `Connection::write`.
-    pub fn write(&mut self, message: Message) -> Result<Written, Refusal>
-        ensures { Makes (Obeying written_reply) (command.Write message) result self.old self.new }
+    /// Adds a message behind all others, as `Connection::write`: one that is refused comes back.
+    pub fn write(&mut self, message: Message) -> Result<Written, Refused>
+        ensures { Writes message result self.old self.new }
     {
         self.caller.act(commands::Write(message))
     }

@@ -2,19 +2,19 @@
 ghost use Rattle.std.specs.Prelude.{⊤};
 ghost use Rattle.ob_types.specs.declared.command.Command.TheVariants as command;
 ghost use Rattle.ob_types.specs.declared.promise.Outcome.TheVariants.{Failed};
-ghost use Rattle.ob_connection.specs.Replies.{written_reply, flushed_reply, cancelled_reply, bit_reply, done_reply};
-ghost use Rattle.ob_shared_connection.specs.Calls.{Makes, Obeying, ObeyingFreely, TakingQuietly, UnderLock};
+ghost use Rattle.ob_connection.specs.Replies.{flushed_reply, cancelled_reply, bit_reply, done_reply};
+ghost use Rattle.ob_shared_connection.specs.Calls.{Makes, ObeyingFreely, TakingQuietly, UnderLock, Writes};
 
 use crate::commands;
 use crate::handle::Handle;
-use ob_connection::{Flushed, Taken, Written};
+use ob_connection::{Flushed, Refused, Taken, Written};
 use ob_types::{Cause, Change, Message, Refusal, WaterMark};
 use std::sync::Wait;
 
 impl Handle {
-    /// Adds a message behind all others, as `Connection::write`.
-    pub fn write<R: Wait>(&mut self, rt: &R, message: Message) -> Result<Written, Refusal>
-        ensures { UnderLock self.old (Makes (Obeying written_reply) (command.Write message) result) self.new }
+    /// Adds a message behind all others, as `Connection::write`: one that is refused comes back.
+    pub fn write<R: Wait>(&mut self, rt: &R, message: Message) -> Result<Written, Refused>
+        ensures { UnderLock self.old (Writes message result) self.new }
     {
         self.call(rt, commands::Write(message))
     }

@@ -118,6 +118,21 @@ fn a_guard_makes_several_calls_under_one_lock(rt: HostRuntime) -> Result<(), Fai
 }
 
 #[test]
+fn a_refused_message_comes_back(rt: HostRuntime) -> Result<(), Fail> {
+    let mut handle = opened(rt.alloc())?;
+    let _closed = handle.close(&rt, Cause(1))?;
+    let Err(first) = handle.write(&rt, four()) else {
+        panic!(rt; "it is closed")
+    };
+    let mut guard = handle.lock(&rt);
+    let Err(second) = guard.write(first.message) else {
+        panic!(rt; "it is closed still")
+    };
+    assert!(rt; (second.refusal, second.message) == (Refusal::Closed, four()));
+    Ok(())
+}
+
+#[test]
 fn joined_handles_end_with_all_their_calls(rt: HostRuntime) -> Result<(), Fail> {
     let mut first = opened(rt.alloc())?;
     let mut second = first.another()?;

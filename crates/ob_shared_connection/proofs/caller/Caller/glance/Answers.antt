@@ -1,4 +1,4 @@
-use Rattle.std.proofs.Common.{◌≡◌, sym, subst}
+use Rattle.std.proofs.Common.{sym, subst}
 use Rattle.atomic_table.specs.Seated.{TableId}
 use Rattle.ob_shared_connection.specs.Glances.{IsGlance}
 use Rattle.ob_shared_connection.specs.Steps.{handle_of}

@@ -1,5 +1,5 @@
 use Rattle.std.proofs.Common.{arith}
-use Rattle.ob_shared_connection.proofs.Keeping.{may_cut}
+use Rattle.ob_shared_connection.proofs.Seating.{may_cut}
 use Rattle.ob_shared_connection.proofs.shared.Shared.cut.Goals as goal
 
 pub split_seat-requires : goal.split_seat-requires

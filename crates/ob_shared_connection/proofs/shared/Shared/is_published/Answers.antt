@@ -1,6 +1,6 @@
-use Rattle.std.proofs.Common.{◌≡◌, ℕ, sym, subst, arith}
+use Rattle.std.proofs.Common.{ℕ, sym, subst, arith}
 use Rattle.ob_shared_connection.specs.Steps.{IsNow}
-use Rattle.ob_shared_connection.proofs.Keeping.{may_find}
+use Rattle.ob_shared_connection.proofs.Publishing.{may_find}
 use Rattle.ob_shared_connection.proofs.shared.Shared.is_published.Goals as goal
 
 pub load-requires : goal.load-requires

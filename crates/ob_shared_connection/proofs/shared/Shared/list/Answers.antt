@@ -1,5 +1,5 @@
 use Rattle.std.proofs.Common.{arith}
-use Rattle.ob_shared_connection.proofs.Keeping.{may_list}
+use Rattle.ob_shared_connection.proofs.Publishing.{may_list}
 use Rattle.ob_shared_connection.proofs.shared.Shared.list.Goals as goal
 
 pub load-found-requires : goal.load-found-requires

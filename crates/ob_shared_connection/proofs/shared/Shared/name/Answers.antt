@@ -1,9 +1,9 @@
-use Rattle.std.proofs.Common.{◌≡◌, ◌+◌, ◌∙◌, sym, subst, eqb, arith}
+use Rattle.std.proofs.Common.{◌+◌, ◌∙◌, sym, subst, eqb, arith}
 use prog.Atomic.{either}
 use Rattle.atomic_table.specs.Table.{Allows}
 use Rattle.ob_shared_connection.specs.Ruled.{Ruled}
 use Rattle.ob_shared_connection.specs.Steps.{Knows, Names}
-use Rattle.ob_shared_connection.proofs.Keeping.{may_name}
+use Rattle.ob_shared_connection.proofs.Seating.{may_name}
 use Rattle.ob_shared_connection.proofs.shared.Shared.name.Goals as goal
 
 pub compare_exchange-found-requires : goal.compare_exchange-found-requires

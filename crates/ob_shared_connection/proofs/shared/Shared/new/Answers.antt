@@ -4,7 +4,7 @@ use Rattle.ob_types.specs.WaterMark.{Marks}
 use Rattle.ob_types.specs.declared.estimate.Estimate.{Estimate}
 use Rattle.ob_connection.specs.Connected.{Connected}
 use Rattle.ob_shared_connection.specs.Ruled.{Ruled, first_view}
-use Rattle.ob_shared_connection.proofs.Keeping.{at_first}
+use Rattle.ob_shared_connection.proofs.Seating.{at_first}
 use Rattle.ob_shared_connection.proofs.shared.Shared.new.Goals as goal
 
 pub new-requires-2 : goal.new-requires-2

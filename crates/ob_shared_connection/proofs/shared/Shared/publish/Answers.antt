@@ -1,7 +1,6 @@
-use Rattle.std.proofs.Common.{sym, ◌∙◌, subst, ap, arith}
+use Rattle.std.proofs.Common.{sym, ◌∙◌, subst, arith}
 use Rattle.ob_shared_connection.specs.Steps.{HasLock, IsNow, Knows}
-use Rattle.ob_shared_connection.specs.declared.view.View.{View}
-use Rattle.ob_shared_connection.proofs.Keeping.{may_publish}
+use Rattle.ob_shared_connection.proofs.Publishing.{may_publish}
 use Rattle.ob_shared_connection.proofs.shared.Shared.publish.Goals as goal
 
 pub store-requires : goal.store-requires

@@ -1,5 +1,5 @@
 use Rattle.std.proofs.Common.{arith}
-use Rattle.ob_shared_connection.proofs.Keeping.{may_read}
+use Rattle.ob_shared_connection.proofs.Publishing.{may_read}
 use Rattle.ob_shared_connection.proofs.shared.Shared.read.Goals as goal
 
 pub load-requires : goal.load-requires

@@ -1,6 +1,7 @@
 use Rattle.std.proofs.Common.{ap, ◌∙◌, arith}
 use Rattle.ob_shared_connection.specs.Steps.{Knows}
-use Rattle.ob_shared_connection.proofs.Keeping.{may_read, may_take}
+use Rattle.ob_shared_connection.proofs.Publishing.{may_read}
+use Rattle.ob_shared_connection.proofs.Seating.{may_take}
 use Rattle.ob_shared_connection.proofs.shared.Shared.take.Goals as goal
 
 pub join_seat-requires : goal.join_seat-requires
@@ -12,7 +13,8 @@ join_seat-requires c =
       c.requires.other,
       c.requires.other_rests.slots,
       omega (arith, shared.words),
-      may_take seat.id seat.me.0 other.id other.me.0 c.requires.rests.seat.named c.requires.rests.free
+      may_take seat.id seat.me.0 other.id other.me.0 c.requires.rests.seat.named c.requires.rests.seat.there
+          c.requires.rests.free
           c.requires.other_rests.seat.named c.requires.other_rests.free,
     )
 

@@ -1,5 +1,5 @@
-use Rattle.std.proofs.Common.{sym, ◌∙◌, arith}
-use Rattle.ob_shared_connection.proofs.Keeping.{may_try}
+use Rattle.std.proofs.Common.{arith}
+use Rattle.ob_shared_connection.proofs.Locking.{may_try}
 use Rattle.ob_shared_connection.proofs.shared.Shared.try_lock.Goals as goal
 
 pub compare_exchange-requires : goal.compare_exchange-requires
@@ -8,5 +8,6 @@ compare_exchange-requires c =
     let seat = c.args.seat.now in (
       c.requires.table,
       omega (arith, shared.words),
-      may_try shared.table.shared.table_id.slots seat.id seat.me 1 (λ e. omega arith),
+      may_try shared.table.shared.table_id.slots seat.id seat.me 1 (λ e. omega arith)
+          c.requires.rests.seat.named,
     )

@@ -1,5 +1,5 @@
 use Rattle.std.proofs.Common.{arith}
-use Rattle.ob_shared_connection.proofs.Keeping.{may_unlock}
+use Rattle.ob_shared_connection.proofs.Locking.{may_unlock}
 use Rattle.ob_shared_connection.proofs.shared.Shared.unlock.Goals as goal
 
 pub swap-found-requires : goal.swap-found-requires
@@ -8,6 +8,5 @@ swap-found-requires c =
     let seat = c.args.seat.now in (
       c.requires.table,
       omega (arith, shared.words),
-      may_unlock shared.table.shared.table_id.slots seat.id seat.me shared.slots c.requires.holds
-          c.requires.shows,
+      may_unlock shared.table.shared.table_id.slots seat.id seat.me shared.slots c.requires.may,
     )

@@ -1,0 +1,57 @@
+-- What holds of who waits.
+use Rattle.std.proofs.Common.{◌≡◌, ◌++◌, Bool, true, List, refl, sym, ap, ◌∙◌, subst, append_assoc}
+use Rattle.std.proofs.lemmas.List.Elements.{All-append}
+use Rattle.ob_types.specs.declared.command.Command.{Command}
+use Rattle.ob_shared_connection.specs.Calls.{IsLock}
+use Rattle.ob_shared_connection.specs.Log.{commands_by, commands_of}
+use Rattle.ob_shared_connection.specs.Removals.{leaves_flushed}
+use Rattle.ob_shared_connection.specs.Ruled.{hearing_view, settings_of, shown_view}
+use Rattle.ob_shared_connection.specs.Steps.{Holds, Hushes, IsRung, Knows, MayLeave}
+use Rattle.ob_shared_connection.specs.Values.{HandleValue, Held}
+use Rattle.ob_shared_connection.specs.Waiting.{is_due, moment_after}
+use Rattle.ob_shared_connection.specs.declared.bell.Waiter.{Waiter}
+use Rattle.ob_shared_connection.specs.declared.bell.Waiter.TheVariants.{Writer, Sender}
+use Rattle.ob_shared_connection.specs.declared.call.Call.{Call}
+use Rattle.ob_shared_connection.proofs.Lists.{commands_by-append}
+
+-- who let the lock go and took it again took it, as one who took it once
+pub lock_again : (old : HandleValue) (first second : Held) → IsLock old first → IsLock first.handle second → IsLock old second
+lock_again old first second one two = record {
+  between = one.between ++ two.between;
+  sees = two.sees ∙ ap (λ (handle : HandleValue). record handle { seen = handle.seen ++ two.between }) one.sees
+      ∙ ap (λ (log : List Call). record old { seen = log }) (append_assoc old.seen one.between two.between);
+  own = ap (λ (handle : HandleValue). handle.mine) (sym one.sees) ∙ two.own
+      ∙ ap (λ (handle : HandleValue). commands_by handle.caller second.handle.seen) one.sees;
+  others = commands_by-append old.caller one.between two.between
+      ∙ ap (λ (commands : List Command). commands ++ commands_by old.caller two.between) one.others
+      ∙ ap (λ (handle : HandleValue). commands_by handle.caller two.between) (sym one.sees) ∙ two.others;
+  untouched = λ sends. All-append (λ call. leaves_flushed call.command ≡ true) one.between two.between
+      (one.untouched sends) (two.untouched (ap (λ (handle : HandleValue). handle.sends) one.sees ∙ sends));
+  left = two.left;
+}
+
+-- who had both bells ring that had to may let the lock go
+pub may_leave : (old shown heard last : Knows) (writers work owed owed_next : Bool) → Holds old
+    → shown ≡ (shown_view old.0, old.1) → Hushes Writer writers owed shown heard → Hushes Sender work owed_next heard last
+    → writers ≡ is_due (moment_after Writer (settings_of old.0) (commands_of old.0.seen))
+    → work ≡ is_due (moment_after Sender (settings_of old.0) (commands_of old.0.seen)) → MayLeave last
+may_leave old shown heard last writers work owed owed_next holds is first second writers_are work_is =
+    let view = hearing_view last.0.bells (shown_view old.0) in
+    let same : last ≡ (view, old.1) =
+    second.is
+    ∙ ap (λ (me : Knows). (hearing_view last.0.bells me.0, me.1))
+    (first.is ∙ ap (λ (me : Knows). (hearing_view heard.0.bells me.0, me.1)) is) in
+    subst MayLeave (sym same) (record {
+      lock = record {
+        seat = record { named = holds.lock.seat.named; there = holds.lock.seat.there; own = holds.lock.seat.own };
+        holds = holds.lock.holds;
+        slot = holds.lock.slot;
+      };
+      left = holds.left;
+      shows = refl;
+      rung = rung;
+    })
+  where
+    rung : (waiter : Waiter) → IsRung waiter (hearing_view last.0.bells (shown_view old.0))
+    rung Writer = λ due. (second.others Writer (λ e. cc e)).0 ∙ first.quiet (writers_are ∙ due)
+    rung Sender = λ due. second.quiet (work_is ∙ due)
