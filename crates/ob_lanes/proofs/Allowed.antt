@@ -22,7 +22,7 @@ use Rattle.ob_lanes.specs.Packed.{packed_after}
 use Rattle.ob_lanes.specs.Ruled.{Ruled}
 use Rattle.ob_lanes.specs.RunningLane.{WordsValue}
 use Rattle.ob_lanes.specs.Told.{Knows, MayMake, Told, ToldTry, ToldOfBit}
-use Rattle.ob_lanes.specs.Told.{PackedTold, MakesOrReads}
+use Rattle.ob_lanes.specs.Told.{MayExpect, PackedTold, MakesOrReads}
 use Rattle.ob_lanes.specs.declared.facts.Facts.{Facts}
 use Rattle.ob_lanes.specs.declared.words.Words.TheInside.{Inside as WordsInside}
 use Rattle.ob_lanes.proofs.KeptAccounts.{word_fits}
@@ -32,7 +32,7 @@ use Rattle.ob_lanes.proofs.Views.{slice_get_map}
 
 -- what a seat learns from what it finds
 packed_told : (grant : Grant) (s : St) (id : ℕ) (facts : Facts) → grant.bits < 2 ^ 32 → Ruled grant s
-    → get_elem? s.views id ≡ some facts → PackedTold facts (get_or s.words 0 0)
+    → get_elem? s.views id ≡ some facts → PackedTold facts (get_or s.words 8 0)
 packed_told grant s id facts bits ruled at =
     let here = slice_get_map (λ (f : Facts). f.lane) s.views id facts at in
     let room : facts.grant.room ≡ grant.room =
@@ -56,8 +56,8 @@ module _ (words : WordsInside) (are : AreWords words) (value : WordsValue) (view
   abbrev pub MayDo : (ℕ → ℕ) → (ℕ → Knows → Type 0) → Type 0
   MayDo makes then =
       (seat.table_id ≡ words.table.shared.table_id)
-      × (0 < words.table.shared.table_id.words)
-      × Allows (Ruled grant) words.table.shared.table_id.slots seat.id me 0 makes then
+      × (8 < words.table.shared.table_id.words)
+      × Allows (Ruled grant) words.table.shared.table_id.slots seat.id me 8 makes then
 
   -- what is computed under the marks that the words tell is computed under those of their table
   pub under_marks : (step : LaneStep) (marks : Marks) (found next : ℕ) → marks ≡ value.grant.marks
@@ -71,12 +71,12 @@ module _ (words : WordsInside) (are : AreWords words) (value : WordsValue) (view
       → ((found : ℕ) → found < 2 ^ 64 → makes found ≡ packed_after step grant.marks found)
       → MayDo makes (Told step me)
   always step asked makes computes =
-      let one = are.one in (
+      let sixteen = are.sixteen in (
         asked.of.0 ∙ sym (ap (λ (v : WordsValue). v.table_id) view_is),
-        omega (arith, one),
+        omega (arith, sixteen),
         λ s ruled homes at small.
             let told = packed_told grant s seat.id me.0 are.bits_fit ruled at in
-            let found = get_or s.words 0 0 in
+            let found = get_or s.words 8 0 in
             may_make grant s seat.id (makes found) me step are.room_fits ruled at asked.of.2 asked.may (computes found small) told,
       )
 
@@ -87,31 +87,31 @@ module _ (words : WordsInside) (are : AreWords words) (value : WordsValue) (view
   module _ (step : LaneStep) (asked : MayMake value seat step) (expected next : ℕ)
       (computes : next ≡ packed_after step grant.marks expected) where
     by_case : (s : St) (ruled : Ruled grant s) (at : get_elem? s.views seat.id ≡ some me.0) (same : Bool)
-        → eqb (get_or s.words 0 0) expected ≡ same
+        → eqb (get_or s.words 8 0) expected ≡ same
         → (new : Facts) × (act : Rattle.atomic_table.specs.Table.Act (Unit {0}))
         × Rattle.atomic_table.specs.Table.Valid s.homes me.1 act
         × Ruled grant
-        (Rattle.atomic_table.specs.Table.stepped s 0 (either same next (get_or s.words 0 0)) seat.id me.1 new act)
-        × ToldTry step expected me (get_or s.words 0 0) (new, Rattle.atomic_table.specs.Table.carried_after me.1 act)
+        (Rattle.atomic_table.specs.Table.stepped s 8 (either same next (get_or s.words 8 0)) seat.id me.1 new act)
+        × ToldTry step expected me (get_or s.words 8 0) (new, Rattle.atomic_table.specs.Table.carried_after me.1 act)
     by_case s ruled at true is =
-        let found = get_or s.words 0 0 in
+        let found = get_or s.words 8 0 in
         let same : found ≡ expected = eqb-true found expected is in
         let told = packed_told grant s seat.id me.0 are.bits_fit ruled at in
         let t = may_make grant s seat.id next me step are.room_fits ruled at asked.of.2 asked.may
         (computes ∙ ap (packed_after step grant.marks) (sym same)) told in
         (t.0, t.1, t.2, t.3, record { made = λ _. t.4; read = λ other. absurd (other same) })
     by_case s ruled at false is =
-        let found = get_or s.words 0 0 in
+        let found = get_or s.words 8 0 in
         let told = packed_told grant s seat.id me.0 are.bits_fit ruled at in
         let t = may_make grant s seat.id found me Load are.room_fits ruled at asked.of.2 tt (sym (halves_packed found)) told in
         (t.0, t.1, t.2, t.3, record { made = λ same. absurd (eqb-false found expected is same); read = λ _. t.4 })
 
     pub may_try : MayDo (λ n. either (eqb n expected) next n) (ToldTry step expected me)
     may_try =
-        let one = are.one in (
+        let sixteen = are.sixteen in (
           asked.of.0 ∙ sym (ap (λ (v : WordsValue). v.table_id) view_is),
-          omega (arith, one),
-          λ s ruled homes at small. by_case s ruled at (eqb (get_or s.words 0 0) expected) refl,
+          omega (arith, sixteen),
+          λ s ruled homes at small. by_case s ruled at (eqb (get_or s.words 8 0) expected) refl,
         )
 
   -- an exchange that moves the total is told by how much
@@ -126,7 +126,7 @@ module _ (words : WordsInside) (are : AreWords words) (value : WordsValue) (view
   -- a step of a bit is told of the bit that its mask is of
   of_bit : (bit_step : ℕ → LaneStep) (mask_of : ℕ → ℕ) (index mask : ℕ) (makes : ℕ → ℕ) → mask ≡ mask_of index
       → index < 32 → MayDo makes (Told (bit_step index) me)
-      → MayDo makes (ToldOfBit bit_step mask_of (step words.table.shared.table_id.slots 0 mask 0 none) me)
+      → MayDo makes (ToldOfBit bit_step mask_of (step words.table.shared.table_id.slots 8 mask 0 none) me)
   of_bit bit_step mask_of index mask makes is within may = (
     may.0,
     may.1,
@@ -137,7 +137,7 @@ module _ (words : WordsInside) (are : AreWords words) (value : WordsValue) (view
 
   pub may_set : (index mask : ℕ) → mask ≡ 2 ^ (index + 32) → index < 32 → MayMake value seat (SetBit index)
       → MayDo (λ n. bit_or n mask)
-      (ToldOfBit SetBit (λ i. 2 ^ (i + 32)) (step words.table.shared.table_id.slots 0 mask 0 none) me)
+      (ToldOfBit SetBit (λ i. 2 ^ (i + 32)) (step words.table.shared.table_id.slots 8 mask 0 none) me)
   may_set index mask is within may =
       of_bit SetBit (λ i. 2 ^ (i + 32)) index mask (λ n. bit_or n mask) is within
       (always (SetBit index) may (λ n. bit_or n mask) (λ found small.
@@ -145,7 +145,7 @@ module _ (words : WordsInside) (are : AreWords words) (value : WordsValue) (view
 
   pub may_clear : (index mask : ℕ) → mask ≡ bit_not w64 (2 ^ (index + 32)) → index < 32
       → MayMake value seat (ClearBit index) → MayDo (λ n. bit_and n mask)
-      (ToldOfBit ClearBit (λ i. bit_not w64 (2 ^ (i + 32))) (step words.table.shared.table_id.slots 0 mask 0 none) me)
+      (ToldOfBit ClearBit (λ i. bit_not w64 (2 ^ (i + 32))) (step words.table.shared.table_id.slots 8 mask 0 none) me)
   may_clear index mask is within may =
       of_bit ClearBit (λ i. bit_not w64 (2 ^ (i + 32))) index mask (λ n. bit_and n mask) is within
       (always (ClearBit index) may (λ n. bit_and n mask) (λ found small.
@@ -154,7 +154,7 @@ module _ (words : WordsInside) (are : AreWords words) (value : WordsValue) (view
 
 -- by how much an exchange moves the total is read off its two values: a charge that a lane may make fits
 pub added_is : {value : WordsValue} (seat : Seat (Unit {0}) Facts) (amount found next : ℕ) (marks : Marks)
-    → value.grant.room < 4294967296 → MayMake value seat (Add amount) → PackedTold seat.me.0 found
+    → value.grant.room < 4294967296 → MayMake value seat (Add amount) → MayExpect seat.me.0 found
     → next ≡ packed_after (Add amount) marks found → total_half next - total_half found ≡ amount
 added_is seat amount found next marks room asked told computes =
     let nothing : owed_by seat.me.0.lane ≡ 0 = ap (λ debt. unwrap_or debt 0) asked.may.0 in
@@ -164,7 +164,7 @@ added_is seat amount found next marks room asked told computes =
 
 -- and what it owes is there
 pub taken_is : {value : WordsValue} (seat : Seat (Unit {0}) Facts) (amount found next : ℕ) (marks : Marks)
-    → MayMake value seat (Subtract amount) → PackedTold seat.me.0 found
+    → MayMake value seat (Subtract amount) → MayExpect seat.me.0 found
     → next ≡ packed_after (Subtract amount) marks found → total_half found - total_half next ≡ amount
 taken_is seat amount found next marks asked told computes =
     let all_of_it : owed_by seat.me.0.lane ≡ amount = ap (λ debt. unwrap_or debt 0) asked.may.0 in

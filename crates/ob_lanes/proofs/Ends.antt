@@ -1,14 +1,14 @@
 -- What the words hold when one lane has the whole room.
 use Rattle.std.proofs.Common.{◌≡◌, ℕ, ◌<◌, ◌≤◌, false, List, map, Some, sym, ap, ◌∙◌}
 use Rattle.std.specs.Int.{bit_at}
-use Rattle.std.specs.List.{All, slice_get}
+use Rattle.std.specs.List.{slice_get}
 use Rattle.atomic_table.specs.declared.shared.Seat.{Seat}
 use Rattle.ob_types.specs.Packed.{word_half, total_half}
 use Rattle.ob_core.specs.Bits.{is_set}
 use Rattle.ob_core.specs.declared.lane.Lane.{Lane}
 use Rattle.ob_core.specs.Beginning.{Grant}
 use Rattle.ob_core.specs.Parts.{IsFree}
-use Rattle.ob_lanes.specs.InRun.{EndsRun, EndedIn}
+use Rattle.ob_lanes.specs.InRun.{EndsRun, EndedAt, EndedIn}
 use Rattle.ob_lanes.specs.Ruled.{HasEnded}
 use Rattle.std.proofs.lemmas.List.Elements.{All-weaker}
 use Rattle.ob_lanes.specs.Inside.{IsEnd}
@@ -17,7 +17,7 @@ use Rattle.ob_lanes.specs.declared.facts.Facts.{Facts}
 use Rattle.ob_core.proofs.AccountsLemmas.{shown-held}
 use Rattle.ob_core.proofs.EndLemmas.{nothing_left, mark_clear}
 use Rattle.ob_lanes.proofs.KeptAccounts.{not_opened}
-use Rattle.ob_lanes.proofs.Moves.{core, stands, begins_seen, of_seat}
+use Rattle.ob_lanes.proofs.Moves.{core, stands, begins_seen}
 use Rattle.ob_lanes.proofs.Views.{slice_get_map, made_at-here, spent-apart}
 
 abbrev lane_of : Facts → Lane
@@ -38,19 +38,23 @@ module _ (grant : Grant) (seat : Seat (Unit {0}) Facts) (both : ℕ) (end : IsEn
       ap (λ n. bit_at n index) (ap word_half (sym end.both_is))
       ∙ shown-held grant (core grant end.state) seat.id facts.lane index end.ruled.accounts.bits at_lane held
 
-  -- each lane that the seat has taken in stands in the run
-  all_ended : facts.spent ≡ false → All (EndedIn end.ruled.run.moves seat.id) facts.taken
+  -- the lanes that the seat has taken in stand in the run, each at a place of its own
+  all_ended : facts.spent ≡ false → EndedIn end.ruled.run.moves seat.id facts.taken
   all_ended live =
       let run = end.ruled.run in
       let views = end.state.views in
-      All-weaker (HasEnded views) (EndedIn run.moves seat.id) (λ one has. record {
-        place = has.seat;
-        apart = spent-apart views seat.id has.seat facts has.facts end.at live has.at has.spent;
-        is_named = ap (λ names. slice_get names has.seat) (sym run.named)
-            ∙ slice_get_map (λ (f : Facts). f.name) views has.seat has.facts has.at ∙ ap Some has.name;
-        is_made = run.own has.seat ∙ made_at-here views has.seat has.facts has.at ∙ has.made;
-      }) facts.taken
-      (of_seat (λ (f : Facts). All (HasEnded views) f.taken) end.state seat.id facts end.ruled.taken end.at)
+      let have = end.ruled.taken seat.id facts end.at in
+      record {
+        placed = have.placed;
+        all_of_them = have.all_of_them;
+        apart = have.apart;
+        stand = All-weaker (HasEnded views end.ruled.owner seat.id) (EndedAt run.moves seat.id) (λ its has. record {
+          elsewhere = spent-apart views seat.id its.0 facts has.facts end.at live has.at has.spent;
+          is_named = ap (λ names. slice_get names its.0) (sym run.named)
+              ∙ slice_get_map (λ (f : Facts). f.name) views its.0 has.facts has.at ∙ ap Some has.name;
+          is_made = run.own its.0 ∙ made_at-here views its.0 has.facts has.at ∙ has.made;
+        }) have.placed have.ended;
+      }
 
   pub runs : (lane : RunningLane) → lane.words.grant ≡ grant → lane.lane ≡ facts.lane → lane.made ≡ facts.made
       → lane.seen ≡ facts.seen → lane.name ≡ facts.name → lane.taken ≡ facts.taken → facts.spent ≡ false → EndsRun lane (total_half both) (word_half both)

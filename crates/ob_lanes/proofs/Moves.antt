@@ -23,7 +23,7 @@ use Rattle.ob_lanes.specs.Begins.{BeginsWithAll}
 use Rattle.ob_lanes.specs.Facts.{facts_after}
 use Rattle.ob_lanes.specs.InRun.{IsInRun}
 use Rattle.ob_lanes.specs.Packed.{packed_after}
-use Rattle.ob_lanes.specs.Ruled.{Ruled, HasEnded, HasRun, core_of}
+use Rattle.ob_lanes.specs.Ruled.{Ruled, HaveEnded, HasRun, core_of}
 use Rattle.ob_lanes.specs.Sees.{Sees}
 use Rattle.ob_lanes.specs.Told.{Told, PackedTold, FactsSee}
 use Rattle.ob_lanes.specs.declared.facts.Facts.{Facts}
@@ -34,7 +34,7 @@ use Rattle.ob_lanes.proofs.KeptAccounts.{accounts_after_step}
 use Rattle.ob_lanes.proofs.Packs.{halves_packed}
 use Rattle.ob_lanes.proofs.Runs.{begins_itself, begins_one, begins_all_more}
 use Rattle.ob_lanes.proofs.Views.{slice_get_elem, slice_get_map, made_at-set, made_at-here, map-same}
-use Rattle.ob_lanes.proofs.Views.{spent-apart, ended-stays, all-ended-stay}
+use Rattle.ob_lanes.proofs.Views.{spent-apart, ended-stays, at_set}
 
 abbrev pub St : Type 0
 St = State (Unit {0}) Facts
@@ -85,14 +85,14 @@ record Makes (grant : Grant) (s : St) (id : ℕ) (facts : Facts) (step : LaneSte
   at : get_elem? s.views id ≡ some facts
   live : facts.spent ≡ false
   may : CanMake facts.lane step
-  one : length words ≡ 1
+  sixteen : length words ≡ 16
   room_fits : grant.room < 2 ^ 32
-  both : get_or words 0 0 ≡ packed_after step grant.marks (get_or s.words 0 0)
+  both : get_or words 8 0 ≡ packed_after step grant.marks (get_or s.words 8 0)
 
 module _ (grant : Grant) (s : St) (id : ℕ) (facts : Facts) (step : LaneStep) (words : List ℕ)
     (ruled : Ruled grant s) (t : Makes grant s id facts step words) where
   abbrev found : ℕ
-  found = get_or s.words 0 0
+  found = get_or s.words 8 0
 
   abbrev new : Facts
   new = facts_after step found (sees_now grant s ruled id step found) facts
@@ -107,10 +107,10 @@ module _ (grant : Grant) (s : St) (id : ℕ) (facts : Facts) (step : LaneStep) (
       AccountsHold-step grant (core grant s) id facts.lane step at_lane t.may ruled.accounts in
       omega (arith, total-le-room grant (core_after_step (core grant s) id facts.lane step) accounts.bytes, t.room_fits)
 
-  total_is : total_half (get_or words 0 0) ≡ total_after step (total_half found)
+  total_is : total_half (get_or words 8 0) ≡ total_after step (total_half found)
   total_is = ap total_half t.both ∙ total_half-packed _ _ small
 
-  word_is : word_half (get_or words 0 0) ≡ word_after step grant.marks (total_half found) (word_half found)
+  word_is : word_half (get_or words 8 0) ≡ word_after step grant.marks (total_half found) (word_half found)
   word_is = ap word_half t.both ∙ word_half-packed _ _ small
 
   is_step : IsCoreStep (core grant s) id step (core_of grant words (set s.views id new))
@@ -149,22 +149,23 @@ module _ (grant : Grant) (s : St) (id : ℕ) (facts : Facts) (step : LaneStep) (
   spent_stay seat other their_at spent =
       set_else s.views id seat new (spent-apart s.views id seat facts other t.at t.live their_at spent) ∙ their_at
 
-  all_taken : All (λ (f : Facts). All (HasEnded (set s.views id new)) f.taken) (set s.views id new)
+  all_taken : (seat : ℕ) (other : Facts) → get_elem? (set s.views id new) seat ≡ some other
+      → HaveEnded (set s.views id new) ruled.owner seat other.taken
   all_taken =
-      let Taken : Facts → Type 0 = λ f. All (HasEnded (set s.views id new)) f.taken in
-      All-set Taken s.views id new
-      (ended-stays s.views (set s.views id new) spent_stay facts.taken
-      (of_seat (λ (f : Facts). All (HasEnded s.views) f.taken) s id facts ruled.taken t.at))
-      (all-ended-stay s.views (set s.views id new) spent_stay ruled.taken)
+      let stays = ended-stays s.views (set s.views id new) spent_stay ruled.owner in
+      at_set (λ seat (f : Facts). HaveEnded (set s.views id new) ruled.owner seat f.taken) s.views id new
+      (stays id facts.taken (ruled.taken id facts t.at))
+      (λ seat f _ at. stays seat f.taken (ruled.taken seat f at))
 
   Ruled-step : Ruled grant (record { words = words; homes = s.homes; views = set s.views id new })
   Ruled-step = record {
-    one_word = t.one;
+    sixteen = t.sixteen;
     one_grant =
         All-set (λ (f : Facts). f.grant ≡ grant) s.views id new
         (grant_known grant s id facts ruled t.at) ruled.one_grant;
     accounts = accounts_after_step grant (core grant s) _ id step is_step ruled.accounts;
     run = has_run;
+    owner = ruled.owner;
     taken = all_taken;
   }
 
@@ -192,19 +193,19 @@ module _ (grant : Grant) (s : St) (id : ℕ) (facts : Facts) (step : LaneStep) (
 pub may_make : (grant : Grant) (s : St) (id value : ℕ) (me : Me (Unit {0}) Facts) (step : LaneStep)
     → grant.room < 2 ^ 32 → Ruled grant s → get_elem? s.views id ≡ some me.0 → me.0.spent ≡ false
     → CanMake me.0.lane step
-    → value ≡ packed_after step grant.marks (get_or s.words 0 0) → PackedTold me.0 (get_or s.words 0 0)
+    → value ≡ packed_after step grant.marks (get_or s.words 8 0) → PackedTold me.0 (get_or s.words 8 0)
     → (new : Facts) × (act : Act (Unit {0})) × Valid s.homes me.1 act
-    × Ruled grant (stepped s 0 value id me.1 new act)
-    × Told step me (get_or s.words 0 0) (new, carried_after me.1 act)
+    × Ruled grant (stepped s 8 value id me.1 new act)
+    × Told step me (get_or s.words 8 0) (new, carried_after me.1 act)
 may_make grant s id value me step room ruled at live may both tells =
-    let one = ruled.one_word in
-    let made : Makes grant s id me.0 step (set s.words 0 value) = record {
+    let sixteen = ruled.sixteen in
+    let made : Makes grant s id me.0 step (set s.words 8 value) = record {
       at = at;
       live = live;
       may = may;
-      one = length-set s.words 0 value ∙ one;
+      sixteen = length-set s.words 8 value ∙ sixteen;
       room_fits = room;
-      both = get_or-set_same s.words 0 value 0 (omega (arith, one)) ∙ both;
+      both = get_or-set_same s.words 8 value 0 (omega (arith, sixteen)) ∙ both;
     } in (
       new grant s id me.0 step _ ruled made,
       keeps,

@@ -9,9 +9,8 @@ use Rattle.ob_types.specs.Packed.{packed, word_half, total_half}
 use Rattle.ob_core.specs.Bits.{is_set, with_bit, without_bit}
 use Rattle.ob_core.specs.LaneStep.{raised_word, lowered_word}
 use Rattle.ob_core.proofs.BitLemmas.{pow-le-of_bit, or-is-with_bit, and-is-without_bit}
-use Rattle.ob_core.proofs.FoundLemmas.{word_half-packed}
+use Rattle.ob_core.proofs.FoundLemmas.{word_half-packed, total_half-packed}
 use Rattle.ob_types.specs.WaterMark.{Marks}
-use Rattle.ob_core.proofs.FoundLemmas.{word_half-packed}
 
 -- a number is that of its two halves
 pub halves_packed : (found : ℕ) → packed (word_half found) (total_half found) ≡ found
@@ -104,3 +103,16 @@ pub clear_both : (found index : ℕ) → found < 2 ^ 64 → index < 32
 clear_both found index small within =
     ap word_half (and-is-without_bit w64 found (index + 32) small (omega (arith, within)) ∙ without_bit-halves found index)
     ∙ word_half-packed _ _ (total_half-small found)
+
+-- neither moves the total
+pub set_total : (found index : ℕ) → total_half (bit_or found (2 ^ (index + 32))) ≡ total_half found
+set_total found index =
+    ap total_half (or-is-with_bit found (index + 32) ∙ with_bit-halves found index)
+    ∙ total_half-packed _ (total_half found) (total_half-small found)
+
+pub clear_total : (found index : ℕ) → found < 2 ^ 64 → index < 32
+    → total_half (bit_and found (bit_not w64 (2 ^ (index + 32)))) ≡ total_half found
+clear_total found index small within =
+    ap total_half (and-is-without_bit w64 found (index + 32) small (omega (arith, within))
+    ∙ without_bit-halves found index)
+    ∙ total_half-packed _ (total_half found) (total_half-small found)

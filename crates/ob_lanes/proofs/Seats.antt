@@ -1,12 +1,14 @@
 -- A seat that is cut in two, and two that become one, keep what holds between any two steps.
 use Rattle.std.proofs.Common.{◌≡◌, ◌≢◌, ℕ, zero, suc, ◌+◌, ◌≤◌, ◌<◌, ◌^◌, List, [], ◌∷◌, ◌++◌, map, set, None, Some, sym, refl}
-use Rattle.std.proofs.Common.{ap, ◌∙◌, subst, true, false, arith}
+use Rattle.std.proofs.Common.{ap, ◌∙◌, subst, Bool, true, false, eqb, if◌then◌else◌, arith}
 use mathlib.Core.Option.{some}
 use lib.ListN.{get_elem?}
 use Rattle.std.specs.Int.{bit_at}
 use Rattle.std.specs.List.{All, slice_get}
 use Rattle.std.proofs.lemmas.List.{map-set, map-append, append-nil}
 use Rattle.std.proofs.lemmas.List.Elements.{All-set, All-append, All-weaker, All-nil, All-cons}
+use Rattle.std.proofs.lemmas.List.Kept.{AllPairs-cons}
+use Rattle.std.proofs.lemmas.Bool.{eqb-true, eqb-false}
 use Rattle.std.proofs.lemmas.Nat.Bits.{bit_at-lt}
 use Rattle.atomic_table.specs.Table.{Splits, Joins}
 use Rattle.atomic_table.proofs.Lists.{set_here, set_else, at_longer}
@@ -14,7 +16,7 @@ use Rattle.ob_core.specs.declared.lane.Lane.{Lane}
 use Rattle.ob_lanes.specs.Begins.{BeginsWith, BeginsWithAll}
 use Rattle.ob_lanes.specs.Facts.{made_at}
 use Rattle.ob_lanes.specs.Divided.{kept_facts, given_facts, both_facts, spent_facts}
-use Rattle.ob_lanes.specs.Ruled.{Ruled, HasEnded, core_of}
+use Rattle.ob_lanes.specs.Ruled.{Ruled, HasEnded, HaveEnded, core_of}
 use Rattle.ob_lanes.specs.Run.{own_steps}
 use Rattle.ob_lanes.specs.Split.{split_fault}
 use Rattle.ob_core.specs.Bits.{AreAmong}
@@ -27,10 +29,10 @@ use Rattle.ob_lanes.specs.declared.facts.Move.TheVariants.{Divides, Merges}
 use Rattle.ob_lanes.proofs.Halves.{are_parts, are_merged}
 use Rattle.ob_core.proofs.LaneSums.{all_at, two-le-sum_by}
 use Rattle.ob_lanes.proofs.KeptAccounts.{accounts_after_division, accounts_after_merger}
-use Rattle.ob_lanes.proofs.Moves.{St, core, grant_known, begins_seen, of_seat}
+use Rattle.ob_lanes.proofs.Moves.{St, core, grant_known, begins_seen}
 use Rattle.ob_lanes.proofs.Runs.{begins_all_more}
 use Rattle.ob_lanes.proofs.Views.{slice_get_elem, slice_get_map, made_at-kept, made_at-new, map-same}
-use Rattle.ob_lanes.proofs.Views.{spent-apart, ended-stays, all-ended-stay}
+use Rattle.ob_lanes.proofs.Views.{spent-apart, ended-stays, none_ended, at_set, at_push, AllPairs-append}
 use Rattle.std.proofs.lemmas.Option.{slice_get_within}
 
 abbrev lane_of : Facts → Lane
@@ -97,7 +99,7 @@ module _ (grant : Grant) (s : St) (id : ℕ) (facts : Facts) (room bits : ℕ) (
 
   Ruled-division : Ruled grant (record { words = s.words; homes = s.homes; views = halves })
   Ruled-division = record {
-    one_word = ruled.one_word;
+    sixteen = ruled.sixteen;
     one_grant =
         All-append Knows (set s.views id kept) (given ∷ []) (All-set Knows s.views id kept known ruled.one_grant)
         (All-one Knows given known);
@@ -118,13 +120,13 @@ module _ (grant : Grant) (s : St) (id : ℕ) (facts : Facts) (room bits : ℕ) (
           (All-set Begun s.views id kept begun (begins_views grant s move ruled))
           (All-one Begun given begun);
     };
+    owner = ruled.owner;
     taken =
-        let Taken : Facts → Type 0 = λ f. All (HasEnded halves) f.taken in
-        All-append Taken (set s.views id kept) (given ∷ [])
-        (All-set Taken s.views id kept (ended-stays s.views halves spent_stay facts.taken
-        (of_seat (λ (f : Facts). All (HasEnded s.views) f.taken) s id facts ruled.taken at))
-        (all-ended-stay s.views halves spent_stay ruled.taken))
-        (All-one Taken given (All-nil (HasEnded halves)));
+        let Taken : ℕ → Facts → Type 0 = λ seat f. HaveEnded halves ruled.owner seat f.taken in
+        let stays = ended-stays s.views halves spent_stay ruled.owner in
+        at_push Taken (set s.views id kept) given (none_ended halves ruled.owner)
+        (at_set Taken s.views id kept (stays id facts.taken (ruled.taken id facts at))
+        (λ seat f _ here. stays seat f.taken (ruled.taken seat f here)));
   }
 
 -- a seat that is free may be cut in two, if it has the room and the bits
@@ -209,9 +211,70 @@ module _ (grant : Grant) (s : St) (id other : ℕ) (facts theirs : Facts) (ruled
     abbrev ended_one : Ended
     ended_one = record { name = theirs.name; made = theirs.made }
 
-    has_ended : HasEnded views ended_one
+    -- what was taken in by either is the first one's now
+    abbrev owner : ℕ → ℕ
+    owner place = if eqb place other then id else if eqb (ruled.owner place) other then id else ruled.owner place
+
+    owns_other : owner other ≡ id
+    owns_other = by_test (eqb other other) refl
+      where
+        by_test : (same : Bool) → eqb other other ≡ same
+            → (if same then id else if eqb (ruled.owner other) other then id else ruled.owner other) ≡ id
+        by_test true is = refl
+        by_test false is = absurd (eqb-false other other is refl)
+
+    owns_else : (place by : ℕ) → place ≢ other → ruled.owner place ≡ by → by ≢ other → owner place ≡ by
+    owns_else place by elsewhere owned another = by_tests (eqb place other) (eqb (ruled.owner place) other) refl refl
+      where
+        by_tests : (same its : Bool) → eqb place other ≡ same → eqb (ruled.owner place) other ≡ its
+            → (if same then id else if its then id else ruled.owner place) ≡ by
+        by_tests true its is of = absurd (elsewhere (eqb-true place other is))
+        by_tests false true is of = absurd (another (sym owned ∙ eqb-true (ruled.owner place) other of))
+        by_tests false false is of = owned
+
+    owns_theirs : (place : ℕ) → place ≢ other → ruled.owner place ≡ other → owner place ≡ id
+    owns_theirs place elsewhere owned = by_tests (eqb place other) (eqb (ruled.owner place) other) refl refl
+      where
+        by_tests : (same its : Bool) → eqb place other ≡ same → eqb (ruled.owner place) other ≡ its
+            → (if same then id else if its then id else ruled.owner place) ≡ id
+        by_tests true its is of = absurd (elsewhere (eqb-true place other is))
+        by_tests false true is of = refl
+        by_tests false false is of = absurd (eqb-false (ruled.owner place) other of owned)
+
+    -- what has ended is not the lane that is taken in now
+    elsewhere : (by : ℕ) (its : ℕ × Ended) → HasEnded s.views ruled.owner by its → its.0 ≢ other
+    elsewhere by its has = spent-apart s.views other its.0 theirs has.facts their_at their_live has.at has.spent
+
+    stays : (by now : ℕ) (its : ℕ × Ended) → owner its.0 ≡ now → HasEnded s.views ruled.owner by its
+        → HasEnded views owner now its
+    stays by now its owned has = record {
+      facts = has.facts;
+      at = spent_still its.0 has.facts has.at has.spent;
+      spent = has.spent;
+      name = has.name;
+      made = has.made;
+      owned = owned;
+    }
+
+    stays_else : (by : ℕ) → by ≢ other → (its : ℕ × Ended) → HasEnded s.views ruled.owner by its
+        → HasEnded views owner by its
+    stays_else by another its has = stays by by its (owns_else its.0 by (elsewhere by its has) has.owned another) has
+
+    goes : (its : ℕ × Ended) → HasEnded s.views ruled.owner other its → HasEnded views owner id its
+    goes its has = stays other id its (owns_theirs its.0 (elsewhere other its has) has.owned) has
+
+    have_else : (by : ℕ) (taken : List Ended) → by ≢ other → HaveEnded s.views ruled.owner by taken
+        → HaveEnded views owner by taken
+    have_else by taken another have = record {
+      placed = have.placed;
+      all_of_them = have.all_of_them;
+      apart = have.apart;
+      ended = All-weaker (HasEnded s.views ruled.owner by) (HasEnded views owner by) (stays_else by another)
+          have.placed have.ended;
+    }
+
+    has_ended : HasEnded views owner id (other, ended_one)
     has_ended = record {
-      seat = other;
       facts = spent;
       at = set_here (set s.views id joined) other spent
           (slice_get_within (set s.views id joined) other theirs
@@ -219,11 +282,41 @@ module _ (grant : Grant) (s : St) (id other : ℕ) (facts theirs : Facts) (ruled
       spent = spent_spent;
       name = spent_name;
       made = spent_made;
+      owned = owns_other;
     }
+
+    -- the lanes that both have taken in, and the one that is taken in now
+    both_ended : HaveEnded views owner id (facts.taken ++ ended_one ∷ theirs.taken)
+    both_ended =
+        let mine = ruled.taken id facts at in
+        let its = ruled.taken other theirs their_at in
+        let Apart : ℕ × Ended → ℕ × Ended → Type 0 = λ one another. one.0 ≢ another.0 in
+        let new : ℕ × Ended = (other, ended_one) in
+        record {
+          placed = mine.placed ++ new ∷ its.placed;
+          all_of_them = map-append (λ (one : ℕ × Ended). one.1) mine.placed (new ∷ its.placed)
+              ∙ ap (λ before. before ++ ended_one ∷ map (λ (one : ℕ × Ended). one.1) its.placed) mine.all_of_them
+              ∙ ap (λ behind. facts.taken ++ ended_one ∷ behind) its.all_of_them;
+          apart = AllPairs-append Apart mine.placed (new ∷ its.placed) mine.apart
+              (AllPairs-cons Apart new its.placed
+              (All-weaker (HasEnded s.views ruled.owner other) (Apart new)
+              (λ one has same. elsewhere other one has (sym same)) its.placed its.ended) its.apart)
+              (All-weaker (HasEnded s.views ruled.owner id) (λ one. All (Apart one) (new ∷ its.placed))
+              (λ one has. All-cons (Apart one) new its.placed (elsewhere id one has)
+              (All-weaker (HasEnded s.views ruled.owner other) (Apart one)
+              (λ another theirs_has same. apart
+              (sym theirs_has.owned ∙ ap ruled.owner (sym same) ∙ has.owned)) its.placed its.ended))
+              mine.placed mine.ended);
+          ended = All-append (HasEnded views owner id) mine.placed (new ∷ its.placed)
+              (All-weaker (HasEnded s.views ruled.owner id) (HasEnded views owner id)
+              (stays_else id (λ same. apart (sym same))) mine.placed mine.ended)
+              (All-cons (HasEnded views owner id) new its.placed has_ended
+              (All-weaker (HasEnded s.views ruled.owner other) (HasEnded views owner id) goes its.placed its.ended));
+        }
 
     Ruled-merger : Ruled grant (record { words = s.words; homes = s.homes; views = views })
     Ruled-merger = record {
-      one_word = ruled.one_word;
+      sixteen = ruled.sixteen;
       one_grant =
           All-set (λ (f : Facts). f.grant ≡ grant) (set s.views id joined) other spent (spent_grant
           ∙ grant_known grant s other theirs ruled their_at)
@@ -251,18 +344,13 @@ module _ (grant : Grant) (s : St) (id other : ℕ) (facts theirs : Facts) (ruled
             (All-set Begun s.views id joined (All-append Begins facts.seen theirs.seen mine theirs_too)
             (begins_views grant s move ruled));
       };
+      owner = owner;
       taken =
-          let Taken : Facts → Type 0 = λ f. All (HasEnded views) f.taken in
-          let Seen : Facts → Type 0 = λ f. All (HasEnded s.views) f.taken in
-          let mine = ended-stays s.views views spent_still facts.taken (of_seat Seen s id facts ruled.taken at) in
-          let theirs_too =
-          ended-stays s.views views spent_still theirs.taken (of_seat Seen s other theirs ruled.taken their_at) in
-          let both : Taken joined =
-          All-append (HasEnded views) facts.taken (ended_one ∷ theirs.taken) mine
-          (All-cons (HasEnded views) ended_one theirs.taken has_ended theirs_too) in
-          All-set Taken (set s.views id joined) other spent
-          (subst (All (HasEnded views)) (sym spent_taken) (All-nil (HasEnded views)))
-          (All-set Taken s.views id joined both (all-ended-stay s.views views spent_still ruled.taken));
+          let Taken : ℕ → Facts → Type 0 = λ seat f. HaveEnded views owner seat f.taken in
+          at_set Taken (set s.views id joined) other spent
+          (subst (HaveEnded views owner other) (sym spent_taken) (none_ended views owner other))
+          (λ seat f another here. at_set (λ k g. k ≢ other → Taken k g) s.views id joined (λ _. both_ended)
+          (λ k g _ there elsewhere. have_else k g.taken elsewhere (ruled.taken k g there)) seat f here another);
     }
 
 -- two seats that are free may become one

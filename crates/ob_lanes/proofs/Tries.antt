@@ -1,14 +1,20 @@
 -- Tries of a step, one after another.
-use Rattle.std.proofs.Common.{◌≡◌, ◌≢◌, ℕ, List, [], ◌++◌, refl, sym, ap, ◌∙◌, append_assoc, subst}
+use Rattle.std.proofs.Common.{◌≡◌, ◌≢◌, ℕ, List, [], ◌++◌, refl, sym, ap, ◌∙◌, append_assoc, subst, arith}
+use Rattle.std.proofs.lemmas.List.{append-nil}
 use Rattle.std.proofs.lemmas.List.Elements.{All-nil, All-cons, All-append}
 use Rattle.atomic_table.specs.declared.shared.Seat.{Seat}
+use Rattle.ob_types.specs.Packed.{total_half}
+use Rattle.ob_core.specs.Beginning.{Grant}
+use Rattle.ob_core.specs.LaneStep.{lane_after}
+use Rattle.ob_core.specs.Owed.{owed_by}
+use Rattle.ob_core.specs.declared.lane.Lane.{Lane}
 use Rattle.ob_core.specs.declared.lane_step.LaneStep.{LaneStep}
 use Rattle.ob_core.specs.declared.lane_step.LaneStep.TheVariants.{Load}
 use Rattle.ob_lanes.specs.Begins.{BeginsWithAll}
 use Rattle.ob_lanes.specs.Charge.{AreReads}
 use Rattle.ob_lanes.specs.Facts.{one_step}
-use Rattle.ob_lanes.specs.Told.{Knows, Told, PackedTold, Makes, MakesOrReads}
-use Rattle.ob_lanes.specs.Tried.{KeepsRest, IsTrying, SeatTries}
+use Rattle.ob_lanes.specs.Told.{Knows, Told, ToldTry, MayExpect, Makes, MakesOrReads}
+use Rattle.ob_lanes.specs.Tried.{KeepsRest, IsTrying, SeatTries, HasTried}
 use Rattle.ob_lanes.specs.declared.facts.Facts.{Facts}
 use Rattle.ob_lanes.specs.declared.facts.Made.{Made}
 use Rattle.ob_lanes.specs.declared.facts.Move.{Move}
@@ -28,11 +34,36 @@ step_hears step found old new told run whole =
     begins_behind _ told.sees.before old.0.seen run told.sees.begins
     (subst (BeginsWithAll run) told.sees.seen_is whole)
 
--- what a read tells of the lane holds of it after the read too
-still_told : (found : ℕ) (old new : Knows) → Told Load old found new → PackedTold new.0 found
-still_told found old new told =
-    subst (λ (f : Facts). PackedTold f found) (sym told.after)
-    (record { no_less = told.tells.no_less; no_more = told.tells.no_more; fits = told.tells.fits; shows = told.tells.shows })
+-- what a lane read it may expect
+pub read_expects : (found : ℕ) (old new : Knows) → Told Load old found new → MayExpect new.0 found
+read_expects found old new told =
+    subst (λ (f : Facts). MayExpect f found) (sym told.after)
+    (record { no_less = told.tells.no_less; no_more = told.tells.no_more })
+
+-- and what a bit that it set or cleared left, which moves no total
+pub bit_expects : (step : LaneStep) (found left : ℕ) (old new : Knows) → Told step old found new
+    → (lane_after step old.0.lane).room ≡ old.0.lane.room → owed_by (lane_after step old.0.lane) ≡ owed_by old.0.lane
+    → total_half left ≡ total_half found → MayExpect new.0 left
+bit_expects step found left old new told room debt same =
+    subst (λ (f : Facts). MayExpect f left) (sym told.after) (record {
+      no_less = omega (arith, told.tells.no_less, debt, same);
+      no_more = omega (arith, told.tells.no_more, debt, same, room);
+    })
+
+-- a lane that has not tried yet
+pub not_yet : (old : Seat (Unit {0}) Facts) (expected : ℕ) → MayExpect old.me.0 expected → SeatTries old expected old
+not_yet old expected may = record {
+  same = (refl, refl);
+  trying = record {
+    reads = [];
+    are_reads = All-nil IsRead;
+    made = sym (append-nil old.me.0.made);
+    lane = refl;
+    rest = record { grant = refl; name = refl; splits = refl; taken = refl; spent = refl; slots = refl };
+    hears = λ run whole. whole;
+    expects = may;
+  };
+}
 
 -- a step more leaves all that no step changes
 rest_after : (step : LaneStep) (found : ℕ) (old now new : Knows) → KeepsRest old now → Told step now found new
@@ -56,7 +87,7 @@ first_read found old now told = record {
   rest = rest_after Load found old old now
       (record { grant = refl; name = refl; splits = refl; taken = refl; spent = refl; slots = refl }) told;
   hears = step_hears Load found old now told;
-  tells = still_told found old now told;
+  expects = read_expects found old now told;
 }
 
 -- one read more
@@ -70,7 +101,7 @@ next_read found other old now new trying told = record {
   lane = ap (λ (f : Facts). f.lane) told.after ∙ trying.lane;
   rest = rest_after Load other old now new trying.rest told;
   hears = λ run whole. trying.hears run (step_hears Load other now new told run whole);
-  tells = still_told other now new told;
+  expects = read_expects other now new told;
 }
 
 -- a seat whose lane has read is trying
@@ -84,3 +115,36 @@ again step found other old now new missed tries made = record {
   same = (made.same.0 ∙ tries.same.0, made.same.1 ∙ tries.same.1);
   trying = next_read found other old.me now.me new.me tries.trying (made.told.read missed);
 }
+
+-- an exchange that found what it expected is the step, after the reads before it
+pub tried : (step : LaneStep) (expected found : ℕ) (old now new : Knows) → found ≡ expected → IsTrying old expected now
+    → ToldTry step expected now found new → HasTried step old found new
+tried step expected found old now new same trying made =
+    let told = made.made same in
+    let lane : now.0.lane ≡ old.0.lane = trying.lane in
+    let owed : owed_by now.0.lane ≡ owed_by old.0.lane = ap owed_by lane in
+    let room : now.0.lane.room ≡ old.0.lane.room = ap (λ (l : Lane). l.room) lane in
+    let whole : now.0.grant.room ≡ old.0.grant.room = ap (λ (g : Grant). g.room) trying.rest.grant in
+    record {
+      reads = trying.reads;
+      are_reads = trying.are_reads;
+      made = ap (λ (f : Facts). f.made) told.after ∙ ap (λ (made : List Made). made ++ one_step step found) trying.made;
+      lane = ap (λ (f : Facts). f.lane) told.after ∙ ap (lane_after step) lane;
+      rest = rest_after step found old now new trying.rest told;
+      sees = record {
+        seat = told.sees.seat;
+        before = told.sees.before;
+        at = told.sees.at;
+        core = told.sees.core;
+        leads = told.sees.leads;
+        total_found = told.sees.total_found;
+        word_found = told.sees.word_found;
+        seen_is = told.sees.seen_is;
+        begins = trying.hears told.sees.before told.sees.begins;
+        in_run = told.sees.in_run;
+      };
+      expects = record {
+        no_less = omega (arith, told.tells.no_less, owed);
+        no_more = omega (arith, told.tells.no_more, owed, room, whole);
+      };
+    }

@@ -1,13 +1,15 @@
 -- Views, read by the table's way to index a list and by std's; and what each seat has made.
 use Rattle.std.proofs.Common.{◌≡◌, ◌≢◌, ℕ, zero, suc, true, false, List, [], ◌∷◌, ◌++◌, map, set, cond, eqb, sym, refl, ap, ◌∙◌, Some}
+use Rattle.std.proofs.Common.{subst, arith}
 use Rattle.std.proofs.Math.Dec.{eqb-suc-zero, eqb-zero-suc, eqb-suc-suc}
 use Rattle.std.proofs.lemmas.List.{append-nil}
 use mathlib.Core.Option.{some, some-injective, some-ne-none}
 use lib.ListN.{get_elem?}
-use Rattle.std.specs.List.{All, slice_get}
-use Rattle.std.proofs.lemmas.List.Elements.{All-weaker}
+use Rattle.std.specs.List.{All, AllPairs, slice_get}
+use Rattle.std.proofs.lemmas.List.Elements.{All-nil, All-append, All-head, All-tail, All-weaker}
+use Rattle.std.proofs.lemmas.List.Kept.{AllPairs-cons}
 use Rattle.ob_lanes.specs.Facts.{made_at}
-use Rattle.ob_lanes.specs.Ruled.{HasEnded}
+use Rattle.ob_lanes.specs.Ruled.{HasEnded, HaveEnded}
 use Rattle.ob_lanes.specs.declared.facts.Ended.{Ended}
 use Rattle.ob_lanes.specs.declared.facts.Facts.{Facts}
 use Rattle.ob_lanes.specs.declared.facts.Made.{Made}
@@ -77,25 +79,72 @@ spent-apart views id seat facts other at live their_at spent = λ same.
     let wrong : true ≡ false = sym spent ∙ ap (λ (f : Facts). f.spent) is ∙ live in
     absurd (cc)
 
+-- no lane was taken in
+pub none_ended : (views : List Facts) (owner : ℕ → ℕ) (seat : ℕ) → HaveEnded views owner seat []
+none_ended views owner seat = record {
+  placed = [];
+  all_of_them = refl;
+  apart = λ i j d lt within. absurd (omega (arith, within));
+  ended = All-nil (HasEnded views owner seat);
+}
+
+-- nor has the first lane taken one in
+pub first_ended : (owner : ℕ → ℕ) (first : Facts) → first.taken ≡ [] → (seat : ℕ) (facts : Facts)
+    → get_elem? (first ∷ []) seat ≡ some facts → HaveEnded (first ∷ []) owner seat facts.taken
+first_ended owner first none zero facts at =
+    subst (λ (f : Facts). HaveEnded (first ∷ []) owner 0 f.taken) (some-injective first facts at)
+    (subst (HaveEnded (first ∷ []) owner 0) (sym none) (none_ended (first ∷ []) owner 0))
+first_ended owner first none (suc seat) facts at = absurd (some-ne-none facts (sym at))
+
 -- the lanes that were taken in have ended still, if all seats that are spent stay
 pub ended-stays : (views after : List Facts)
     → ((seat : ℕ) (facts : Facts) → get_elem? views seat ≡ some facts → facts.spent ≡ true
     → get_elem? after seat ≡ some facts)
-    → (taken : List Ended) → All (HasEnded views) taken → All (HasEnded after) taken
-ended-stays views after stays taken ended =
-    All-weaker (HasEnded views) (HasEnded after) (λ one has. record {
-      seat = has.seat;
-      facts = has.facts;
-      at = stays has.seat has.facts has.at has.spent;
-      spent = has.spent;
-      name = has.name;
-      made = has.made;
-    }) taken ended
+    → (owner : ℕ → ℕ) (seat : ℕ) (taken : List Ended) → HaveEnded views owner seat taken
+    → HaveEnded after owner seat taken
+ended-stays views after stays owner seat taken have = record {
+  placed = have.placed;
+  all_of_them = have.all_of_them;
+  apart = have.apart;
+  ended = All-weaker (HasEnded views owner seat) (HasEnded after owner seat) (λ its has. record {
+    facts = has.facts;
+    at = stays its.0 has.facts has.at has.spent;
+    spent = has.spent;
+    name = has.name;
+    made = has.made;
+    owned = has.owned;
+  }) have.placed have.ended;
+}
 
-pub all-ended-stay : (views after : List Facts)
-    → ((seat : ℕ) (facts : Facts) → get_elem? views seat ≡ some facts → facts.spent ≡ true
-    → get_elem? after seat ≡ some facts)
-    → All (λ (f : Facts). All (HasEnded views) f.taken) views → All (λ (f : Facts). All (HasEnded after) f.taken) views
-all-ended-stay views after stays ended =
-    All-weaker (λ (f : Facts). All (HasEnded views) f.taken) (λ (f : Facts). All (HasEnded after) f.taken)
-    (λ f. ended-stays views after stays f.taken) views ended
+-- what holds of each element at its place holds once another stands at one of them of which it holds, and once one more
+-- stands behind
+pub at_set : {X : Type 0} (P : ℕ → X → Type 0) (xs : List X) (i : ℕ) (new : X) → P i new
+    → ((k : ℕ) (x : X) → k ≢ i → get_elem? xs k ≡ some x → P k x) → (k : ℕ) (x : X)
+    → get_elem? (set xs i new) k ≡ some x → P k x
+at_set P [] i new here all zero x at = absurd (some-ne-none x (sym at))
+at_set P [] i new here all (suc k) x at = absurd (some-ne-none x (sym at))
+at_set P (y ∷ ys) zero new here all zero x at = subst (P 0) (some-injective new x at) here
+at_set P (y ∷ ys) zero new here all (suc k) x at = all (suc k) x (λ same. absurd (omega (arith, same))) at
+at_set P (y ∷ ys) (suc i) new here all zero x at = all zero x (λ same. absurd (omega (arith, same))) at
+at_set P (y ∷ ys) (suc i) new here all (suc k) x at =
+    at_set (λ n. P (suc n)) ys i new here (λ n z apart. all (suc n) z (λ same. apart (omega (arith, same)))) k x at
+
+pub at_push : {X : Type 0} (P : ℕ → X → Type 0) (xs : List X) (new : X) → ((k : ℕ) → P k new)
+    → ((k : ℕ) (x : X) → get_elem? xs k ≡ some x → P k x) → (k : ℕ) (x : X)
+    → get_elem? (xs ++ new ∷ []) k ≡ some x → P k x
+at_push P [] new here all zero x at = subst (P 0) (some-injective new x at) (here 0)
+at_push P [] new here all (suc k) x at = absurd (some-ne-none x (sym at))
+at_push P (y ∷ ys) new here all zero x at = all zero x at
+at_push P (y ∷ ys) new here all (suc k) x at =
+    at_push (λ n. P (suc n)) ys new (λ n. here (suc n)) (λ n. all (suc n)) k x at
+
+-- two lists of which no two are so, nor one of the first and one of the second
+pub AllPairs-append : {X : Type 0} (R : X → X → Type 0) (xs ys : List X) → AllPairs R xs → AllPairs R ys
+    → All (λ x. All (R x) ys) xs → AllPairs R (xs ++ ys)
+AllPairs-append R [] ys first second across = second
+AllPairs-append R (x ∷ xs) ys first second across =
+    AllPairs-cons R x (xs ++ ys)
+    (All-append (R x) xs ys (λ j d within. first 0 (suc j) d (omega arith) (omega (arith, within)))
+    (All-head (λ z. All (R z) ys) x xs across))
+    (AllPairs-append R xs ys (λ i j d lt within. first (suc i) (suc j) d (omega (arith, lt)) (omega (arith, within)))
+    second (All-tail (λ z. All (R z) ys) x xs across))

@@ -8,7 +8,8 @@ use Rattle.ob_core.specs.declared.lane.Lane.{Lane}
 use Rattle.ob_core.specs.declared.lane_step.LaneStep.{LaneStep}
 use Rattle.ob_core.specs.declared.lane_step.LaneStep.TheVariants.{Add, SetBit, Load}
 use Rattle.ob_core.specs.Bits.{AreAmong, MakeUp}
-use Rattle.ob_core.specs.Parts.{AreParts, IsDivision}
+use Rattle.ob_core.specs.Parts.{AreParts, IsDivision, IsMerger, spent_lane}
+use Rattle.ob_core.specs.Worked.{free_lane}
 use Rattle.std.proofs.lemmas.List.Elements.{All-nil}
 use Rattle.std.proofs.lemmas.Nat.Bits.{bit_at-zero}
 use Rattle.ob_lanes.specs.Begins.{BeginsWith, BeginsWithAll}
@@ -20,7 +21,7 @@ use Rattle.ob_lanes.specs.declared.facts.Made.{Made}
 use Rattle.ob_lanes.specs.declared.facts.Move.{Move}
 use Rattle.ob_lanes.specs.declared.facts.Move.TheVariants.{Steps}
 use Rattle.ob_lanes.specs.Worked.{grant, half, met, first_run, meeting, with_bits, lone, bit_2_set, bit_2_run}
-use Rattle.ob_lanes.specs.Worked.{shows_bit_2, shows_mark, read_run, adds_60, adding_run}
+use Rattle.ob_lanes.specs.Worked.{shows_bit_2, shows_mark, read_run, adds_60, adding_run, joining}
 use Rattle.ob_lanes.proofs.Runs.{begins_itself, begins_one, begins_more}
 
 -- what the first of some steps found
@@ -108,8 +109,8 @@ charge_seen =
 abbrev pub way : ℕ → Lane → Lane → CoreState
 way total a b = record { total = total; word = 0; marks = grant.marks; lanes = a ∷ b ∷ [] }
 
-abbrev whole : Lane
-whole = record { room = 120; debt = None; held = 0; raised = 0 }
+abbrev pub whole : Lane
+whole = free_lane 120 0 0
 
 -- no bit is shared out
 no_bits : MakeUp 0 0 0
@@ -176,3 +177,25 @@ late_seen =
     seen_last 0 meeting (met 1) (met 1) meets refl refl
     (begins_one meeting first_run (begins_more (Steps 1 (Add 60) 60) first_run first_run (begins_itself first_run)))
     (record { leads = (met 1, meets, (read, refl)); is_lane = refl; is_named = refl; is_made = refl })
+
+-- the second half reads, and the first takes it in
+pub joins : Leads (one_lane grant) joining (way 0 whole spent_lane)
+joins =
+    let here = way 0 (half None) (half None) in
+    let divided : IsDivision (one_lane grant) 0 (half None) (half None) (way 0 (half None) (half None)) =
+    record { lane = whole; is_lane = refl; parts = halves; after = refl } in
+    let read : IsCoreStep (way 0 (half None) (half None)) 1 Load (way 0 (half None) (half None)) =
+    record { lane = half None; is_lane = refl; allowed = tt; after = refl } in
+    let merged : IsMerger (way 0 (half None) (half None)) 0 1 whole (way 0 whole spent_lane) = record {
+      lane = half None;
+      other_lane = half None;
+      is_lane = refl;
+      is_other = refl;
+      apart = λ same. absurd (omega (arith, same));
+      parts = halves;
+      after = refl;
+    } in
+    (here, (here, (one_lane grant, refl, divided), (read, refl)), merged)
+
+pub joined_in_run : IsInRun grant joining (way 0 whole spent_lane) 0 [] whole []
+joined_in_run = record { leads = joins; is_lane = refl; is_named = refl; is_made = refl }

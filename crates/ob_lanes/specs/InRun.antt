@@ -1,5 +1,5 @@
 -- That a lane stands in a run: what it is and what it has made are no invention of its own.
-use Rattle.std.specs.Prelude.{◌≡◌, ◌≢◌, ℕ, List, All, Some, slice_get}
+use Rattle.std.specs.Prelude.{◌≡◌, ◌≢◌, ℕ, List, All, AllPairs, Some, map, slice_get}
 use Rattle.ob_core.specs.CoreState.{CoreState}
 use Rattle.ob_core.specs.Beginning.{Grant, one_lane}
 use Rattle.ob_core.specs.declared.lane.Lane.{Lane}
@@ -20,21 +20,27 @@ pub record IsInRun (grant : Grant) (moves : List Move) (core : CoreState) (seat 
   pub is_named : slice_get (names_in moves) seat ≡ Some name
   pub is_made : own_steps seat moves ≡ made
 
--- a lane that was taken in stands at another place than this, under its name, and its own steps are those among the moves
-pub record EndedIn (moves : List Move) (seat : ℕ) (one : Ended) : Type 0 where
-  pub place : ℕ
-  pub apart : place ≢ seat
-  pub is_named : slice_get (names_in moves) place ≡ Some one.name
-  pub is_made : own_steps place moves ≡ one.made
+-- a lane that was taken in stands at a place other than this, under its name, and its own steps are those among the moves
+pub record EndedAt (moves : List Move) (seat : ℕ) (its : ℕ × Ended) : Type 0 where
+  pub elsewhere : its.0 ≢ seat
+  pub is_named : slice_get (names_in moves) its.0 ≡ Some its.1.name
+  pub is_made : own_steps its.0 moves ≡ its.1.made
+
+-- the lanes that were taken in have places of their own, no two the same one
+pub record EndedIn (moves : List Move) (seat : ℕ) (taken : List Ended) : Type 0 where
+  pub placed : List (ℕ × Ended)
+  pub all_of_them : map (λ its. its.1) placed ≡ taken
+  pub apart : AllPairs (λ its others. its.0 ≢ others.0) placed
+  pub stand : All (EndedAt moves seat) placed
 
 -- these are the total and the word of a core state that some run leads to, and of which the running lane is one; the run
--- begins with each that the lane has seen, and has the own steps of each lane that it has taken in
+-- begins with each that the lane has seen, and has the own steps of each lane that it has taken in, at a place of its own
 pub record EndsRun (lane : RunningLane) (total word : ℕ) : Type 0 where
   pub core : CoreState
   pub moves : List Move
   pub seat : ℕ
   pub in_run : IsInRun lane.words.grant moves core seat lane.name lane.lane lane.made
   pub begins : BeginsWithAll moves lane.seen
-  pub ended : All (EndedIn moves seat) lane.taken
+  pub ended : EndedIn moves seat lane.taken
   pub total_is : core.total ≡ total
   pub word_is : core.word ≡ word

@@ -14,9 +14,9 @@ use Rattle.ob_lanes.specs.declared.words.Words.TheInside.{Inside as WordsInside}
 abbrev pub words_of : WordsInside → WordsValue
 words_of words = record { table_id = words.table.shared.table_id; grant = words.grant }
 
--- the table has one word and no slot, and was told what it was opened with, in 32 bits each
+-- the table has sixteen words and no slot, and was told what it was opened with, in 32 bits each
 pub record AreWords (words : WordsInside) : Type 0 where
-  pub one : words.table.shared.table_id.words ≡ 1
+  pub sixteen : words.table.shared.table_id.words ≡ 16
   pub no_slots : words.table.shared.table_id.slots ≡ 0
   pub key : words.table.shared.key ≡ words.grant
   pub room_fits : words.table.shared.key.room < 2 ^ 32
@@ -28,4 +28,4 @@ pub record IsEnd (grant : Grant) (seat : Seat (Unit {0}) Facts) (both : ℕ) : T
   pub state : State (Unit {0}) Facts
   pub ruled : Ruled grant state
   pub at : get_elem? state.views seat.id ≡ some seat.me.0
-  pub both_is : slice_index state.words 0 ≡ both
+  pub both_is : slice_index state.words 8 ≡ both

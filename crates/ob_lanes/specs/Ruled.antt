@@ -1,5 +1,5 @@
 -- What holds of the one word and of the facts of all seats between any two steps.
-use Rattle.std.specs.Prelude.{◌≡◌, ℕ, true, List, All, length, map, slice_index}
+use Rattle.std.specs.Prelude.{◌≡◌, ◌≢◌, ℕ, true, List, All, AllPairs, length, map, slice_index}
 use mathlib.Core.Option.{some}
 use lib.ListN.{get_elem?}
 use Rattle.atomic_table.specs.Table.{State}
@@ -15,11 +15,11 @@ use Rattle.ob_lanes.specs.declared.facts.Ended.{Ended}
 use Rattle.ob_lanes.specs.declared.facts.Facts.{Facts}
 use Rattle.ob_lanes.specs.declared.facts.Move.{Move}
 
--- the core state that the word and these facts are
+-- the core state that the ninth word and these facts are
 abbrev pub core_of : Grant → List ℕ → List Facts → CoreState
 core_of grant words views = record {
-  total = total_half (slice_index words 0);
-  word = word_half (slice_index words 0);
+  total = total_half (slice_index words 8);
+  word = word_half (slice_index words 8);
   marks = grant.marks;
   lanes = map (λ facts. facts.lane) views;
 }
@@ -33,20 +33,30 @@ pub record HasRun (grant : Grant) (core : CoreState) (views : List Facts) : Type
   pub named : map (λ facts. facts.name) views ≡ names_in moves
   pub begins : All (λ facts. BeginsWithAll moves facts.seen) views
 
--- the lane that was taken in has its seat still, which is spent, with its name and what it made
-pub record HasEnded (views : List Facts) (one : Ended) : Type 0 where
-  pub seat : ℕ
+-- the lane that was taken in has its seat still, which is spent, with its name and what it made, and belongs to the seat
+-- with this number
+pub record HasEnded (views : List Facts) (owner : ℕ → ℕ) (seat : ℕ) (its : ℕ × Ended) : Type 0 where
   pub facts : Facts
-  pub at : get_elem? views seat ≡ some facts
+  pub at : get_elem? views its.0 ≡ some facts
   pub spent : facts.spent ≡ true
-  pub name : facts.name ≡ one.name
-  pub made : facts.made ≡ one.made
+  pub name : facts.name ≡ its.1.name
+  pub made : facts.made ≡ its.1.made
+  pub owned : owner its.0 ≡ seat
 
--- there is one word; each seat knows what it was opened with; word and facts are a core state that the accounts hold of
--- and that one run leads to; each lane that a seat has taken in has ended
+-- so have all lanes that a seat has taken in, no two the same one
+pub record HaveEnded (views : List Facts) (owner : ℕ → ℕ) (seat : ℕ) (taken : List Ended) : Type 0 where
+  pub placed : List (ℕ × Ended)
+  pub all_of_them : map (λ its. its.1) placed ≡ taken
+  pub apart : AllPairs (λ its others. its.0 ≢ others.0) placed
+  pub ended : All (HasEnded views owner seat) placed
+
+-- of sixteen words the ninth is the one word; each seat knows what it was opened with; word and facts are a core state
+-- that the accounts hold of and that one run leads to; each lane that a seat has taken in has ended, and belongs to it alone
 pub record Ruled (grant : Grant) (state : State (Unit {0}) Facts) : Type 0 where
-  pub one_word : length state.words ≡ 1
+  pub sixteen : length state.words ≡ 16
   pub one_grant : All (λ facts. facts.grant ≡ grant) state.views
   pub accounts : AccountsHold grant (core_of grant state.words state.views)
   pub run : HasRun grant (core_of grant state.words state.views) state.views
-  pub taken : All (λ facts. All (HasEnded state.views) facts.taken) state.views
+  pub owner : ℕ → ℕ
+  pub taken : (seat : ℕ) (facts : Facts) → get_elem? state.views seat ≡ some facts
+      → HaveEnded state.views owner seat facts.taken

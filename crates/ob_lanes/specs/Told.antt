@@ -24,6 +24,11 @@ pub record PackedTold (facts : Facts) (found : ℕ) : Type 0 where
   pub fits : word_half found < 4294967296
   pub shows : ShowsHeld facts.lane (word_half found)
 
+-- a lane may expect to find a total that is at least its debt, and at most that and all room outside the lane
+pub record MayExpect (facts : Facts) (found : ℕ) : Type 0 where
+  pub no_less : owed_by facts.lane ≤ total_half found
+  pub no_more : total_half found + facts.lane.room ≤ owed_by facts.lane + facts.grant.room
+
 -- a seat has made this step, and sees the run up to it
 abbrev pub FactsSee : LaneStep → ℕ → Facts → Facts → Type 0
 FactsSee step found old new = Sees new.grant old.seen step found new.name new.lane new.made new.seen

@@ -6,7 +6,7 @@ use Rattle.ob_core.specs.declared.lane_step.LaneStep.{LaneStep}
 use Rattle.ob_lanes.specs.Begins.{BeginsWithAll}
 use Rattle.ob_lanes.specs.Charge.{AreReads}
 use Rattle.ob_lanes.specs.Facts.{one_step}
-use Rattle.ob_lanes.specs.Told.{Knows, PackedTold, FactsSee, IsSameSeat}
+use Rattle.ob_lanes.specs.Told.{Knows, MayExpect, FactsSee, IsSameSeat}
 use Rattle.ob_lanes.specs.declared.facts.Facts.{Facts}
 use Rattle.ob_lanes.specs.declared.facts.Made.{Made}
 use Rattle.ob_lanes.specs.declared.facts.Move.{Move}
@@ -21,23 +21,23 @@ pub record KeepsRest (old new : Knows) : Type 0 where
   pub spent : new.0.spent ≡ old.0.spent
   pub slots : new.1 ≡ old.1
 
--- the lane has made reads, and is as it was; the value found tells of it, and a run that begins with all that it has seen
+-- the lane has made reads, and is as it was; it may expect this value, and a run that begins with all that it has seen
 -- begins with all that it had seen
-pub record IsTrying (old : Knows) (found : ℕ) (now : Knows) : Type 0 where
+pub record IsTrying (old : Knows) (expected : ℕ) (now : Knows) : Type 0 where
   pub reads : List Made
   pub are_reads : AreReads reads
   pub made : now.0.made ≡ old.0.made ++ reads
   pub lane : now.0.lane ≡ old.0.lane
   pub rest : KeepsRest old now
   pub hears : (run : List Move) → BeginsWithAll run now.0.seen → BeginsWithAll run old.0.seen
-  pub tells : PackedTold now.0 found
+  pub expects : MayExpect now.0 expected
 
 -- the seat is the same, and its lane is trying
-pub record SeatTries (old : Seat (Unit {0}) Facts) (found : ℕ) (now : Seat (Unit {0}) Facts) : Type 0 where
+pub record SeatTries (old : Seat (Unit {0}) Facts) (expected : ℕ) (now : Seat (Unit {0}) Facts) : Type 0 where
   pub same : IsSameSeat old now
-  pub trying : IsTrying old.me found now.me
+  pub trying : IsTrying old.me expected now.me
 
--- after some reads the lane has made the step
+-- after some reads the lane has made the step, and found what it might expect
 pub record HasTried (step : LaneStep) (old : Knows) (found : ℕ) (new : Knows) : Type 0 where
   pub reads : List Made
   pub are_reads : AreReads reads
@@ -45,3 +45,4 @@ pub record HasTried (step : LaneStep) (old : Knows) (found : ℕ) (new : Knows) 
   pub lane : new.0.lane ≡ lane_after step old.0.lane
   pub rest : KeepsRest old new
   pub sees : FactsSee step found old.0 new.0
+  pub expects : MayExpect old.0 found

@@ -14,7 +14,7 @@ use Rattle.ob_lanes.specs.Bit.{IsBit}
 use Rattle.ob_lanes.specs.Changes.{changes_of, TakeTurns}
 use Rattle.ob_lanes.specs.Charge.{ChangesDebt, debt_of}
 use Rattle.ob_lanes.specs.Facts.{one_step}
-use Rattle.ob_lanes.specs.InRun.{IsInRun, EndsRun}
+use Rattle.ob_lanes.specs.InRun.{IsInRun, EndedIn, EndsRun}
 use Rattle.ob_lanes.specs.Joined.{IsJoined}
 use Rattle.ob_lanes.specs.OwnSteps.{HasMade}
 use Rattle.ob_lanes.specs.Read.{IsTotalRead, IsWordRead}
@@ -22,9 +22,10 @@ use Rattle.ob_lanes.specs.Run.{Leads, own_steps}
 use Rattle.ob_lanes.specs.RunningLane.{RunningLane, ShowsHeld}
 use Rattle.ob_lanes.specs.Split.{split_fault, IsSplit}
 use Rattle.ob_lanes.specs.Told.{Knows, ToldOfBit}
+use Rattle.ob_lanes.specs.declared.facts.Ended.{Ended}
 use Rattle.ob_lanes.specs.declared.facts.Made.{Made}
 use Rattle.ob_lanes.specs.declared.facts.Move.{Move}
-use Rattle.ob_lanes.specs.declared.facts.Move.TheVariants.{Steps, Divides}
+use Rattle.ob_lanes.specs.declared.facts.Move.TheVariants.{Steps, Divides, Merges}
 use Rattle.ob_lanes.specs.declared.fault.SplitFault.TheVariants.{NoRoom, NotHeld}
 
 -- ---- two lanes that meet
@@ -323,6 +324,37 @@ EndsWithBit2 =
     × (EndsRun (has_set id) 1 4 → ⊥)
     × (EndsRun (has_set id) 0 6 → ⊥)
     × (EndsRun (runs_alone id 4 None bit_2_set (first_run ∷ [])) 0 4 → ⊥)
+
+-- the second half reads a total of 0, and is taken in by the first
+abbrev pub joining : List Move
+joining = Merges 0 1 (free_lane 120 0 0) ∷ Steps 1 Load 0 ∷ Divides 0 (half None) (half None) (0 ∷ []) ∷ []
+
+-- the second half, with these steps
+abbrev pub second_half : List Made → Ended
+second_half made = record { name = 0 ∷ []; made = made }
+
+-- the lane that took it in
+abbrev pub has_joined : TableId → List Made → RunningLane
+has_joined id made = record {
+  words = record { table_id = id; grant = grant };
+  lane = free_lane 120 0 0;
+  made = [];
+  seen = [];
+  name = [];
+  splits = 1;
+  taken = second_half made ∷ [];
+}
+
+-- the lane that took it in ends in a run that has what the second half read, which is no bit that was not opened; in the
+-- run of both the second half stands once, and not where the first does
+abbrev pub EndsJoined : Type 0
+EndsJoined =
+    (id : TableId) →
+    EndsRun (has_joined id (one_step Load 0)) 0 0
+    × (EndsRun (has_joined id (one_step Load shows_bit_2)) 0 0 → ⊥)
+    × EndedIn joining 0 (second_half (one_step Load 0) ∷ [])
+    × (EndedIn joining 0 (second_half (one_step Load 0) ∷ second_half (one_step Load 0) ∷ []) → ⊥)
+    × (EndedIn joining 1 (second_half (one_step Load 0) ∷ []) → ⊥)
 
 -- ---- what a step tells its lane
 

@@ -62,7 +62,8 @@ pub fn after_subtract(marks: WaterMark, found: u64, amount: u32) -> u64
 /// Both after the bit of the word with this index was set.
 pub fn after_set(found: u64, index: u32) -> u64
     requires { index < 32 }
-    ensures { word_half result ≡ with_bit (word_half found) index }
+    ensures word { word_half result ≡ with_bit (word_half found) index }
+    ensures total { total_half result ≡ total_half found }
 {
     found | (HALF << index)
 }
@@ -70,7 +71,8 @@ pub fn after_set(found: u64, index: u32) -> u64
 /// Both after the bit of the word with this index was cleared.
 pub fn after_clear(found: u64, index: u32) -> u64
     requires { index < 32 }
-    ensures { word_half result ≡ without_bit (word_half found) index }
+    ensures word { word_half result ≡ without_bit (word_half found) index }
+    ensures total { total_half result ≡ total_half found }
 {
     found & !(HALF << index)
 }

@@ -3,8 +3,8 @@
 //!
 //! Netty has two words, `totalPendingSize` and `unwritable`. Here each atomic operation is one step of the core of
 //! `ob_core`, whatever the schedule: between any two of them the word and the lanes are a core state that one run of the
-//! core leads to, and that run begins with every run that any lane has seen. What holds of every run holds of these
-//! threads.
+//! core leads to, and that run begins with every run that any lane has seen. That is the rule of the word, which no caller
+//! sees; what a call promises of it is what its own lane has seen. What holds of every run holds of these threads.
 #![tactic(auto)]
 
 mod both;

@@ -35,12 +35,13 @@ pub fn lanes(
     }) }
 {
     let grant = Grant { marks, room, bits };
-    let (table, seat) = Table::of_words(alloc, &[0], &grant)?;
+    let (table, seat) = Table::of_words(alloc, &[0; 16], &grant)?;
     let words = Words { table, grant };
     let running = Running {
         seat,
         room,
         held: bits,
+        last: Some(0),
     };
     Ok((words, Lane { running }))
 }

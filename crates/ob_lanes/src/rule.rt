@@ -3,7 +3,8 @@ use crate::grant::Grant;
 use atomic_table::TableRule;
 
 /// The one word, with the word of bits in its high half and the total in its low half, as `ob_types::pack` lays them out.
-pub const BOTH: usize = 0;
+/// It is the ninth of sixteen, so that nothing else lies in its cache line: the others are never written.
+pub const BOTH: usize = 8;
 
 /// What holds between any two steps.
 pub struct Rule;

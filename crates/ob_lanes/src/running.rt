@@ -8,4 +8,6 @@ pub struct Running {
     pub seat: Seat<(), Facts>,
     pub room: u32,
     pub held: u32,
+    /// Both as the lane's own last step left them, unless it was joined since: what it expects to find.
+    pub last: Option<u64>,
 }

@@ -3,7 +3,7 @@
 ghost use Rattle.ob_lanes.specs.Worked.{Meets, OwnSteps, RaisedNothing, OneChange, Begins, Splits};
 ghost use Rattle.ob_lanes.specs.Worked.{SetsBit2, ReadsBehind, ShowsBit2, ReadsWord, Owes, OwesNothing};
 ghost use Rattle.ob_lanes.specs.Worked.{Raises, ReadsTotal, ReadsNothing, SplitInTwo, JoinedInOne, SecondHalfInRun};
-ghost use Rattle.ob_lanes.specs.Worked.{EndsWithBit2, TellsOfBit2};
+ghost use Rattle.ob_lanes.specs.Worked.{EndsJoined, EndsWithBit2, TellsOfBit2};
 
 fn worked_runs()
     ensures meets { Meets }
@@ -41,4 +41,5 @@ fn worked_parts()
 fn worked_places()
     ensures second_half_in_run { SecondHalfInRun }
     ensures ends_with_bit_2 { EndsWithBit2 }
+    ensures ends_joined { EndsJoined }
 {}

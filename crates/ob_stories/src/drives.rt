@@ -23,6 +23,26 @@ fail 9
 : sink / 0 bytes, 1 failures
 : fails / fl 9 1
 
+# a sink that fails with six blocks in front: more promises than are settled without memory
+$ drive
+b 0 1 6
+f 0
+fail 9
+/ writes 6, flushes 1, cancels 0, bits 0, refused 0, taken 0, success 0, failed 6, cancelled 0, left 0, hand 0 00000000
+: sink / 0 bytes, 1 failures
+: fails / fl 9 1
+
+# what is given up ends no transport: all blocks behind it are sent
+$ drive
+o 0 7
+b 0 4 1
+o 0 7
+b 0 4 1
+o 0 7
+b 0 4 1
+f 0
+/ writes 6, flushes 1, cancels 0, bits 0, refused 0, taken 12, success 3, failed 3, cancelled 0, left 0, hand 0 00000000
+
 # refused commands
 $ drive
 b 0 1 1

@@ -19,7 +19,7 @@ pub use connections::CONNECTIONS;
 pub use drives::{DRIVES, PLANS};
 pub use history::HISTORY;
 pub use looks::{LIMITS, LOOKS};
-pub use passes::{PASSES, SCARCE, SIX};
+pub use passes::{PASSES, SCARCE, SIX, SIX_FLUSHED};
 pub use run::{FULL, RUN};
 pub use shared::{CROSSING, SHARED, TOLD};
 pub use turns::CORE;

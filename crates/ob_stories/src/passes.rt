@@ -115,3 +115,12 @@ b 1 / id 5 t=582 w=00000001
 f / n 6 t=582 w=00000001
 send / : place 8, t=0 cur=0, 000102030405
 ";
+
+/// The same before its pass.
+pub static SIX_FLUSHED: &str = "six blocks are flushed
+$ transport --low 200 --high 400 then 100
+4 times b 1 / id 3 t=388 w=00000000
+b 1 / id 4 t=485 w=00000001 -
+b 1 / id 5 t=582 w=00000001
+f / n 6 t=582 w=00000001
+";

@@ -30,6 +30,15 @@ why / caller 0 handed in what is not of the history, at place 0
 forge 0 0
 finish / 2 records: size=1 cur=0 bu=65437 bw=0 t=100 w=00000000
 
+# a new buffer has no record, whatever a caller asks
+$ shared --callers 2 --limit 8
+made / 0:0 1:0
+0 ? / place 0: size=0 cur=0 bu=65537 bw=0 t=0 w=00000000
+1 again / 0 receipts
+0 wait 0 / !10
+1 read / t=0 w=00000000
+finish / 0 records: size=0 cur=0 bu=65537 bw=0 t=0 w=00000000
+
 # what a desk left is what the next desk and the end find
 $ shared --callers 2 --limit 8
 0 b 4 / place 0: id 0 t=100 w=00000000
@@ -150,6 +159,14 @@ finish / foreign: 1 at 1
 seen 1
 finish / 3 records: size=0 cur=0 bu=0 bw=447 t=496 w=00000001
 
+# a history at its limit takes no call more, of whichever caller
+$ shared --callers 2 --limit 1
+0 f / place 0: n 0 t=0 w=00000000
+0 f / !11
+1 f / !11
+made / 0:1 1:0
+finish / 1 records: size=0 cur=0 bu=65537 bw=0 t=0 w=00000000
+
 # the last of sixty-five callers hands in too
 $ shared --callers 65 --limit 8
 64 b 4 / place 0: id 0 t=100 w=00000000
@@ -223,6 +240,44 @@ pause 20
 desk drops /
 %
 finish / shares missing
+
+# who waits is told however the first caller settles it: by a removal, by bytes, by a failing, a cancellation and a close
+$ shared --callers 2 --limit 16
+1 b 4 / place 0: id 0 t=100 w=00000000
+1 b 4 / place 1: id 1 t=200 w=00000000
+1 b 4 / place 2: id 2 t=300 w=00000000
+1 f / place 3: n 3 t=300 w=00000000
+1 b 4 / place 4: id 3 t=400 w=00000000
+1 b 4 / place 5: id 4 t=500 w=00000000
+%
+until 1
+pause 20
+rm / place 6: yes t=400 w=00000000 0:ok
+until 2
+pause 20
+rb 4 / place 7: n 1 t=300 w=00000000 1:ok
+until 3
+pause 20
+fl 7 1 / place 8: n 1 t=200 w=00000000 2:f7
+until 4
+pause 20
+x 3 / place 9: yes t=200 w=00000000 3:x
+until 5
+pause 20
+cl 9 / place 10: n 2 t=0 w=00000000 4:f9
+%
+come
+wait 0 / place 6 of caller 0: 0:ok
+come
+wait 1 / place 7 of caller 0: 1:ok
+come
+wait 2 / place 8 of caller 0: 2:f7
+come
+wait 3 / place 9 of caller 0: 3:x
+come
+wait 4 / place 10 of caller 0: 4:f9
+%
+finish / 11 records: size=0 cur=0 bu=65537 bw=0 t=0 w=00000000
 
 # one caller waits for one promise after another, and another settles each when the wait begins: none is missed
 $ shared --callers 2 --limit 1000

@@ -24,8 +24,10 @@ impl Charged {
         if owed == 0 {
             return (Lane { running }, None);
         }
-        let found = words.subtract(rt, &mut running.seat, owed);
-        let change = change_of(found, after_subtract(words.marks(), found, owed));
+        let found = words.subtract(rt, &mut running.seat, running.last, owed);
+        let left = after_subtract(words.marks(), found, owed);
+        let change = change_of(found, left);
+        running.last = Some(left);
         (Lane { running }, change)
     }
 }

@@ -12,7 +12,9 @@ impl Charged {
         requires { self.old.words ≡ words.now }
         ensures { IsTotalRead self.old result self.new }
     {
-        u64::from(total_of(words.load(&mut self.running.seat)))
+        let found = words.load(&mut self.running.seat);
+        self.running.last = Some(found);
+        u64::from(total_of(found))
     }
 
     /// The word, read in one step as by `Lane::word`.
@@ -20,7 +22,9 @@ impl Charged {
         requires { self.old.words ≡ words.now }
         ensures { IsWordRead self.old result self.new }
     {
-        word_of(words.load(&mut self.running.seat))
+        let both = words.load(&mut self.running.seat);
+        self.running.last = Some(both);
+        word_of(both)
     }
 
     /// The bytes that it charged and has not taken back.

@@ -31,10 +31,14 @@ impl Lane {
         }
         let change = if writable {
             let found = words.clear_bit(&mut self.running.seat, index);
-            change_of(found, after_clear(found, index))
+            let left = after_clear(found, index);
+            self.running.last = Some(left);
+            change_of(found, left)
         } else {
             let found = words.set_bit(&mut self.running.seat, index);
-            change_of(found, after_set(found, index))
+            let left = after_set(found, index);
+            self.running.last = Some(left);
+            change_of(found, left)
         };
         Ok(change)
     }

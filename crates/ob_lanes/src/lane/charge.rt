@@ -34,8 +34,10 @@ impl Lane {
         if amount == 0 {
             return Ok((Charged { running, owed: 0 }, None));
         }
-        let found = words.add(rt, &mut running.seat, amount);
-        let change = change_of(found, after_add(words.marks(), found, amount));
+        let found = words.add(rt, &mut running.seat, running.last, amount);
+        let left = after_add(words.marks(), found, amount);
+        let change = change_of(found, left);
+        running.last = Some(left);
         let charged = Charged {
             running,
             owed: amount,

@@ -26,6 +26,8 @@ impl Lane {
         let rooms = running.room.saturating_add(other.room);
         running.room = rooms.min(words.grant.room);
         running.held |= other.held;
+        // the rooms of both: with the total that it found they may come to more than there is
+        running.last = None;
         Lane { running }
     }
 }

@@ -12,7 +12,9 @@ impl Lane {
         requires { self.old.words ≡ words.now }
         ensures { IsTotalRead self.old result self.new }
     {
-        u64::from(total_of(words.load(&mut self.running.seat)))
+        let found = words.load(&mut self.running.seat);
+        self.running.last = Some(found);
+        u64::from(total_of(found))
     }
 
     /// The word, read in one step: writable is 0. Of the bits that the lane holds, it shows exactly those that it set.
@@ -20,7 +22,9 @@ impl Lane {
         requires { self.old.words ≡ words.now }
         ensures { IsWordRead self.old result self.new }
     {
-        word_of(words.load(&mut self.running.seat))
+        let both = words.load(&mut self.running.seat);
+        self.running.last = Some(both);
+        word_of(both)
     }
 
     /// The most bytes that a charge of the lane may have.

@@ -41,6 +41,7 @@ impl Lane {
             seat: words.divide_seat::<Brand>(&mut running.seat, room, bits),
             room,
             held: bits,
+            last: running.last,
         };
         running.room -= room;
         running.held ^= bits;

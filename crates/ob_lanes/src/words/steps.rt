@@ -2,7 +2,7 @@
 ghost use Rattle.std.specs.Prelude.{◌≡◌, ◌<◌, ◌+◌, ◌≤◌};
 ghost use Rattle.ob_types.specs.Packed.{total_half};
 ghost use Rattle.ob_core.specs.declared.lane_step.LaneStep.TheVariants.{Add, Subtract, SetBit, ClearBit, Load};
-ghost use Rattle.ob_lanes.specs.Told.{MayMake, Makes, MakesOrReads, PackedTold};
+ghost use Rattle.ob_lanes.specs.Told.{MayExpect, MayMake, Makes, MakesOrReads};
 
 use super::Words;
 use crate::both::{HALF, after_add, after_subtract};
@@ -49,29 +49,29 @@ impl Words {
             .fetch_and::<plays::ClearBit>(seat, BOTH, others)
     }
 
-    /// Adds, if both still are as they were found; else it is a read.
-    pub(crate) fn try_add(&self, seat: &mut Seat<(), Facts>, found: u64, amount: u32) -> u64
+    /// Adds, if both are as expected; else it is a read.
+    pub(crate) fn try_add(&self, seat: &mut Seat<(), Facts>, expected: u64, amount: u32) -> u64
         requires may { MayMake self.now seat.old (Add amount) }
-        requires told { PackedTold seat.old.me.0 found }
-        ensures made { MakesOrReads (Add amount) found seat.old result seat.new }
-        ensures fits { total_half found + amount < 4294967296 }
+        requires expected { MayExpect seat.old.me.0 expected }
+        ensures made { MakesOrReads (Add amount) expected seat.old result seat.new }
+        ensures fits { total_half expected + amount < 4294967296 }
     {
-        let next = after_add(self.marks(), found, amount);
+        let next = after_add(self.marks(), expected, amount);
         self.table
             .shared
-            .compare_exchange::<plays::Add>(seat, BOTH, found, next)
+            .compare_exchange::<plays::Add>(seat, BOTH, expected, next)
     }
 
-    /// Subtracts, if both still are as they were found; else it is a read.
-    pub(crate) fn try_subtract(&self, seat: &mut Seat<(), Facts>, found: u64, amount: u32) -> u64
+    /// Subtracts, if both are as expected; else it is a read.
+    pub(crate) fn try_subtract(&self, seat: &mut Seat<(), Facts>, expected: u64, amount: u32) -> u64
         requires may { MayMake self.now seat.old (Subtract amount) }
-        requires told { PackedTold seat.old.me.0 found }
-        ensures made { MakesOrReads (Subtract amount) found seat.old result seat.new }
-        ensures fits { amount ≤ total_half found }
+        requires expected { MayExpect seat.old.me.0 expected }
+        ensures made { MakesOrReads (Subtract amount) expected seat.old result seat.new }
+        ensures fits { amount ≤ total_half expected }
     {
-        let next = after_subtract(self.marks(), found, amount);
+        let next = after_subtract(self.marks(), expected, amount);
         self.table
             .shared
-            .compare_exchange::<plays::Subtract>(seat, BOTH, found, next)
+            .compare_exchange::<plays::Subtract>(seat, BOTH, expected, next)
     }
 }

@@ -1,9 +1,10 @@
-//! A charge and a discharge: a load, and exchanges until one of them finds what was read last.
-ghost use Rattle.std.specs.Prelude.{◌≡◌, ◌<◌, ◌+◌, ◌≤◌};
+//! A charge and a discharge: exchanges until one of them finds what it expects. The first expects what the lane's own last
+//! step left, so a lane alone makes one exchange, and no load; each other expects what the one before it found.
+ghost use Rattle.std.specs.Prelude.{◌≡◌, ◌<◌, ◌+◌, ◌≤◌, IfSome};
 ghost use Rattle.ob_types.specs.Packed.{total_half};
-ghost use Rattle.ob_core.specs.declared.lane_step.LaneStep.TheVariants.{Add, Subtract};
-ghost use Rattle.ob_lanes.specs.Told.{MayMake, IsSameSeat};
-ghost use Rattle.ob_lanes.specs.Tried.{HasTried};
+ghost use Rattle.ob_core.specs.declared.lane_step.LaneStep.TheVariants.{Add, Load, Subtract};
+ghost use Rattle.ob_lanes.specs.Told.{IsSameSeat, MayExpect, MayMake};
+ghost use Rattle.ob_lanes.specs.Tried.{HasTried, SeatTries};
 
 use super::Words;
 use crate::facts::Facts;
@@ -11,38 +12,64 @@ use atomic_table::Seat;
 use std::sync::Wait;
 
 impl Words {
+    /// What a lane expects to find: what its own last step left, or what it reads if that is not known.
+    fn expected(&self, seat: &mut Seat<(), Facts>, last: Option<u64>) -> u64
+        requires may { MayMake self.now seat.old Load }
+        requires last { IfSome last (MayExpect seat.old.me.0) }
+        ensures { SeatTries seat.old result seat.new }
+    {
+        match last {
+            Some(both) => both,
+            None => self.load(seat),
+        }
+    }
+
     /// Adds, and returns what it found then.
-    pub(crate) fn add<R: Wait>(&self, rt: &R, seat: &mut Seat<(), Facts>, amount: u32) -> u64
-        requires { MayMake self.now seat.old (Add amount) }
+    pub(crate) fn add<R: Wait>(
+        &self,
+        rt: &R,
+        seat: &mut Seat<(), Facts>,
+        last: Option<u64>,
+        amount: u32,
+    ) -> u64
+        requires may { MayMake self.now seat.old (Add amount) }
+        requires last { IfSome last (MayExpect seat.old.me.0) }
         ensures seat { IsSameSeat seat.old seat.new }
         ensures tried { HasTried (Add amount) seat.old.me result seat.new.me }
         ensures fits { total_half result + amount < 4294967296 }
     {
-        let mut found = self.load(seat);
+        let mut expected = self.expected(seat, last);
         'tries: for _ in rt.forever() {
-            let now = self.try_add(seat, found, amount);
-            if now == found {
+            let found = self.try_add(seat, expected, amount);
+            if found == expected {
                 return found;
             }
-            found = now;
+            expected = found;
         }
         unreachable!()
     }
 
     /// Subtracts, and returns what it found then.
-    pub(crate) fn subtract<R: Wait>(&self, rt: &R, seat: &mut Seat<(), Facts>, amount: u32) -> u64
-        requires { MayMake self.now seat.old (Subtract amount) }
+    pub(crate) fn subtract<R: Wait>(
+        &self,
+        rt: &R,
+        seat: &mut Seat<(), Facts>,
+        last: Option<u64>,
+        amount: u32,
+    ) -> u64
+        requires may { MayMake self.now seat.old (Subtract amount) }
+        requires last { IfSome last (MayExpect seat.old.me.0) }
         ensures seat { IsSameSeat seat.old seat.new }
         ensures tried { HasTried (Subtract amount) seat.old.me result seat.new.me }
         ensures fits { amount ≤ total_half result }
     {
-        let mut found = self.load(seat);
+        let mut expected = self.expected(seat, last);
         'tries: for _ in rt.forever() {
-            let now = self.try_subtract(seat, found, amount);
-            if now == found {
+            let found = self.try_subtract(seat, expected, amount);
+            if found == expected {
                 return found;
             }
-            found = now;
+            expected = found;
         }
         unreachable!()
     }

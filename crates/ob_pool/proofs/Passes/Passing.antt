@@ -1,7 +1,7 @@
 -- A pass makes no record that fails what is flushed.
 use Rattle.std.proofs.Common.{◌≡◌, ℕ, ◌+◌, ◌<◌, ◌≤◌, Bool, true, false, List, [], ◌∷◌, ◌-◌, ◌⊎◌, inl, inr}
 use Rattle.std.proofs.Common.{refl, sym, ap, ◌∙◌, subst, cond, arith}
-use Rattle.std.specs.Prelude.{IsErrOf, OnErr, Option, Some, None, Result, Ok, Err, ◌==◌, if◌then◌else◌}
+use Rattle.std.specs.Prelude.{Option, Some, None, Result, Ok, Err, ◌==◌, if◌then◌else◌}
 use Rattle.std.specs.List.{concat}
 use Rattle.std.proofs.lemmas.Bool.{cases_lt}
 use Rattle.std.proofs.lemmas.List.Sums.{sum_by_push}
@@ -11,15 +11,14 @@ use Rattle.ob_types.specs.declared.promise.Cause.{Cause}
 use Rattle.ob_types.specs.declared.message.Message.{Message}
 use Rattle.ob_types.specs.declared.message.Message.TheVariants.{Block, Region, Other}
 use Rattle.ob_types.specs.declared.refusal.Refusal.{Refusal}
-use Rattle.ob_types.specs.declared.refusal.Refusal.TheVariants as refusal
-use Rattle.ob_history.specs.Call.{history_after, is_full, next_record, with_record}
+use Rattle.ob_history.specs.Call.{IsRecording, history_after, is_full, next_record, with_record}
 use Rattle.ob_history.specs.History.{History}
+use Rattle.ob_history.specs.declared.record.Record.{Record}
 use Rattle.ob_transport.specs.GrowAlike.{GrowAlike}
 use Rattle.ob_transport.specs.InFront.{current_in, gathered_in, progress_in, sent_bytes_in, sent_units_in}
 use Rattle.ob_transport.specs.IsPass.{IsPass}
 use Rattle.ob_transport.specs.Outcome.{Clears, SendsBytes, SendsUnits, ready}
 use Rattle.ob_transport.specs.Content.{Content}
-use Rattle.ob_transport.specs.Failures.{failures_in}
 use Rattle.ob_transport.specs.Standing.{Standing, standing}
 use Rattle.ob_transport.specs.declared.fault.Pass.{Pass}
 use Rattle.ob_transport.specs.declared.fault.Pass.TheVariants.{Idle, Stalled, Cleared, Took}
@@ -120,44 +119,30 @@ module _ (caller : ℕ) (before : Standing) where
       by_front (Some (Region length)) is = by_rest length is (cases_lt (progress_in before.history) length)
       by_front (Some (Other value)) is = clears (RemoveWith (record { 0 = 1 })) refl result after (pass.other value is)
 
--- if a pass counts its failures, what fails more is not more than these
+-- so of what a pass leaves as many records fail what is flushed as before
 pub passed : (limits : Limits) (caller : ℕ) (before after : History) (sink now : Content)
     (result : Result Pass PassFault) →
     IsPass limits caller (standing before sink) result (standing after now) →
-    now.failures ≡ sink.failures + failures_in result →
-    (failings_of after.records ≡ failings_of before.records) × (sink.failures ≤ now.failures)
-passed limits caller before after sink now result pass counted =
-    (pass_fails_none caller (standing before sink) limits result (standing after now) pass, omega (arith, counted))
+    failings_of after.records ≡ failings_of before.records
+passed limits caller before after sink now result pass =
+    pass_fails_none caller (standing before sink) limits result (standing after now) pass
 
--- one more call fails what is flushed once at most
-pub failing_once : (history : History) (caller : ℕ) (command : Command) →
-    failings_of (history_after history caller command).records ≤ failings_of history.records + 1
-failing_once history caller command = by_full (is_full history)
+-- a failing that is recorded is one record more that fails what is flushed
+pub failed_once : (result : Result (Unit {0}) Refusal) (made : Unit {0}) → result ≡ Ok made →
+    (before after : History) (caller : ℕ) (cause : Cause) (notify : Bool) →
+    IsRecording before caller (FailFlushed cause notify) result after →
+    failings_of after.records ≡ failings_of before.records + 1
+failed_once result made is before after caller cause notify recording =
+    subst (λ (other : History). failings_of other.records ≡ failings_of before.records + 1)
+    (sym (recording.after (λ wanting. absurd (cc (wanting, is))))) (by_full (is_full before) refl)
   where
-    after : Bool → History
-    after full = if full then history else with_record history (next_record history caller command)
+    one : Record
+    one = next_record before caller (FailFlushed cause notify)
 
-    at_most : (is : Bool) → cond is 1 0 ≤ 1
-    at_most true = omega arith
-    at_most false = omega arith
-
-    by_full : (full : Bool) → failings_of (after full).records ≤ failings_of history.records + 1
-    by_full true = omega arith
-    by_full false =
-        let pushed = sum_by_push (λ one. cond (is_failing one.command) 1 0) history.records
-        (next_record history caller command) in
-        omega (arith, pushed, at_most (is_failing command))
-
--- the same of any call that is answered as a booked buffer answers it
-pub called : {A : Type 0} (result : Result A Refusal) (before after : History) (caller : ℕ) (command : Command) →
-    (¬ IsErrOf result refusal.NoMemory → after ≡ history_after before caller command) → OnErr result (after ≡ before) →
-    failings_of after.records ≤ failings_of before.records + 1
-called (Ok given) before after caller command goes stays =
-    let is = goes (λ wanting. absurd (cc wanting)) in
-    subst (λ (other : History). failings_of other.records ≤ failings_of before.records + 1) (sym is)
-    (failing_once before caller command)
-called (Err fault) before after caller command goes stays =
-    subst (λ (other : History). failings_of other.records ≤ failings_of before.records + 1) (sym stays) (omega arith)
+    by_full : (full : Bool) → is_full before ≡ full →
+        failings_of (if full then before else with_record before one).records ≡ failings_of before.records + 1
+    by_full true full = absurd (cc (recording.full full, is))
+    by_full false short = omega (arith, sum_by_push (λ one. cond (is_failing one.command) 1 0) before.records one)
 
 -- a call that fails what is flushed sends nothing
 pub failing_alike : (before between after : History) (sink now : Content) (caller : ℕ) (cause : Cause) (notify : Bool) →

@@ -281,7 +281,7 @@ pub one_more_pass : (settings : Settings) (maker its : Maker) (share left : Shar
     HasTransported settings maker before old (handed_of share receipts) → its ≡ share.maker →
     IsBeginning share.sight.seen records → left.maker.caller ≡ its.caller →
     left.maker.made + length receipts ≡ its.made + length kept →
-    failings_in kept + old.failures ≤ failings_in receipts + new.failures →
+    failings_in kept + old.failures ≡ failings_in receipts + new.failures →
     ((start : Content) → HasTakenOf settings records receipts start old →
     HasTakenOf settings left.sight.seen kept start new) →
     HasTransported settings maker before new (handed_of left kept)

@@ -33,8 +33,8 @@ pub record TellsOf (first : History) (plans : List (List Command)) (report : Rep
   pub counts : IsCounted (length plans) report
   pub rest : AreAtRest first.settings.marks report.hand
 
--- what a report's history tells of the sink: no record fails what is flushed unless the sink failed, and what the sink
+-- what a report's history tells of the sink: what is flushed was failed as often as the sink failed, and what the sink
 -- took is what the history sends
 pub record TellsOfSink (old new : Content) (report : Report) : Type 0 where
-  pub failings : failings_of report.recorded.records + old.failures ≤ new.failures
+  pub failings : new.failures ≡ old.failures + failings_of report.recorded.records
   pub taken : HasTaken report.recorded old new

@@ -67,6 +67,10 @@ pub record IsBack (lane back : RunningLane) : Type 0 where
   pub words : back.words ≡ lane.words
   pub room : back.lane.room ≡ lane.lane.room
 
+-- a share has read without the lock since it last met the history
+abbrev pub HasRead : ShareValue → Type 0
+HasRead share = 0 < length share.sight.reads
+
 -- one call with a share leaves a share of which one record more was made, and a receipt of its command behind those
 -- that were there
 pub record IsOneCall (share : ShareValue) (asked : Command) (before after : List Receipt) (left : ShareValue)

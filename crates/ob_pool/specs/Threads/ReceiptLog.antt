@@ -1,5 +1,5 @@
 -- What a transport keeps of its calls. No public clause cites this module.
-use Rattle.std.specs.Prelude.{◌≡◌, ◌+◌, ◌≤◌, ℕ, Bool, List, [], ◌∷◌, ◌++◌, Ok, count_by, length, map}
+use Rattle.std.specs.Prelude.{◌≡◌, ◌+◌, ℕ, Bool, List, [], ◌∷◌, ◌++◌, Ok, count_by, length, map}
 use Rattle.ob_seq.specs.Settings.{Settings}
 use Rattle.ob_types.specs.declared.command.Command.{Command}
 use Rattle.ob_history.specs.Call.{call_answer}
@@ -54,9 +54,9 @@ abbrev pub failings_in : List Receipt → ℕ
 failings_in receipts = count_by is_failing (commands_in receipts)
 
 -- a transport hands in that it has carried on from a maker: a receipt of each record that it made since, which fail
--- what is flushed no more often than the sink failed meanwhile, and send just what the sink took
+-- what is flushed as often as the sink failed meanwhile, and send just what the sink took
 pub record HasTransported (settings : Settings) (maker : Maker) (before after : Content) (done : Handed) : Type 0 where
   pub caller : done.maker.caller ≡ maker.caller
   pub made : done.maker.made ≡ maker.made + length done.receipts
-  pub failings : failings_in done.receipts + before.failures ≤ after.failures
+  pub failings : after.failures ≡ before.failures + failings_in done.receipts
   pub taken : HasTakenOf settings done.sight.seen done.receipts before after

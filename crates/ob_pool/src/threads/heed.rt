@@ -1,6 +1,7 @@
 //! Writers that heed the marks.
 
 ghost use Rattle.std.specs.Prelude.{◌≡◌};
+ghost use Rattle.ob_pool.specs.Threads.Job.{HasRead};
 
 use crate::threads::context::Context;
 use ob_history::Booked;
@@ -26,12 +27,14 @@ pub fn heed<L: Named, R: Wait>(
     share: Share<L>,
     command: &Command,
 ) -> Share<L>
-    ensures { result.maker ≡ share.maker }
+    ensures maker { result.maker ≡ share.maker }
+    ensures read { HasRead result }
 {
     let mut share = share;
     let glance = share.read(&context.shared);
     if context.heed && glance.word != 0 && matches!(command, Command::Write(_)) {
-        return wait_for_room(rt, context, share);
+        share = wait_for_room(rt, context, share);
+        let _after = share.read(&context.shared);
     }
     share
 }

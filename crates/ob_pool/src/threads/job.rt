@@ -2,7 +2,7 @@
 
 ghost use Rattle.std.specs.Prelude.{◌≡◌, ◌+◌, ◌<◌, ◌≤◌, IfOk, IfErr, vec_capacity, vec_len};
 ghost use Rattle.ob_pool.specs.DriveFault.{ComesOfWork};
-ghost use Rattle.ob_pool.specs.Threads.Job.{IsBack, IsNumbered, IsOneCall, IsRoomy, asked, done_by};
+ghost use Rattle.ob_pool.specs.Threads.Job.{HasRead, IsBack, IsNumbered, IsOneCall, IsRoomy, asked, done_by};
 ghost use Rattle.ob_pool.specs.Planning.HandOff.{charge_for};
 
 use crate::fault::DriveFault;
@@ -95,8 +95,8 @@ impl<L: Named> Job<L> {
     }
 }
 
-/// One step of a writer: one call of the shared buffer, of a write with its charge in the lane meanwhile. The receipt goes
-/// behind the others.
+/// One step of a writer that has read: one call of the shared buffer, of a write with its charge in the lane meanwhile.
+/// The receipt goes behind the others.
 fn one_step<L: Named, R: Wait + Clock, G: Gate>(
     rt: &R,
     gate: &G,
@@ -110,6 +110,7 @@ fn one_step<L: Named, R: Wait + Clock, G: Gate>(
     requires words { lane.words ≡ context.now.words }
     requires room { charge_for context.now.estimate context.now.task command ≤ lane.lane.room }
     requires numbered { share.maker.caller < context.now.writers }
+    requires read { HasRead share }
     requires place { vec_len receipts.old < vec_capacity receipts.old }
     ensures lane { IsBack lane result.0 }
     ensures call { IfOk result.1 (IsOneCall share command receipts.old.items receipts.new.items) }

@@ -1,6 +1,6 @@
 //! The transport, which takes the desk for one pass at a time.
 
-ghost use Rattle.std.specs.Prelude.{◌≡◌, ◌+◌, ◌≤◌, length, IfErr, IfOk, IfSome};
+ghost use Rattle.std.specs.Prelude.{◌≡◌, ◌+◌, length, IfErr, IfOk, IfSome};
 ghost use Rattle.ob_shared.specs.Opened.{IsAsOpened};
 ghost use Rattle.ob_transport.specs.Content.{Content};
 ghost use Rattle.ob_transport.specs.GrowAlike.{GrowAlike};
@@ -110,8 +110,9 @@ fn one_pass<L: Named, K: Started, S: Sink>(
     ensures taken { IfOk result.2 (λ next. IfSome result.1 (λ kept. (start : Content) →
         HasTakenOf L.opened.settings desk.entry.history.records receipts.items start (S.content sink.old)
         → HasTakenOf L.opened.settings result.0.sight.seen kept.items start (S.content sink.new))) }
-    ensures failings { IfSome result.1 (λ kept. failings_in kept.items + (S.content sink.old).failures
-        ≤ failings_in receipts.items + (S.content sink.new).failures) }
+    ensures failings { IfOk result.2 (λ next. IfSome result.1 (λ kept.
+        failings_in kept.items + (S.content sink.old).failures
+        ≡ failings_in receipts.items + (S.content sink.new).failures)) }
     ensures fault { IfErr result.2 (ComesOfWork 0) }
 {
     let mut log = ReceiptLog::<L, K>::new(desk, receipts);
@@ -131,8 +132,9 @@ fn pass_or_fail<B: Booked, S: Sink>(
     ensures alike { IfOk result (λ next. GrowAlike
         (standing (B.history booked.old) (S.content sink.old))
         (standing (B.history booked.new) (S.content sink.new))) }
-    ensures failings { failings_of (B.history booked.new).records + (S.content sink.old).failures
-        ≤ failings_of (B.history booked.old).records + (S.content sink.new).failures }
+    ensures failings { IfOk result (λ next.
+        failings_of (B.history booked.new).records + (S.content sink.old).failures
+        ≡ failings_of (B.history booked.old).records + (S.content sink.new).failures) }
     ensures fault { IfErr result (ComesOfWork 0) }
 {
     match pass(booked, sink, limits) {

@@ -1,5 +1,6 @@
 //! A connection that is written to, cancelled, sent and closed: each answer as worked by hand.
 
+mod copying;
 mod giving_up;
 pub mod sending;
 

@@ -124,6 +124,35 @@ fn the_least_stuck_writer_is_named(rt: HostRuntime) -> Result<(), Fail> {
     drives(&rt, &GateOf(Closed), Story::of(HELD))
 }
 
+/// Holds writer 1 for ever before its first command.
+struct Shut;
+
+impl Moments for Shut {
+    fn at<R: Wait + Clock>(&self, _rt: &R, moment: Moment) -> GoesOn {
+        match moment {
+            Moment::Before(1, 0) => Err(Stuck),
+            _ => Ok(()),
+        }
+    }
+}
+
+/// The sink takes what writer 0 wrote, and nothing else.
+const SHUT: &str = "a writer that is stuck before a command does not make it
+$ drive
+b 0 1 1
+f 0
+b 1 1 1
+f 1
+/ drive: fault 5
+why / writer 1 is stuck
+sink / 1 bytes, 0 failures
+";
+
+#[test]
+fn a_writer_is_stuck_before_its_command(rt: HostRuntime) -> Result<(), Fail> {
+    drives(&rt, &GateOf(Shut), Story::of(SHUT))
+}
+
 /// Writes down what its gate is asked.
 #[derive(Drop)]
 struct Log(Mutex<String>);

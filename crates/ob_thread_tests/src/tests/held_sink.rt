@@ -7,6 +7,7 @@ use crate::tests::gates::wait_for;
 use crate::tests::moments::{GateOf, GoesOn, Moment, Moments};
 use bytes::Bytes;
 use ob_players::story::Story;
+use ob_pool::OpenGate;
 use ob_transport::{ScriptSink, Sink, SinkFault};
 use std::sync::Wait;
 use std::sync::atomic::{AtomicU64, Ordering};
@@ -129,5 +130,53 @@ fn writers_meet_the_sink(rt: HostRuntime) -> Result<(), Fail> {
     // the charge of writer 0 stands as long as its call waits for the desk
     let total = gate.0.total.load(Ordering::SeqCst);
     assert_eq!(rt; total, 66);
+    Ok(())
+}
+
+/// A sink of a script that counts its calls.
+#[derive(Drop)]
+struct Counting {
+    calls: u64,
+    script: ScriptSink,
+}
+
+impl Sink for Counting {
+    ghost content = { λ counting. counting.script.content };
+
+    ghost does = { λ before asked answer after. Plays before.script asked answer after.script };
+
+    fn take(&mut self, blocks: &[Bytes]) -> Result<usize, SinkFault> {
+        self.calls = self.calls.saturating_add(1);
+        self.script.take(blocks)
+    }
+
+    fn take_region(&mut self, units: u64) -> Result<u64, SinkFault> {
+        self.calls = self.calls.saturating_add(1);
+        self.script.take_region(units)
+    }
+}
+
+/// A sink that takes a byte a call, of which nine are flushed.
+const TWO_TURNS: &str = "a transport has two turns
+$ drive
+turns 2
+then 1
+b 0 1 9
+f 0
+";
+
+#[test]
+fn a_transport_keeps_to_its_turns(rt: HostRuntime) -> Result<(), Fail> {
+    let mut driven = Driven::of(rt.alloc(), Story::of(TWO_TURNS))?;
+    let mut sink = Counting {
+        calls: 0,
+        script: driven.script(),
+    };
+    let told = driven.run(&rt, &OpenGate, &mut sink);
+    let calls = sink.calls;
+    drop(sink);
+    drop(driven);
+    told?;
+    assert!(rt; calls <= 2);
     Ok(())
 }

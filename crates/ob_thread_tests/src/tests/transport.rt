@@ -15,7 +15,7 @@ use ob_players::trace::{push_change, push_refusal, push_settled, push_settlement
 use ob_players::words::{MOST, NoAnswer, Words};
 use ob_seq::Look;
 use ob_shared::{Desk, Done, Named, Opening, Share, SharedBuffer};
-use ob_stories::{PASSES, SCARCE, SIX};
+use ob_stories::{PASSES, SCARCE, SIX, SIX_FLUSHED};
 use ob_transport::{
     Drained, Limits, Pass, PassFault, ScriptSink, SinkFault, Stop, book, drain, pass,
 };
@@ -367,5 +367,39 @@ fn a_refused_growth_changes_no_answer(rt: HostRuntime) -> Result<(), Fail> {
 fn a_refused_growth_hides_no_bytes(rt: HostRuntime) -> Result<(), Fail> {
     let story = Story::of(SIX);
     story.play(rt.alloc(), &mut Again(alone(rt.alloc(), story)?))?;
+    Ok(())
+}
+
+/// What a pass over six blocks comes to, by its name, if what it leaves is so.
+fn one_of_four(passed: Result<Pass, PassFault>, left: Look) -> Option<&'static str> {
+    let (name, expected) = match passed {
+        Ok(Pass::Took(6)) => ("took 6", (0, 0)),
+        Err(PassFault::NoMemory) => ("no memory", (6, 582)),
+        Err(PassFault::Sink(SinkFault(12))) => ("sink fault 12", (6, 582)),
+        Err(PassFault::Unbooked { taken: 6 }) => ("6 unbooked", (6, 582)),
+        _ => return None,
+    };
+    ((left.size, left.total) == expected).then_some(name)
+}
+
+/// A pass over six blocks comes to one of four answers, whichever growth is refused, and says which. What stands unbooked
+/// is booked then.
+#[test]
+fn a_pass_comes_to_one_of_four(rt: HostRuntime) -> Result<(), Fail> {
+    let story = Story::of(SIX_FLUSHED);
+    let mut asked = Again(alone(rt.alloc(), story)?);
+    story.play(rt.alloc(), &mut asked)?;
+    let mut transport = asked.into_inner();
+    let limits = transport.limits();
+    let passed = pass(&mut transport.single.kept, &mut transport.sink, limits);
+    let Some(name) = one_of_four(passed, transport.seen().1) else {
+        return Err(Fail::from("one of four answers"));
+    };
+    let _ = println!(rt; "came to {name}");
+    if name == "6 unbooked" {
+        let booked = book(&mut transport.single.kept, 6);
+        assert!(rt; booked.is_ok());
+        assert_eq!(rt; transport.seen().1.total, 0);
+    }
     Ok(())
 }

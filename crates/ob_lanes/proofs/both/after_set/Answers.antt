@@ -1,10 +1,13 @@
 use Rattle.std.proofs.Common.{bit_or, ap, ◌∙◌}
-use Rattle.ob_types.specs.Packed.{word_half}
+use Rattle.ob_types.specs.Packed.{total_half, word_half}
 use Rattle.ob_lanes.proofs.Masks.{shifted}
-use Rattle.ob_lanes.proofs.Packs.{set_both}
+use Rattle.ob_lanes.proofs.Packs.{set_both, set_total}
 use Rattle.ob_lanes.proofs.both.after_set.Goals as goal
 
 pub returns : goal.returns
-returns c =
-    ap (λ mask. word_half (bit_or c.args.found mask)) (shifted c.args.index c.requires)
-    ∙ set_both c.args.found c.args.index
+returns c = record {
+  word = ap (λ mask. word_half (bit_or c.args.found mask)) (shifted c.args.index c.requires)
+      ∙ set_both c.args.found c.args.index;
+  total = ap (λ mask. total_half (bit_or c.args.found mask)) (shifted c.args.index c.requires)
+      ∙ set_total c.args.found c.args.index;
+}

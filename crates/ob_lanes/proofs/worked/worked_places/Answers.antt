@@ -1,7 +1,7 @@
-use Rattle.std.proofs.Common.{◌≡◌, ◌≤◌, ◌<◌, ℕ, zero, suc, Bool, true, false, eqb, List, [], ◌∷◌, ◌++◌, if◌then◌else◌}
+use Rattle.std.proofs.Common.{◌≡◌, ◌≢◌, map, ◌≤◌, ◌<◌, ℕ, zero, suc, Bool, true, false, eqb, List, [], ◌∷◌, ◌++◌, if◌then◌else◌}
 use Rattle.std.proofs.Common.{Option, None, Some, unwrap_or, refl, sym, ap, ◌∙◌, subst, arith}
 use Rattle.std.specs.Int.{bit_at}
-use Rattle.std.specs.List.{slice_get}
+use Rattle.std.specs.List.{All, AllPairs, slice_get}
 use Rattle.std.proofs.lemmas.List.{append-nil, same_from_push}
 use Rattle.atomic_table.specs.Seated.{TableId}
 use Rattle.ob_core.specs.CoreState.{CoreState}
@@ -15,14 +15,18 @@ use Rattle.ob_lanes.specs.Facts.{one_step}
 use Rattle.ob_lanes.specs.Run.{Leads, own_steps}
 use Rattle.ob_lanes.specs.declared.facts.Move.{Move}
 use Rattle.ob_lanes.specs.declared.facts.Move.TheVariants.{Steps, Divides, Merges}
+use Rattle.ob_core.specs.Parts.{spent_lane}
+use Rattle.ob_lanes.specs.Names.{names_in}
+use Rattle.ob_lanes.specs.declared.facts.Ended.{Ended}
+use Rattle.ob_lanes.specs.Worked.{joining, second_half}
 use Rattle.ob_lanes.specs.Worked.{grant, half, met, with_bits, lone, bit_2_run, first_run, has_set, shows_bit_2}
 use Rattle.ob_lanes.specs.declared.facts.Made.{Made}
 use Rattle.ob_lanes.proofs.KeptAccounts.{accounts_after_run, not_opened}
-use Rattle.ob_lanes.proofs.WorkedRuns.{alone, set_in_run, met_in_run}
+use Rattle.ob_lanes.proofs.WorkedRuns.{alone, set_in_run, met_in_run, way, whole, joined_in_run, begins_none}
 use Rattle.ob_lanes.proofs.Runs.{begins_itself, begins_one}
 use Rattle.ob_lanes.specs.Begins.{BeginsWith}
-use Rattle.std.proofs.lemmas.List.Elements.{All-head, All-nil}
-use Rattle.ob_lanes.specs.InRun.{EndedIn, EndsRun}
+use Rattle.std.proofs.lemmas.List.Elements.{All-cons, All-head, All-tail, All-nil}
+use Rattle.ob_lanes.specs.InRun.{EndedAt, EndedIn, EndsRun}
 use Rattle.ob_lanes.proofs.worked.worked_places.Goals as goal
 
 -- both halves owe 60
@@ -71,6 +75,15 @@ returns-clause-second_half_in_run c = (
   (λ moves seat name stands. unread moves (met 1) seat stands.leads stands.is_made),
 )
 
+-- no lane was taken in
+none_in : (moves : List Move) (seat : ℕ) → EndedIn moves seat []
+none_in moves seat = record {
+  placed = [];
+  all_of_them = refl;
+  apart = λ i j d lt within. absurd (omega (arith, within));
+  stand = All-nil (EndedAt moves seat);
+}
+
 -- the lane that the word is opened with holds bit 2
 held_wrong : (lane : Lane) → Some lane ≡ Some (lone 0 None) → bit_at lane.held 2 ≡ 0 → ⊥
 held_wrong lane is none =
@@ -115,7 +128,7 @@ returns-clause-ends_with_bit_2 c id = (
     seat = 0;
     in_run = set_in_run;
     begins = begins_one bit_2_run bit_2_run (begins_itself bit_2_run);
-    ended = All-nil (EndedIn bit_2_run 0);
+    ended = none_in bit_2_run 0;
     total_is = refl;
     word_is = refl;
   },
@@ -131,4 +144,79 @@ returns-clause-ends_with_bit_2 c id = (
   (λ end.
       let begins = All-head (BeginsWith end.moves) first_run [] end.begins in
       only_set end.moves begins.later end.core end.seat end.in_run.leads begins.run_is),
+)
+
+-- the second half stands in the second place alone
+place_of_half : (place : ℕ) → slice_get (names_in joining) place ≡ Some (0 ∷ []) → place ≡ 1
+place_of_half zero is = absurd (cc)
+place_of_half (suc zero) is = refl
+place_of_half (suc (suc place)) is = absurd (cc)
+
+abbrev first_of : List Ended → Ended
+first_of [] = second_half []
+first_of (one ∷ others) = one
+
+abbrev second_of : List Ended → Ended
+second_of [] = second_half []
+second_of (one ∷ others) = first_of others
+
+-- where the first of those that ended stands, and the second
+first_place : (seat : ℕ) (placed : List (ℕ × Ended)) (made : List Made) (others : List Ended)
+    → map (λ (its : ℕ × Ended). its.1) placed ≡ second_half made ∷ others → All (EndedAt joining seat) placed
+    → seat ≢ 1
+first_place seat [] made others all stand same = absurd (cc)
+first_place seat (one ∷ rest) made others all stand same =
+    let here = All-head (EndedAt joining seat) one rest stand in
+    here.elsewhere
+    (place_of_half one.0 (here.is_named ∙ ap (λ ended. Some (first_of ended).name) all) ∙ sym same)
+
+apart_once : (placed : List (ℕ × Ended)) (made : List Made)
+    → map (λ (its : ℕ × Ended). its.1) placed ≡ second_half made ∷ second_half made ∷ []
+    → AllPairs (λ its others. its.0 ≢ others.0) placed → All (EndedAt joining 0) placed → ⊥
+apart_once [] made all apart stand = absurd (cc)
+apart_once (one ∷ []) made all apart stand = absurd (cc)
+apart_once (one ∷ other ∷ rest) made all apart stand =
+    let first = All-head (EndedAt joining 0) one (other ∷ rest) stand in
+    let second = All-head (EndedAt joining 0) other rest (All-tail (EndedAt joining 0) one (other ∷ rest) stand) in
+    let at_one = place_of_half one.0 (first.is_named ∙ ap (λ ended. Some (first_of ended).name) all) in
+    let at_other = place_of_half other.0 (second.is_named ∙ ap (λ ended. Some (second_of ended).name) all) in
+    apart 0 1 one (omega arith) (omega arith) (at_one ∙ sym at_other)
+
+-- what was taken in has read no bit that was not opened
+unread_by : (moves : List Move) (core : CoreState) (seat : ℕ) (placed : List (ℕ × Ended))
+    → Leads (one_lane grant) moves core
+    → map (λ (its : ℕ × Ended). its.1) placed ≡ second_half (one_step Load shows_bit_2) ∷ []
+    → All (EndedAt moves seat) placed → ⊥
+unread_by moves core seat [] leads all stand = absurd (cc)
+unread_by moves core seat (one ∷ rest) leads all stand =
+    let here = All-head (EndedAt moves seat) one rest stand in
+    unread moves core one.0 leads (here.is_made ∙ ap (λ ended. (first_of ended).made) all)
+
+-- in the run of both, the second half is in the second place
+second_ended : EndedIn joining 0 (second_half (one_step Load 0) ∷ [])
+second_ended = record {
+  placed = (1, second_half (one_step Load 0)) ∷ [];
+  all_of_them = refl;
+  apart = λ i j d lt within. absurd (omega (arith, lt, within));
+  stand = All-cons (EndedAt joining 0) (1, second_half (one_step Load 0)) []
+      (record { elsewhere = λ same. absurd (omega (arith, same)); is_named = refl; is_made = refl })
+      (All-nil (EndedAt joining 0));
+}
+
+pub returns-clause-ends_joined : goal.returns-clause-ends_joined
+returns-clause-ends_joined c id = (
+  record {
+    core = way 0 whole spent_lane;
+    moves = joining;
+    seat = 0;
+    in_run = joined_in_run;
+    begins = begins_none joining;
+    ended = second_ended;
+    total_is = refl;
+    word_is = refl;
+  },
+  (λ end. unread_by end.moves end.core end.seat end.ended.placed end.in_run.leads end.ended.all_of_them end.ended.stand),
+  second_ended,
+  (λ ended. apart_once ended.placed (one_step Load 0) ended.all_of_them ended.apart ended.stand),
+  (λ ended. first_place 1 ended.placed (one_step Load 0) [] ended.all_of_them ended.stand refl),
 )

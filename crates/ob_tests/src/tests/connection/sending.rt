@@ -5,6 +5,7 @@ use bytes::Bytes;
 use ob_connection::{Connection, Ending, SendFault, SentTurns, Socket, SocketFault, Taken};
 use ob_types::{Change, Message, Outcome, Refusal};
 use std::alloc::Global;
+use std::io;
 use std::io::IoSlice;
 use std::test::Fail;
 
@@ -32,9 +33,9 @@ impl Socket for Slow {
         if count == 0 {
             return Err(self.fault());
         }
-        if self.log.extend_from_slice(&bytes[..count]).is_err() {
-            return Err(SocketFault::Broken);
-        }
+        self.log
+            .extend_from_slice(&bytes[..count])
+            .map_err(io::Error::from)?;
         self.room -= count;
         Ok(count)
     }
@@ -52,9 +53,9 @@ impl Slow {
 
     fn fault(&self) -> SocketFault {
         if self.breaks {
-            SocketFault::Broken
+            SocketFault::from(io::Error::from(io::ErrorKind::ConnectionReset))
         } else {
-            SocketFault::Blocked
+            SocketFault::from(io::Error::from(io::ErrorKind::WouldBlock))
         }
     }
 }
@@ -80,8 +81,29 @@ fn fill(connection: &mut Connection, count: u32) -> Result<(), Refusal> {
 }
 
 /// What a sending in turns tells: its bytes, the messages that are gone, and its ending.
-fn told(turns: SentTurns) -> (u64, Result<Taken, Refusal>, Ending) {
-    (turns.bytes, Ok(turns.taken), turns.ending)
+fn told(turns: SentTurns) -> (u64, Result<Taken, Refusal>, Ended) {
+    (turns.bytes, Ok(turns.taken), ended(turns.ending))
+}
+
+/// How a sending ended, or the kind of the error that a socket broke with.
+type Ended = Result<&'static str, io::ErrorKind>;
+
+fn ended(ending: Ending) -> Ended {
+    match ending {
+        Ending::Drained => Ok("drained"),
+        Ending::Blocked => Ok("blocked"),
+        Ending::OtherInFront => Ok("other in front"),
+        Ending::TurnsUsed => Ok("turns used"),
+        Ending::Broken(error) => Err(error.kind()),
+    }
+}
+
+/// The kind of the error that a socket broke with, if that is the fault.
+fn kind_of(fault: SendFault) -> Option<io::ErrorKind> {
+    match fault {
+        SendFault::Closed => None,
+        SendFault::Broken(error) => Some(error.kind()),
+    }
 }
 
 #[test]
@@ -89,10 +111,19 @@ fn a_slow_socket_takes_all_in_turns(rt: HostRuntime) -> Result<(), Fail> {
     let mut connection = flushed(rt.alloc(), 3)?;
     let mut socket = Slow::new(rt.alloc(), false);
     let once = connection.send_once(&mut socket, 8, 100);
-    let blocked = connection.send_until_blocked(&mut socket, 8, 100).map(told);
+    let blocked = connection
+        .send_until_blocked(&mut socket, 8, 100)
+        .map(told)
+        .map_err(kind_of);
     socket.room = 100;
-    let used_up = connection.send_until_blocked(&mut socket, 1, 100).map(told);
-    let drained = connection.send_until_blocked(&mut socket, 8, 100).map(told);
+    let used_up = connection
+        .send_until_blocked(&mut socket, 1, 100)
+        .map(told)
+        .map_err(kind_of);
+    let drained = connection
+        .send_until_blocked(&mut socket, 8, 100)
+        .map(told)
+        .map_err(kind_of);
     let last = Taken {
         count: 1,
         change: Some(Change::Writable),
@@ -102,7 +133,8 @@ fn a_slow_socket_takes_all_in_turns(rt: HostRuntime) -> Result<(), Fail> {
     };
     assert_eq!(rt;
         (
-            once.map(|once| (once.bytes, Ok(once.taken), once.more)),
+            once.map(|once| (once.bytes, Ok(once.taken), once.more))
+                .map_err(kind_of),
             blocked,
             used_up,
             drained,
@@ -110,9 +142,9 @@ fn a_slow_socket_takes_all_in_turns(rt: HostRuntime) -> Result<(), Fail> {
         ),
         (
             Ok((3, sent(0, 0), true)),
-            Ok((2, sent(0, 1), Ending::Blocked)),
-            Ok((3, sent(1, 2), Ending::TurnsUsed)),
-            Ok((4, Ok(last), Ending::Drained)),
+            Ok((2, sent(0, 1), Ok("blocked"))),
+            Ok((3, sent(1, 2), Ok("turns used"))),
+            Ok((4, Ok(last), Ok("drained"))),
             b"fourfourfour".as_slice(),
         )
     );
@@ -126,14 +158,17 @@ fn a_socket_that_breaks_in_the_middle_loses_nothing(rt: HostRuntime) -> Result<(
     let mut socket = Slow::new(rt.alloc(), true);
     assert_eq!(rt;
         (
-            connection.send_until_blocked(&mut socket, 8, 100).map(told),
-            connection.send_once(&mut socket, 8, 100),
+            connection
+                .send_until_blocked(&mut socket, 8, 100)
+                .map(told)
+                .map_err(kind_of),
+            connection.send_once(&mut socket, 8, 100).map_err(kind_of),
             connection.front(),
             connection.look().current_progress,
         ),
         (
-            Ok((5, sent(0, 1), Ending::Broken)),
-            Err(SendFault::Broken),
+            Ok((5, sent(0, 1), Err(io::ErrorKind::ConnectionReset))),
+            Err(Some(io::ErrorKind::ConnectionReset)),
             Some(1),
             1,
         )
@@ -151,14 +186,17 @@ fn what_is_no_block_is_left_in_front(rt: HostRuntime) -> Result<(), Fail> {
             write(&mut connection, Message::Block(Bytes::new())),
             write(&mut connection, Message::Region(7)),
             connection.flush(),
-            connection.send_until_blocked(&mut socket, 8, 100).map(told),
+            connection
+                .send_until_blocked(&mut socket, 8, 100)
+                .map(told)
+                .map_err(kind_of),
             connection.front(),
         ),
         (
             written(0, None),
             written(1, None),
             super::flushed(2),
-            Ok((0, sent(0, 1), Ending::OtherInFront)),
+            Ok((0, sent(0, 1), Ok("other in front"))),
             Some(1),
         )
     );

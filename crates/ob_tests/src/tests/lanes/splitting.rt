@@ -6,6 +6,7 @@ use super::{accepted, join_and_finish, not_charged, open, split};
 use ob_lanes::{Charged, Lane, RoomOut, Words};
 use ob_types::Change;
 use ob_types::Change::{Unwritable, Writable};
+use std::alloc::Global;
 use std::process::Abort;
 use std::sync::Wait;
 use std::test::Fail;
@@ -82,6 +83,29 @@ fn lanes_split_charge_and_join(rt: HostRuntime) -> Result<(), Fail> {
     let (a, b) = both_discharge(&rt, &words, a, b);
     let (words, b) = not_ended(&rt, words, b)?;
     join_and_finish(&rt, words, a, b);
+    Ok(())
+}
+
+/// A room of each size is had: each bit alone, and each digit at each of ten places.
+#[test]
+fn rooms_of_all_sizes(rt: HostRuntime) -> Result<(), Fail> {
+    for bit in 0..32u32 {
+        has_room(&rt, rt.alloc(), 1u32.wrapping_shl(bit))?;
+    }
+    for digit in 1..10u64 {
+        let mut room = digit;
+        for _ in 0..10u32 {
+            has_room(&rt, rt.alloc(), u32::try_from(room).unwrap_or(0))?;
+            room = room.saturating_mul(10);
+        }
+    }
+    Ok(())
+}
+
+fn has_room(rt: &impl Abort, alloc: Global, room: u32) -> Result<(), Fail> {
+    let (words, lane) = open(alloc, room, 0)?;
+    assert_eq!(rt; lane.room(), room);
+    assert_eq!(rt; lane.finish(words).ok(), Some((0, 0)));
     Ok(())
 }
 

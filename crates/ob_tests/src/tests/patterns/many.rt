@@ -52,12 +52,18 @@ fn a_thread_writes_and_the_one_with_the_socket_sends(rt: HostRuntime) -> Result<
         Ok(written) => Ok(written.id),
         Err(refused) => Err(refused.refusal),
     });
-    let sent = [0; 3].map(|_| send_from_one_thread(&rt, &connection, &mut socket).map(
-        |sent| sent.bytes,
-    ));
+    let sent = [0; 3].map(|_| {
+        send_from_one_thread(&rt, &connection, &mut socket)
+            .map(|sent| sent.bytes)
+            .ok()
+    });
     assert_eq!(rt;
         (ids, sent, socket.log.as_slice()),
-        ([Ok(0), Ok(1)], [Ok(3), Ok(1), Ok(1)], b"fourf".as_slice())
+        (
+            [Ok(0), Ok(1)],
+            [Some(3), Some(1), Some(1)],
+            b"fourf".as_slice()
+        )
     );
     drop((connection, socket));
     Ok(())

@@ -6,6 +6,7 @@ use bytes::Bytes;
 use ob_connection::{Connection, Socket, SocketFault};
 use ob_patterns::{Next, Peer, respond, serve, spin};
 use ob_types::{Message, Refusal};
+use std::io;
 use std::io::IoSlice;
 use std::test::Fail;
 
@@ -39,9 +40,23 @@ impl Peer for Asking {
 }
 
 /// Responds by four bytes: what is next, and whether the connection is writable then.
-fn responds(connection: &mut Connection, socket: &mut Slow) -> Result<(Next, bool), Refusal> {
+fn responds(connection: &mut Connection, socket: &mut Slow) -> Result<(Said, bool), Refusal> {
     let next = respond(connection, socket, Bytes::from_static(b"four"))?;
-    Ok((next, connection.is_writable()))
+    Ok((said(next), connection.is_writable()))
+}
+
+/// What is next, or the kind of the error that a socket broke with.
+type Said = Result<&'static str, io::ErrorKind>;
+
+fn said(next: Next) -> Said {
+    match next {
+        Next::Rest => Ok("rest"),
+        Next::WaitForRoom => Ok("wait for room"),
+        Next::ComeAgain => Ok("come again"),
+        Next::SendFront => Ok("send front"),
+        Next::Closed => Ok("closed"),
+        Next::Broken(error) => Err(error.kind()),
+    }
 }
 
 #[test]
@@ -56,12 +71,15 @@ fn a_response_says_what_is_next(rt: HostRuntime) -> Result<(), Fail> {
         (told, broken),
         (
             [
-                Ok((Next::Rest, true)),
-                Ok((Next::WaitForRoom, true)),
-                Ok((Next::WaitForRoom, true)),
-                Ok((Next::WaitForRoom, false)),
+                Ok((Ok("rest"), true)),
+                Ok((Ok("wait for room"), true)),
+                Ok((Ok("wait for room"), true)),
+                Ok((Ok("wait for room"), false)),
             ],
-            [Ok((Next::Closed, false)), Err(Refusal::Closed)],
+            [
+                Ok((Err(io::ErrorKind::ConnectionReset), false)),
+                Err(Refusal::Closed)
+            ],
         )
     );
     drop((connection, socket));
@@ -77,10 +95,10 @@ fn turns_that_are_used_up_come_again_and_a_region_is_in_front(rt: HostRuntime) -
     let _region = connection.write(Message::Region(7))?;
     let _flushed = connection.flush()?;
     // three bytes and the fourth in two turns: then the region is in front
-    let told = [0; 2].map(|_| spin(&mut connection, &mut socket, 2));
+    let told = [0; 2].map(|_| said(spin(&mut connection, &mut socket, 2)));
     assert_eq!(rt;
         (told, socket.log.as_slice()),
-        ([Next::ComeAgain, Next::SendFront], b"four".as_slice())
+        ([Ok("come again"), Ok("send front")], b"four".as_slice())
     );
     drop((connection, socket));
     Ok(())
@@ -94,11 +112,11 @@ fn a_peer_is_read_again_once_it_is_writable(rt: HostRuntime) -> Result<(), Fail>
         left: 7,
     };
     // five bytes of room: the answers to four requests wait, at 400 less 100, and the peer is read no more
-    let stopped = serve(&mut connection, &mut peer, 16);
+    let stopped = said(serve(&mut connection, &mut peer, 16));
     let left = peer.left;
     peer.socket.room = 100;
-    let short = serve(&mut connection, &mut peer, 1);
-    let served = serve(&mut connection, &mut peer, 16);
+    let short = said(serve(&mut connection, &mut peer, 1));
+    let served = said(serve(&mut connection, &mut peer, 16));
     assert_eq!(rt;
         (
             stopped,
@@ -108,7 +126,7 @@ fn a_peer_is_read_again_once_it_is_writable(rt: HostRuntime) -> Result<(), Fail>
             peer.left,
             peer.socket.log.len()
         ),
-        (Next::WaitForRoom, 3, Next::ComeAgain, Next::Rest, 0, 28)
+        (Ok("wait for room"), 3, Ok("come again"), Ok("rest"), 0, 28)
     );
     drop((connection, peer));
     Ok(())

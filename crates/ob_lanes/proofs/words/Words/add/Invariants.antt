@@ -2,4 +2,4 @@ use Rattle.ob_lanes.specs.Tried.{SeatTries}
 use Rattle.ob_lanes.proofs.words.Words.add.Given as goal
 
 abbrev pub invariant-tries : goal.invariant-tries
-invariant-tries g l = SeatTries l.fn.seat l.found l.seat
+invariant-tries g l = SeatTries l.fn.seat l.expected l.seat

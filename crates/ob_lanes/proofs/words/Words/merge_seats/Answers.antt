@@ -11,7 +11,7 @@ join_seat-requires g c =
       cc,
       cc,
       asked.slots,
-      omega (arith, c.self.invariant.one),
+      omega (arith, c.self.invariant.sixteen),
       merger_allowed c.self.inside.table.shared.key seat.id other.id seat.me.0 other.me.0 g.S.Spent.facts asked.words.2 asked.other.2 asked.free.0
           asked.free.1 (ap (λ (f : Facts). f.grant) asked.spent) (ap (λ (f : Facts). f.made) asked.spent)
           (ap (λ (f : Facts). f.name) asked.spent),

@@ -7,14 +7,14 @@ use Rattle.ob_lanes.proofs.words.Words.try_subtract.Goals.{After-after_subtract-
 
 -- the exchange makes the total the amount less
 takes : (c : After-after_subtract-next)
-    → total_half c.args.found - total_half c.after_subtract-next.result ≡ c.args.amount
+    → total_half c.args.expected - total_half c.after_subtract-next.result ≡ c.args.amount
 takes c =
-    taken_is c.args.seat.now c.args.amount c.args.found _ c.marks.result c.requires.may c.requires.told
+    taken_is c.args.seat.now c.args.amount c.args.expected _ c.marks.result c.requires.may c.requires.expected
     c.after_subtract-next.ensures
 
 pub compare_exchange-requires : goal.compare_exchange-requires
 compare_exchange-requires c =
-    may_move c.self.inside c.self.invariant _ c.self.view_is c.args.seat.now Subtract _ _ c.args.found _ _
+    may_move c.self.inside c.self.invariant _ c.self.view_is c.args.seat.now Subtract _ _ c.args.expected _ _
     c.requires.may c.marks.ensures.marks c.after_subtract-next.ensures
     (takes (goal.at.compare_exchange-requires c).After-after_subtract-next)
 

@@ -25,15 +25,16 @@ returns-clause-made g c = if_some_weaker c.leave-share.result.1 _ _ (λ kept sin
     )) c.leave-share.ensures.kept
 
 pub returns-clause-failings : goal.returns-clause-failings
-returns-clause-failings g c = if_some_weaker c.leave-share.result.1 _ _ (λ kept since.
+returns-clause-failings g c = IfOk-weaker c.pass_or_fail-end.result _ _ (λ next failed.
+    if_some_weaker c.leave-share.result.1 _ _ (λ kept since.
     omega (
       arith,
       failings_since g.K.Started.start c.pass_or_fail-end.new.booked.held kept.items since,
-      c.pass_or_fail-end.ensures.failings,
+      failed,
       ap (λ (log : LogValue). failings_of log.held.history.records) c.new-log.ensures,
       ap failings_of c.requires.records,
       ap failings_in c.requires.start_receipts,
-    )) c.leave-share.ensures.kept
+    )) c.leave-share.ensures.kept) c.pass_or_fail-end.ensures.failings
 
 pub returns-clause-taken : goal.returns-clause-taken
 returns-clause-taken g c =

@@ -2,35 +2,25 @@ use Rattle.std.proofs.Common.{true, ap, arith}
 use Rattle.std.specs.Prelude.{Err}
 use Rattle.ob_transport.specs.Failures.{failures_in}
 use Rattle.ob_transport.specs.declared.fault.Pass.{Pass}
-use Rattle.ob_pool.proofs.Passes.Passing.{called, failing_alike, passed}
+use Rattle.ob_pool.proofs.Passes.Passing.{failed_once, failing_alike, passed}
 use Rattle.ob_pool.proofs.threads.transport.pass_or_fail.Goals as goal
 
 pub returns-in-Ok-Idle-clause-failings : goal.returns-in-Ok-Idle-clause-failings
 returns-in-Ok-Idle-clause-failings g c =
-    let p = passed _ _ _ _ _ _ _ c.pass.ensures.by_front c.pass.ensures.accounted.failures in omega (arith, p.0, p.1)
+    let p = passed _ _ _ _ _ _ _ c.pass.ensures.by_front in
+    omega (arith, p, c.pass.ensures.accounted.failures, ap failures_in c.in-Ok-Idle.is)
 
 pub returns-in-Ok-Cleared-clause-failings : goal.returns-in-Ok-Cleared-clause-failings
 returns-in-Ok-Cleared-clause-failings g c =
-    let p = passed _ _ _ _ _ _ _ c.pass.ensures.by_front c.pass.ensures.accounted.failures in omega (arith, p.0, p.1)
+    let p = passed _ _ _ _ _ _ _ c.pass.ensures.by_front in
+    omega (arith, p, c.pass.ensures.accounted.failures, ap failures_in c.in-Ok-Cleared.is)
 
 pub returns-in-Ok-clause-failings : goal.returns-in-Ok-clause-failings
 returns-in-Ok-clause-failings g c =
-    let p = passed _ _ _ _ _ _ _ c.pass.ensures.by_front c.pass.ensures.accounted.failures in
-    let once = called c.record.result _ _ _ _ c.record.ensures.is_recording.after c.record.ensures.is_recording.refused in
+    let p = passed _ _ _ _ _ _ _ c.pass.ensures.by_front in
+    let once = failed_once c.record.result _ c.in-Ok.is _ _ _ _ _ c.record.ensures.is_recording in
     let counted = ap (λ fault. failures_in {A = Pass} (Err fault)) c.in-Err-Sink.field-0-is in
-    omega (arith, p.0, once, c.in-Err-Sink.ensures.accounted.failures, counted)
-
-pub returns-in-Err-record-clause-failings : goal.returns-in-Err-record-clause-failings
-returns-in-Err-record-clause-failings g c =
-    let p = passed _ _ _ _ _ _ _ c.pass.ensures.by_front c.pass.ensures.accounted.failures in
-    let once = called c.record.result _ _ _ _ c.record.ensures.is_recording.after c.record.ensures.is_recording.refused in
-    let counted = ap (λ fault. failures_in {A = Pass} (Err fault)) c.in-Err-Sink.field-0-is in
-    omega (arith, p.0, once, c.in-Err-Sink.ensures.accounted.failures, counted)
-
-pub returns-in-Err : goal.returns-in-Err
-returns-in-Err g c =
-    let p = passed _ _ _ _ _ _ _ c.pass.ensures.by_front c.pass.ensures.accounted.failures in
-    record { caller = c.pass.ensures.caller; alike = tt; failings = omega (arith, p.0, p.1); fault = omega arith }
+    omega (arith, p, once, c.in-Err-Sink.ensures.accounted.failures, counted)
 
 pub returns-in-Ok-Idle-clause-alike : goal.returns-in-Ok-Idle-clause-alike
 returns-in-Ok-Idle-clause-alike g c = c.pass.ensures.accounted.alike (λ taken is. absurd (cc is))

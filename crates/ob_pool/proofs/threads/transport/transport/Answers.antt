@@ -25,7 +25,7 @@ passes-preserved g c =
     (g.S.Sink.content c.args.sink.now) (g.S.Sink.content c.passes.sink) (g.S.Sink.content pass.new.sink)
     c.passes.invariant c.desk-desk.ensures.maker c.desk-desk.ensures.part pass.ensures.caller
     (if_some_at _ kept pass.ensures.made)
-    (if_some_at _ kept pass.ensures.failings)
+    (if_some_at _ kept (IfOk-at_ok _ c.in-Ok.ensures.first pass.ensures.failings))
     (if_some_at _ kept (IfOk-at_ok _ c.in-Ok.ensures.first pass.ensures.taken))
 
 pub returns-clause-transported : goal.returns-clause-transported
@@ -46,7 +46,7 @@ returns-clause-transported g c =
           before (g.S.Sink.content c.passes.sink) (g.S.Sink.content pass.new.sink)
           c.passes.invariant w.desk-desk.ensures.maker w.desk-desk.ensures.part pass.ensures.caller
           (if_some_at _ kept pass.ensures.made)
-          (if_some_at _ kept pass.ensures.failings)
+          (if_some_at _ kept (IfOk-at_ok _ w.in-Ok.ensures.first pass.ensures.failings))
           (if_some_at _ kept (IfOk-at_ok _ w.in-Ok.ensures.first pass.ensures.taken)))
     ] in
     record {

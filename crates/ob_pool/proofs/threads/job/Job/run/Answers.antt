@@ -9,7 +9,7 @@ use Rattle.ob_pool.proofs.threads.job.Job.run.Goals as goal
 pub one_step-same-requires-clause-numbered : goal.one_step-same-requires-clause-numbered
 one_step-same-requires-clause-numbered g c =
     numbered_still c.heed-share.result.maker.caller c.steps.share.maker.caller c.args.self.maker.caller
-    c.args.context.now.writers (ap (λ (maker : Maker). maker.caller) c.heed-share.ensures)
+    c.args.context.now.writers (ap (λ (maker : Maker). maker.caller) c.heed-share.ensures.maker)
     c.steps.invariant.caller c.requires.numbered
 
 pub one_step-same-requires-clause-place : goal.one_step-same-requires-clause-place
@@ -27,7 +27,7 @@ steps-preserved g c =
     let rest = c.next.new.self.rest.items in
     let receipts = c.one_step-same.new.receipts in
     let step = c.one_step-same.ensures in
-    let same = c.heed-share.ensures in
+    let same = c.heed-share.ensures.maker in
     let begin : plan ≡ command ∷ rest = search rules in
     let count : vec_len receipts ≡ vec_len c.steps.receipts + 1 =
     IfOk-at_ok (λ share. vec_len receipts ≡ vec_len c.steps.receipts + 1) c.in-Ok.is step.count in

@@ -1,0 +1,135 @@
+//! Messages that are written as bytes, and what waits then.
+
+use super::{flushed, open, sent, written};
+use bytes::Bytes;
+use ob_connection::Connection;
+use ob_types::{Change, Message, Refusal, WaterMark};
+use std::test::Fail;
+
+/// A message that shares a chunk.
+const SMALL: &[u8] = &[7; 2000];
+
+/// The messages that a gathering of at most eight finds, as one text.
+fn gathered(connection: &Connection) -> Result<Vec<u8>, Refusal> {
+    let blocks = connection.gather(8, 20000)?;
+    let mut all = Vec::new(*blocks.allocator());
+    for block in &blocks {
+        all.extend_from_slice(block.as_slice())?;
+    }
+    Ok(all)
+}
+
+#[test]
+fn copies_and_parts_are_messages_of_their_bytes(rt: HostRuntime) -> Result<(), Fail> {
+    let mut connection = open(rt.alloc())?;
+    // each of the four has memory of its own, and what is written while four wait shares a chunk
+    let alone = [b"a", b"b", b"c", b"d"].map(|bytes| connection.write_copy(bytes));
+    let shared = [
+        connection.write_copy(b"one"),
+        connection.write_parts(&[b"he", b"", b"ad"]),
+        connection.write_parts(&[]),
+    ];
+    let before = (connection.unflushed_count(), connection.waiting_count());
+    let flush = connection.flush();
+    let bytes = gathered(&connection)?;
+    let take = connection.take_sent(4 + 3 + 1);
+    let after = (connection.unflushed_count(), connection.waiting_count());
+    assert_eq!(rt;
+        (alone, shared, before, flush, bytes.as_slice(), take, after),
+        (
+            // 97 bytes each are pending, above 200 from the third on
+            [
+                written(0, None),
+                written(1, None),
+                written(2, Some(Change::Unwritable)),
+                written(3, None),
+            ],
+            [written(4, None), written(5, None), written(6, None)],
+            (7, 7),
+            flushed(7),
+            b"abcdonehead".as_slice(),
+            // three bytes are left of the sixth, which counts its hundred still, and the last counts 96
+            sent(0, 5),
+            (0, 2),
+        )
+    );
+    drop((connection, bytes));
+    Ok(())
+}
+
+#[test]
+fn chunks_end_and_begin_where_messages_do(rt: HostRuntime) -> Result<(), Fail> {
+    let mut connection = open(rt.alloc())?;
+    // four have memory of their own; the others fill a chunk of 2000 bytes and one of 4000 to the last byte, and the
+    // longest has memory of its own again
+    for _ in 0..7 {
+        let _written = connection.write_copy(SMALL)?;
+    }
+    let _written = connection.write_copy(&[8; 2049])?;
+    let _flushed = connection.flush()?;
+    let bytes = gathered(&connection)?;
+    let (sevens, eights) = bytes.as_slice().split_at(14000);
+    assert_eq!(rt;
+        (
+            sevens.iter().all(|&byte| byte == 7),
+            eights.iter().all(|&byte| byte == 8),
+            eights.len()
+        ),
+        (true, true, 2049)
+    );
+    drop((connection, bytes));
+    Ok(())
+}
+
+#[test]
+fn room_is_taken_by_eights_and_given_back(rt: HostRuntime) -> Result<(), Fail> {
+    let mut connection = open(rt.alloc())?;
+    let none = connection.room();
+    let mut rooms = [0; 9];
+    for room in &mut rooms {
+        let _written = connection
+            .write(Message::Block(Bytes::new()))
+            .map_err(Refusal::from)?;
+        *room = connection.room();
+    }
+    let _flushed = connection.flush()?;
+    let _taken = connection.take_sent(0)?;
+    let kept = connection.room();
+    connection.shrink_to_fit();
+    assert_eq!(rt;
+        (none, rooms, kept, connection.room()),
+        (0, [8, 8, 8, 8, 8, 8, 8, 8, 16], 8, 0)
+    );
+    drop(connection);
+    Ok(())
+}
+
+#[test]
+fn marks_in_force_and_refusals_of_a_length(rt: HostRuntime) -> Result<(), Fail> {
+    let mut connection = open(rt.alloc())?;
+    let marks = connection.marks();
+    connection.set_marks(WaterMark::new(5, 6)?)?;
+    let long = connection.refusal_of_length(2147483647 - 95);
+    let fits = connection.refusal_of_length(2147483647 - 96);
+    let set = connection.marks();
+    let overhead = connection.estimate().overhead;
+    let _taken = connection.close(ob_types::Cause(1))?;
+    assert_eq!(rt;
+        (
+            [marks, set],
+            overhead,
+            [long, fits, connection.refusal_of_length(0)],
+            connection.write_copy(b"late"),
+            connection.write_parts(&[b"late"]),
+        ),
+        (
+            [WaterMark::new(100, 200)?, WaterMark::new(5, 6)?],
+            96,
+            [Some(Refusal::Oversize), None, Some(Refusal::Closed)],
+            Err(Refusal::Closed),
+            Err(Refusal::Closed),
+        )
+    );
+    drop(connection);
+    Ok(())
+}
