@@ -7,6 +7,8 @@
 #[path = "../../by_hand/outbound/mod.rs"]
 mod by_hand;
 
+mod sending;
+
 use limekeel::{Block, Connection, Estimate, Marks};
 use std::collections::VecDeque;
 use std::hint::black_box;
@@ -247,4 +249,5 @@ fn main() {
     time::<ByHand>("by-hand");
     time::<Shared<ByHand>>("by-hand-shared");
     time::<Barest>("barest");
+    sending::time_all();
 }

@@ -1,0 +1,120 @@
+//! Times messages that are written, flushed and sent into memory by `send_to`, beside a queue by hand that is written by one
+//! `write_vectored`. Prints lines `sent NAME BATCH` and the nanoseconds of a message.
+
+use crate::{BYTES, TIMES};
+use limekeel::{Block, Connection, Estimate, Marks};
+use std::collections::VecDeque;
+use std::hint::black_box;
+use std::io::{self, IoSlice, Write};
+use std::sync::Arc;
+use std::time::Instant;
+
+/// How many messages are flushed and sent at once.
+const BATCHES: [usize; 3] = [1, 16, 240];
+/// How many are timed at once; each batch divides it.
+const MESSAGES: usize = 960;
+/// How many slices the queue by hand offers at once.
+const SLICES: usize = 64;
+
+/// A socket in memory that takes all.
+struct Memory;
+
+impl Write for Memory {
+    fn write(&mut self, bytes: &[u8]) -> io::Result<usize> {
+        Ok(black_box(bytes).len())
+    }
+
+    #[inline(never)]
+    fn write_vectored(&mut self, slices: &[IoSlice<'_>]) -> io::Result<usize> {
+        Ok(black_box(slices).iter().map(|slice| slice.len()).sum())
+    }
+
+    fn flush(&mut self) -> io::Result<()> {
+        Ok(())
+    }
+}
+
+/// A list of bytes that are shared, with what is sent of the first, a total and a flag.
+struct Queue {
+    messages: VecDeque<Arc<[u8]>>,
+    sent: usize,
+    total: usize,
+    writable: bool,
+}
+
+impl Queue {
+    fn write(&mut self, bytes: Arc<[u8]>) {
+        self.total += bytes.len() + 96;
+        self.writable &= self.total <= 65536;
+        self.messages.push_back(bytes);
+    }
+
+    fn send(&mut self, socket: &mut impl Write) -> io::Result<()> {
+        let mut slices = [IoSlice::new(&[]); SLICES];
+        let mut count = 0;
+        for (slice, bytes) in slices.iter_mut().zip(&self.messages) {
+            *slice = IoSlice::new(&bytes[if count == 0 { self.sent } else { 0 }..]);
+            count += 1;
+        }
+        self.sent += socket.write_vectored(&slices[..count])?;
+        while let Some(first) = self.messages.front()
+            && first.len() <= self.sent
+        {
+            self.sent -= first.len();
+            self.total -= first.len() + 96;
+            self.messages.pop_front();
+        }
+        self.writable |= self.total < 32768;
+        Ok(())
+    }
+}
+
+fn time(name: &str, batch: usize, mut turn: impl FnMut()) {
+    let mut least = f64::INFINITY;
+    for _ in 0..TIMES {
+        let start = Instant::now();
+        for _ in 0..MESSAGES / batch {
+            turn();
+        }
+        least = least.min(start.elapsed().as_nanos() as f64 / MESSAGES as f64);
+    }
+    println!("sent {name} {batch} {least:.1}");
+}
+
+fn through_rust(name: &str, batch: usize, mut write: impl FnMut(&mut Connection)) {
+    let mut connection = Connection::open(Marks::default(), Estimate::default()).expect("it opens");
+    time(name, batch, || {
+        for _ in 0..batch {
+            write(&mut connection);
+        }
+        let _ = connection.flush().expect("it is open");
+        while connection.send_to(&mut Memory).expect("it takes all").more {}
+    });
+}
+
+fn by_hand(name: &str, batch: usize, mut bytes: impl FnMut() -> Arc<[u8]>) {
+    let mut queue = Queue { messages: VecDeque::new(), sent: 0, total: 0, writable: true };
+    time(name, batch, || {
+        for _ in 0..batch {
+            queue.write(bytes());
+        }
+        while !queue.messages.is_empty() {
+            queue.send(&mut Memory).expect("it takes all");
+        }
+    });
+}
+
+pub fn time_all() {
+    let block = Block::new(&BYTES).expect("there is memory");
+    let shared: Arc<[u8]> = Arc::from(&BYTES[..]);
+    for batch in BATCHES {
+        through_rust("rust", batch, |connection| {
+            let _ = connection.write(black_box(&BYTES)).expect("it is accepted");
+        });
+        by_hand("by-hand", batch, || Arc::from(&black_box(&BYTES)[..]));
+        through_rust("rust-shared", batch, |connection| {
+            let _ = connection.write_block(black_box(&block)).expect("it is accepted");
+        });
+        by_hand("by-hand-shared", batch, || black_box(&shared).clone());
+    }
+}

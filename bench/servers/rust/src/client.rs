@@ -1,0 +1,108 @@
+use crate::protocol::Work;
+use crate::system::READABLE;
+use limekeel::{Block, Change, Connection, Estimate, Marks, Refusal};
+use std::io::{self, Read};
+use std::net::TcpStream;
+
+/// How often one client sends before the others have their turn: Netty's write spin count.
+pub const TURNS: u32 = 16;
+
+/// What became of a sending.
+#[derive(PartialEq, Eq)]
+pub enum Next {
+    /// All is sent.
+    Rest,
+    /// The socket has no room.
+    WaitForRoom,
+    /// More at once, after the others.
+    ComeAgain,
+}
+
+pub struct Client {
+    pub socket: TcpStream,
+    connection: Connection,
+    pub work: Work,
+    /// Whether writers may go on, as the last change said.
+    pub is_writable: bool,
+    /// How often they may not.
+    pub stops: u64,
+    /// The events that are asked for.
+    pub asked: u32,
+    /// Whether it is among those that go on at once.
+    pub goes_on: bool,
+    /// Whether it hears what is published, and whether it is counted among those above their high mark.
+    pub joined: bool,
+    pub held: bool,
+    /// Whether it publishes, and somebody is held.
+    pub waits: bool,
+}
+
+impl Client {
+    pub fn new(socket: TcpStream) -> Result<Client, Refusal> {
+        Ok(Client {
+            socket,
+            connection: Connection::open(Marks::default(), Estimate::default())?,
+            work: Work::default(),
+            is_writable: true,
+            stops: 0,
+            asked: READABLE,
+            goes_on: false,
+            joined: false,
+            held: false,
+            waits: false,
+        })
+    }
+
+    fn note(&mut self, change: Option<Change>) {
+        match change {
+            Some(Change::Unwritable) => {
+                self.is_writable = false;
+                self.stops += 1;
+            }
+            Some(Change::Writable) => self.is_writable = true,
+            None => {}
+        }
+    }
+
+    pub fn write(&mut self, bytes: &[u8]) -> Result<(), Refusal> {
+        let written = self.connection.write(bytes)?;
+        self.note(written.change);
+        Ok(())
+    }
+
+    pub fn write_block(&mut self, block: &Block) -> Result<(), Refusal> {
+        let written = self.connection.write_block(block)?;
+        self.note(written.change);
+        Ok(())
+    }
+
+    pub fn pending(&self) -> u64 {
+        u64::from(self.connection.look().total)
+    }
+
+    /// Reads once, and returns how many bytes came; none if there are none now.
+    pub fn read(&mut self, room: &mut [u8]) -> io::Result<Option<usize>> {
+        match (&self.socket).read(room) {
+            Ok(0) => Err(io::ErrorKind::UnexpectedEof.into()),
+            Ok(count) => Ok(Some(count)),
+            Err(error) if matches!(error.kind(), io::ErrorKind::WouldBlock | io::ErrorKind::Interrupted) => Ok(None),
+            Err(error) => Err(error),
+        }
+    }
+
+    pub fn send(&mut self) -> io::Result<Next> {
+        let flushed = self.connection.flush().map_err(io::Error::other)?;
+        self.note(flushed.change);
+        for _ in 0..TURNS {
+            let sent = self.connection.send_to(&mut &self.socket)?;
+            self.note(sent.taken.change);
+            if !sent.more {
+                return Ok(Next::Rest);
+            }
+            if sent.blocked {
+                return Ok(Next::WaitForRoom);
+            }
+        }
+        Ok(Next::ComeAgain)
+    }
+}
