@@ -1,5 +1,5 @@
 -- How the outcomes of what is gone are kept. No public clause cites this module.
-use Rattle.std.specs.Prelude.{◌≤◌, ◌-◌, ◌<◌, ℕ, zero, suc, List, [], ◌∷◌, length, map, if◌then◌else◌, leb, slice_index_or, vec_len, vec_capacity}
+use Rattle.std.specs.Prelude.{◌≢◌, ◌≤◌, ◌-◌, ◌<◌, ℕ, zero, suc, List, [], ◌∷◌, length, map, if◌then◌else◌, leb, slice_index_or, vec_len, vec_capacity}
 use Rattle.std.specs.List.Sorted.{IsNonDecreasingBy}
 use Rattle.std.specs.List.{range_with_len}
 use Rattle.ob_types.specs.Limits.{most_writes}
@@ -35,9 +35,12 @@ endings_of inside = record {
   room = vec_capacity inside.runs - vec_len inside.runs;
 }
 
--- what every call keeps: no run begins before the one in front of it, or past the messages, which are within the limit
+-- what every call keeps: no run begins before the one in front of it, or past the messages, which are within the limit,
+-- and each ended otherwise than the one in front of it
 pub record IsOrdered (inside : Inside) : Type 0 where
   pub rise : IsNonDecreasingBy (λ run. run.from) inside.runs.items
   pub begun : (place : ℕ) (other : Run) → place < length inside.runs.items →
       (slice_index_or inside.runs.items place other).from ≤ inside.count
   pub few : inside.count ≤ most_writes
+  pub differ : (place : ℕ) → place < length inside.runs.items →
+      outcome_before inside.runs.items (suc place) Success ≢ outcome_before inside.runs.items place Success

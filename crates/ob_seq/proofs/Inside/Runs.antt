@@ -1,7 +1,8 @@
 -- The outcomes that runs give.
-use Rattle.ob_seq.proofs.Words.{◌≡◌, ℕ, zero, suc, ◌+◌, ◌<◌, ◌≤◌, ◌-◌, List, [], ◌∷◌, ◌++◌, length, map, get_or, leb, true, false}
+use Rattle.std.specs.Prelude.{◌≢◌}
+use Rattle.ob_seq.proofs.Words.{◌≡◌, Bool, ltb, ℕ, zero, suc, ◌+◌, ◌<◌, ◌≤◌, ◌-◌, List, [], ◌∷◌, ◌++◌, length, map, get_or, leb, true, false}
 use Rattle.ob_seq.proofs.Words.{refl, sym, ap, ◌∙◌, arith, range_with_len, Outcome, Success, cond, nat_tests}
-use Rattle.std.proofs.lemmas.List.{get_or_default}
+use Rattle.std.proofs.lemmas.List.{get_or_append_left, get_or_default, get_or_push, length_push}
 use Rattle.std.proofs.lemmas.List.Sorted.{IsNonDecreasingBy-push}
 use Rattle.std.specs.List.Sorted.{IsNonDecreasingBy}
 use Rattle.std.proofs.lemmas.List.FromFn.{fill_by_all, get_or-map-range_with_len, length-map-range_with_len, map-range_with_len_more}
@@ -90,3 +91,42 @@ begun_more (one ∷ runs) run count begun first zero other some =
     let here = begun 0 other (omega arith) in omega arith
 begun_more (one ∷ runs) run count begun first (suc i) other some =
     begun_more runs run count (λ i other some. begun (suc i) other (omega arith)) first i other (omega arith)
+
+-- what the first of some runs come to, one more stands behind them
+before_more : (runs : List Run) (run : Run) (count : ℕ) (before : Outcome) → count ≤ length runs →
+    outcome_before (runs ++ run ∷ []) count before ≡ outcome_before runs count before
+before_more runs run zero before within = refl
+before_more runs run (suc count) before within =
+    ap (λ (one : Run). one.outcome)
+    (get_or_append_left runs (run ∷ []) (record { from = 0; outcome = before }) count (omega arith))
+
+-- the last of some runs is the one behind the others
+before_last : (runs : List Run) (run : Run) (before : Outcome) →
+    outcome_before (runs ++ run ∷ []) (suc (length runs)) before ≡ run.outcome
+before_last runs run before =
+    ap (λ (one : Run). one.outcome)
+    (get_or_push runs run (record { from = 0; outcome = before }) (length runs) refl)
+
+differ_at : (runs : List Run) (run : Run) → run.outcome ≢ outcome_before runs (length runs) Success →
+    ((place : ℕ) → place < length runs → outcome_before runs (suc place) Success ≢ outcome_before runs place Success) →
+    (place : ℕ) (early : Bool) → ltb place (length runs) ≡ early → place ≤ length runs →
+    outcome_before (runs ++ run ∷ []) (suc place) Success ≢ outcome_before (runs ++ run ∷ []) place Success
+differ_at runs run other differ place true test some same =
+    let within : place < length runs = grind (arith, nat_tests) in
+    differ place within (sym (before_more runs run (suc place) Success (omega arith)) ∙ same
+    ∙ before_more runs run place Success (omega arith))
+differ_at runs run other differ place false test some same =
+    let last : place ≡ length runs = grind (arith, nat_tests) in
+    other (sym (before_last runs run Success)
+    ∙ ap (λ count. outcome_before (runs ++ run ∷ []) (suc count) Success) (sym last) ∙ same
+    ∙ ap (λ count. outcome_before (runs ++ run ∷ []) count Success) last
+    ∙ before_more runs run (length runs) Success (omega arith))
+
+-- a run that ended otherwise than the last keeps that each differs from the one in front of it
+pub differ_more : (runs : List Run) (run : Run) → run.outcome ≢ outcome_before runs (length runs) Success →
+    ((place : ℕ) → place < length runs → outcome_before runs (suc place) Success ≢ outcome_before runs place Success) →
+    (place : ℕ) → place < length (runs ++ run ∷ []) →
+    outcome_before (runs ++ run ∷ []) (suc place) Success ≢ outcome_before (runs ++ run ∷ []) place Success
+differ_more runs run other differ place some =
+    let more = length_push runs run in
+    differ_at runs run other differ place (ltb place (length runs)) refl (omega arith)
