@@ -1,6 +1,6 @@
 -- For how many messages a connection has room, and when it takes and gives back.
 use Rattle.std.specs.Prelude.{◌≡◌, ◌≤◌, ℕ}
-use Rattle.ob_seq.specs.Unsent.{waiting_count}
+use Rattle.ob_seq.specs.Ring.{Shrinks as RingShrinks}
 use Rattle.ob_connection.specs.Connected.{Connected}
 
 -- for how many messages the ring of a connection has room
@@ -19,8 +19,7 @@ KeepsRoom old new = room_in new ≡ room_in old
 abbrev pub TakesNoRoom : Connected → Connected → Type 0
 TakesNoRoom old new = room_in new ≤ room_in old
 
--- all is as it was, but the ring may have less room, and it has none if nothing waits
+-- what waits shrinks, and all else is as it was
 pub record Shrinks (old new : Connected) : Type 0 where
-  pub same : new ≡ roomed (room_in new) old
-  pub less : TakesNoRoom old new
-  pub empty : waiting_count old.unsent ≡ 0 → room_in new ≡ 0
+  pub same : new ≡ record old { unsent = new.unsent }
+  pub unsent : RingShrinks old.unsent new.unsent

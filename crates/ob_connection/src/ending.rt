@@ -19,8 +19,8 @@ pub enum Ending {
 }
 
 impl Ending {
-    /// Whether a further turn may take more.
-    pub(crate) fn goes_on(self) -> bool
+    /// Whether a further turn may take more: the socket took some, and more is left. Our own.
+    pub fn goes_on(self) -> bool
         ensures yes { result ≡ true → self ≡ TurnsUsed }
         ensures no { result ≡ false → ¬ (self ≡ TurnsUsed) }
     {

@@ -1,9 +1,11 @@
 //! Messages that are written as bytes.
 
-ghost use Rattle.std.specs.Prelude.{◌≡◌, ◌<◌, ℕ, List, length, Some};
+ghost use Rattle.std.specs.Prelude.{◌≡◌, ◌<◌, ℕ, List, length, Some, OnOk};
 ghost use Rattle.ob_types.specs.Limits.{greatest_pending_size};
 ghost use Rattle.ob_types.specs.declared.command.Command.TheVariants.{Write};
 ghost use Rattle.ob_types.specs.declared.message.Message.TheVariants.{Block};
+ghost use Rattle.ob_seq.specs.Ring.{room_for_one_more};
+ghost use Rattle.ob_connection.specs.Keeping.{room_in};
 ghost use Rattle.ob_connection.specs.Looks.{Refuses};
 ghost use Rattle.ob_connection.specs.Obeying.{Obeys};
 ghost use Rattle.ob_connection.specs.Parts.{joined};
@@ -24,6 +26,7 @@ impl Connection {
     /// allocator refused the memory of the copy.
     pub fn write_copy(&mut self, bytes: &[u8]) -> Result<Written, Refusal>
         ensures obeys { Obeys self.old (Write (Block bytes.now)) written_reply result self.new }
+        ensures room { OnOk result (room_in self.new ≡ room_for_one_more self.old.unsent) }
     {
         if let Some(refusal) = self.refusal_of_block(bytes) {
             return Err(refusal);
@@ -36,6 +39,7 @@ impl Connection {
     /// as `write_copy`.
     pub fn write_parts(&mut self, parts: &[&[u8]]) -> Result<Written, Refusal>
         ensures obeys { Obeys self.old (Write (Block (joined parts.now))) written_reply result self.new }
+        ensures room { OnOk result (room_in self.new ≡ room_for_one_more self.old.unsent) }
     {
         let Some(count) = length_of(parts) else {
             return Err(self.refusal_of_too_long());
@@ -59,7 +63,8 @@ impl Connection {
     /// Writes a block, which is let go if it is refused.
     #[inline(always)]
     fn write_block(&mut self, block: Bytes) -> Result<Written, Refusal>
-        ensures { Obeys self.old (Write (Block block)) written_reply result self.new }
+        ensures obeys { Obeys self.old (Write (Block block)) written_reply result self.new }
+        ensures room { OnOk result (room_in self.new ≡ room_for_one_more self.old.unsent) }
     {
         self.write(Message::Block(block))
             .map_err(|refused| refused.refusal)
