@@ -86,14 +86,23 @@ fn told(turns: SentTurns) -> (u64, Result<Taken, Refusal>, Ended) {
 }
 
 /// How a sending ended, or the kind of the error that a socket broke with.
-type Ended = Result<&'static str, io::ErrorKind>;
+type Ended = Result<Left, io::ErrorKind>;
+
+/// Why a sending ended that broke no socket.
+#[derive(Clone, Copy, Debug, PartialEq, Eq)]
+enum Left {
+    Nothing,
+    Blocked,
+    OtherInFront,
+    Turns,
+}
 
 fn ended(ending: Ending) -> Ended {
     match ending {
-        Ending::Drained => Ok("drained"),
-        Ending::Blocked => Ok("blocked"),
-        Ending::OtherInFront => Ok("other in front"),
-        Ending::TurnsUsed => Ok("turns used"),
+        Ending::Drained => Ok(Left::Nothing),
+        Ending::Blocked => Ok(Left::Blocked),
+        Ending::OtherInFront => Ok(Left::OtherInFront),
+        Ending::TurnsUsed => Ok(Left::Turns),
         Ending::Broken(error) => Err(error.kind()),
     }
 }
@@ -142,9 +151,9 @@ fn a_slow_socket_takes_all_in_turns(rt: HostRuntime) -> Result<(), Fail> {
         ),
         (
             Ok((3, sent(0, 0), true)),
-            Ok((2, sent(0, 1), Ok("blocked"))),
-            Ok((3, sent(1, 2), Ok("turns used"))),
-            Ok((4, Ok(last), Ok("drained"))),
+            Ok((2, sent(0, 1), Ok(Left::Blocked))),
+            Ok((3, sent(1, 2), Ok(Left::Turns))),
+            Ok((4, Ok(last), Ok(Left::Nothing))),
             b"fourfourfour".as_slice(),
         )
     );
@@ -196,7 +205,7 @@ fn what_is_no_block_is_left_in_front(rt: HostRuntime) -> Result<(), Fail> {
             written(0, None),
             written(1, None),
             super::flushed(2),
-            Ok((0, sent(0, 1), Ok("other in front"))),
+            Ok((0, sent(0, 1), Ok(Left::OtherInFront))),
             Some(1),
         )
     );
