@@ -1,6 +1,6 @@
 ghost use Rattle.std.specs.Prelude.{◌≡◌, ◌<◌, true, IfOk, OnErr, OnOk};
 ghost use Rattle.ob_seq.specs.Pieces.{bytes_in};
-ghost use Rattle.ob_shared_connection.specs.Calls.{IsCall, IsLock, UnderLock};
+ghost use Rattle.ob_shared_connection.specs.Calls.{IsLock, UnderLock};
 ghost use Rattle.ob_shared_connection.specs.Handles.{IsAnother, IsButForShare};
 ghost use Rattle.ob_shared_connection.specs.Looking.{Gathers, IsLook};
 ghost use Rattle.ob_shared_connection.specs.Staying.{AreInFront};
@@ -12,8 +12,6 @@ mod commands;
 mod sending;
 mod turns;
 
-use crate::act::Act;
-use crate::ask::Ask;
 use crate::bell::Work;
 use crate::caller::Caller;
 use crate::guard::Guard;
@@ -101,7 +99,7 @@ impl Transport {
         ensures in_front { IfOk result (λ blocks.
             0 < bytes_in blocks.items → AreInFront self.new (bytes_in blocks.items)) }
     {
-        self.ask(rt, looks::Gather(max_count, max_bytes))
+        self.caller.look(rt, looks::Gather(max_count, max_bytes))
     }
 
     /// Waits until a flushed message is there or the connection is closed, and tells which. It sleeps meanwhile. A message
@@ -123,27 +121,5 @@ impl Transport {
         let moment = self.caller.wait_within::<Work, R>(rt, limit);
         self.caller.unlock();
         moment
-    }
-
-    /// One call, which takes the lock and lets it go.
-    fn call<A: Act, R: Wait>(&mut self, rt: &R, act: A) -> Result<A::Answer, A::Fault>
-        ensures under { UnderLock self.old
-            (λ before after. IsCall (A.does act) (A.commands act) before result after) self.new }
-        ensures sends { self.old.sends ≡ true }
-    {
-        self.caller.lock(rt);
-        let answer = self.caller.act(act);
-        self.caller.unlock();
-        answer
-    }
-
-    /// One look, which takes the lock and lets it go.
-    fn ask<A: Ask, R: Wait>(&mut self, rt: &R, ask: A) -> A::Answer
-        ensures { UnderLock self.old (IsLook (A.shows ask) result) self.new }
-    {
-        self.caller.lock(rt);
-        let answer = self.caller.ask(ask);
-        self.caller.unlock();
-        answer
     }
 }
