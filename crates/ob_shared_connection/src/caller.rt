@@ -1,4 +1,4 @@
-ghost use Rattle.std.specs.Prelude.{◌≡◌, ◌≤◌, true, IfErr, IfOk, IsOkUnless, OnErr, OnOk};
+ghost use Rattle.std.specs.Prelude.{◌≡◌, ◌≤◌, false, true, IfErr, IfOk, IsOkUnless, OnErr, OnOk};
 ghost use Rattle.std.specs.Arc.{arc_value};
 
 mod sending;
@@ -74,6 +74,17 @@ impl Caller {
         ensures locks { IsLock (caller_handle self.old) (caller_held self.new) }
     {
         self.shared.lock(rt, &mut self.seat);
+    }
+
+    /// Takes the lock if it is free.
+    pub fn try_lock(&mut self) -> bool
+        requires { IsFree self.old }
+        ensures holds { result ≡ true → IsHolder self.new }
+        ensures locks { result ≡ true → IsLock (caller_handle self.old) (caller_held self.new) }
+        ensures free { result ≡ false → IsFree self.new }
+        ensures same { result ≡ false → caller_handle self.new ≡ caller_handle self.old }
+    {
+        self.shared.try_lock(&mut self.seat)
     }
 
     /// Lets the lock go.

@@ -130,6 +130,19 @@ impl Handle {
         Guard::new(caller)
     }
 
+    /// Takes the lock if it is free, and else gives the handle back, unchanged. It waits for nobody and does not allocate.
+    pub fn try_lock(self) -> Result<Guard, Handle>
+        ensures locks { IfOk result (λ guard. IsLock self guard) }
+        ensures back { IfErr result (λ handle. handle ≡ self) }
+    {
+        let Handle { mut caller } = self;
+        if caller.try_lock() {
+            Ok(Guard::new(caller))
+        } else {
+            Err(Handle::new(caller))
+        }
+    }
+
     /// Takes the lock once the connection is writable or closed, and tells which: at that moment, under the lock. It sleeps
     /// meanwhile, without the lock. Whoever makes the connection writable, or closes it, wakes all who wait here.
     pub fn wait_writable<R: Wait>(self, rt: &R) -> (Guard, Moment)

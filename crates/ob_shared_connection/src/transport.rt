@@ -1,4 +1,4 @@
-ghost use Rattle.std.specs.Prelude.{◌≡◌, ◌<◌, true, IfOk, OnErr, OnOk};
+ghost use Rattle.std.specs.Prelude.{◌≡◌, ◌<◌, true, IfErr, IfOk, OnErr, OnOk};
 ghost use Rattle.ob_seq.specs.Pieces.{bytes_in};
 ghost use Rattle.ob_shared_connection.specs.Calls.{IsLock, UnderLock};
 ghost use Rattle.ob_shared_connection.specs.Handles.{IsAnother, IsButForShare};
@@ -84,6 +84,22 @@ impl Transport {
         let Transport { mut caller } = self;
         caller.lock(rt);
         Guard::new(caller)
+    }
+
+    /// Takes the lock if it is free, and else gives the transport back, unchanged. It waits for nobody and does not
+    /// allocate.
+    pub fn try_lock(self) -> Result<Guard, Transport>
+        ensures locks { IfOk result (λ guard. IsLock self guard) }
+        ensures sends { IfOk result (λ guard. guard.handle.sends ≡ true) }
+        ensures back { IfErr result (λ transport. transport ≡ self) }
+    {
+        let Transport { caller } = self;
+        let mut sender = caller;
+        if sender.try_lock() {
+            Ok(Guard::new(sender))
+        } else {
+            Err(Transport::new(sender))
+        }
     }
 
     /// The flushed blocks in front that can be sent at once, as `Connection::gather`. They share their memory with the
