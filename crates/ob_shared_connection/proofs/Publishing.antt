@@ -14,7 +14,7 @@ use Rattle.ob_shared_connection.specs.Bells.{bell_word}
 use Rattle.ob_shared_connection.specs.Glances.{IsLegal, glance_after, packed_glance}
 use Rattle.ob_shared_connection.specs.Log.{IsBeginning, calls_of, commands_by}
 use Rattle.ob_shared_connection.specs.Removals.{MayGive, NoneRemoves}
-use Rattle.ob_shared_connection.specs.Ruled.{AreCounted, Fits, Ruled, calls_with, count_if, handles_of, seeing_view, settings_of, shown_view, view_with}
+use Rattle.ob_shared_connection.specs.Ruled.{AreCounted, Fits, Past, Ruled, calls_with, count_if, handles_of, seeing_view, settings_of, shown_view, view_with}
 use Rattle.ob_shared_connection.specs.Steps.{Finds, HasLock, IsNow, Knows, Reads}
 use Rattle.ob_shared_connection.specs.declared.bell.Waiter.{Waiter}
 use Rattle.ob_shared_connection.specs.declared.call.Call.{Call}
@@ -22,7 +22,7 @@ use Rattle.ob_shared_connection.specs.declared.view.View.{View}
 use Rattle.ob_shared_connection.proofs.Bells.{bells_set, known_set, other_bell}
 use Rattle.ob_shared_connection.proofs.Shares.{shares_kept}
 use Rattle.ob_shared_connection.proofs.Lists.{append_cancels, at_below, begins_further, begins_itself, both_parts, is_false, none_added, none_removes, own_added, sum_set}
-use Rattle.ob_shared_connection.proofs.Views.{St, Removes, fits_set, fits_alone, nobody_still, counts_set, taken_set, same_views}
+use Rattle.ob_shared_connection.proofs.Views.{St, Removes, fits_set, fits_alone, nobody_still, counts_set, taken_set, nothing_known}
 
 module _ (slots id : ℕ) (me : Knows) where
   -- a seat that reads sees what is published
@@ -192,6 +192,24 @@ may_list slots id me commands lock may s ruled homes at small =
       refl,
     )
 
+-- once all calls are published, a seat fits, and may know that
+fits_shown : (past : Past) (seat : ℕ) (old new : View) → new ≡ record old { shows = new.shows }
+    → IsBeginning past.shown past.log → Fits past seat old → Fits (record past { shown = past.log }) seat new
+fits_shown past seat old new same begins fits =
+    subst (λ (view : View). Fits (record past { shown = past.log }) seat view) (sym same) (record {
+      opened = fits.opened;
+      part = fits.part;
+      told = begins_further old.told past.shown past.log fits.told begins;
+      numbered = fits.numbered;
+      own = fits.own;
+      one = fits.one;
+      whole = fits.whole;
+      current = λ _ _. refl;
+      seen_shown = λ _. fits.part;
+      sender_is = fits.sender_is;
+      untouched = fits.untouched;
+    })
+
 -- the glance after all calls is published
 publishes : (id : ℕ) (me : Knows) (number : ℕ) → HasLock me → IsNow me.0 number → (s : St) (ruled : Ruled s)
     → get_elem? s.views id ≡ some me.0 → (words : List ℕ) → length words ≡ 8
@@ -205,33 +223,9 @@ publishes id me number lock now s ruled at words long locked counts published be
     let whole = mine.whole lock.holds in
     let new = shown_view me.0 in
     let then_past = record past { shown = past.log } in
-    let fresh : Fits then_past id new = record {
-      opened = mine.opened;
-      part = mine.part;
-      told = begins_further me.0.told past.shown past.log mine.told ruled.shown.begins;
-      numbered = mine.numbered;
-      own = mine.own;
-      one = mine.one;
-      whole = mine.whole;
-      current = λ _ _. refl;
-      seen_shown = λ _. mine.part;
-      sender_is = mine.sender_is;
-      untouched = mine.untouched;
-    } in
+    let fresh = fits_shown past id me.0 new refl ruled.shown.begins mine in
     let still : (seat : ℕ) (view : View) → seat ≢ id → get_elem? s.views seat ≡ some view → Fits past seat view
-    → Fits then_past seat view = λ seat view apart there old. record {
-      opened = old.opened;
-      part = old.part;
-      told = begins_further view.told past.shown past.log old.told ruled.shown.begins;
-      numbered = old.numbered;
-      own = old.own;
-      one = old.one;
-      whole = old.whole;
-      current = λ _ _. refl;
-      seen_shown = λ _. old.part;
-      sender_is = old.sender_is;
-      untouched = old.untouched;
-    } in
+    → Fits then_past seat view = λ seat view apart there old. fits_shown past seat view view refl ruled.shown.begins old in
     record {
       past = then_past;
       words = long;
@@ -295,10 +289,6 @@ may_find slots id me number lock now s ruled homes at small =
       me.0,
       keeps,
       tt,
-      same_views slots id me 2 (get_or s.words 2 0) s ruled at
-          (λ free. ap (λ (words : List ℕ). get_or words 0 0) (sym same) ∙ free)
-          (λ free. ap (λ (words : List ℕ). get_or words 0 0) same ∙ free)
-          (ap (λ (words : List ℕ). get_or words 1 0) same) (ap (λ (words : List ℕ). get_or words 2 0) same)
-          (λ waiter. ap (λ (words : List ℕ). get_or words (bell_word waiter) 0) same),
+      nothing_known slots id me 2 s ruled at,
       record { shown = λ found. absurd (other found); other = λ _. refl },
     ))

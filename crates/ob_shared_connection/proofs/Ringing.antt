@@ -1,22 +1,26 @@
 -- Bells are heard, silenced and waited at.
-use Rattle.std.proofs.Common.{◌≡◌, ◌≢◌, ⊎_elim, ℕ, true, List, set, get_or}
-use Rattle.std.proofs.Common.{refl, sym, ap, ◌∙◌, arith, length-set}
-use Rattle.std.proofs.lemmas.List.{get_or-set_same, get_or-set_other, set-get_or}
+use Rattle.std.proofs.Common.{◌≡◌, ◌≢◌, ◌<◌, ⊎_elim, ℕ, true, set, get_or}
+use Rattle.std.proofs.Common.{refl, sym, ap, ◌∙◌, subst, arith, length-set}
+use Rattle.std.proofs.lemmas.List.{get_or-set_same, get_or-set_other}
 use mathlib.Core.Logic.{dite}
 use mathlib.Core.Option.{some}
 use native.Mathlib.Decide.{ℕ_discrete}
 use lib.ListN.{get_elem?}
 use Rattle.atomic_table.specs.Table.{Allows, keeps}
+use Rattle.atomic_table.specs.declared.shared.Seat.{Seat}
 use Rattle.atomic_table.proofs.Lists.{at_set}
+use Rattle.ob_connection.specs.Connected.{Connected}
 use Rattle.ob_shared_connection.specs.Bells.{awaited, bell_word, is_silent, silent, silenced}
-use Rattle.ob_shared_connection.specs.Ruled.{AreCounted, Fits, IsShown, Ruled, hearing_view}
+use Rattle.ob_shared_connection.specs.Ruled.{AreCounted, IsShown, Ruled, hearing_view}
 use Rattle.ob_shared_connection.specs.Steps.{Awaits, HasLock, Hears, Knows}
+use Rattle.ob_shared_connection.specs.Tables.{IsSeatOf, table_of}
 use Rattle.ob_shared_connection.specs.declared.bell.Waiter.{Waiter}
+use Rattle.ob_shared_connection.specs.declared.shared.Shared.{Shared}
 use Rattle.ob_shared_connection.specs.declared.view.Bells.{Bells}
 use Rattle.ob_shared_connection.specs.declared.view.View.{View}
 use Rattle.ob_shared_connection.proofs.Bells.{awaited_else, awaited_now, bell_apart, bell_within, bells_apart, same_or_other, silent_else, silenced_else}
 use Rattle.ob_shared_connection.proofs.Shares.{shares_kept}
-use Rattle.ob_shared_connection.proofs.Views.{St, fits_alone, counts_set, taken_set, other_word, same_views}
+use Rattle.ob_shared_connection.proofs.Views.{St, fits_alone, counts_set, taken_set, fits_still, nothing_known, other_word}
 
 -- the seat that has the lock knows anew of the bells, one of which is written
 module _ (slots id : ℕ) (me : Knows) (waiter : Waiter) (lock : HasLock me) where
@@ -36,19 +40,7 @@ module _ (slots id : ℕ) (me : Knows) (waiter : Waiter) (lock : HasLock me) whe
       let word = bell_word waiter in
       let unlocked : get_or (set s.words word next) 0 0 ≡ get_or s.words 0 0 =
       get_or-set_other s.words word 0 next 0 (λ e. bell_apart waiter 0 (omega arith) (sym e)) in
-      let fresh : Fits past id new = record {
-        opened = mine.opened;
-        part = mine.part;
-        told = mine.told;
-        numbered = mine.numbered;
-        own = mine.own;
-        one = mine.one;
-        whole = mine.whole;
-        current = mine.current;
-        seen_shown = mine.seen_shown;
-        sender_is = mine.sender_is;
-        untouched = mine.untouched;
-      } in
+      let fresh = fits_still past id me.0 new refl mine.numbered mine.told mine in
       record {
         past = past;
         words = length-set s.words word next ∙ words;
@@ -121,7 +113,6 @@ module _ (slots id : ℕ) (me : Knows) (waiter : Waiter) (lock : HasLock me) whe
   may_hear s ruled homes at small =
       let word = bell_word waiter in
       let found = get_or s.words word 0 in
-      let same = set-get_or s.words word 0 in
       dite (ℕ_discrete found 0)
       (λ none. (let bells = silent waiter me.0.bells in (
         hearing_view bells me.0,
@@ -137,10 +128,18 @@ module _ (slots id : ℕ) (me : Knows) (waiter : Waiter) (lock : HasLock me) whe
         me.0,
         keeps,
         tt,
-        same_views slots id me word found s ruled at
-            (λ free. ap (λ (words : List ℕ). get_or words 0 0) (sym same) ∙ free)
-            (λ free. ap (λ (words : List ℕ). get_or words 0 0) same ∙ free)
-            (ap (λ (words : List ℕ). get_or words 1 0) same) (ap (λ (words : List ℕ). get_or words 2 0) same)
-            (λ other. ap (λ (words : List ℕ). get_or words (bell_word other) 0) same),
+        nothing_known slots id me word s ruled at,
         record { none = λ none. absurd (some_one none); some_one = λ _. refl },
       ))
+
+-- what a step at a bell wants
+pub at_bell : (shared : Shared) (seat : Seat Connected View) (bell : Waiter) (word : ℕ) (next : ℕ → ℕ)
+    (told : ℕ → Knows → Type 0) → IsSeatOf shared seat → word ≡ bell_word bell → word < 8
+    → Allows Ruled shared.table.shared.table_id.slots seat.id seat.me (bell_word bell) next told
+    → (seat.table_id ≡ table_of shared) × (word < (table_of shared).words)
+    × Allows Ruled shared.table.shared.table_id.slots seat.id seat.me word next told
+at_bell shared seat bell word next told table is within allows = (
+  table,
+  omega (arith, shared.words),
+  subst (λ (at : ℕ). Allows Ruled shared.table.shared.table_id.slots seat.id seat.me at next told) (sym is) allows,
+)

@@ -1,7 +1,7 @@
 -- Seats come, take others in, and what holds at the start.
 use Rattle.std.proofs.Common.{◌≡◌, ⊎_elim, ℕ, true, false, List, [], ◌∷◌, ◌≤◌, ◌+◌, set, get_or, length}
 use Rattle.std.proofs.Common.{refl, sym, ap, ◌∙◌, subst, arith, length-set, eqb, Bool}
-use Rattle.std.proofs.lemmas.List.{get_or-set_same, get_or-set_other, set-get_or, length-append}
+use Rattle.std.proofs.lemmas.List.{get_or-set_same, get_or-set_other, length-append}
 use Rattle.std.proofs.lemmas.List.Elements.{All-cons, All-nil}
 use Rattle.std.proofs.lemmas.List.Sums.{sum_by-append}
 use mathlib.Core.Option.{some, some-ne-none}
@@ -26,7 +26,7 @@ use Rattle.ob_shared_connection.specs.declared.view.View.{View}
 use Rattle.ob_shared_connection.proofs.Bells.{known_set, other_bell}
 use Rattle.ob_shared_connection.proofs.Shares.{shares_cut, shares_set, shares_taken}
 use Rattle.ob_shared_connection.proofs.Lists.{at_more, commands_by-append, first_of_nothing, sum_set}
-use Rattle.ob_shared_connection.proofs.Views.{St, Removes, fits_alone, nobody_still, counts_set, taken_set, other_word, same_views}
+use Rattle.ob_shared_connection.proofs.Views.{St, Removes, fits_alone, nobody_still, counts_set, taken_set, fits_still, nothing_known, other_word}
 
 -- a new seat may get its number, which is its own alone
 names_seat : (slots id : ℕ) (view : View) (expected : ℕ) → (s : St) → Ruled s
@@ -39,19 +39,7 @@ names_seat slots id view expected s ruled at found =
     let mine = ruled.fits id old at in
     let words = ruled.words in
     let new = named_view id old in
-    let fresh : Fits past id new = record {
-      opened = mine.opened;
-      part = mine.part;
-      told = mine.told;
-      numbered = λ _. refl;
-      own = mine.own;
-      one = mine.one;
-      whole = mine.whole;
-      current = mine.current;
-      seen_shown = mine.seen_shown;
-      sender_is = mine.sender_is;
-      untouched = mine.untouched;
-    } in
+    let fresh = fits_still past id old new refl (λ _. refl) mine.told mine in
     let handles = sum_set handles_of s.views id old new at in
     let calls = sum_set calls_with s.views id old new at in
     let counts = ruled.counts in
@@ -100,7 +88,6 @@ pub may_name : (slots id : ℕ) (view : View) (expected : ℕ)
     → Allows Ruled slots id (new_view view, []) 1 (λ n. either (eqb n expected) (expected + 1) n)
     (Names expected (new_view view, []))
 may_name slots id view expected s ruled homes at small =
-    let same = set-get_or s.words 1 0 in
     exchanged (get_or s.words 1 0) expected (expected + 1)
     (λ word. (w : View) × (a : Act Connected) × Valid s.homes [] a × Ruled (stepped s 1 word id [] w a)
     × Names expected (new_view view, []) (get_or s.words 1 0) (w, carried_after [] a))
@@ -109,11 +96,7 @@ may_name slots id view expected s ruled homes at small =
       new_view view,
       keeps,
       tt,
-      same_views slots id (new_view view, []) 1 (get_or s.words 1 0) s ruled at
-          (λ free. ap (λ (words : List ℕ). get_or words 0 0) (sym same) ∙ free)
-          (λ free. ap (λ (words : List ℕ). get_or words 0 0) same ∙ free)
-          (ap (λ (words : List ℕ). get_or words 1 0) same) (ap (λ (words : List ℕ). get_or words 2 0) same)
-          (λ waiter. ap (λ (words : List ℕ). get_or words (bell_word waiter) 0) same),
+      nothing_known slots id (new_view view, []) 1 s ruled at,
       record { named = λ found. absurd (other found); own = λ found. absurd (other found); missed = λ _. refl },
     ))
 
@@ -126,19 +109,7 @@ may_cut id view there has_not s ruled at =
     let left = sharing_view view in
     let new = new_view left in
     let before = set s.views id left in
-    let first : Fits past id left = record {
-      opened = mine.opened;
-      part = mine.part;
-      told = mine.told;
-      numbered = mine.numbered;
-      own = mine.own;
-      one = mine.one;
-      whole = mine.whole;
-      current = mine.current;
-      seen_shown = mine.seen_shown;
-      sender_is = mine.sender_is;
-      untouched = mine.untouched;
-    } in
+    let first = fits_still past id view left refl mine.numbered mine.told mine in
     let fits = fits_alone past s.views id left ruled.fits first in
     let same = length-set s.views id left in
     let count = length before in
@@ -204,19 +175,8 @@ may_take id view other theirs named there free other_named other_free s ruled at
     let both = both_views view theirs in
     let their_at = sym (set_else s.views id other both apart) ∙ then_at in
     let mine = ruled.fits id view at in
-    let first : Fits past id both = record {
-      opened = mine.opened;
-      part = mine.part;
-      told = (ruled.fits other theirs their_at).seen_shown other_free;
-      numbered = mine.numbered;
-      own = mine.own;
-      one = mine.one;
-      whole = mine.whole;
-      current = mine.current;
-      seen_shown = mine.seen_shown;
-      sender_is = mine.sender_is;
-      untouched = mine.untouched;
-    } in
+    let first = fits_still past id view both refl mine.numbered ((ruled.fits other theirs their_at).seen_shown other_free)
+    mine in
     let second : Fits past other spent_view = record {
       opened = λ never. absurd (cc never);
       part = record { rest = past.log; whole = refl };

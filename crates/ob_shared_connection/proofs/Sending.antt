@@ -3,6 +3,8 @@ use Rattle.std.proofs.Common.{◌≡◌, ◌≤◌, ◌<◌, ℕ, zero, suc, Boo
 use Rattle.std.proofs.lemmas.Bool.Decides.{nat_tests}
 use Rattle.std.proofs.lemmas.List.Sums.{sum_by-cons}
 use Rattle.std.specs.List.{concat}
+use Rattle.std.specs.declared.alloc.Global.{Global}
+use Rattle.std.specs.declared.vec.Vec.{Vec}
 use Rattle.ob_types.specs.declared.command.Command.{Command}
 use Rattle.ob_types.specs.declared.command.Command.TheVariants.{RemoveBytes}
 use Rattle.ob_types.specs.declared.promise.Outcome.TheVariants.{Success}
@@ -14,7 +16,7 @@ use Rattle.ob_seq.specs.Pieces.{bytes_in, pieces_within}
 use Rattle.ob_seq.specs.Settings.{Settings}
 use Rattle.ob_seq.specs.State.{closed_after, empty_after}
 use Rattle.ob_seq.proofs.Inside.Gathered.{length_of_concat}
-use Rattle.ob_connection.specs.Calls.{most_pieces}
+use Rattle.ob_connection.specs.Calls.{bytes_of, most_pieces}
 use Rattle.ob_connection.specs.Looks.{AreGathered}
 use Rattle.ob_connection.specs.Sending.{offered_after}
 use Rattle.ob_connection.specs.Standing.{Gives}
@@ -23,9 +25,12 @@ use Rattle.ob_connection.specs.declared.replies.Taken.{Taken}
 use Rattle.ob_connection.specs.declared.socket.SocketFault.{SocketFault}
 use Rattle.ob_shared_connection.specs.Calls.{Makes, Taking, UnderLock}
 use Rattle.ob_shared_connection.specs.Log.{commands_of}
-use Rattle.ob_shared_connection.specs.Sending.{Asked, Asks, Offers, OffersNothing, TakesAway, Told}
+use Rattle.ob_shared_connection.specs.Sending.{Asked, Asks, Offering, Offers, OffersNothing, TakesAway, Told}
 use Rattle.ob_shared_connection.specs.Staying.{AreInFront}
 use Rattle.ob_shared_connection.specs.Values.{HandleValue, Held, IsLeft}
+use Rattle.ob_shared_connection.specs.declared.offered.Offered.{Offered}
+use Rattle.ob_shared_connection.specs.declared.offered.Offered.TheVariants.{Blocks}
+use Rattle.ob_shared_connection.specs.declared.transport.sending.SendFault.{SendFault}
 use Rattle.ob_shared_connection.proofs.Taking.{gathered_in_front}
 
 -- some blocks of those that hold a byte hold a byte
@@ -74,6 +79,13 @@ offered_in_front max_count max_bytes pieces old looked under some n within =
     (sym (under.unlocks ∙ ap (λ (held : Held). held.handle) offers.same))
     (record { some = omega arith; enough = omega arith })
 
+-- so what a socket took that was asked is in front
+pub taken_in_front : (max_count max_bytes : ℕ) (old looked : HandleValue) (before after : Told)
+    (asks : Asks max_count max_bytes old before looked after) (n : ℕ) → n ≡ bytes_of asks.answer → AreInFront looked n
+taken_in_front max_count max_bytes old looked before after asks n took =
+    offered_in_front max_count max_bytes asks.pieces old looked asks.offers asks.some n
+    (subst (λ (bytes : ℕ). bytes ≤ length (concat asks.pieces)) (sym took) asks.asked.within)
+
 -- what was taken away, and what is left
 pub takes_away : (bytes : ℕ) (blocked : Bool) (taken : Taken) (before middle after : Held) (empty : Bool)
     → (let result : Result Taken Refusal = Ok taken in Makes (Taking Success) (RemoveBytes bytes) result before middle)
@@ -110,26 +122,25 @@ offers_nothing max_count max_bytes done before looked last after blocks left clo
       unblocked = free;
     }
 
--- what was offered under a lock
-abbrev pub first_of : {Q : Type 0} {Does : Held → Held → Type 0} (old new : HandleValue)
-    → UnderLock old (λ held then. Does held then × Q) new → UnderLock old Does new
-first_of old new under = record {
-  before = under.before;
-  after = under.after;
-  locks = under.locks;
-  does = under.does.0;
-  unlocks = under.unlocks;
-}
-
--- a socket was asked
-abbrev pub asks_by : (max_count max_bytes : ℕ) (old looked : HandleValue) (before after : Told) (blocks : List (List ℕ))
-    (answer : Result ℕ SocketFault)
-    → UnderLock old (λ held then. Offers max_count max_bytes blocks held then × (0 < length blocks)) looked
-    → Asked blocks before answer after → Asks max_count max_bytes old before looked after
-asks_by max_count max_bytes old looked before after blocks answer under asked = record {
-  pieces = blocks;
-  answer = answer;
-  offers = first_of old looked under;
-  some = under.does.1;
-  asked = asked;
-}
+-- a socket was asked with the blocks that were found under a lock
+abbrev pub asked_for : (max_count max_bytes : ℕ) (old looked : HandleValue) (before after : Told)
+    (offered : Result Offered SendFault) (blocks : Vec (List ℕ) Global) (slice : List (List ℕ))
+    (answer : Result ℕ SocketFault) → UnderLock old (Offering max_count max_bytes offered) looked
+    → offered ≡ Ok (Blocks blocks) → slice ≡ blocks.items → Asked slice before answer after
+    → Asks max_count max_bytes old before looked after
+asked_for max_count max_bytes old looked before after offered blocks slice answer under is same asked =
+    let found : UnderLock old (Offering max_count max_bytes (Ok (Blocks blocks))) looked =
+    subst (λ (result : Result Offered SendFault). UnderLock old (Offering max_count max_bytes result) looked) is under in
+    record {
+      pieces = blocks.items;
+      answer = answer;
+      offers = record {
+        before = found.before;
+        after = found.after;
+        locks = found.locks;
+        does = found.does.0;
+        unlocks = found.unlocks;
+      };
+      some = found.does.1;
+      asked = subst (λ (pieces : List (List ℕ)). Asked pieces before answer after) same asked;
+    }

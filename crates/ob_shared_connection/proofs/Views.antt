@@ -1,7 +1,7 @@
 -- One seat knows anew, and what holds of all others.
 use Rattle.std.proofs.Common.{◌≡◌, ◌≢◌, ⊎_elim, ℕ, true, false, List, set, get_or}
 use Rattle.std.proofs.Common.{sym, ap, ◌∙◌, subst, arith, length-set}
-use Rattle.std.proofs.lemmas.List.{get_or-set_other}
+use Rattle.std.proofs.lemmas.List.{get_or-set_other, set-get_or}
 use mathlib.Core.Logic.{dite}
 use mathlib.Core.Option.{some, some-injective}
 use native.Mathlib.Decide.{ℕ_discrete}
@@ -10,6 +10,7 @@ use Rattle.atomic_table.specs.Table.{State}
 use Rattle.atomic_table.proofs.Lists.{at_set, set_again, set_else, set_here}
 use Rattle.ob_connection.specs.Connected.{Connected}
 use Rattle.ob_shared_connection.specs.Bells.{bell_word}
+use Rattle.ob_shared_connection.specs.Log.{IsBeginning}
 use Rattle.ob_shared_connection.specs.Removals.{leaves_flushed}
 use Rattle.ob_shared_connection.specs.Ruled.{AllFit, AreCounted, Fits, IsNobodys, IsShown, IsTaken, Past, Ruled, calls_with, handles_of}
 use Rattle.ob_shared_connection.specs.Steps.{Knows}
@@ -23,6 +24,33 @@ St = State Connected View
 
 abbrev pub Removes : Call → Type 0
 Removes call = leaves_flushed call.command ≡ true
+
+-- a seat fits as well whatever else it knows of its handle, its share, the bells, and what it was told of
+pub fits_still : (past : Past) (seat : ℕ) (old new : View)
+    → new ≡ record old {
+      named = new.named;
+      caller = new.caller;
+      told = new.told;
+      others = new.others;
+      handed = new.handed;
+      share = new.share;
+      bells = new.bells;
+    }
+    → (new.named ≡ true → new.caller ≡ seat) → IsBeginning new.told past.shown → Fits past seat old → Fits past seat new
+fits_still past seat old new same numbered told fits =
+    subst (λ (view : View). Fits past seat view) (sym same) (record {
+      opened = fits.opened;
+      part = fits.part;
+      told = told;
+      numbered = numbered;
+      own = fits.own;
+      one = fits.one;
+      whole = fits.whole;
+      current = fits.current;
+      seen_shown = fits.seen_shown;
+      sender_is = fits.sender_is;
+      untouched = fits.untouched;
+    })
 
 -- one seat knows anew, and all others still fit
 pub fits_set : (past next : Past) (views : List View) (id : ℕ) (new : View)
@@ -124,3 +152,13 @@ module _ (slots id : ℕ) (me : Knows) where
         counts = subst (λ (number : ℕ). AreCounted ruled.past.log number s.views) (sym counts) ruled.counts;
         shown = subst (λ (number : ℕ). IsShown ruled.past number) (sym shown) ruled.shown;
       })
+
+  -- a word that is read, so that nothing is known anew
+  pub nothing_known : (word : ℕ) → (s : St) → Ruled s → get_elem? s.views id ≡ some me.0
+      → Ruled (record { words = set s.words word (get_or s.words word 0); homes = s.homes; views = set s.views id me.0 })
+  nothing_known word s ruled at =
+      let same = set-get_or s.words word 0 in
+      let still : (read : ℕ) → get_or (set s.words word (get_or s.words word 0)) read 0 ≡ get_or s.words read 0 = λ read.
+      ap (λ (words : List ℕ). get_or words read 0) same in
+      same_views word (get_or s.words word 0) s ruled at (λ free. sym (still 0) ∙ free) (λ free. still 0 ∙ free)
+      (still 1) (still 2) (λ waiter. still (bell_word waiter))

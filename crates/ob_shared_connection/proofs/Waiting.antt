@@ -30,6 +30,19 @@ lock_again old first second one two = record {
   left = two.left;
 }
 
+-- under the lock since, and a look at it changed nothing
+pub locked_still : (old : HandleValue) (first now looked : Held) → IsLock old first → IsLock first.handle now
+    → looked ≡ now → IsLock old looked
+locked_still old first now looked one two same =
+    subst (λ (held : Held). IsLock old held) (sym same) (lock_again old first now one two)
+
+-- and after a look one let it go, and took it again
+pub locked_anew : (old : HandleValue) (now looked again : Held) (left : HandleValue) → IsLock old now → looked ≡ now
+    → left ≡ looked.handle → IsLock left again → IsLock old again
+locked_anew old now looked again left one same is two =
+    lock_again old now again one
+    (subst (λ (handle : HandleValue). IsLock handle again) (is ∙ ap (λ (held : Held). held.handle) same) two)
+
 -- who had both bells ring that had to may let the lock go
 pub may_leave : (old shown heard last : Knows) (writers work owed owed_next : Bool) → Holds old
     → shown ≡ (shown_view old.0, old.1) → Hushes Writer writers owed shown heard → Hushes Sender work owed_next heard last

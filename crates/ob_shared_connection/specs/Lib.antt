@@ -14,5 +14,6 @@ pub mod Shares
 pub mod Staying
 pub mod Steps
 pub mod Tables
+pub mod Turns
 pub mod Values
 pub mod Waiting

@@ -1,20 +1,17 @@
 -- What a transport sends, without the lock.
 use Rattle.std.specs.List.{concat}
 use Rattle.std.specs.declared.io.Error.{Error}
-use Rattle.std.specs.Prelude.{◌≡◌, ◌≢◌, ◌≤◌, ◌<◌, ◌==◌, ◌+◌, ◌-◌, ◌⊎◌, ℕ, zero, suc, true, false, not, min, is_some, if◌then◌else◌, length, List, [], ◌∷◌, take, Option, Some, Result, Ok, Err}
+use Rattle.std.specs.Prelude.{◌≡◌, ◌≤◌, ◌<◌, ◌⊎◌, ℕ, true, false, not, length, List, [], ◌∷◌, take, Option, Some, Result, Ok, Err}
 use Rattle.ob_types.specs.declared.command.Command.{Command}
 use Rattle.ob_types.specs.declared.command.Command.TheVariants.{RemoveBytes}
 use Rattle.ob_types.specs.declared.promise.Outcome.TheVariants.{Success}
 use Rattle.ob_types.specs.declared.refusal.Refusal.{Refusal}
 use Rattle.ob_seq.specs.State.{closed_after, empty_after}
-use Rattle.ob_connection.specs.Calls.{Call, bytes_of, had_no_room, most_pieces}
+use Rattle.ob_connection.specs.Calls.{Call, bytes_of, had_no_room}
 use Rattle.ob_connection.specs.Limit.{connection_accepts}
 use Rattle.ob_connection.specs.Sending.{offered_after}
 use Rattle.ob_connection.specs.Telling.{with_more}
 use Rattle.ob_connection.specs.declared.connection.sending.Sent.{Sent}
-use Rattle.ob_connection.specs.declared.ending.Ending.{Ending}
-use Rattle.ob_connection.specs.declared.ending.Ending.TheVariants.{Drained, Blocked, OtherInFront, TurnsUsed, Broken as IsBroken}
-use Rattle.ob_connection.specs.declared.replies.SentTurns.{SentTurns}
 use Rattle.ob_connection.specs.declared.replies.Taken.{Taken}
 use Rattle.ob_connection.specs.declared.socket.SocketFault.{SocketFault}
 use Rattle.ob_connection.specs.declared.socket.SocketFault.TheVariants.{Broken as FailedForGood}
@@ -121,63 +118,3 @@ SendsOnce max_count max_bytes old before (Err NoMemory) new after =
     UnderLock old (HasNoMemory max_count max_bytes) new × (after ≡ before)
 SendsOnce max_count max_bytes old before (Err (Broken error)) new after =
     FindsBroken max_count max_bytes error old before new after
-
--- a number of 64 bits
-abbrev pub most_counted : ℕ
-most_counted = 18446744073709551615
-
--- how a sending in turns ended that made no turn after this one
-abbrev pub ended_at : Sent → Ending
-ended_at sent =
-    if not sent.more then Drained
-    else if sent.blocked then Blocked else if sent.bytes == 0 then OtherInFront else TurnsUsed
-
--- the first turn
-abbrev pub first_turn : Sent → SentTurns
-first_turn sent = record { bytes = sent.bytes; taken = sent.taken; ending = ended_at sent }
-
--- with one more turn: bytes and messages are added up, the change is the first one, and it ended as that did
-abbrev pub with_turn : SentTurns → Sent → SentTurns
-with_turn total sent = record {
-  bytes = min (total.bytes + sent.bytes) most_counted;
-  taken = record {
-    count = min (total.taken.count + sent.taken.count) most_counted;
-    change = if is_some total.taken.change then total.taken.change else sent.taken.change;
-    from = total.taken.from;
-    to = sent.taken.to;
-    outcome = sent.taken.outcome;
-  };
-  ending = ended_at sent;
-}
-
--- how it ended by a turn that sent nothing: a connection that was closed meanwhile had nothing left
-abbrev pub ended_by : SendFault → Ending
-ended_by Closed = Drained
-ended_by (Broken error) = IsBroken error
-ended_by NoMemory = TurnsUsed
-
--- nothing more is done
-abbrev pub Stops : SentTurns → HandleValue → Told → SentTurns → HandleValue → Told → Type 0
-Stops total old before done new after = (done ≡ total) × (new ≡ old) × (after ≡ before)
-
--- at most as many more turns, each a sending at once of at most 1024 blocks: they go on while the last one took bytes and
--- flushed messages are left, and end with one that sent nothing
-abbrev pub SendsUntil : ℕ → ℕ → SentTurns → HandleValue → Told → SentTurns → HandleValue → Told → Type 0
-SendsUntil max_bytes zero total old before done new after = Stops total old before done new after
-SendsUntil max_bytes (suc turns) total old before done new after =
-    ((total.ending ≢ TurnsUsed) × Stops total old before done new after)
-    ⊎ ((total.ending ≡ TurnsUsed)
-    × (((sent : Sent) × (between : HandleValue) × (told : Told)
-    × SendsOnce most_pieces max_bytes old before (Ok sent) between told
-    × SendsUntil max_bytes turns (with_turn total sent) between told done new after)
-    ⊎ ((fault : SendFault) × SendsOnce most_pieces max_bytes old before (Err fault) new after
-    × (done ≡ record total { ending = ended_by fault }))))
-
--- the turns of a sending: a fault of the first is the fault of all
-abbrev pub SendsInTurns : ℕ → ℕ → HandleValue → Told → Result SentTurns SendFault → HandleValue → Told → Type 0
-SendsInTurns max_turns max_bytes old before (Ok done) new after =
-    (sent : Sent) × (between : HandleValue) × (told : Told)
-    × SendsOnce most_pieces max_bytes old before (Ok sent) between told
-    × SendsUntil max_bytes (max_turns - 1) (first_turn sent) between told done new after
-SendsInTurns max_turns max_bytes old before (Err fault) new after =
-    SendsOnce most_pieces max_bytes old before (Err fault) new after

@@ -1,4 +1,4 @@
-ghost use Rattle.std.specs.Prelude.{◌≡◌, ◌≤◌, true, IfErr, IfOk, IsOkUnless, OnErr, OnOk};
+ghost use Rattle.std.specs.Prelude.{◌≡◌, ◌≤◌, false, true, IfErr, IfOk, IsOkUnless, OnErr, OnOk};
 ghost use Rattle.std.specs.Arc.{arc_value};
 
 mod sending;
@@ -32,7 +32,7 @@ impl Caller {
     ghost use Rattle.ob_types.specs.Limits.{greatest_overhead, greatest_unknown};
     ghost use Rattle.ob_shared_connection.specs.Handles.{IsAnother, IsButForShare, IsEnd, IsFirst, IsJoined};
     ghost use Rattle.ob_shared_connection.specs.Values.{sharing};
-    ghost use Rattle.ob_shared_connection.specs.Calls.{IsCall, IsLock};
+    ghost use Rattle.ob_shared_connection.specs.Calls.{IsCall, IsLock, UnderLock};
     ghost use Rattle.ob_shared_connection.specs.Glances.{IsGlance};
     ghost use Rattle.ob_shared_connection.specs.Looking.{IsLook};
     ghost use Rattle.ob_shared_connection.specs.Removals.{MayGive};
@@ -74,6 +74,17 @@ impl Caller {
         ensures locks { IsLock (caller_handle self.old) (caller_held self.new) }
     {
         self.shared.lock(rt, &mut self.seat);
+    }
+
+    /// Takes the lock if it is free.
+    pub fn try_lock(&mut self) -> bool
+        requires { IsFree self.old }
+        ensures holds { result ≡ true → IsHolder self.new }
+        ensures locks { result ≡ true → IsLock (caller_handle self.old) (caller_held self.new) }
+        ensures free { result ≡ false → IsFree self.new }
+        ensures same { result ≡ false → caller_handle self.new ≡ caller_handle self.old }
+    {
+        self.shared.try_lock(&mut self.seat)
     }
 
     /// Lets the lock go.
@@ -199,6 +210,34 @@ impl Caller {
         let shared = &self.shared;
         let connection = self.seat.slot_mut(&shared.table.shared, 0);
         ask.ask(connection)
+    }
+
+    /// One call, which takes the lock and lets it go.
+    pub fn call<A: Act, R: Wait>(&mut self, rt: &R, act: A) -> Result<A::Answer, A::Fault>
+        requires free { IsFree self.old }
+        requires may { MayGive (caller_handle self.old).sends (A.commands act) }
+        ensures free { IsFree self.new }
+        ensures sends { (caller_handle self.new).sends ≡ (caller_handle self.old).sends }
+        ensures under { UnderLock (caller_handle self.old)
+            (λ before after. IsCall (A.does act) (A.commands act) before result after) (caller_handle self.new) }
+    {
+        self.lock(rt);
+        let answer = self.act(act);
+        self.unlock();
+        answer
+    }
+
+    /// One look, which takes the lock and lets it go.
+    pub fn look<A: Ask, R: Wait>(&mut self, rt: &R, ask: A) -> A::Answer
+        requires { IsFree self.old }
+        ensures free { IsFree self.new }
+        ensures sends { (caller_handle self.new).sends ≡ (caller_handle self.old).sends }
+        ensures under { UnderLock (caller_handle self.old) (IsLook (A.shows ask) result) (caller_handle self.new) }
+    {
+        self.lock(rt);
+        let answer = self.ask(ask);
+        self.unlock();
+        answer
     }
 
     /// Takes another caller in.

@@ -1,9 +1,8 @@
 ghost use Rattle.std.specs.Prelude.{◌≡◌, ◌≤◌, true, IfErr, IfOk, IsOkUnless, OnErr, OnOk};
 ghost use Rattle.ob_types.specs.Limits.{greatest_overhead, greatest_unknown};
-ghost use Rattle.ob_shared_connection.specs.Calls.{IsCall, IsLock, UnderLock};
+ghost use Rattle.ob_shared_connection.specs.Calls.{IsLock};
 ghost use Rattle.ob_shared_connection.specs.Glances.{IsGlance};
 ghost use Rattle.ob_shared_connection.specs.Handles.{IsAnother, IsButForShare, IsEnd, IsFirst, IsJoined};
-ghost use Rattle.ob_shared_connection.specs.Looking.{IsLook};
 ghost use Rattle.ob_shared_connection.specs.Log.{commands_by};
 ghost use Rattle.ob_shared_connection.specs.Values.{sharing};
 ghost use Rattle.ob_shared_connection.specs.Waiting.{IsMoment, is_due};
@@ -12,8 +11,6 @@ ghost use Rattle.ob_shared_connection.specs.declared.bell.Waiter.TheVariants as 
 mod commands;
 mod looks;
 
-use crate::act::Act;
-use crate::ask::Ask;
 use crate::bell::Writers;
 use crate::caller::Caller;
 use crate::ended::Ended;
@@ -66,7 +63,6 @@ impl Model for Handle {
 }
 
 impl Handle {
-    ghost use Rattle.ob_shared_connection.specs.Removals.{MayGive};
     ghost use Rattle.ob_shared_connection.specs.Callers.{IsFree, caller_handle};
 
     /// The first handle of a connection with nothing written, which is the one that sends. The overhead and the size of
@@ -134,6 +130,19 @@ impl Handle {
         Guard::new(caller)
     }
 
+    /// Takes the lock if it is free, and else gives the handle back, unchanged. It waits for nobody and does not allocate.
+    pub fn try_lock(self) -> Result<Guard, Handle>
+        ensures locks { IfOk result (λ guard. IsLock self guard) }
+        ensures back { IfErr result (λ handle. handle ≡ self) }
+    {
+        let Handle { mut caller } = self;
+        if caller.try_lock() {
+            Ok(Guard::new(caller))
+        } else {
+            Err(Handle::new(caller))
+        }
+    }
+
     /// Takes the lock once the connection is writable or closed, and tells which: at that moment, under the lock. It sleeps
     /// meanwhile, without the lock. Whoever makes the connection writable, or closes it, wakes all who wait here.
     pub fn wait_writable<R: Wait>(self, rt: &R) -> (Guard, Moment)
@@ -181,26 +190,5 @@ impl Handle {
             Ok(ended) => Ok(ended),
             Err(caller) => Err(Handle::new(caller)),
         }
-    }
-
-    /// One call, which takes the lock and lets it go.
-    fn call<A: Act, R: Wait>(&mut self, rt: &R, act: A) -> Result<A::Answer, A::Fault>
-        requires { MayGive self.old.sends (A.commands act) }
-        ensures { UnderLock self.old (λ before after. IsCall (A.does act) (A.commands act) before result after) self.new }
-    {
-        self.caller.lock(rt);
-        let answer = self.caller.act(act);
-        self.caller.unlock();
-        answer
-    }
-
-    /// One look, which takes the lock and lets it go.
-    fn ask<A: Ask, R: Wait>(&mut self, rt: &R, ask: A) -> A::Answer
-        ensures { UnderLock self.old (IsLook (A.shows ask) result) self.new }
-    {
-        self.caller.lock(rt);
-        let answer = self.caller.ask(ask);
-        self.caller.unlock();
-        answer
     }
 }

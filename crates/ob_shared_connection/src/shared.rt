@@ -72,7 +72,7 @@ impl Shared {
     }
 
     /// Takes the lock if it is free.
-    fn try_lock(&self, seat: &mut Seat) -> bool
+    pub fn try_lock(&self, seat: &mut Seat) -> bool
         requires table { IsSeatOf self.now seat.old }
         requires rests { Rests seat.old.me }
         ensures seat { IsSameSeat seat.old seat.new }

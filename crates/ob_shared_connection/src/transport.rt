@@ -1,6 +1,6 @@
-ghost use Rattle.std.specs.Prelude.{◌≡◌, ◌<◌, true, IfOk, OnErr, OnOk};
+ghost use Rattle.std.specs.Prelude.{◌≡◌, ◌<◌, true, IfErr, IfOk, OnErr, OnOk};
 ghost use Rattle.ob_seq.specs.Pieces.{bytes_in};
-ghost use Rattle.ob_shared_connection.specs.Calls.{IsCall, IsLock, UnderLock};
+ghost use Rattle.ob_shared_connection.specs.Calls.{IsLock, UnderLock};
 ghost use Rattle.ob_shared_connection.specs.Handles.{IsAnother, IsButForShare};
 ghost use Rattle.ob_shared_connection.specs.Looking.{Gathers, IsLook};
 ghost use Rattle.ob_shared_connection.specs.Staying.{AreInFront};
@@ -12,8 +12,6 @@ mod commands;
 mod sending;
 mod turns;
 
-use crate::act::Act;
-use crate::ask::Ask;
 use crate::bell::Work;
 use crate::caller::Caller;
 use crate::guard::Guard;
@@ -88,6 +86,22 @@ impl Transport {
         Guard::new(caller)
     }
 
+    /// Takes the lock if it is free, and else gives the transport back, unchanged. It waits for nobody and does not
+    /// allocate.
+    pub fn try_lock(self) -> Result<Guard, Transport>
+        ensures locks { IfOk result (λ guard. IsLock self guard) }
+        ensures sends { IfOk result (λ guard. guard.handle.sends ≡ true) }
+        ensures back { IfErr result (λ transport. transport ≡ self) }
+    {
+        let Transport { caller } = self;
+        let mut sender = caller;
+        if sender.try_lock() {
+            Ok(Guard::new(sender))
+        } else {
+            Err(Transport::new(sender))
+        }
+    }
+
     /// The flushed blocks in front that can be sent at once, as `Connection::gather`. They share their memory with the
     /// connection, and the lock is let go by then: what was gathered stays in front until it is taken away here.
     pub fn gather<R: Wait>(
@@ -101,7 +115,7 @@ impl Transport {
         ensures in_front { IfOk result (λ blocks.
             0 < bytes_in blocks.items → AreInFront self.new (bytes_in blocks.items)) }
     {
-        self.ask(rt, looks::Gather(max_count, max_bytes))
+        self.caller.look(rt, looks::Gather(max_count, max_bytes))
     }
 
     /// Waits until a flushed message is there or the connection is closed, and tells which. It sleeps meanwhile. A message
@@ -123,27 +137,5 @@ impl Transport {
         let moment = self.caller.wait_within::<Work, R>(rt, limit);
         self.caller.unlock();
         moment
-    }
-
-    /// One call, which takes the lock and lets it go.
-    fn call<A: Act, R: Wait>(&mut self, rt: &R, act: A) -> Result<A::Answer, A::Fault>
-        ensures under { UnderLock self.old
-            (λ before after. IsCall (A.does act) (A.commands act) before result after) self.new }
-        ensures sends { self.old.sends ≡ true }
-    {
-        self.caller.lock(rt);
-        let answer = self.caller.act(act);
-        self.caller.unlock();
-        answer
-    }
-
-    /// One look, which takes the lock and lets it go.
-    fn ask<A: Ask, R: Wait>(&mut self, rt: &R, ask: A) -> A::Answer
-        ensures { UnderLock self.old (IsLook (A.shows ask) result) self.new }
-    {
-        self.caller.lock(rt);
-        let answer = self.caller.ask(ask);
-        self.caller.unlock();
-        answer
     }
 }

@@ -3,13 +3,18 @@ ghost use Rattle.std.specs.Prelude.{◌≡◌, true, IfOk};
 mod calls;
 mod sending;
 mod threads;
+mod wakes;
 
 use bytes::Bytes;
 use ob_shared_connection::{Handle, Transport};
 use ob_types::{Estimate, Message, WaterMark};
 use std::alloc::Global;
+use std::process::Abort;
 use std::sync::Wait;
+use std::sync::atomic::{AtomicU64, Ordering};
 use std::test::Fail;
+use std::thread::sleep;
+use std::time::{Clock, Duration};
 
 /// The first handle of a connection with marks of 200 and 400 bytes, that counts 96 bytes with each message.
 fn opened(alloc: Global) -> Result<Handle, Fail>
@@ -36,4 +41,16 @@ fn flushed<R: Wait>(rt: &R, alloc: Global, count: u32) -> Result<(Transport, Han
 /// A block of four bytes.
 fn four() -> Message {
     Message::Block(Bytes::from_static(b"four"))
+}
+
+/// Returns once so many threads have ended. If they have not in ten seconds, one sleeps that nobody wakes, and this ends
+/// the process: a test that fails must not hang.
+fn watch<R: Abort + Clock>(rt: &R, ended: &AtomicU64, all: u64) {
+    for _ in 0..10_000u32 {
+        if ended.load(Ordering::SeqCst) >= all {
+            return;
+        }
+        sleep(rt, Duration::from_millis(1));
+    }
+    panic!(rt; "a thread sleeps that nobody wakes")
 }

@@ -16,35 +16,35 @@ impl Handle {
     pub fn write<R: Wait>(&mut self, rt: &R, message: Message) -> Result<Written, Refused>
         ensures { UnderLock self.old (Writes message result) self.new }
     {
-        self.call(rt, commands::Write(message))
+        self.caller.call(rt, commands::Write(message))
     }
 
     /// Lets the transport have all that was written so far, as `Connection::flush`.
     pub fn flush<R: Wait>(&mut self, rt: &R) -> Result<Flushed, Refusal>
         ensures { UnderLock self.old (Makes (ObeyingFreely flushed_reply) command.Flush result) self.new }
     {
-        self.call(rt, commands::Flush)
+        self.caller.call(rt, commands::Flush)
     }
 
     /// Adds *n* bytes to the progress of the first flushed message, as `Connection::progress`.
     pub fn progress<R: Wait>(&mut self, rt: &R, n: u64) -> Result<(), Refusal>
         ensures { UnderLock self.old (Makes (ObeyingFreely done_reply) (command.Progress n) result) self.new }
     {
-        self.call(rt, commands::Progress(n))
+        self.caller.call(rt, commands::Progress(n))
     }
 
     /// Takes a promise back, as `Connection::cancel`.
     pub fn cancel<R: Wait>(&mut self, rt: &R, id: u64) -> Result<bool, Refusal>
         ensures { UnderLock self.old (Makes (ObeyingFreely (cancelled_reply id)) (command.Cancel (record { 0 = id })) result) self.new }
     {
-        self.call(rt, commands::Cancel(id))
+        self.caller.call(rt, commands::Cancel(id))
     }
 
     /// Closes the connection for good, as `Connection::close`.
     pub fn close<R: Wait>(&mut self, rt: &R, cause: Cause) -> Result<Taken, Refusal>
         ensures { UnderLock self.old (Makes (TakingQuietly (Failed cause) ⊤) (command.Close cause) result) self.new }
     {
-        self.call(rt, commands::Close(cause))
+        self.caller.call(rt, commands::Close(cause))
     }
 
     /// Sets a user bit or clears it, as `Connection::user_bit`.
@@ -56,13 +56,13 @@ impl Handle {
     ) -> Result<Option<Change>, Refusal>
         ensures { UnderLock self.old (Makes (ObeyingFreely bit_reply) (command.UserBit index writable) result) self.new }
     {
-        self.call(rt, commands::UserBit(index, writable))
+        self.caller.call(rt, commands::UserBit(index, writable))
     }
 
     /// Sets the marks that are in force from now on, as `Connection::set_marks`.
     pub fn set_marks<R: Wait>(&mut self, rt: &R, marks: WaterMark) -> Result<(), Refusal>
         ensures { UnderLock self.old (Makes (ObeyingFreely done_reply) (command.SetMarks marks) result) self.new }
     {
-        self.call(rt, commands::SetMarks(marks))
+        self.caller.call(rt, commands::SetMarks(marks))
     }
 }

@@ -20,49 +20,49 @@ impl Handle {
     pub fn look<R: Wait>(&mut self, rt: &R) -> Look
         ensures { UnderLock self.old (IsLook Shows result) self.new }
     {
-        self.ask(rt, looks::Look)
+        self.caller.look(rt, looks::Look)
     }
 
     /// Whether writers may go on, as `Connection::is_writable`.
     pub fn is_writable<R: Wait>(&mut self, rt: &R) -> bool
         ensures { UnderLock self.old (IsLook (λ connected answer. Gives connected writable_after answer) result) self.new }
     {
-        self.ask(rt, looks::IsWritable)
+        self.caller.look(rt, looks::IsWritable)
     }
 
     /// Whether no message is flushed and not yet removed, as `Connection::is_empty`.
     pub fn is_empty<R: Wait>(&mut self, rt: &R) -> bool
         ensures { UnderLock self.old (IsLook (λ connected answer. Gives connected empty_after answer) result) self.new }
     {
-        self.ask(rt, looks::IsEmpty)
+        self.caller.look(rt, looks::IsEmpty)
     }
 
     /// Whether a close was accepted, as `Connection::is_closed`.
     pub fn is_closed<R: Wait>(&mut self, rt: &R) -> bool
         ensures { UnderLock self.old (IsLook (λ connected answer. Gives connected closed_after answer) result) self.new }
     {
-        self.ask(rt, looks::IsClosed)
+        self.caller.look(rt, looks::IsClosed)
     }
 
     /// Why a write of these bytes as a block would be refused now, as `Connection::refusal_of_block`.
     pub fn refusal_of_block<R: Wait>(&mut self, rt: &R, bytes: &[u8]) -> Option<Refusal>
         ensures { UnderLock self.old (IsLook (λ connected refusal. RefusesFreely connected (command.Write (Block bytes.now)) refusal) result) self.new }
     {
-        self.ask(rt, looks::RefusalOfBlock(bytes))
+        self.caller.look(rt, looks::RefusalOfBlock(bytes))
     }
 
     /// What has become of a promise, as `Connection::promise`.
     pub fn promise<R: Wait>(&mut self, rt: &R, id: u64) -> Option<Status>
         ensures { UnderLock self.old (IsLook (λ connected status. Tells connected id status) result) self.new }
     {
-        self.ask(rt, looks::Promise(id))
+        self.caller.look(rt, looks::Promise(id))
     }
 
     /// The promise of the first flushed message, as `Connection::front`.
     pub fn front<R: Wait>(&mut self, rt: &R) -> Option<u64>
         ensures { UnderLock self.old (IsLook IsFrontPromise result) self.new }
     {
-        self.ask(rt, looks::Front)
+        self.caller.look(rt, looks::Front)
     }
 
     /// The flushed blocks in front that can be sent at once, as `Connection::gather`. They share their memory with the
@@ -75,6 +75,6 @@ impl Handle {
     ) -> Result<Vec<Bytes>, Refusal>
         ensures { UnderLock self.old (IsLook (Gathers (λ blocks. blocks.items) max_count max_bytes) result) self.new }
     {
-        self.ask(rt, looks::Gather(max_count, max_bytes))
+        self.caller.look(rt, looks::Gather(max_count, max_bytes))
     }
 }

@@ -18,14 +18,14 @@ impl Transport {
     pub fn remove<R: Wait>(&mut self, rt: &R) -> Result<Removed, Refusal>
         ensures { UnderLock self.old (Makes (ObeyingFreely removed_reply) command.Remove result) self.new }
     {
-        self.call(rt, commands::Remove)
+        self.caller.call(rt, commands::Remove)
     }
 
     /// Takes the first flushed message away, as failed, as `Connection::remove_with`.
     pub fn remove_with<R: Wait>(&mut self, rt: &R, cause: Cause) -> Result<Removed, Refusal>
         ensures { UnderLock self.old (Makes (ObeyingFreely removed_reply) (command.RemoveWith cause) result) self.new }
     {
-        self.call(rt, commands::RemoveWith(cause))
+        self.caller.call(rt, commands::RemoveWith(cause))
     }
 
     /// Takes *n* bytes off the flushed blocks in front, as sent, as `Connection::take_sent`.
@@ -37,7 +37,7 @@ impl Transport {
         ensures takes { UnderLock self.old (Makes (Taking Success) (command.RemoveBytes n) result) self.new }
         ensures accepted { AreInFront self.old n → IsOk result }
     {
-        self.call(rt, commands::TakeSent(n))
+        self.caller.call(rt, commands::TakeSent(n))
     }
 
     /// Takes all flushed messages away, as failed, as `Connection::fail_flushed`.
@@ -49,7 +49,7 @@ impl Transport {
     ) -> Result<Taken, Refusal>
         ensures { UnderLock self.old (Makes (TakingQuietly (Failed cause) (notify ≡ false)) (command.FailFlushed cause notify) result) self.new }
     {
-        self.call(rt, commands::FailFlushed(cause, notify))
+        self.caller.call(rt, commands::FailFlushed(cause, notify))
     }
 
     /// Fails what is flushed and closes the connection, as `Connection::give_up`: two calls of the list.
@@ -57,6 +57,6 @@ impl Transport {
         ensures { UnderLock self.old
             (λ before after. IsCall (GivingUp cause) (giving_up cause) before result after) self.new }
     {
-        self.call(rt, commands::GiveUp(cause))
+        self.caller.call(rt, commands::GiveUp(cause))
     }
 }

@@ -1,8 +1,9 @@
 //! How a transport sends in turns.
 
-ghost use Rattle.std.specs.Prelude.{◌≡◌, ◌≢◌, true, false};
+ghost use Rattle.std.specs.Prelude.{◌≡◌, ◌≢◌, true, false, List, [], ◌∷◌, ◌++◌};
+ghost use Rattle.ob_connection.specs.declared.connection.sending.Sent.{Sent};
 ghost use Rattle.ob_connection.specs.declared.ending.Ending.TheVariants.{TurnsUsed};
-ghost use Rattle.ob_shared_connection.specs.Sending.{SendsInTurns, SendsUntil, ended_at, ended_by, first_turn, with_turn};
+ghost use Rattle.ob_shared_connection.specs.Turns.{EndsWith, Reports, SendsInTurns, ended_by};
 
 use crate::offered::MOST_PIECES;
 use crate::transport::{SendFault, Transport};
@@ -27,36 +28,20 @@ impl Transport {
         ensures { SendsInTurns max_turns max_bytes self.old (S.sent socket.old, S.calls socket.old) result self.new
             (S.sent socket.new, S.calls socket.new) }
     {
-        let sent = match self.send_once(rt, socket, MOST_PIECES as u32, max_bytes) {
-            Ok(sent) => sent,
+        let mut total = match self.send_once(rt, socket, MOST_PIECES as u32, max_bytes) {
+            Ok(sent) => first(sent),
             Err(fault) => return Err(fault),
         };
-        let turns = max_turns.saturating_sub(1);
-        Ok(self.send_more(rt, socket, turns, max_bytes, first(sent)))
-    }
-
-    /// The turns after the first.
-    fn send_more<R: Wait, S: Socket>(
-        &mut self,
-        rt: &R,
-        socket: &mut S,
-        turns: u32,
-        max_bytes: u32,
-        mut total: SentTurns,
-    ) -> SentTurns
-        ensures { SendsUntil max_bytes turns total self.old (S.sent socket.old, S.calls socket.old) result self.new
-            (S.sent socket.new, S.calls socket.new) }
-    {
-        'turns: for turn in 0..turns {
+        'turns: for turn in 0..max_turns.saturating_sub(1) {
             if !goes_on(total.ending) {
-                return total;
+                return Ok(total);
             }
             match self.send_once(rt, socket, MOST_PIECES as u32, max_bytes) {
                 Ok(sent) => total = added(total, sent),
-                Err(fault) => return stopped(total, fault),
+                Err(fault) => return Ok(stopped(total, fault)),
             }
         }
-        total
+        Ok(total)
     }
 }
 
@@ -70,7 +55,8 @@ fn goes_on(ending: Ending) -> bool
 
 /// The first turn.
 fn first(sent: Sent) -> SentTurns
-    ensures { result ≡ first_turn sent }
+    ensures reports { Reports (sent ∷ []) sent sent result }
+    ensures ends { EndsWith sent result.ending }
 {
     SentTurns {
         bytes: sent.bytes,
@@ -81,7 +67,9 @@ fn first(sent: Sent) -> SentTurns
 
 /// One more turn.
 fn added(total: SentTurns, sent: Sent) -> SentTurns
-    ensures { result ≡ with_turn total sent }
+    ensures reports { (turns : List Sent) (first last : Sent) → Reports turns first last total
+        → Reports (turns ++ sent ∷ []) first sent result }
+    ensures ends { EndsWith sent result.ending }
 {
     SentTurns {
         bytes: total.bytes.saturating_add(sent.bytes),
@@ -110,7 +98,7 @@ fn stopped(total: SentTurns, fault: SendFault) -> SentTurns
 
 /// How it ends if no turn comes after this one.
 fn ending(sent: &Sent) -> Ending
-    ensures { result ≡ ended_at sent.now }
+    ensures { EndsWith sent.now result }
 {
     if !sent.more {
         Ending::Drained

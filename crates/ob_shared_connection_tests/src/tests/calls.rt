@@ -118,6 +118,29 @@ fn a_guard_makes_several_calls_under_one_lock(rt: HostRuntime) -> Result<(), Fai
 }
 
 #[test]
+fn a_lock_is_taken_if_it_is_free(rt: HostRuntime) -> Result<(), Fail> {
+    let (transport, first) = flushed(&rt, rt.alloc(), 2)?;
+    let Ok(mut guard) = first.try_lock() else {
+        panic!(rt; "nobody has the lock")
+    };
+    let Err(transport) = transport.try_lock() else {
+        panic!(rt; "it is taken")
+    };
+    assert!(rt; guard.look().total == 200);
+    let first = guard.unlock();
+    let Ok(mut guard) = transport.try_lock() else {
+        panic!(rt; "it is free again")
+    };
+    let Err(mut first) = first.try_lock() else {
+        panic!(rt; "the transport has it")
+    };
+    assert!(rt; guard.take_sent(4)?.count == 1 && first.glance().total == 200);
+    drop(guard);
+    assert!(rt; first.glance().total == 100);
+    Ok(())
+}
+
+#[test]
 fn a_refused_message_comes_back(rt: HostRuntime) -> Result<(), Fail> {
     let mut handle = opened(rt.alloc())?;
     let _closed = handle.close(&rt, Cause(1))?;

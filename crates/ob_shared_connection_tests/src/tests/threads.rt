@@ -1,14 +1,16 @@
 //! Handles in threads of their own. Whoever waits here ends only because another thread goes on meanwhile.
 
 use crate::tests::sending::{Slow, drains};
-use crate::tests::{flushed, four, opened};
+use crate::tests::{flushed, four, opened, watch};
 use bytes::Bytes;
 use ob_shared_connection::{Handle, Moment, Transport};
 use ob_types::Cause;
+use std::alloc::AllocError;
 use std::process::Abort;
 use std::sync::Wait;
+use std::sync::atomic::{AtomicU64, Ordering};
 use std::test::Fail;
-use std::thread::{Parker, map_vec};
+use std::thread::{Parker, Threads, map_vec};
 use std::time::{Clock, Duration, Instant};
 
 /// How many messages a writer writes.
@@ -40,6 +42,8 @@ enum Part {
     Drains(Transport),
     /// It has found this.
     Found(Moment),
+    /// Ends all if so many have not ended in time.
+    Watches(u64),
 }
 
 fn writes<R: Wait + Abort>(rt: &R, mut handle: Handle) -> Handle {
@@ -132,8 +136,32 @@ fn plays<R: Wait + Abort + Clock>(rt: &R, part: Part) -> Part {
             assert!(rt; transport.fail_flushed(rt, Cause(3), true).is_ok());
             Part::Drains(transport)
         }
-        Part::Found(moment) => Part::Found(moment),
+        other => other,
     }
+}
+
+/// Plays a part, and counts it once it ended.
+fn counted<R: Wait + Abort + Clock>(rt: &R, count: &AtomicU64, part: Part) -> Part {
+    if let Part::Watches(all) = part {
+        watch(rt, count, all);
+        return Part::Watches(all);
+    }
+    let part = plays(rt, part);
+    count.fetch_add(1, Ordering::SeqCst);
+    part
+}
+
+/// Plays each part in a thread of its own.
+fn played<R: Threads + Wait + Abort + Clock + Sync>(
+    rt: &R,
+    mut parts: Vec<Part>,
+) -> Result<Vec<Part>, AllocError> {
+    let all = parts.len() as u64;
+    parts.push(Part::Watches(all))?;
+    let count = AtomicU64::new(0);
+    let mut parts = map_vec(rt, parts, &|part| counted(rt, &count, part))?;
+    let _watch = parts.pop();
+    Ok(parts)
 }
 
 /// How many found that they are ready, and a hundred times as many that it is closed.
@@ -158,7 +186,7 @@ fn what_writers_flush_the_transport_takes_away(rt: HostRuntime) -> Result<(), Fa
     }
     let last = transport.another()?;
     parts.push(Part::Sends(transport, u64::from(MESSAGES) * 16))?;
-    drop(map_vec(&rt, parts, &|part| plays(&rt, part))?);
+    drop(played(&rt, parts)?);
     let Ok(ended) = last.finish() else {
         panic!(rt; "a handle is left")
     };
@@ -174,7 +202,7 @@ fn all_writers_wake_once_it_is_writable(rt: HostRuntime) -> Result<(), Fail> {
     parts.push(Part::WaitsToWrite(writer.another()?))?;
     parts.push(Part::WaitsToWrite(writer))?;
     parts.push(Part::Drains(transport))?;
-    let parts = map_vec(&rt, parts, &|part| plays(&rt, part))?;
+    let parts = played(&rt, parts)?;
     assert!(rt; found(&parts) == 2);
     Ok(())
 }
@@ -186,7 +214,7 @@ fn all_writers_wake_once_it_is_given_up(rt: HostRuntime) -> Result<(), Fail> {
     parts.push(Part::WaitsToWrite(writer.another()?))?;
     parts.push(Part::WaitsToWrite(writer))?;
     parts.push(Part::GivesUp(transport))?;
-    let parts = map_vec(&rt, parts, &|part| plays(&rt, part))?;
+    let parts = played(&rt, parts)?;
     assert!(rt; found(&parts) == 200);
     Ok(())
 }
@@ -197,7 +225,7 @@ fn the_transport_wakes_once_it_is_closed(rt: HostRuntime) -> Result<(), Fail> {
     let mut parts = Vec::new(rt.alloc());
     parts.push(Part::WaitsForWork(transport))?;
     parts.push(Part::Closes(writer))?;
-    let parts = map_vec(&rt, parts, &|part| plays(&rt, part))?;
+    let parts = played(&rt, parts)?;
     assert!(rt; found(&parts) == 100);
     Ok(())
 }
@@ -224,7 +252,7 @@ fn a_slow_socket_gets_each_byte_in_order(rt: HostRuntime) -> Result<(), Fail> {
     let bytes = 2 * 4 * MESSAGES as usize;
     let socket = Slow::new(rt.alloc(), usize::MAX, false);
     parts.push(Part::Drips(transport, socket, bytes))?;
-    let parts = map_vec(&rt, parts, &|part| plays(&rt, part))?;
+    let parts = played(&rt, parts)?;
     let Some(Part::Drips(_, socket, _)) = parts.last() else {
         panic!(rt; "the last one sends")
     };
@@ -240,7 +268,7 @@ fn each_of_many_threads_has_the_lock_in_time(rt: HostRuntime) -> Result<(), Fail
     for _ in 0..64 {
         parts.push(Part::Locks(first.another()?, Duration::ZERO))?;
     }
-    let parts = map_vec(&rt, parts, &|part| plays(&rt, part))?;
+    let parts = played(&rt, parts)?;
     let mut longest = Duration::ZERO;
     for part in parts.iter() {
         if let Part::Locks(_, waited) = part {

@@ -1,8 +1,5 @@
-use Rattle.std.proofs.Common.{ℕ, sym, subst, arith}
-use Rattle.atomic_table.specs.Table.{Allows}
-use Rattle.ob_shared_connection.specs.Ruled.{Ruled}
 use Rattle.ob_shared_connection.specs.Steps.{Hears}
-use Rattle.ob_shared_connection.proofs.Ringing.{may_hear}
+use Rattle.ob_shared_connection.proofs.Ringing.{at_bell, may_hear}
 use Rattle.ob_shared_connection.proofs.shared.Shared.is_silent.Goals as goal
 
 pub load-requires : goal.load-requires
@@ -11,10 +8,5 @@ load-requires g c =
     let slots = shared.table.shared.table_id.slots in
     let seat = c.args.seat.now in
     let waiter = g.B.Bell.waiter in
-    let within = c.word.ensures.within in (
-      c.requires.table,
-      omega (arith, shared.words),
-      subst (λ (word : ℕ).
-          Allows Ruled slots seat.id seat.me word (λ n. n) (Hears waiter seat.me))
-          (sym c.word.ensures.is) (may_hear slots seat.id seat.me waiter c.requires.lock),
-    )
+    at_bell shared seat waiter c.word.result (λ n. n) (Hears waiter seat.me) c.requires.table c.word.ensures.is
+    c.word.ensures.within (may_hear slots seat.id seat.me waiter c.requires.lock)

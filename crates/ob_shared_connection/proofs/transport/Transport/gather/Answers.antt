@@ -3,5 +3,4 @@ use Rattle.ob_shared_connection.proofs.transport.Transport.gather.Goals as goal
 
 pub returns-clause-in_front : goal.returns-clause-in_front
 returns-clause-in_front g c =
-    gathered_under_lock (λ blocks. blocks.items) c.args.max_count c.args.max_bytes c.args.self.now c.ask.result
-    c.ask.new.self c.ask.ensures
+    gathered_under_lock (λ blocks. blocks.items) c.args.max_count c.args.max_bytes _ c.look.result _ c.look.ensures.under
