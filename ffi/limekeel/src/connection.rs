@@ -95,8 +95,8 @@ impl Connection {
     ///
     /// The connection keeps the owner while the message waits. It drops it in the call that tells it as gone ([`Taken`] or
     /// [`Removed`], also of a message that was cancelled), before that returns, or when it is dropped itself. `as_ref` is
-    /// called once. The owner moves into a small allocation of its own; if that is refused, or else the write, it comes back:
-    /// [`Refusal::NoMemory`] may come before another refusal.
+    /// called once. An owner that is no `Vec` moves into a small allocation of its own. If memory or the write is refused, it
+    /// comes back; [`Refusal::NoMemory`] may come before another refusal.
     ///
     /// ```
     /// use limekeel::{Connection, Estimate, Marks};
@@ -109,6 +109,7 @@ impl Connection {
     /// assert_eq!(connection.pieces::<1>(u32::MAX)[0].as_ptr(), at);
     /// # Ok::<(), limekeel::Refusal>(())
     /// ```
+    #[inline]
     pub fn write_owned<T: AsRef<[u8]> + Send + 'static>(&mut self, owner: T) -> Result<Written, Refused<T>> {
         let told = self.handle.write_owned(owner).map_err(|(refusal, owner)| Refused { refusal, owner })?;
         Ok(Written::accepted(told))

@@ -18,8 +18,12 @@ const LARGE: usize = 16384;
 /// The owner of bytes, in memory of its own: it stays where it is, and nothing but its bytes is reached, until it is dropped.
 pub(crate) struct Owner<T: ?Sized>(NonNull<T>);
 
-/// An owner of any type.
-type AnyOwner = Owner<dyn Send>;
+/// What is kept: the list itself, whose bytes stay where they are if it is moved, or an owner of any type.
+#[allow(dead_code, reason = "it is there to be dropped")]
+pub(crate) enum Kept {
+    List(Vec<u8>),
+    Owner(Owner<dyn Send>),
+}
 
 // SAFETY: what is behind the pointer is this value's own, and `Send`.
 unsafe impl<T: Send + ?Sized> Send for Owner<T> {}
@@ -56,10 +60,10 @@ impl<T: Send + 'static> Owner<[T; 1]> {
         owner
     }
 
-    fn of_any_type(self) -> AnyOwner {
+    pub(crate) fn of_any_type(self) -> Kept {
         let at = self.0;
         std::mem::forget(self);
-        Owner(at)
+        Kept::Owner(Owner(at))
     }
 }
 
@@ -74,7 +78,7 @@ impl<T: ?Sized> Drop for Owner<T> {
 #[derive(Default)]
 pub(crate) struct Lent {
     /// Each with the last promise that has a part in it. A chunk may stand behind owners of later promises.
-    owners: VecDeque<(u64, AnyOwner)>,
+    owners: VecDeque<(u64, Kept)>,
     /// What messages are made in, one behind the other. It is longer while one is made, and never grows past its capacity.
     chunk: Vec<u8>,
     /// The promise of the last message in it.
@@ -94,13 +98,19 @@ impl Lent {
     }
 
     /// Memory to keep one owner more.
+    #[inline]
     pub(crate) fn make_room(&mut self) -> Result<(), Refusal> {
+        if self.owners.len() < self.owners.capacity() { Ok(()) } else { self.grow() }
+    }
+
+    #[cold]
+    fn grow(&mut self) -> Result<(), Refusal> {
         self.owners.try_reserve(1).map_err(|_| Refusal::NoMemory)
     }
 
     /// Keeps an owner, for which `make_room` made room, under the last promise that has a part in it.
-    pub(crate) fn keep<T: Send + 'static>(&mut self, last: u64, owner: Owner<[T; 1]>) {
-        self.owners.push_back((last, owner.of_any_type()));
+    pub(crate) fn keep(&mut self, last: u64, owner: Kept) {
+        self.owners.push_back((last, owner));
     }
 
     /// Memory in which `most` bytes are made, behind those that are there.
@@ -120,13 +130,8 @@ impl Lent {
         let shared = (2 * self.chunk.capacity()).clamp(SMALL, LARGE);
         next.try_reserve_exact(most.max(shared)).map_err(refused)?;
         self.make_room()?;
-        match Owner::new(replace(&mut self.chunk, next)) {
-            Ok(owner) => self.keep(self.last, owner),
-            Err(chunk) => {
-                self.chunk = chunk;
-                return Err(Refusal::NoMemory);
-            }
-        }
+        let full = replace(&mut self.chunk, next);
+        self.keep(self.last, Kept::List(full));
         Ok(())
     }
 
@@ -161,7 +166,6 @@ impl Lent {
     }
 
     /// Lets go of that in which no message from this promise on has a part. It does not allocate.
-    #[cold]
     pub(crate) fn let_go_below(&mut self, end: u64) {
         while self.owners.front().is_some_and(|(last, _)| *last < end) {
             // a drop of the owner's that panics leaves the others for the next call

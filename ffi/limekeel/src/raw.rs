@@ -13,6 +13,7 @@
 //!   while another looks at the connection, since a look writes nothing.
 
 use limekeel_sys as sys;
+use std::any::Any;
 use std::fmt::{self, Debug, Formatter};
 use std::io::IoSlice;
 use std::marker::PhantomData;
@@ -21,7 +22,7 @@ use std::ops::Deref;
 use std::ptr::{null, null_mut};
 use std::slice;
 
-use crate::lent::{Lent, Owner};
+use crate::lent::{Kept, Lent, Owner};
 use crate::replies::{Refusal, done};
 use crate::views::Front;
 
@@ -171,23 +172,50 @@ impl Handle {
         unsafe { sys::limekeel_write_lent_bytes(&mut self.inner, bytes.as_ptr(), bytes.len()) }
     }
 
-    /// Writes the bytes of an owner, and keeps it until the message is gone. If the status says that it was refused, the owner
-    /// comes back.
+    /// Writes the bytes of an owner, and keeps it until the message is gone. If it is refused, the owner comes back.
+    #[inline]
     pub(crate) fn write_owned<T: AsRef<[u8]> + Send + 'static>(&mut self, owner: T) -> Result<sys::Written, (Refusal, T)> {
         if let Err(refusal) = self.lent.make_room() {
             return Err((refusal, owner));
         }
-        let owner = Owner::new(owner).map_err(|owner| (Refusal::NoMemory, owner))?;
+        let mut owner = Some(owner);
+        // most often it is a list, which needs no memory besides
+        if let Some(list) = (&mut owner as &mut dyn Any).downcast_mut::<Option<Vec<u8>>>() {
+            let answer = list.take().map(|owned| self.write_list(owned));
+            return match answer {
+                Some(Err((refusal, owned))) => {
+                    *list = Some(owned);
+                    Err((refusal, owner.expect("it was put back")))
+                }
+                Some(Ok(told)) => Ok(told),
+                None => unreachable!("it was there"),
+            };
+        }
+        let owner = Owner::new(owner.expect("it is there")).map_err(|owner| (Refusal::NoMemory, owner))?;
         let bytes = owner.bytes();
         // SAFETY: the handle is this value's own; the pointer and the length are those of one slice. Its owner is kept under the
         // promise of the message; what is kept is let go if the archive told the message as gone, and behind the archive at the end.
         let told = unsafe { sys::limekeel_write_lent_bytes(&mut self.inner, bytes.as_ptr(), bytes.len()) };
         match done(told.status) {
             Ok(()) => {
-                self.lent.keep(told.id, owner);
+                self.lent.keep(told.id, owner.of_any_type());
                 Ok(told)
             }
             Err(refusal) => Err((refusal, owner.into_inner())),
+        }
+    }
+
+    /// The same of a list, for which there is room among what is kept.
+    #[inline]
+    fn write_list(&mut self, list: Vec<u8>) -> Result<sys::Written, (Refusal, Vec<u8>)> {
+        // SAFETY: as of any owner. The bytes of a list stay where they are if it is moved.
+        let told = unsafe { sys::limekeel_write_lent_bytes(&mut self.inner, list.as_ptr(), list.len()) };
+        match done(told.status) {
+            Ok(()) => {
+                self.lent.keep(told.id, Kept::List(list));
+                Ok(told)
+            }
+            Err(refusal) => Err((refusal, list)),
         }
     }
 

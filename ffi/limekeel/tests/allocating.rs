@@ -128,22 +128,25 @@ fn giving_up_does_not_allocate() {
 #[test]
 fn a_write_that_is_refused_memory_gives_its_owner_back() {
     let mut connection = Connection::open(Marks::default(), Estimate::default()).expect("there is memory");
-    let mut list = vec![3; 100];
-    // room to keep it under its promise, and memory to keep it in
-    for wanted in [1, 1] {
-        let (answer, asked) = refused(|| connection.write_owned(list));
+    let mut owner = [3; 100];
+    // room to keep it under its promise, and then memory to keep it in
+    for id in 0..2 {
+        let (answer, asked) = refused(|| connection.write_owned(owner));
         let answer = answer.expect_err("it is refused");
-        assert_eq!((answer.refusal, asked, connection.look().total), (Refusal::NoMemory, wanted, 0));
-        list = answer.owner;
-        let _ = connection.write_static(&[]).expect("it is accepted");
-        let _ = connection.flush().expect("it is open");
-        let _ = connection.take_sent(0).expect("it waits");
-        // after the first time there is room
-        let _ = connection.write_owned([0; 0]).expect("it is accepted");
+        assert_eq!((answer.refusal, asked, connection.look().total), (Refusal::NoMemory, 1, 0));
+        owner = answer.owner;
+        assert_eq!(connection.write_owned([]).expect("it is accepted").id, id);
         let _ = connection.flush().expect("it is open");
         let _ = connection.take_sent(0).expect("it waits");
     }
-    assert_eq!(connection.write_owned(list).expect("it is accepted").id, 4);
+    assert_eq!((owner, connection.write_owned(owner).expect("it is accepted").id), ([3; 100], 2));
+    // for a list there is room already
+    let list = vec![4; 100];
+    let (answer, asked) = refused(|| connection.write_owned(list));
+    assert_eq!((answer.expect("it is accepted").id, asked), (3, 0));
+    let _ = connection.close(1).expect("nothing is flushed");
+    let answer = connection.write_owned(vec![5; 100]).expect_err("it is closed");
+    assert_eq!((answer.refusal, answer.owner), (Refusal::Closed, vec![5; 100]));
 }
 
 #[test]
@@ -156,10 +159,7 @@ fn a_refused_reservation_changes_nothing() {
     assert_eq!(room.write_message().expect("it is accepted").id, 0);
     let (answer, asked) = refused(|| connection.reserve(5).map(|room| room.left()));
     assert_eq!((answer, asked), (Ok(5), 0));
-    // the next chunk, then room to keep the one before, and memory to keep it in
-    for _ in 0..2 {
-        assert_eq!(refused(|| connection.reserve(6).err()), (Some(Refusal::NoMemory), 1));
-    }
+    assert_eq!(refused(|| connection.reserve(6).err()), (Some(Refusal::NoMemory), 1));
     let mut room = connection.reserve(6).expect("there is memory");
     room.write_all(b"second").expect("it has room");
     assert_eq!(room.write_message().expect("it is accepted").id, 1);
@@ -172,6 +172,19 @@ fn a_refused_reservation_changes_nothing() {
 /// Bytes of this thread's that are live.
 fn live() -> isize {
     LIVE.get()
+}
+
+#[test]
+fn a_refused_message_leaves_nothing() {
+    let mut connection = Connection::open(Marks::default(), Estimate::default()).expect("there is memory");
+    let _ = connection.close(1).expect("nothing is flushed");
+    let before = live();
+    for _ in 0..100 {
+        let mut room = connection.reserve(50).expect("there is memory");
+        room.write_all(&[1; 40]).expect("it has room");
+        assert_eq!(room.write_message(), Err(Refusal::Closed));
+        assert_eq!(live(), before);
+    }
 }
 
 #[test]

@@ -150,11 +150,18 @@ fn what_is_made_has_no_more_than_it_asked_for() {
     let mut room = connection.reserve(4).expect("there is memory");
     room.write_all(b"more").expect("it has room");
     assert_eq!(room.write_message().expect("it is accepted").id, 2);
-    assert_eq!(connection.look().total, 6 + 4 + 3 * 96);
+    // the chunk of these has room for more than they ask for
+    for (id, text) in [(3, "abc"), (4, "def")] {
+        let mut room = connection.reserve(3).expect("there is memory");
+        room.write_all(text.as_bytes()).expect("it has room");
+        assert_eq!((room.write(b"z").expect("no error"), room.left()), (0, 0));
+        assert_eq!(room.write_message().expect("it is accepted").id, id);
+    }
+    assert_eq!(connection.look().total, 6 + 4 + 3 + 3 + 5 * 96);
     let _ = connection.flush().expect("it is open");
     let mut socket = Vec::new();
     assert!(!connection.send_to(&mut socket).expect("it takes").more);
-    assert_eq!(socket, b"12-34amore");
+    assert_eq!(socket, b"12-34amoreabcdef");
 }
 
 #[test]

@@ -105,8 +105,8 @@ fn a_thousand_messages_come_over_a_socket_in_two_calls() {
 #[test]
 fn small_copies_go_as_few_pieces() {
     let mut connection = Connection::open(Marks::default(), Estimate::default()).expect("there is memory");
-    for byte in 0..200 {
-        let _ = connection.write(&[byte; 100]).expect("it is accepted");
+    for number in 0..400 {
+        let _ = connection.write(&[number as u8; 100]).expect("it is accepted");
     }
     let _ = connection.flush().expect("it is open");
     let mut lengths = Vec::new();
@@ -114,9 +114,9 @@ fn small_copies_go_as_few_pieces() {
         lengths = pieces.iter().map(|piece| piece.len()).collect();
         Ok(lengths.iter().sum())
     });
-    assert_eq!(sent.expect("it takes").bytes, 20_000);
-    // the first four have memory of their own, and the others share chunks of 1, 2, 4, 8 and 16 KiB
-    assert!(lengths.len() <= 4 + 5, "{lengths:?}");
+    assert_eq!(sent.expect("it takes").bytes, 40_000);
+    // the first four have memory of their own, and the others share chunks of 1, 2, 4, 8, 16 and 16 KiB
+    assert!(lengths.len() <= 4 + 6, "{lengths:?}");
 }
 
 #[test]
