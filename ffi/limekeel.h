@@ -15,8 +15,8 @@
  *         stop = false; // and wait for room if its ending is LIMEKEEL_ENDED_BLOCKED
  *     limekeel_free(&connection);
  *
- * Linking. Compile limekeel.s, heap.c and send.c into the program: `cc server.c limekeel.s heap.c send.c`.
- * Or link liblimekeel.a, which has all three: `pkg-config --cflags --libs limekeel` gives the flags. It
+ * Linking. Compile limekeel.s, heap.c and send.c into the program: `cc server.c limekeel.s heap.c send.c`,
+ * with room.c for limekeel_reserve. Or link liblimekeel.a, which has all four: `pkg-config --cflags --libs limekeel` gives the flags. It
  * needs memcpy, memmove, memset and malloc of the C library, and send.c sendmsg and errno; it starts no
  * thread and takes no lock.
  *
@@ -438,6 +438,30 @@ struct limekeel_sent {
  * took less than it was offered has no room. EINTR asks again, and EMSGSIZE with half as many pieces. Empty
  * messages in front are taken away in each case. It is in send.c, over the archive; it needs 16 KB of stack. */
 LIMEKEEL_TOLD struct limekeel_sent limekeel_send(struct limekeel_connection *connection, int socket, uint32_t max_turns);
+
+/* Messages that are made in place, as by a serializer, in memory that small ones share: reserve room, fill it, write it. These
+ * are in room.c, over limekeel_write_lent. One connection has one of these, which is let go of as messages are taken away. */
+struct limekeel_chunk;
+struct limekeel_rooms {
+    struct limekeel_chunk *first, *last; /* Limekeel's */
+};
+#ifdef __cplusplus
+#define LIMEKEEL_ROOMS {nullptr, nullptr}
+#else
+#define LIMEKEEL_ROOMS {0}
+#endif
+
+/* Where a message of at most `most` bytes may be made, or NULL if memory is refused. It is good until the next of these three
+ * calls. */
+uint8_t *limekeel_reserve(struct limekeel_rooms *rooms, size_t most);
+
+/* Writes the first `length` bytes there, at most as many as were reserved, as limekeel_write_lent does. */
+LIMEKEEL_TOLD struct limekeel_written limekeel_write_reserved(struct limekeel_rooms *rooms, struct limekeel_connection *connection,
+                                                              size_t length);
+
+/* Frees what only messages below this promise lie in. Call it with the `to` of each limekeel_taken, or after limekeel_remove
+ * with one more than its promise; and with UINT64_MAX after limekeel_free, which frees all. */
+void limekeel_let_go(struct limekeel_rooms *rooms, uint64_t end);
 
 /* The heap. Limekeel allocates through these three alone. heap.c defines them over malloc, weakly: a
  * program that defines all three itself gets its own. They are of one heap; a block is aligned to each
