@@ -118,13 +118,43 @@ static void lie_together(void)
     expect("and lets it go", rooms.first == NULL);
 }
 
-static void refusals(void)
+/* A write that is refused memory, behind others in the chunk: they stay, and it can be made again. Returns the next promise. */
+static size_t a_refused_write(size_t first)
+{
+    size_t message = first;
+    struct limekeel_written told = {0};
+    expect("there is room", limekeel_reserve(&rooms, 100 * LONGEST) != NULL);
+    refuses = true;
+    while (told.status == LIMEKEEL_OK && message < first + 100) {
+        size_t length = text_of(message, limekeel_reserve(&rooms, LONGEST), LONGEST);
+        told = limekeel_write_reserved(&rooms, &connection, length);
+        message += told.status == LIMEKEEL_OK;
+    }
+    refuses = false;
+    expect("memory is refused once some wait", told.status == LIMEKEEL_NO_MEMORY && message > first);
+    limekeel_let_go(&rooms, first);
+    made(message++, LONGEST);
+    expect("flush", limekeel_flush(&connection).count == message - first);
+    struct limekeel_piece pieces[100];
+    size_t count = limekeel_gather(&connection, pieces, 100, UINT32_MAX).count;
+    expect("all wait", count == message - first);
+    for (size_t at = 0; at < count; at++) {
+        uint8_t wanted[LONGEST];
+        size_t length = text_of(first + at, wanted, LONGEST);
+        expect("as they were made", pieces[at].length == length && memcmp(pieces[at].at, wanted, length) == 0);
+    }
+    limekeel_let_go(&rooms, limekeel_fail_flushed(&connection, 1, true).to);
+    expect("with what they lay in", rooms.first == NULL);
+    return message;
+}
+
+static void refusals(size_t first)
 {
     refuses = true;
     expect("memory is refused", limekeel_reserve(&rooms, 10) == NULL);
     refuses = false;
     expect("so is more than there is", limekeel_reserve(&rooms, SIZE_MAX) == NULL && limekeel_reserve(&rooms, SIZE_MAX - 9) == NULL);
-    made(2 * MANY, LONGEST);
+    made(first, LONGEST);
     refuses = true;
     expect("and the next chunk", limekeel_reserve(&rooms, 500) == NULL);
     refuses = false;
@@ -133,10 +163,10 @@ static void refusals(void)
     expect("there is room", room != NULL);
     memset(room, 'x', 500);
     expect("the same again", limekeel_reserve(&rooms, 500) == room);
-    expect("no byte", limekeel_write_reserved(&rooms, &connection, 0).id == 2 * MANY + 1);
+    expect("no byte", limekeel_write_reserved(&rooms, &connection, 0).id == first + 1);
     expect("flush", limekeel_flush(&connection).count == 2);
     struct limekeel_taken gone = limekeel_give_up(&connection, 1);
-    expect("both are gone", gone.to == 2 * MANY + 2);
+    expect("both are gone", gone.to == first + 2);
     limekeel_let_go(&rooms, gone.to);
     expect("with what they lay in", rooms.first == NULL);
     expect("there is room", limekeel_reserve(&rooms, 5) != NULL);
@@ -151,7 +181,7 @@ int main(void)
     expect("open", limekeel_open(&connection, 32768, 65536, 96, 8) == LIMEKEEL_OK);
     come_in_order();
     lie_together();
-    refusals();
+    refusals(a_refused_write(2 * MANY));
     puts("what is made in place comes in order, and goes");
     return 0;
 }

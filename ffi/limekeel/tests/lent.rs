@@ -165,6 +165,28 @@ fn what_is_made_has_no_more_than_it_asked_for() {
 }
 
 #[test]
+fn a_refused_message_leaves_the_others_where_they_are() {
+    let mut connection = connection();
+    let large: &'static [u8] = Box::leak(vec![0; 1 << 26].into_boxed_slice());
+    let _ = connection.write_static(b"gone").expect("it is accepted");
+    let mut room = connection.reserve(1000).expect("there is memory");
+    room.write_all(&[7; 500]).expect("it has room");
+    assert_eq!(room.write_message().expect("it is accepted").id, 1);
+    for _ in 0..63 {
+        let _ = connection.write_static(large).expect("it is accepted");
+    }
+    // 100 less than may be pending, so that no message goes along
+    let left = u32::MAX - connection.look().total - 100;
+    let _ = connection.write_static(&large[..left as usize]).expect("it is accepted");
+    let mut room = connection.reserve(100).expect("there is memory");
+    room.write_all(&[8; 100]).expect("it has room");
+    assert_eq!(room.write_message(), Err(Refusal::TooMuch));
+    let _ = connection.flush().expect("it is open");
+    assert_eq!(connection.take_sent(4).expect("they wait").promises, 0..1);
+    assert_eq!(connection.pieces::<1>(u32::MAX)[0][..], [7; 500]);
+}
+
+#[test]
 fn small_messages_that_are_made_lie_together() {
     let mut connection = connection();
     let mut wanted = Vec::new();
