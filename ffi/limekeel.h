@@ -15,8 +15,8 @@
  *         stop = false; // and wait for room if its ending is LIMEKEEL_ENDED_BLOCKED
  *     limekeel_free(&connection);
  *
- * Linking. Compile limekeel.s, heap.c and send.c into the program: `cc server.c limekeel.s heap.c send.c`.
- * Or link liblimekeel.a, which has all three: `pkg-config --cflags --libs limekeel` gives the flags. It
+ * Linking. Compile limekeel.s, heap.c and send.c into the program: `cc server.c limekeel.s heap.c send.c`,
+ * with room.c for limekeel_reserve. Or link liblimekeel.a, which has all four: `pkg-config --cflags --libs limekeel` gives the flags. It
  * needs memcpy, memmove, memset and malloc of the C library, and send.c sendmsg and errno; it starts no
  * thread and takes no lock.
  *
@@ -24,7 +24,7 @@
  * own nothing, and are filled by limekeel_open and limekeel_block_new. Each is let go once, by
  * limekeel_free or limekeel_block_free. The struct may be moved in memory, but not copied and
  * used twice, as a FILE * may not be closed twice; its member is not to be touched. Bytes that
- * are passed in are copied, and stay the caller's. What a call takes as const it does not write.
+ * are passed in are copied, and stay the caller's; limekeel_write_lent alone copies nothing. What a call takes as const it does not write.
  *
  * Lifetimes. The pieces that limekeel_gather fills point into the connection. They are good until
  * the next call on that connection that is no look: until a write, flush, removal, failing, close
@@ -40,8 +40,8 @@
  * why the call did nothing. A call that did not return LIMEKEEL_OK left everything as it was, and
  * all else in its struct is 0. A handle that owns nothing is LIMEKEEL_NOT_OPEN and no crash. No
  * call reads errno, aborts, or calls back; LIMEKEEL_NO_MEMORY leaves in errno what malloc did.
- * Pointers may not be NULL, but for the bytes, parts and pieces of limekeel_write, limekeel_write_parts,
- * limekeel_block_new and limekeel_gather if there are none.
+ * Pointers may not be NULL, but for the bytes, parts and pieces of limekeel_write, limekeel_write_lent,
+ * limekeel_write_parts, limekeel_block_new and limekeel_gather if there are none.
  */
 #ifndef LIMEKEEL_H
 #define LIMEKEEL_H
@@ -66,7 +66,7 @@ extern "C" {
 
 /* A number of the structs, functions and numbers of this header. limekeel_open says LIMEKEEL_OTHER_VERSION to an archive of
  * another. Before 1.0 each version may have another. */
-#define LIMEKEEL_EDGE 3843793401u
+#define LIMEKEEL_EDGE 4269863942u
 
 /* What may tell a change of writability is not to be dropped. */
 #if (defined(__cplusplus) && __cplusplus >= 201703L) || (defined(__STDC_VERSION__) && __STDC_VERSION__ >= 202311L)
@@ -337,6 +337,14 @@ LIMEKEEL_TOLD struct limekeel_written limekeel_write_pieces(struct limekeel_conn
 LIMEKEEL_TOLD struct limekeel_written limekeel_write_block(struct limekeel_connection *connection,
                                               const struct limekeel_block *block);
 
+/* Writes bytes where they lie: nothing is copied, and no call reads them. Their memory is lent: the bytes have to stay there,
+ * as they are, until a call takes the message away or limekeel_free frees the connection. Messages are taken away in the
+ * order of their promises: limekeel_remove and limekeel_remove_with take the first that waits if they say `any`; the calls that
+ * return a limekeel_taken, limekeel_send among them, take each from `from` on and below `to`. So a queue of what was lent, each
+ * with its promise, is let go from the front. A cancelled message is taken away like any other, after its flush or at the end. */
+LIMEKEEL_TOLD struct limekeel_written limekeel_write_lent_bytes(struct limekeel_connection *connection, const uint8_t *bytes,
+                                                                size_t length);
+
 /* Writes a region: `length` bytes of something that you send yourself, as of a file by sendfile. It
  * counts the overhead alone. */
 LIMEKEEL_TOLD struct limekeel_written limekeel_write_region(struct limekeel_connection *connection, uint64_t length);
@@ -431,6 +439,30 @@ struct limekeel_sent {
  * messages in front are taken away in each case. It is in send.c, over the archive; it needs 16 KB of stack. */
 LIMEKEEL_TOLD struct limekeel_sent limekeel_send(struct limekeel_connection *connection, int socket, uint32_t max_turns);
 
+/* Messages that are made in place, as by a serializer, in memory that small ones share: reserve room, fill it, write it. These
+ * are in room.c, over limekeel_write_lent. One connection has one of these, which is let go of as messages are taken away. */
+struct limekeel_chunk;
+struct limekeel_rooms {
+    struct limekeel_chunk *first, *last; /* Limekeel's */
+};
+#ifdef __cplusplus
+#define LIMEKEEL_ROOMS {nullptr, nullptr}
+#else
+#define LIMEKEEL_ROOMS {0}
+#endif
+
+/* Where a message of at most `most` bytes may be made, or NULL if memory is refused. It is good until the next of these three
+ * calls. */
+uint8_t *limekeel_reserve(struct limekeel_rooms *rooms, size_t most);
+
+/* Writes the first `length` bytes there, at most as many as were reserved, as limekeel_write_lent does. */
+LIMEKEEL_TOLD struct limekeel_written limekeel_write_reserved(struct limekeel_rooms *rooms, struct limekeel_connection *connection,
+                                                              size_t length);
+
+/* Frees what only messages below this promise lie in. Call it with the `to` of each limekeel_taken, or after limekeel_remove
+ * with one more than its promise; and with UINT64_MAX after limekeel_free, which frees all. */
+void limekeel_let_go(struct limekeel_rooms *rooms, uint64_t end);
+
 /* The heap. Limekeel allocates through these three alone. heap.c defines them over malloc, weakly: a
  * program that defines all three itself gets its own. They are of one heap; a block is aligned to each
  * power of two up to 16 that divides its size, and more is never asked for. If memory is refused `given`
@@ -454,6 +486,12 @@ LIMEKEEL_TOLD static inline struct limekeel_written limekeel_write(struct limeke
                                                      size_t length)
 {
     return limekeel_write_bytes(connection, length > 0 ? (const uint8_t *)bytes : (const uint8_t *)"", length);
+}
+
+LIMEKEEL_TOLD static inline struct limekeel_written limekeel_write_lent(struct limekeel_connection *connection,
+                                                                        const void *bytes, size_t length)
+{
+    return limekeel_write_lent_bytes(connection, length > 0 ? (const uint8_t *)bytes : (const uint8_t *)"", length);
 }
 
 LIMEKEEL_TOLD static inline struct limekeel_written limekeel_write_parts(struct limekeel_connection *connection,

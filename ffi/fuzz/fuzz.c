@@ -243,7 +243,7 @@ static struct limekeel_written in_parts(struct side *side, const uint8_t *bytes,
     return limekeel_write_parts(&side->connection, parts, count);
 }
 
-/* Bytes of one's own, or so many that they are refused before one is read. */
+/* Bytes of one's own, copied or lent, or so many that they are refused before one is read. */
 static void writes_bytes(struct side *side)
 {
     static uint8_t bytes[4096];
@@ -258,11 +258,13 @@ static void writes_bytes(struct side *side)
         row.bytes = copy;
         row.is_own = true;
     }
-    bool none = row.number == 0 && chance(2);
-    allocating("write");
+    bool none = row.number == 0 && chance(2), lends = chance(4);
+    allocating(lends ? "write_lent" : "write");
     const uint8_t *from = none ? NULL : row.is_own ? bytes : space;
-    struct limekeel_written told = from && chance(3) ? in_parts(side, from, row.number)
-                                                     : limekeel_write(&side->connection, from, row.number);
+    /* what is lent is the model's own, which frees it as its row goes */
+    struct limekeel_written told = lends ? limekeel_write_lent(&side->connection, row.is_own && !none ? row.bytes : from, row.number)
+                                   : from && chance(3) ? in_parts(side, from, row.number)
+                                                       : limekeel_write(&side->connection, from, row.number);
     /* what was handed in is the caller's again */
     memset(bytes, 0xee, row.is_own ? row.number : 0);
     written(side, told, row);

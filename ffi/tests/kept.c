@@ -99,7 +99,7 @@ static void no_list(struct limekeel_connection *connection)
     struct limekeel_piece pieces[LIMEKEEL_PIECES];
     write_bytes(connection, MANY);
     long before = asked;
-    uint64_t last = 3 * MANY + 200 - 1; /* promises count from 0, and four bursts went before */
+    uint64_t last = 3 * MANY + 2000 + 200 - 1; /* promises count from 0, and so many were written before */
     expect("the last message is cancelled", limekeel_cancel(connection, last).in_time);
     expect("all is flushed", limekeel_flush(connection).count == MANY);
     expect("some are gathered", limekeel_gather(connection, pieces, LIMEKEEL_PIECES, UINT32_MAX).count == LIMEKEEL_PIECES);
@@ -108,6 +108,19 @@ static void no_list(struct limekeel_connection *connection)
     expect("marks are set", limekeel_set_marks(connection, 10, 20) == LIMEKEEL_OK);
     expect("a bit is set", limekeel_user_bit(connection, 3, false).status == LIMEKEEL_OK);
     expect("no memory was asked for", asked == before);
+}
+
+/* However many small copies went before, the last that waits keeps no more than the chunk that it lies in. */
+static void a_chunk_is_let_go(struct limekeel_connection *connection, size_t opened)
+{
+    static const uint8_t bytes[1000];
+    for (int written = 0; written < 2000; written++)
+        expect("a small message is written", limekeel_write(connection, bytes, sizeof bytes).status == LIMEKEEL_OK);
+    expect("all is flushed", limekeel_flush(connection).count == 2000);
+    expect("all but one is sent", limekeel_take_sent(connection, 1999 * sizeof bytes).count == 1999);
+    expect("one message keeps one chunk", live <= opened + SMALL * ENTRY + CHUNK);
+    expect("it is sent", limekeel_take_sent(connection, sizeof bytes).count == 1);
+    expect("and keeps none", live <= opened + SMALL * ENTRY);
 }
 
 /* A shared block is not copied, and is let go with the last message that has it. */
@@ -136,6 +149,7 @@ int main(void)
     a_burst(&connection, opened, 100);
     a_burst(&connection, opened, MANY);
     a_burst(&connection, opened, MANY);
+    a_chunk_is_let_go(&connection, opened);
     no_list(&connection);
     a_block_is_shared(&connection);
     expect("free", limekeel_free(&connection) == LIMEKEEL_OK);

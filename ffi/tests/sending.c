@@ -95,6 +95,12 @@ static void closed(struct limekeel_connection *connection)
     expect("the script was played", steps_left == 0);
 }
 
+/* A turn offers as many pieces as one call of the system takes, and no more. */
+static void as_many_as_the_system_takes(void)
+{
+    expect("the system's own number", sysconf(_SC_IOV_MAX) == LIMEKEEL_PIECES);
+}
+
 /* Each answer of sendmsg, and what is told of it. */
 static void answers(void)
 {
@@ -164,6 +170,9 @@ static void together_in_memory(void)
     expect("flush", limekeel_flush(&connection).count == MANY);
     struct limekeel_piece pieces[LIMEKEEL_PIECES];
     expect("a piece for each", limekeel_gather(&connection, pieces, LIMEKEEL_PIECES, UINT32_MAX).count == MANY);
+    struct iovec slices[LIMEKEEL_PIECES];
+    expect("three are 21 bytes", limekeel_gather_iovec(&connection, slices, LIMEKEEL_PIECES, 3 * SMALL).count == 3);
+    expect("and lie where the pieces do", slices[2].iov_base == pieces[2].at && slices[2].iov_len == SMALL);
     SCRIPT({0, 12}, {0, 65536});
     expect("a part is sent", limekeel_send(&connection, -1, 8).bytes == 12);
     /* the first few that wait have memory of their own */
@@ -306,6 +315,7 @@ static void reset(void)
 
 int main(void)
 {
+    as_many_as_the_system_takes();
     answers();
     turns(32768, 65536);   /* the second */
     turns(150000, 160000); /* the first */

@@ -46,7 +46,7 @@ static void mark(void)
     } while (0)
 
 static const char *const CALLS[] = {
-    "write_block", "a flush of one cancelled message", "a flush of nothing", "gather", "progress", "take_sent", "remove",
+    "write_block", "write_lent", "a flush of one cancelled message", "a flush of nothing", "gather", "progress", "take_sent", "remove",
     "remove_with", "a cancellation too late", "user_bit", "set_marks", "look", "is_writable", "promise", "current",
     "a flush of many, of which none was cancelled",
 };
@@ -58,8 +58,9 @@ static void calls(struct limekeel_connection *connection, struct limekeel_block 
     uint64_t id = 0;
     bool holds = true;
     COUNTED(holds = (id = limekeel_write_block(connection, block).id) == MANY);
+    COUNTED(holds = holds && limekeel_write_lent(connection, "b", 1).id == MANY + 1);
     holds = holds && limekeel_cancel(connection, id).in_time;
-    COUNTED(holds = holds && limekeel_flush(connection).count == 1);
+    COUNTED(holds = holds && limekeel_flush(connection).count == 2);
     COUNTED(holds = holds && limekeel_flush(connection).count == 0);
     COUNTED(holds = holds && limekeel_gather(connection, pieces, 8, UINT32_MAX).count == 8);
     COUNTED(holds = holds && limekeel_progress(connection, 0) == LIMEKEEL_OK);
@@ -69,7 +70,7 @@ static void calls(struct limekeel_connection *connection, struct limekeel_block 
     COUNTED(holds = holds && !limekeel_cancel(connection, MANY - 1).in_time);
     COUNTED(holds = holds && limekeel_user_bit(connection, 3, false).status == LIMEKEEL_OK);
     COUNTED(holds = holds && limekeel_set_marks(connection, 10, 20) == LIMEKEEL_OK);
-    COUNTED(holds = holds && limekeel_look(connection).size == MANY - 2);
+    COUNTED(holds = holds && limekeel_look(connection).size == MANY - 1);
     COUNTED(holds = holds && !limekeel_is_writable(connection).holds);
     COUNTED(holds = holds && limekeel_promise(connection, MANY - 1).status == LIMEKEEL_OK);
     COUNTED(holds = holds && limekeel_current(connection).number == 1);

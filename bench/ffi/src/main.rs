@@ -20,7 +20,7 @@ const DEPTHS: [usize; 4] = [1, 16, 1_000, 100_000];
 const MESSAGES: usize = 480;
 const TIMES: usize = 1_000;
 const BATCH: usize = 16;
-const BYTES: [u8; 64] = [7; 64];
+static BYTES: [u8; 64] = [7; 64];
 const ALL: u64 = (BATCH * BYTES.len()) as u64;
 
 /// What is timed.

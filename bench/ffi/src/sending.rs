@@ -1,5 +1,5 @@
-//! Times messages that are written, flushed and sent into memory by `send_to`, beside a queue by hand that is written by one
-//! `write_vectored`. Prints lines `sent NAME BATCH` and the nanoseconds of a message.
+//! Times messages that are copied, shared, owned, static or made in place, flushed and sent into memory by `send_to`, beside a
+//! queue by hand that is written by one `write_vectored`. Prints lines `sent NAME BATCH` and the nanoseconds of a message.
 
 use crate::{BYTES, TIMES};
 use limekeel::{Block, Connection, Estimate, Marks};
@@ -34,17 +34,17 @@ impl Write for Memory {
     }
 }
 
-/// A list of bytes that are shared, with what is sent of the first, a total and a flag.
-struct Queue {
-    messages: VecDeque<Arc<[u8]>>,
+/// A list of bytes that are shared or owned, with what is sent of the first, a total and a flag.
+struct Queue<T> {
+    messages: VecDeque<T>,
     sent: usize,
     total: usize,
     writable: bool,
 }
 
-impl Queue {
-    fn write(&mut self, bytes: Arc<[u8]>) {
-        self.total += bytes.len() + 96;
+impl<T: AsRef<[u8]>> Queue<T> {
+    fn write(&mut self, bytes: T) {
+        self.total += bytes.as_ref().len() + 96;
         self.writable &= self.total <= 65536;
         self.messages.push_back(bytes);
     }
@@ -53,15 +53,15 @@ impl Queue {
         let mut slices = [IoSlice::new(&[]); SLICES];
         let mut count = 0;
         for (slice, bytes) in slices.iter_mut().zip(&self.messages) {
-            *slice = IoSlice::new(&bytes[if count == 0 { self.sent } else { 0 }..]);
+            *slice = IoSlice::new(&bytes.as_ref()[if count == 0 { self.sent } else { 0 }..]);
             count += 1;
         }
         self.sent += socket.write_vectored(&slices[..count])?;
-        while let Some(first) = self.messages.front()
-            && first.len() <= self.sent
+        while let Some(first) = self.messages.front().map(|first| first.as_ref().len())
+            && first <= self.sent
         {
-            self.sent -= first.len();
-            self.total -= first.len() + 96;
+            self.sent -= first;
+            self.total -= first + 96;
             self.messages.pop_front();
         }
         self.writable |= self.total < 32768;
@@ -92,7 +92,7 @@ fn through_rust(name: &str, batch: usize, mut write: impl FnMut(&mut Connection)
     });
 }
 
-fn by_hand(name: &str, batch: usize, mut bytes: impl FnMut() -> Arc<[u8]>) {
+fn by_hand<T: AsRef<[u8]>>(name: &str, batch: usize, mut bytes: impl FnMut() -> T) {
     let mut queue = Queue { messages: VecDeque::new(), sent: 0, total: 0, writable: true };
     time(name, batch, || {
         for _ in 0..batch {
@@ -116,5 +116,19 @@ pub fn time_all() {
             let _ = connection.write_block(black_box(&block)).expect("it is accepted");
         });
         by_hand("by-hand-shared", batch, || black_box(&shared).clone());
+        through_rust("rust-owned", batch, |connection| {
+            let _ = connection.write_owned(black_box(&BYTES).to_vec()).expect("it is accepted");
+        });
+        by_hand("by-hand-owned", batch, || black_box(&BYTES).to_vec());
+        through_rust("rust-static", batch, |connection| {
+            let _ = connection.write_static(black_box(&BYTES)).expect("it is accepted");
+        });
+        by_hand("by-hand-static", batch, || black_box(&BYTES));
+        through_rust("rust-made", batch, |connection| {
+            let mut room = connection.reserve(BYTES.len()).expect("there is memory");
+            room.write_all(black_box(&BYTES)).expect("it has room");
+            let _ = room.write_message().expect("it is accepted");
+        });
+        by_hand("by-hand-made", batch, || Arc::from(&black_box(&BYTES)[..]));
     }
 }

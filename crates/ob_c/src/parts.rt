@@ -1,6 +1,6 @@
 //! A message that C has in parts.
 
-ghost use Rattle.std.specs.Prelude.{◌≡◌, ◌≤◌, ◌<◌, ℕ, List, length, map, IfSome, IfOk, Some, None};
+ghost use Rattle.std.specs.Prelude.{◌≡◌, ◌≤◌, ◌<◌, ℕ, List, length, IfSome, IfOk, Some, None};
 ghost use Rattle.ob_types.specs.Limits.{greatest_pending_size};
 ghost use Rattle.ob_types.specs.declared.command.Command.TheVariants.{Write};
 ghost use Rattle.ob_types.specs.declared.message.Message.TheVariants.{Block as AsBlock};
@@ -8,7 +8,8 @@ ghost use Rattle.ob_connection.specs.Looks.{Refuses};
 ghost use Rattle.ob_connection.specs.Obeying.{Obeys};
 ghost use Rattle.ob_connection.specs.Replies.{written_reply};
 ghost use Rattle.ob_c.specs.Obeying.{ObeysFor};
-ghost use Rattle.ob_c.specs.Parts.{bytes_of, joined};
+ghost use Rattle.ob_connection.specs.Parts.{joined};
+ghost use Rattle.ob_c.specs.Parts.{slices_of};
 ghost use Rattle.ob_c.specs.Replies.{written_in_c};
 
 use crate::handle::Handle;
@@ -38,7 +39,7 @@ pub extern "C" fn limekeel_write_pieces(
     handle: &mut Handle,
     parts: &[Part<'_>],
 ) -> Written
-    ensures { ObeysFor handle.old.value (Write (AsBlock (joined parts.now))) written_reply written_in_c result
+    ensures { ObeysFor handle.old.value (Write (AsBlock (joined (slices_of parts.now)))) written_reply written_in_c result
         handle.new.value }
 {
     if !handle.is_open() {
@@ -54,7 +55,7 @@ fn write_parts(
     connection: &mut Connection,
     parts: &[Part<'_>],
 ) -> Result<ob_connection::Written, Refusal>
-    ensures { Obeys connection.old (Write (AsBlock (joined parts.now))) written_reply result connection.new }
+    ensures { Obeys connection.old (Write (AsBlock (joined (slices_of parts.now)))) written_reply result connection.new }
 {
     if parts.len() <= FEW_PARTS {
         return write_few(connection, parts);
@@ -72,7 +73,7 @@ fn write_few(
     parts: &[Part<'_>],
 ) -> Result<ob_connection::Written, Refusal>
     requires { length parts.now ≤ 16 }
-    ensures { Obeys connection.old (Write (AsBlock (joined parts.now))) written_reply result connection.new }
+    ensures { Obeys connection.old (Write (AsBlock (joined (slices_of parts.now)))) written_reply result connection.new }
 {
     let mut few = [[0u8; 0].as_slice(); FEW_PARTS];
     for at in 0..parts.len() {
@@ -83,7 +84,7 @@ fn write_few(
 
 /// Why a write of these parts would be refused, or nothing if it would be accepted while there is memory.
 fn refusal_of(connection: &Connection, parts: &[Part<'_>]) -> Option<Refusal>
-    ensures first { Refuses connection.now (Write (AsBlock (joined parts.now))) result }
+    ensures first { Refuses connection.now (Write (AsBlock (joined (slices_of parts.now)))) result }
     ensures other { ¬ (result ≡ Some Refusal.NoMemory) }
 {
     match length_of(parts) {
@@ -107,8 +108,8 @@ fn refusal_of_too_long(connection: &Connection) -> Refusal
 
 /// How many bytes these parts are together, unless no message is so long.
 fn length_of(parts: &[Part<'_>]) -> Option<usize>
-    ensures some { IfSome result (λ count. count ≡ length (joined parts.now)) }
-    ensures none { result ≡ None → greatest_pending_size < length (joined parts.now) }
+    ensures some { IfSome result (λ count. count ≡ length (joined (slices_of parts.now))) }
+    ensures none { result ≡ None → greatest_pending_size < length (joined (slices_of parts.now)) }
 {
     let mut count: usize = 0;
     for part in parts {
@@ -122,7 +123,7 @@ fn length_of(parts: &[Part<'_>]) -> Option<usize>
 
 /// A list of parts.
 fn listed<'a>(alloc: Global, parts: &[Part<'a>]) -> Result<Vec<&'a [u8]>, AllocError>
-    ensures { IfOk result (λ list. map (λ bytes. bytes.now) list.items ≡ map bytes_of parts.now) }
+    ensures { IfOk result (λ list. list.items ≡ slices_of parts.now) }
 {
     let mut list = Vec::new(alloc);
     list.reserve(parts.len())?;

@@ -46,6 +46,17 @@ pub extern "C" fn limekeel_write_block(handle: &mut Handle, block: &mut Block) -
     Written::of(handle.command(|connection| write_shared(connection, bytes)))
 }
 
+/// Writes these bytes where they lie: the message is lent their memory, and no byte is copied.
+///
+/// Their type says that they stay as they are for good. What is asked of C is less: that they do until a call takes the
+/// message away, or the handle is freed. The status is 12 if it is out of memory.
+#[unsafe(no_mangle)]
+pub extern "C" fn limekeel_write_lent_bytes(handle: &mut Handle, bytes: &'static [u8]) -> Written
+    ensures { ObeysFor handle.old.value (Write (AsBlock bytes.now)) written_reply written_in_c result handle.new.value }
+{
+    Written::of(handle.command(|connection| write(connection, lent(bytes))))
+}
+
 /// Writes a region of `length` bytes, which the transport sends by itself.
 #[unsafe(no_mangle)]
 pub extern "C" fn limekeel_write_region(handle: &mut Handle, length: u64) -> Written
@@ -74,6 +85,13 @@ fn write_shared(
     }
     let shared = bytes.clone()?;
     write(connection, Message::Block(shared))
+}
+
+/// A message of bytes that are lent.
+fn lent(bytes: &'static [u8]) -> Message
+    ensures { result ≡ AsBlock bytes.now }
+{
+    Message::Block(Bytes::from_static(bytes))
 }
 
 /// Writes a message, of which a refusal tells the reason alone: the caller of C has what it is made of.

@@ -23,7 +23,7 @@ mod heap;
 pub const PIECES: usize = 1024;
 
 /// A number of these declarations, which `limekeel_open_for` compares with the archive's.
-pub const EDGE: u32 = 3843793401;
+pub const EDGE: u32 = 4269863942;
 
 macro_rules! numbers {
     ($($name:ident = $number:literal),* $(,)?) => {
@@ -135,6 +135,7 @@ unsafe extern "C" {
     pub fn limekeel_block_piece(block: *const Block, piece: *mut Piece) -> u32;
     pub fn limekeel_block_free(block: *mut Block) -> u32;
     pub fn limekeel_write_bytes(connection: *mut Connection, bytes: *const u8, length: usize) -> Written;
+    pub fn limekeel_write_lent_bytes(connection: *mut Connection, bytes: *const u8, length: usize) -> Written;
     pub fn limekeel_write_pieces(connection: *mut Connection, parts: *const Piece, length: usize) -> Written;
     pub fn limekeel_write_block(connection: *mut Connection, block: *const Block) -> Written;
     pub fn limekeel_write_region(connection: *mut Connection, length: u64) -> Written;

@@ -1,7 +1,8 @@
 use crate::block::Block;
 use crate::promises::{Node, Promises};
 use crate::raw::{Handle, Pieces};
-use crate::replies::{Change, Flushed, Refusal, Removed, Taken, Written, done};
+use crate::replies::{Change, Flushed, Refusal, Refused, Removed, Taken, Written, done};
+use crate::room::Room;
 use crate::views::{Counts, Current, Look, Promise};
 use std::io::IoSlice;
 use std::mem::take;
@@ -39,7 +40,7 @@ impl Default for Estimate {
 /// What a server has written to one client and the socket has not yet taken (Netty's `ChannelOutboundBuffer`), without
 /// end.
 ///
-/// Only [`Connection::open`], a write and a cancellation need memory. A call that is refused changes nothing.
+/// Only [`Connection::open`], a write, a reservation and a cancellation need memory. A call that is refused changes nothing.
 #[derive(Debug)]
 pub struct Connection {
     pub(crate) handle: Handle,
@@ -82,6 +83,54 @@ impl Connection {
     #[inline]
     pub fn write_block(&mut self, block: &Block) -> Result<Written, Refusal> {
         Written::of(self.handle.write_block(&block.slot))
+    }
+
+    /// Writes bytes that are there for good: nothing is copied, and nothing is kept for them.
+    #[inline]
+    pub fn write_static(&mut self, bytes: &'static [u8]) -> Result<Written, Refusal> {
+        Written::of(self.handle.write_static(bytes))
+    }
+
+    /// Writes the bytes of `owner` where they lie, as of a `Vec<u8>` or of `Bytes` of the crate `bytes`: nothing is copied.
+    ///
+    /// The connection keeps the owner while the message waits. It drops it in the call that tells it as gone ([`Taken`] or
+    /// [`Removed`], also of a message that was cancelled), before that returns, or when it is dropped itself. `as_ref` is
+    /// called once. An owner that is no `Vec` moves into a small allocation of its own. If memory or the write is refused, it
+    /// comes back; [`Refusal::NoMemory`] may come before another refusal.
+    ///
+    /// ```
+    /// use limekeel::{Connection, Estimate, Marks};
+    ///
+    /// let mut connection = Connection::open(Marks::default(), Estimate::default())?;
+    /// let image = vec![7; 100_000];
+    /// let at = image.as_ptr();
+    /// let _ = connection.write_owned(image)?;
+    /// let _ = connection.flush()?;
+    /// assert_eq!(connection.pieces::<1>(u32::MAX)[0].as_ptr(), at);
+    /// # Ok::<(), limekeel::Refusal>(())
+    /// ```
+    #[inline]
+    pub fn write_owned<T: AsRef<[u8]> + Send + 'static>(&mut self, owner: T) -> Result<Written, Refused<T>> {
+        let told = self.handle.write_owned(owner).map_err(|(refusal, owner)| Refused { refusal, owner })?;
+        Ok(Written::accepted(told))
+    }
+
+    /// Room for one message of at most `most` bytes, to make it in place. Small messages that wait together share memory.
+    /// [`Refusal::NoMemory`] comes if the allocator refused.
+    ///
+    /// ```
+    /// use limekeel::{Connection, Estimate, Marks};
+    /// use std::io::Write;
+    ///
+    /// let mut connection = Connection::open(Marks::default(), Estimate::default())?;
+    /// let mut room = connection.reserve(100)?;
+    /// write!(room, "{}-{}", 7, 9).expect("it has room");
+    /// let written = room.write_message()?;
+    /// assert_eq!((written.id, connection.look().total), (0, 3 + 96));
+    /// # Ok::<(), limekeel::Refusal>(())
+    /// ```
+    pub fn reserve(&mut self, most: usize) -> Result<Room<'_>, Refusal> {
+        Ok(Room { made: self.handle.reserve(most)? })
     }
 
     /// Writes a region: `length` bytes of something that the caller sends, as of a file.
@@ -279,7 +328,7 @@ impl Connection {
     }
 
     /// Leaves out those of these promises that were cancelled before, and forgets them.
-    fn settled_by(&mut self, taken: Taken) -> Taken {
+    pub(crate) fn settled_by(&mut self, taken: Taken) -> Taken {
         if self.cancelled.is_empty() {
             return taken;
         }

@@ -4,7 +4,7 @@
 //! above a high mark it tells writers to stop, below a low mark to go on. It is Netty's `ChannelOutboundBuffer` and
 //! `WriteBufferWaterMark`, without end. The archive below was compiled from a proof that each call returns what a short
 //! definition says, whatever was called before. This crate over it is not proved; it is small, and its `unsafe` stands
-//! in one file.
+//! in two files.
 //!
 //! ```
 //! use limekeel::{Change, Connection, Estimate, Marks};
@@ -41,7 +41,6 @@
 //! let _ = connection.take_sent(0);
 //! drop(pieces);
 //! ```
-
 //!
 //! What tells a change is not to be dropped:
 //!
@@ -56,6 +55,24 @@
 //! # let mut connection = limekeel::Connection::open(limekeel::Marks::default(), limekeel::Estimate::default()).unwrap();
 //! connection.take_sent(0).unwrap();
 //! ```
+//!
+//! ```compile_fail
+//! #![deny(unused_must_use)]
+//! # let mut connection = limekeel::Connection::open(limekeel::Marks::default(), limekeel::Estimate::default()).unwrap();
+//! connection.write(b"news").unwrap();
+//! ```
+//!
+//! ```compile_fail
+//! #![deny(unused_must_use)]
+//! # let mut connection = limekeel::Connection::open(limekeel::Marks::default(), limekeel::Estimate::default()).unwrap();
+//! connection.flush().unwrap();
+//! ```
+//!
+//! ```compile_fail
+//! #![deny(unused_must_use)]
+//! # let mut connection = limekeel::Connection::open(limekeel::Marks::default(), limekeel::Estimate::default()).unwrap();
+//! connection.remove().unwrap();
+//! ```
 
 #![deny(unsafe_code, missing_docs)]
 
@@ -63,18 +80,22 @@ mod block;
 mod connection;
 mod promises;
 mod replies;
+mod room;
 mod send;
 mod shared;
 mod views;
 
+#[allow(unsafe_code)]
+mod lent;
 #[allow(unsafe_code)]
 mod raw;
 
 pub use block::Block;
 pub use connection::{Connection, Estimate, Marks};
 pub use raw::Pieces;
-pub use replies::{Change, Flushed, Outcome, Refusal, Removed, Settled, Taken, Written};
-pub use send::Sent;
+pub use replies::{Change, Flushed, Outcome, Refusal, Refused, Removed, Settled, Taken, Written};
+pub use room::Room;
+pub use send::{Ending, Sent, SentTurns};
 pub use shared::{Guard, Shared};
 pub use views::{Counts, Current, Front, Look, Promise};
 

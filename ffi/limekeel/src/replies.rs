@@ -106,6 +106,35 @@ impl fmt::Display for Refusal {
 
 impl Error for Refusal {}
 
+/// A write that was refused, with what was to be written.
+#[derive(Clone, Copy, PartialEq, Eq)]
+pub struct Refused<T> {
+    /// Why.
+    pub refusal: Refusal,
+    /// What was handed in.
+    pub owner: T,
+}
+
+impl<T> fmt::Debug for Refused<T> {
+    fn fmt(&self, f: &mut fmt::Formatter<'_>) -> fmt::Result {
+        f.debug_struct("Refused").field("refusal", &self.refusal).finish_non_exhaustive()
+    }
+}
+
+impl<T> fmt::Display for Refused<T> {
+    fn fmt(&self, f: &mut fmt::Formatter<'_>) -> fmt::Result {
+        fmt::Display::fmt(&self.refusal, f)
+    }
+}
+
+impl<T> Error for Refused<T> {}
+
+impl<T> From<Refused<T>> for Refusal {
+    fn from(refused: Refused<T>) -> Refusal {
+        refused.refusal
+    }
+}
+
 /// Whether a status says that the call was accepted.
 #[inline]
 pub(crate) fn done(status: u32) -> Result<(), Refusal> {
@@ -168,7 +197,12 @@ impl Written {
     #[inline]
     pub(crate) fn of(told: sys::Written) -> Result<Written, Refusal> {
         done(told.status)?;
-        Ok(Written { id: told.id, change: Change::of(told.change) })
+        Ok(Written::accepted(told))
+    }
+
+    #[inline]
+    pub(crate) fn accepted(told: sys::Written) -> Written {
+        Written { id: told.id, change: Change::of(told.change) }
     }
 }
 
@@ -238,6 +272,13 @@ impl Taken {
             outcome: Outcome::of(told.outcome, told.cause),
             cancelled: Promises::default(),
         })
+    }
+
+    /// Adds what was taken away next, with the same outcome. Writability changed by one of both at most.
+    pub(crate) fn add(&mut self, next: Taken) {
+        self.count += next.count;
+        self.promises.end = next.promises.end;
+        self.change = self.change.or(next.change);
     }
 
     pub(crate) fn without(mut self, cancelled: Promises) -> Taken {

@@ -1,6 +1,6 @@
 use crate::connection::Connection;
 use crate::raw::Place;
-use crate::replies::Taken;
+use crate::replies::{Refusal, Taken};
 use limekeel_sys as sys;
 use std::io::{self, ErrorKind, IoSlice, Write};
 
@@ -22,6 +22,33 @@ pub struct Sent {
     /// Whether a flushed message is left. If the writer was not blocked and took nothing, that in front is no block:
     /// [`Connection::current`] says what it is, and it is the caller's to send.
     pub more: bool,
+}
+
+/// What a connection sent in several turns.
+#[must_use = "nothing tells the change of writability or the settlements again"]
+#[derive(Debug)]
+pub struct SentTurns {
+    /// How many bytes were taken in all turns together.
+    pub bytes: u64,
+    /// Which messages are gone by that, and how it changed writability: from before the first turn to after the last.
+    pub taken: Taken,
+    /// How it ended. Flushed messages are left unless that is [`Ending::Drained`].
+    pub ending: Ending,
+}
+
+/// How a sending of several turns ended.
+#[derive(Debug)]
+pub enum Ending {
+    /// No flushed message is left.
+    Drained,
+    /// The writer has no room now: send again when it is ready.
+    Blocked,
+    /// A region or another message is in front, which is the caller's to send.
+    OtherInFront,
+    /// The turns are used up, and flushed messages are left: send again when the others had their turn.
+    TurnsUsed,
+    /// The writer is broken: give the connection up. What it took before is reported along with this.
+    Broken(io::Error),
 }
 
 impl Connection {
@@ -49,6 +76,59 @@ impl Connection {
         // no refusal is left that could come
         let taken = self.take_sent(bytes as u64).map_err(io::Error::other)?;
         Ok(Sent { bytes, taken, blocked, more: !self.is_empty() })
+    }
+
+    /// Lets a writer take of the flushed blocks in front, turn by turn as [`Connection::send_to`] does, until no flushed message
+    /// is left, a region or another message is in front, the writer would block, or `max_turns` turns were made; one turn is
+    /// made in any case, and each offers at most 1024 pieces.
+    ///
+    /// What the turns took away is returned as one interval. A writer that takes less than it was offered is asked again, since
+    /// some take little at a time. Empty messages in front are taken away however it ends.
+    ///
+    /// [`Refusal::Closed`] comes if the connection is closed, and no other refusal does.
+    ///
+    /// ```
+    /// use limekeel::{Connection, Ending, Estimate, Marks};
+    ///
+    /// let mut connection = Connection::open(Marks::default(), Estimate::default())?;
+    /// for _ in 0..3 {
+    ///     let _ = connection.write_static(b"news")?;
+    /// }
+    /// let _ = connection.flush()?;
+    /// let mut socket = Vec::new();
+    /// let sent = connection.send_until_blocked(&mut socket, 16)?;
+    /// assert!(matches!(sent.ending, Ending::Drained));
+    /// assert_eq!((sent.bytes, sent.taken.promises), (12, 0..3));
+    /// # Ok::<(), limekeel::Refusal>(())
+    /// ```
+    pub fn send_until_blocked<W: Write + ?Sized>(&mut self, writer: &mut W, max_turns: u32) -> Result<SentTurns, Refusal> {
+        self.send_until_blocked_with(max_turns, |pieces| writer.write_vectored(pieces))
+    }
+
+    /// The same for what is no [`Write`], as at [`Connection::send_with`].
+    pub fn send_until_blocked_with(
+        &mut self,
+        max_turns: u32,
+        mut write: impl FnMut(&[IoSlice<'_>]) -> io::Result<usize>,
+    ) -> Result<SentTurns, Refusal> {
+        let mut taken = Taken::of(self.handle.take_sent(0))?;
+        let (mut bytes, mut turns) = (0, 0);
+        let ending = loop {
+            turns += 1;
+            let took = self.write_once(&mut write);
+            let count = took.as_ref().map_or(0, |(count, _)| *count as u64);
+            bytes += count;
+            taken.add(Taken::of(self.handle.take_sent(count))?);
+            match took {
+                Err(error) => break Ending::Broken(error),
+                Ok((_, true)) => break Ending::Blocked,
+                Ok(_) if self.is_empty() => break Ending::Drained,
+                Ok((0, false)) => break Ending::OtherInFront,
+                Ok(_) if turns >= max_turns => break Ending::TurnsUsed,
+                Ok(_) => {}
+            }
+        };
+        Ok(SentTurns { bytes, taken: self.settled_by(taken), ending })
     }
 
     /// How many bytes a writer took, and whether it would block.

@@ -16,9 +16,12 @@ use std::sync::{Mutex, MutexGuard, PoisonError};
 /// thread::scope(|scope| {
 ///     for _ in 0..4 {
 ///         scope.spawn(|| {
-///             while shared.is_writable() {
+///             let mut written = 0;
+///             while shared.is_writable() && written < 20 {
 ///                 let _ = shared.lock().write(b"news").expect("it is open");
+///                 written += 1;
 ///             }
+///             assert!(written < 20); // eleven messages of 100 bytes are more than 1000
 ///         });
 ///     }
 /// });

@@ -1,15 +1,19 @@
-//! Where this crate allocates: a cancellation before it is in time, and nothing else. Counts, and may refuse, what is
+//! Where this crate allocates: a cancellation before it is in time, a write of what it is to own and a reservation before they
+//! are made, and nothing else. Counts, and may refuse, what is
 //! allocated by Rust on this thread; the archive's own memory is that of the C library.
 
 use limekeel::{Connection, Estimate, Marks, Outcome, Promise, Refusal};
 use std::alloc::{GlobalAlloc, Layout, System};
 use std::cell::Cell;
+use std::io::Write;
 use std::ptr::null_mut;
 
 struct Counting;
 
 thread_local! {
     static ASKED: Cell<u64> = const { Cell::new(0) };
+    /// What this thread allocated less what it freed, in bytes.
+    static LIVE: Cell<isize> = const { Cell::new(0) };
     static REFUSES: Cell<bool> = const { Cell::new(false) };
 }
 
@@ -17,10 +21,15 @@ thread_local! {
 unsafe impl GlobalAlloc for Counting {
     unsafe fn alloc(&self, layout: Layout) -> *mut u8 {
         ASKED.set(ASKED.get() + 1);
-        if REFUSES.get() { null_mut() } else { unsafe { System.alloc(layout) } }
+        if REFUSES.get() {
+            return null_mut();
+        }
+        LIVE.set(LIVE.get() + layout.size() as isize);
+        unsafe { System.alloc(layout) }
     }
 
     unsafe fn dealloc(&self, at: *mut u8, layout: Layout) {
+        LIVE.set(LIVE.get() - layout.size() as isize);
         unsafe { System.dealloc(at, layout) }
     }
 }
@@ -114,4 +123,90 @@ fn giving_up_does_not_allocate() {
     let taken = taken.expect("it is open");
     assert_eq!((taken.promises.clone(), taken.count, taken.change, asked), (0..10, 10, None, 0));
     assert_eq!(ids(taken.settled(), Outcome::Failed(6)), [0, 2, 3, 4, 6, 7, 9]);
+}
+
+#[test]
+fn a_write_that_is_refused_memory_gives_its_owner_back() {
+    let mut connection = Connection::open(Marks::default(), Estimate::default()).expect("there is memory");
+    let mut owner = [3; 100];
+    // room to keep it under its promise, and then memory to keep it in
+    for id in 0..2 {
+        let (answer, asked) = refused(|| connection.write_owned(owner));
+        let answer = answer.expect_err("it is refused");
+        assert_eq!((answer.refusal, asked, connection.look().total), (Refusal::NoMemory, 1, 0));
+        owner = answer.owner;
+        assert_eq!(connection.write_owned([]).expect("it is accepted").id, id);
+        let _ = connection.flush().expect("it is open");
+        let _ = connection.take_sent(0).expect("it waits");
+    }
+    assert_eq!((owner, connection.write_owned(owner).expect("it is accepted").id), ([3; 100], 2));
+    // for a list there is room already
+    let list = vec![4; 100];
+    let (answer, asked) = refused(|| connection.write_owned(list));
+    assert_eq!((answer.expect("it is accepted").id, asked), (3, 0));
+    let _ = connection.close(1).expect("nothing is flushed");
+    let answer = connection.write_owned(vec![5; 100]).expect_err("it is closed");
+    assert_eq!((answer.refusal, answer.owner), (Refusal::Closed, vec![5; 100]));
+}
+
+#[test]
+fn a_refused_reservation_changes_nothing() {
+    let mut connection = Connection::open(Marks::default(), Estimate::default()).expect("there is memory");
+    assert_eq!(refused(|| connection.reserve(10).err()), (Some(Refusal::NoMemory), 1));
+    assert_eq!(connection.reserve(usize::MAX).err(), Some(Refusal::NoMemory));
+    let mut room = connection.reserve(10).expect("there is memory");
+    room.write_all(b"first").expect("it has room");
+    assert_eq!(room.write_message().expect("it is accepted").id, 0);
+    let (answer, asked) = refused(|| connection.reserve(5).map(|room| room.left()));
+    assert_eq!((answer, asked), (Ok(5), 0));
+    assert_eq!(refused(|| connection.reserve(6).err()), (Some(Refusal::NoMemory), 1));
+    let mut room = connection.reserve(6).expect("there is memory");
+    room.write_all(b"second").expect("it has room");
+    assert_eq!(room.write_message().expect("it is accepted").id, 1);
+    let _ = connection.flush().expect("it is open");
+    let mut socket = [0; 11];
+    let (sent, asked) = refused(|| connection.send_until_blocked(&mut &mut socket[..], 9));
+    assert_eq!((sent.expect("it is open").bytes, asked, &socket), (11, 0, b"firstsecond"));
+}
+
+/// Bytes of this thread's that are live.
+fn live() -> isize {
+    LIVE.get()
+}
+
+#[test]
+fn a_refused_message_leaves_nothing() {
+    let mut connection = Connection::open(Marks::default(), Estimate::default()).expect("there is memory");
+    let _ = connection.close(1).expect("nothing is flushed");
+    let before = live();
+    for _ in 0..100 {
+        let mut room = connection.reserve(50).expect("there is memory");
+        room.write_all(&[1; 40]).expect("it has room");
+        assert_eq!(room.write_message(), Err(Refusal::Closed));
+        assert_eq!(live(), before);
+    }
+}
+
+#[test]
+fn what_was_lent_leaves_little() {
+    let before = live();
+    let mut connection = Connection::open(Marks::default(), Estimate::default()).expect("there is memory");
+    for number in 0..1000u32 {
+        let _ = connection.write_owned(vec![1; 1000]).expect("it is accepted");
+        let mut room = connection.reserve(100).expect("there is memory");
+        write!(room, "{number}").expect("it has room");
+        let _ = room.write_message().expect("it is accepted");
+    }
+    assert!(live() - before > 1_000_000);
+    let _ = connection.flush().expect("it is open");
+    let mut socket = Vec::with_capacity(2_000_000);
+    while connection.send_to(&mut socket).expect("it takes").more {}
+    drop(socket);
+    assert_eq!(live(), before, "nothing is left of a thousand");
+    let _ = connection.write_owned(vec![1; 1000]).expect("it is accepted");
+    let _ = connection.flush().expect("it is open");
+    let _ = connection.take_sent(1000).expect("it waits");
+    assert!(live() - before <= 8 * 32, "{}", live() - before);
+    connection.shrink_to_fit();
+    assert_eq!(live(), before);
 }

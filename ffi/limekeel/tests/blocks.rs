@@ -27,6 +27,7 @@ fn it_is_read_and_compared_as_its_bytes() {
     assert_eq!((&block[..], block.len(), block.first()), (&b"one\n"[..], 4, Some(&b'o')));
     assert_eq!(format!("{block:?}"), "b\"one\\n\"");
     assert_eq!(block, Block::from("one\n"));
+    assert_ne!(block, Block::from("two\n"));
     assert!(block < Block::from("two"));
     assert!(Block::from("").is_empty());
     let known: HashMap<Block, u32> = [(block, 1)].into();

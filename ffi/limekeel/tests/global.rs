@@ -8,7 +8,8 @@ use std::ptr::null_mut;
 struct Counting;
 
 thread_local! {
-    static LIVE: Cell<usize> = const { Cell::new(0) };
+    /// What this thread allocated less what it freed, in bytes: a thread also frees what another allocated for it, as its start.
+    static LIVE: Cell<isize> = const { Cell::new(0) };
     static REFUSES: Cell<bool> = const { Cell::new(false) };
 }
 
@@ -18,12 +19,12 @@ unsafe impl GlobalAlloc for Counting {
         if REFUSES.get() {
             return null_mut();
         }
-        LIVE.set(LIVE.get() + layout.size());
+        LIVE.set(LIVE.get() + layout.size() as isize);
         unsafe { System.alloc(layout) }
     }
 
     unsafe fn dealloc(&self, at: *mut u8, layout: Layout) {
-        LIVE.set(LIVE.get() - layout.size());
+        LIVE.set(LIVE.get() - layout.size() as isize);
         unsafe { System.dealloc(at, layout) }
     }
 }

@@ -103,6 +103,23 @@ fn a_thousand_messages_come_over_a_socket_in_two_calls() {
 }
 
 #[test]
+fn small_copies_go_as_few_pieces() {
+    let mut connection = Connection::open(Marks::default(), Estimate::default()).expect("there is memory");
+    for number in 0..400 {
+        let _ = connection.write(&[number as u8; 100]).expect("it is accepted");
+    }
+    let _ = connection.flush().expect("it is open");
+    let mut lengths = Vec::new();
+    let sent = connection.send_with(|pieces| {
+        lengths = pieces.iter().map(|piece| piece.len()).collect();
+        Ok(lengths.iter().sum())
+    });
+    assert_eq!(sent.expect("it takes").bytes, 40_000);
+    // the first four have memory of their own, and the others share chunks of 1, 2, 4, 8, 16 and 16 KiB
+    assert!(lengths.len() <= 4 + 6, "{lengths:?}");
+}
+
+#[test]
 fn parts_are_one_message() {
     let mut connection = with_bytes(0);
     let bytes: Vec<u8> = (0..100).collect();

@@ -1,6 +1,6 @@
-use Rattle.std.proofs.Common.{◌≡◌, map, take}
-use Rattle.ob_c.specs.Parts.{bytes_of}
+use Rattle.std.proofs.Common.{◌≡◌, take}
+use Rattle.ob_c.specs.Parts.{slices_of}
 use Rattle.ob_c.proofs.parts.listed.Given as goal
 
 abbrev pub invariant-loop-part : goal.invariant-loop-part
-invariant-loop-part l = map (λ bytes. bytes.now) l.list.items ≡ map bytes_of (take l.part-index l.fn.parts)
+invariant-loop-part l = l.list.items ≡ slices_of (take l.part-index l.fn.parts)

@@ -1,11 +1,11 @@
-use Rattle.std.proofs.Common.{◌≡◌, length, map, take, refl, ap, subst, arith}
-use Rattle.std.specs.List.{concat}
+use Rattle.std.proofs.Common.{◌≡◌, length, take, refl, ap, subst, arith}
 use Rattle.std.proofs.lemmas.List.{length-set, take_all}
 use Rattle.ob_types.specs.declared.command.Command.TheVariants.{Write}
 use Rattle.ob_types.specs.declared.message.Message.TheVariants.{Block as AsBlock}
 use Rattle.ob_connection.specs.Obeying.{Obeys}
+use Rattle.ob_connection.specs.Parts.{joined}
 use Rattle.ob_connection.specs.Replies.{written_reply}
-use Rattle.ob_c.specs.Parts.{bytes_of}
+use Rattle.ob_c.specs.Parts.{slices_of}
 use Rattle.ob_c.proofs.Listing.{list_more}
 use Rattle.ob_c.proofs.parts.write_few.Goals as goal
 
@@ -24,7 +24,7 @@ pub returns : goal.returns
 returns c =
     let at = c.loop-at in
     let end : at.at ≡ length c.args.parts.now = omega (arith, c.loop-at-test.false, at.auto.at-end) in
-    let all : map (λ part. part.now) (take (length c.args.parts.now) at.few) ≡ map bytes_of c.args.parts.now =
+    let all : take (length c.args.parts.now) at.few ≡ slices_of c.args.parts.now =
     rw (end, take_all (length c.args.parts.now) c.args.parts.now (omega arith)) at at.invariant.listed in
     subst (λ bytes. Obeys c.args.connection.now (Write (AsBlock bytes)) written_reply c.write_parts.result c.write_parts.new.self)
-    (ap concat all) c.write_parts.ensures.obeys
+    (ap joined all) c.write_parts.ensures.obeys

@@ -1,0 +1,188 @@
+//! Memory that messages are lent, kept until the archive told that they are gone.
+//!
+//! `Handle` writes with it and tells it what is gone; the `unsafe` here and there stands on this: what is kept under a promise is
+//! neither moved nor dropped, nor are its bytes changed, before [`Lent::let_go_below`] is called with an end above that promise.
+
+use crate::replies::Refusal;
+use std::collections::VecDeque;
+use std::fmt::{self, Debug, Formatter};
+use std::mem::{replace, take};
+use std::ptr::NonNull;
+
+/// For how many owners room is kept if none is left.
+const FEW: usize = 8;
+/// How large the second chunk is at least, and each at most that was not asked for larger, in bytes: as in the archive.
+const SMALL: usize = 1024;
+const LARGE: usize = 16384;
+
+/// The owner of bytes, in memory of its own: it stays where it is, and nothing but its bytes is reached, until it is dropped.
+pub(crate) struct Owner<T: ?Sized>(NonNull<T>);
+
+/// What is kept: the list itself, whose bytes stay where they are if it is moved, or an owner of any type.
+#[allow(dead_code, reason = "it is there to be dropped")]
+pub(crate) enum Kept {
+    List(Vec<u8>),
+    Owner(Owner<dyn Send>),
+}
+
+// SAFETY: what is behind the pointer is this value's own, and `Send`.
+unsafe impl<T: Send + ?Sized> Send for Owner<T> {}
+
+impl<T: Send + 'static> Owner<[T; 1]> {
+    /// An owner, or what was to be one if memory is refused.
+    pub(crate) fn new(owner: T) -> Result<Owner<[T; 1]>, T> {
+        let mut room = Vec::new();
+        // a `Box` of its own aborts if memory is refused
+        if room.try_reserve_exact(1).is_err() {
+            return Err(owner);
+        }
+        room.push(owner);
+        let Ok(room) = <Box<[T; 1]>>::try_from(room) else { unreachable!("it has one element") };
+        Ok(Owner(NonNull::from(Box::leak(room))))
+    }
+
+    /// Its bytes, which lie there as long as this owner is not dropped.
+    pub(crate) fn bytes(&self) -> &[u8]
+    where
+        T: AsRef<[u8]>,
+    {
+        // SAFETY: the pointer is that of a box of this value's own, and nothing else reaches what is in it.
+        let [owner] = unsafe { self.0.as_ref() };
+        owner.as_ref()
+    }
+
+    /// What it was made of.
+    pub(crate) fn into_inner(self) -> T {
+        let at = self.0;
+        std::mem::forget(self);
+        // SAFETY: the pointer is that of a box, which nobody drops: the value was forgotten.
+        let [owner] = *unsafe { Box::from_raw(at.as_ptr()) };
+        owner
+    }
+
+    pub(crate) fn of_any_type(self) -> Kept {
+        let at = self.0;
+        std::mem::forget(self);
+        Kept::Owner(Owner(at))
+    }
+}
+
+impl<T: ?Sized> Drop for Owner<T> {
+    fn drop(&mut self) {
+        // SAFETY: the pointer is that of a box of this value's own.
+        drop(unsafe { Box::from_raw(self.0.as_ptr()) });
+    }
+}
+
+/// What messages that wait are lent.
+#[derive(Default)]
+pub(crate) struct Lent {
+    /// Each with the last promise that has a part in it. A chunk may stand behind owners of later promises.
+    owners: VecDeque<(u64, Kept)>,
+    /// What messages are made in, one behind the other. It is longer while one is made, and never grows past its capacity.
+    chunk: Vec<u8>,
+    /// The promise of the last message in it.
+    last: u64,
+}
+
+impl Debug for Lent {
+    fn fmt(&self, formatter: &mut Formatter<'_>) -> fmt::Result {
+        formatter.debug_struct("Lent").field("owners", &self.owners.len()).field("made", &self.chunk.len()).finish()
+    }
+}
+
+impl Lent {
+    #[inline]
+    pub(crate) fn is_empty(&self) -> bool {
+        self.owners.is_empty() && self.chunk.is_empty()
+    }
+
+    /// Memory to keep one owner more.
+    #[inline]
+    pub(crate) fn make_room(&mut self) -> Result<(), Refusal> {
+        if self.owners.len() < self.owners.capacity() { Ok(()) } else { self.grow() }
+    }
+
+    #[cold]
+    fn grow(&mut self) -> Result<(), Refusal> {
+        self.owners.try_reserve(1).map_err(|_| Refusal::NoMemory)
+    }
+
+    /// Keeps an owner, for which `make_room` made room, under the last promise that has a part in it.
+    pub(crate) fn keep(&mut self, last: u64, owner: Kept) {
+        self.owners.push_back((last, owner));
+    }
+
+    /// Memory in which `most` bytes are made, behind those that are there.
+    pub(crate) fn reserve(&mut self, most: usize) -> Result<(), Refusal> {
+        if self.chunk.capacity() - self.chunk.len() >= most {
+            return Ok(());
+        }
+        let mut next = Vec::new();
+        let refused = |_| Refusal::NoMemory;
+        if self.chunk.is_empty() {
+            // a message alone takes what it asks for
+            next.try_reserve_exact(most).map_err(refused)?;
+            self.chunk = next;
+            return Ok(());
+        }
+        // and more that wait share
+        let shared = (2 * self.chunk.capacity()).clamp(SMALL, LARGE);
+        next.try_reserve_exact(most.max(shared)).map_err(refused)?;
+        self.make_room()?;
+        let full = replace(&mut self.chunk, next);
+        self.keep(self.last, Kept::List(full));
+        Ok(())
+    }
+
+    /// How many bytes the chunk has.
+    pub(crate) fn made(&self) -> usize {
+        self.chunk.len()
+    }
+
+    /// The bytes from this place on.
+    pub(crate) fn made_from(&self, start: usize) -> &[u8] {
+        &self.chunk[start..]
+    }
+
+    /// Adds as many of these bytes as there is room for without moving the others, and returns how many.
+    pub(crate) fn add(&mut self, bytes: &[u8]) -> usize {
+        let count = bytes.len().min(self.chunk.capacity() - self.chunk.len());
+        self.chunk.extend_from_slice(&bytes[..count]);
+        count
+    }
+
+    /// Takes what was made from this place on back, in which no message has a part. A chunk without a message goes.
+    pub(crate) fn take_back(&mut self, start: usize) {
+        if start == 0 {
+            drop(take(&mut self.chunk));
+        }
+        self.chunk.truncate(start);
+    }
+
+    /// The bytes that were made last are of the message with this promise.
+    pub(crate) fn keep_made(&mut self, id: u64) {
+        self.last = id;
+    }
+
+    /// Lets go of that in which no message from this promise on has a part. It does not allocate.
+    pub(crate) fn let_go_below(&mut self, end: u64) {
+        while self.owners.front().is_some_and(|(last, _)| *last < end) {
+            // a drop of the owner's that panics leaves the others for the next call
+            drop(self.owners.pop_front());
+        }
+        if self.owners.capacity() > FEW {
+            self.give_back();
+        }
+        if self.last < end {
+            drop(take(&mut self.chunk));
+        }
+    }
+
+    /// Keeps no room for owners if there are none.
+    pub(crate) fn give_back(&mut self) {
+        if self.owners.is_empty() {
+            self.owners = VecDeque::new();
+        }
+    }
+}

@@ -1,0 +1,383 @@
+//! Memory that messages are lent: it lies where it was, and goes as its message is told as gone, and not before.
+
+use limekeel::{Block, Connection, Ending, Estimate, Marks, Outcome, Refusal};
+use std::collections::VecDeque;
+use std::io::{self, ErrorKind, IoSlice, Write};
+use std::sync::{Arc, Mutex};
+use std::thread;
+
+/// The names of the owners that were dropped, in order.
+type Dropped = Arc<Mutex<Vec<u64>>>;
+
+/// Bytes that tell when they are dropped. They lie in the owner itself, so that they would move with it.
+struct Watched {
+    bytes: [u8; 24],
+    name: u64,
+    dropped: Dropped,
+}
+
+impl AsRef<[u8]> for Watched {
+    fn as_ref(&self) -> &[u8] {
+        &self.bytes
+    }
+}
+
+impl Drop for Watched {
+    fn drop(&mut self) {
+        self.bytes = [0xee; 24];
+        self.dropped.lock().expect("nobody panicked").push(self.name);
+    }
+}
+
+fn connection() -> Connection {
+    Connection::open(Marks::default(), Estimate::default()).expect("there is memory")
+}
+
+/// Writes the bytes of a watched owner that is named after the promise.
+fn write_watched(connection: &mut Connection, name: u64, dropped: &Dropped) {
+    let owner = Watched { bytes: [name as u8; 24], name, dropped: dropped.clone() };
+    assert_eq!(connection.write_owned(owner).expect("it is accepted").id, name);
+}
+
+/// The names that were dropped since the last time.
+fn names(dropped: &Dropped) -> Vec<u64> {
+    std::mem::take(&mut dropped.lock().expect("nobody panicked"))
+}
+
+#[test]
+fn an_owner_goes_with_the_call_that_tells_its_message() {
+    let (mut connection, dropped) = (connection(), Dropped::default());
+    for name in 0..20 {
+        write_watched(&mut connection, name, &dropped);
+    }
+    assert_eq!(connection.cancel(3), Ok(true));
+    assert_eq!(connection.cancel(6), Ok(true));
+    let _ = connection.flush().expect("it is open");
+    assert_eq!(names(&dropped), []);
+    let _ = connection.take_sent(24 + 23).expect("they wait");
+    assert_eq!(names(&dropped), [0]);
+    assert_eq!(connection.remove().expect("it is open").settled, Some((1, Outcome::Success)));
+    assert_eq!(names(&dropped), [1]);
+    assert_eq!(connection.remove_with(4).expect("it is open").settled, Some((2, Outcome::Failed(4))));
+    assert_eq!(names(&dropped), [2]);
+    // cancelled: no promise is told, and its message is gone all the same
+    assert_eq!(connection.remove().expect("it is open").settled, None);
+    assert_eq!(names(&dropped), [3]);
+    assert_eq!(connection.take_sent(9999), Err(Refusal::TooManyBytes));
+    assert_eq!(names(&dropped), []);
+    let mut room = [0; 60];
+    assert_eq!(connection.send_to(&mut &mut room[..]).expect("it takes").bytes, 60);
+    assert_eq!((names(&dropped), room[..25].to_vec()), (vec![4, 5, 6], [vec![4; 24], vec![5]].concat()));
+    let sent = connection.send_until_blocked(&mut &mut room[..13], 1).expect("it is open");
+    assert_eq!((sent.bytes, names(&dropped)), (13, vec![7]));
+    assert_eq!(connection.fail_flushed(1, true).expect("it is open").promises, 8..20);
+    assert_eq!(names(&dropped), (8..20).collect::<Vec<_>>());
+    assert!(!connection.remove().expect("it is open").any);
+    write_watched(&mut connection, 20, &dropped);
+    assert_eq!(names(&dropped), []);
+    let _ = connection.close(1).expect("nothing is flushed");
+    assert_eq!(names(&dropped), [20]);
+}
+
+#[test]
+fn an_end_lets_all_go() {
+    let dropped = Dropped::default();
+    let mut given_up = connection();
+    write_watched(&mut given_up, 0, &dropped);
+    let _ = given_up.flush().expect("it is open");
+    write_watched(&mut given_up, 1, &dropped);
+    let _ = given_up.give_up(1).expect("it is open");
+    assert_eq!(names(&dropped), [0, 1]);
+    let mut ended = connection();
+    write_watched(&mut ended, 0, &dropped);
+    assert_eq!(names(&dropped), []);
+    drop(ended);
+    assert_eq!(names(&dropped), [0]);
+}
+
+#[test]
+fn a_refused_owner_comes_back() {
+    let (mut connection, dropped) = (connection(), Dropped::default());
+    let _ = connection.close(1).expect("nothing is flushed");
+    let owner = Watched { bytes: [9; 24], name: 9, dropped: dropped.clone() };
+    let refused = connection.write_owned(owner).expect_err("it is closed");
+    assert_eq!((refused.refusal, refused.owner.bytes, names(&dropped)), (Refusal::Closed, [9; 24], vec![]));
+    assert_eq!(refused.to_string(), "the connection is closed");
+    assert!(format!("{refused:?}").contains("Closed"));
+    assert_eq!(Refusal::from(refused), Refusal::Closed);
+    assert_eq!(names(&dropped), [9]);
+    assert_eq!(connection.write_static(b"no"), Err(Refusal::Closed));
+    let mut room = connection.reserve(5).expect("there is memory");
+    room.write_all(b"no").expect("it has room");
+    assert_eq!(room.write_message(), Err(Refusal::Closed));
+}
+
+#[test]
+fn nothing_is_copied() {
+    static FOREVER: [u8; 5000] = [5; 5000];
+    let mut connection = connection();
+    let lists: Vec<Vec<u8>> = (0..40).map(|byte| vec![byte; 3000]).collect();
+    let at: Vec<*const u8> = lists.iter().map(|list| list.as_ptr()).collect();
+    let _ = connection.write_static(&FOREVER).expect("it is accepted");
+    for list in lists {
+        let _ = connection.write_owned(list).expect("it is accepted");
+    }
+    let _ = connection.write_owned("text").expect("it is accepted");
+    let _ = connection.write_owned(Arc::<[u8]>::from([1, 2])).expect("it is accepted");
+    assert_eq!(connection.look().total, 5000 + 40 * 3000 + 4 + 2 + 43 * 96);
+    let _ = connection.flush().expect("it is open");
+    let pieces = connection.pieces::<64>(u32::MAX);
+    assert_eq!(pieces.len(), 43);
+    assert_eq!(pieces[0].as_ptr(), FOREVER.as_ptr());
+    assert!(pieces[1..41].iter().map(|piece| piece.as_ptr()).eq(at));
+    assert_eq!((&pieces[41][..], &pieces[42][..]), (&b"text"[..], &[1, 2][..]));
+}
+
+#[test]
+fn what_is_made_has_no_more_than_it_asked_for() {
+    let mut connection = connection();
+    let mut room = connection.reserve(6).expect("there is memory");
+    write!(room, "{}-{}", 12, 34).expect("it has room");
+    assert_eq!((&room[..], room.left()), (&b"12-34"[..], 1));
+    assert_eq!(room.write(b"ab").expect("no error"), 1);
+    assert_eq!(room.write_all(b"c").expect_err("it is full").kind(), ErrorKind::WriteZero);
+    assert_eq!(room.write_message().expect("it is accepted").id, 0);
+    // a second in the same memory, and one that comes to nothing between
+    let mut room = connection.reserve(1000).expect("there is memory");
+    room.write_all(b"nothing").expect("it has room");
+    drop(room);
+    assert_eq!(connection.reserve(0).expect("there is memory").write_message().expect("it is accepted").id, 1);
+    let mut room = connection.reserve(4).expect("there is memory");
+    room.write_all(b"more").expect("it has room");
+    assert_eq!(room.write_message().expect("it is accepted").id, 2);
+    // the chunk of these has room for more than they ask for
+    for (id, text) in [(3, "abc"), (4, "def")] {
+        let mut room = connection.reserve(3).expect("there is memory");
+        room.write_all(text.as_bytes()).expect("it has room");
+        assert_eq!((room.write(b"z").expect("no error"), room.left()), (0, 0));
+        assert_eq!(room.write_message().expect("it is accepted").id, id);
+    }
+    assert_eq!(connection.look().total, 6 + 4 + 3 + 3 + 5 * 96);
+    let _ = connection.flush().expect("it is open");
+    let mut socket = Vec::new();
+    assert!(!connection.send_to(&mut socket).expect("it takes").more);
+    assert_eq!(socket, b"12-34amoreabcdef");
+}
+
+#[test]
+fn a_refused_message_leaves_the_others_where_they_are() {
+    let mut connection = connection();
+    let large: &'static [u8] = Box::leak(vec![0; 1 << 26].into_boxed_slice());
+    let _ = connection.write_static(b"gone").expect("it is accepted");
+    let mut room = connection.reserve(1000).expect("there is memory");
+    room.write_all(&[7; 500]).expect("it has room");
+    assert_eq!(room.write_message().expect("it is accepted").id, 1);
+    for _ in 0..63 {
+        let _ = connection.write_static(large).expect("it is accepted");
+    }
+    // 100 less than may be pending, so that no message goes along
+    let left = u32::MAX - connection.look().total - 100;
+    let _ = connection.write_static(&large[..left as usize]).expect("it is accepted");
+    let mut room = connection.reserve(100).expect("there is memory");
+    room.write_all(&[8; 100]).expect("it has room");
+    assert_eq!(room.write_message(), Err(Refusal::TooMuch));
+    let _ = connection.flush().expect("it is open");
+    assert_eq!(connection.take_sent(4).expect("they wait").promises, 0..1);
+    assert_eq!(connection.pieces::<1>(u32::MAX)[0][..], [7; 500]);
+}
+
+#[test]
+fn small_messages_that_are_made_lie_together() {
+    let mut connection = connection();
+    let mut wanted = Vec::new();
+    for number in 0..600u32 {
+        let text = format!("message {number}\n");
+        let mut room = connection.reserve(100).expect("there is memory");
+        room.write_all(text.as_bytes()).expect("it has room");
+        let _ = room.write_message().expect("it is accepted");
+        wanted.extend_from_slice(text.as_bytes());
+    }
+    let _ = connection.flush().expect("it is open");
+    let (mut socket, mut most) = (Vec::new(), 0);
+    let sent = connection.send_with(|pieces| {
+        most = pieces.len();
+        socket.write_vectored(pieces)
+    });
+    assert_eq!(sent.expect("it takes").taken.count, 600);
+    // 7 KB in the first of 100 bytes, and then chunks of 1, 2, 4 and 8 KiB
+    assert!(most <= 6, "{most} pieces");
+    assert_eq!(socket, wanted);
+}
+
+/// A writer that does the next of its steps: it takes so many bytes, or fails.
+struct Steps(VecDeque<Result<usize, ErrorKind>>, Vec<u8>);
+
+impl Write for Steps {
+    fn write(&mut self, _: &[u8]) -> io::Result<usize> {
+        unreachable!("a vectored write is asked for")
+    }
+
+    fn write_vectored(&mut self, pieces: &[IoSlice<'_>]) -> io::Result<usize> {
+        let given: Vec<u8> = pieces.iter().flat_map(|piece| piece.iter().copied()).collect();
+        let count = self.0.pop_front().expect("a step for each write").map_err(io::Error::from)?;
+        self.1.extend(&given[..count.min(given.len())]);
+        Ok(count.min(given.len()))
+    }
+
+    fn flush(&mut self) -> io::Result<()> {
+        Ok(())
+    }
+}
+
+fn ending_of(ending: &Ending) -> String {
+    match ending {
+        Ending::Broken(error) => format!("{:?}", error.kind()),
+        other => format!("{other:?}"),
+    }
+}
+
+#[test]
+fn sendings_end_as_they_say() {
+    // by hand: ten messages of one byte wait, of which the fourth is cancelled, and behind them a region
+    type Case<'a> = (&'a [Result<usize, ErrorKind>], u32, &'a str, u64, u64);
+    let cases: [Case<'_>; 8] = [
+        (&[Ok(9)], 9, "OtherInFront", 9, 10),
+        (&[Ok(2), Ok(2), Ok(5)], 9, "OtherInFront", 9, 10),
+        (&[Ok(2), Err(ErrorKind::WouldBlock)], 9, "Blocked", 2, 2),
+        (&[Err(ErrorKind::WouldBlock)], 0, "Blocked", 0, 0),
+        // with the third byte the message that was cancelled goes too
+        (&[Ok(1), Ok(2)], 2, "TurnsUsed", 3, 4),
+        (&[Ok(1)], 0, "TurnsUsed", 1, 1),
+        (&[Ok(1), Err(ErrorKind::Interrupted), Ok(1), Err(ErrorKind::ConnectionReset)], 9, "ConnectionReset", 2, 2),
+        (&[Ok(1), Ok(0)], 9, "WriteZero", 1, 1),
+    ];
+    for (steps, turns, ending, bytes, end) in cases {
+        let mut connection = connection();
+        for byte in 0..10 {
+            let _ = connection.write(&[byte]).expect("it is accepted");
+        }
+        let _ = connection.write_region(7).expect("it is accepted");
+        assert_eq!(connection.cancel(3), Ok(true));
+        let _ = connection.flush().expect("it is open");
+        let mut writer = Steps(steps.iter().copied().collect(), Vec::new());
+        let sent = connection.send_until_blocked(&mut writer, turns).expect("it is open");
+        assert_eq!((&*ending_of(&sent.ending), sent.bytes, sent.taken.promises.clone()), (ending, bytes, 0..end), "{steps:?}");
+        assert_eq!((sent.taken.count, sent.taken.outcome), (end, Outcome::Success));
+        let settled: Vec<u64> = sent.taken.settled().map(|(id, _)| id).collect();
+        assert_eq!(settled, (0..end).filter(|id| *id != 3).collect::<Vec<_>>());
+        assert_eq!(writer.1, (0..10).filter(|byte| *byte != 3).take(bytes as usize).collect::<Vec<u8>>());
+        assert!(writer.0.is_empty());
+        assert_eq!(connection.look().size, 11 - end);
+    }
+}
+
+#[test]
+fn a_sending_of_several_turns_tells_its_change_once() {
+    use limekeel::Change;
+    let mut connection = Connection::open(Marks { low: 300, high: 400 }, Estimate::default()).expect("there is memory");
+    for byte in 0..5 {
+        let _ = connection.write(&[byte]).expect("it is accepted");
+    }
+    let _ = connection.flush().expect("it is open");
+    // five times 97 bytes are pending, and below 300 with the second that goes
+    let mut writer = Steps([Ok(1), Ok(1), Ok(1), Ok(2)].into(), Vec::new());
+    let sent = connection.send_until_blocked(&mut writer, 9).expect("it is open");
+    assert_eq!((sent.taken.change, sent.taken.promises, ending_of(&sent.ending)), (Some(Change::Writable), 0..5, "Drained".into()));
+    let _ = connection.close(1).expect("nothing is flushed");
+    assert_eq!(connection.send_until_blocked(&mut writer, 9).err(), Some(Refusal::Closed));
+}
+
+struct Dice(u64);
+
+impl Dice {
+    fn below(&mut self, limit: u64) -> u64 {
+        self.0 ^= self.0 << 13;
+        self.0 ^= self.0 >> 7;
+        self.0 ^= self.0 << 17;
+        self.0 % limit
+    }
+}
+
+/// Messages of all kinds by chance, beside a list: each byte comes in order, and an owner goes as its message does.
+fn by_chance(seed: u64) {
+    let mut dice = Dice(seed);
+    let (mut connection, dropped) = (connection(), Dropped::default());
+    let (mut waits, mut gone, mut came) = (VecDeque::<(Vec<u8>, bool)>::new(), 0, Vec::new());
+    let mut wanted = Vec::new();
+    let mut next = 0;
+    for _ in 0..3000 {
+        match dice.below(8) {
+            0..6 => {
+                let longest = if dice.below(20) == 0 { 6000 } else { 60 };
+                let length = dice.below(longest) as usize;
+                let bytes: Vec<u8> = (0..length).map(|at| (next * 31 + at as u64) as u8).collect();
+                let kind = dice.below(5);
+                let written = match kind {
+                    0 => connection.write(&bytes),
+                    1 => connection.write_block(&Block::from(&bytes[..])),
+                    2 => connection.write_owned(bytes.clone()).map_err(Refusal::from),
+                    3 => {
+                        let spare = dice.below(50) as usize;
+                        let mut room = connection.reserve(bytes.len() + spare).expect("there is memory");
+                        room.write_all(&bytes).expect("it has room");
+                        room.write_message()
+                    }
+                    _ => {
+                        let owner = Watched { bytes: [next as u8; 24], name: next, dropped: dropped.clone() };
+                        connection.write_owned(owner).map_err(Refusal::from)
+                    }
+                };
+                let bytes = if kind == 4 { vec![next as u8; 24] } else { bytes };
+                assert_eq!(written.expect("it is accepted").id, next);
+                wanted.extend_from_slice(&bytes);
+                waits.push_back((bytes, kind == 4));
+                next += 1;
+            }
+            6 => {
+                let _ = connection.flush().expect("it is open");
+            }
+            _ => {
+                let most = dice.below(3000) as usize;
+                let taken = connection.send_with(|pieces| {
+                    let given: Vec<u8> = pieces.iter().flat_map(|piece| piece.iter().copied()).collect();
+                    let count = most.min(given.len()).max(1);
+                    came.extend_from_slice(&given[..count]);
+                    Ok(count)
+                });
+                let taken = taken.expect("it takes").taken;
+                assert_eq!(taken.promises.start, gone);
+                let watched: Vec<u64> =
+                    waits.drain(..taken.count as usize).zip(gone..).filter(|((_, watched), _)| *watched).map(|(_, id)| id).collect();
+                assert_eq!(names(&dropped), watched);
+                gone = taken.promises.end;
+            }
+        }
+    }
+    let _ = connection.flush().expect("it is open");
+    let sent = connection.send_until_blocked(&mut came, u32::MAX).expect("it is open");
+    assert!(matches!(sent.ending, Ending::Drained));
+    assert_eq!((sent.taken.promises.end, came == wanted), (next, true));
+}
+
+#[test]
+fn messages_of_all_kinds_come_in_order_and_let_go() {
+    thread::scope(|scope| {
+        for seed in 1..=4 {
+            scope.spawn(move || (0..5).for_each(|turn| by_chance(seed << 32 | (turn + 1))));
+        }
+    });
+}
+
+#[test]
+fn a_connection_with_owners_goes_to_another_thread() {
+    let (mut connection, dropped) = (connection(), Dropped::default());
+    write_watched(&mut connection, 0, &dropped);
+    let _ = connection.flush().expect("it is open");
+    let sent = thread::spawn(move || {
+        let mut socket = Vec::new();
+        let _ = connection.send_to(&mut socket).expect("it takes");
+        socket
+    });
+    assert_eq!(sent.join().expect("it ends"), [0; 24]);
+    assert_eq!(names(&dropped), [0]);
+}

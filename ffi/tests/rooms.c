@@ -1,0 +1,187 @@
+/*
+ * Messages that are made in place, beside copies: each byte comes in order, small ones lie together in memory, and memory goes
+ * with the messages in it. The heap here counts what is live, and may refuse.
+ */
+#include <stdio.h>
+#include <stdlib.h>
+#include <string.h>
+
+#include "limekeel.h"
+
+#define MANY 600
+#define LONGEST 40
+
+static uint8_t nowhere;
+static size_t live; /* blocks that were given and not freed */
+static bool refuses;
+
+struct limekeel_memory limekeel_alloc(size_t size, size_t align)
+{
+    (void)align;
+    void *at = refuses ? NULL : malloc(size > 0 ? size : 1);
+    struct limekeel_memory memory = {at != NULL, at ? at : &nowhere};
+    live += at != NULL;
+    return memory;
+}
+
+struct limekeel_memory limekeel_realloc(uint8_t *at, size_t kept, size_t size, size_t align)
+{
+    (void)kept;
+    (void)align;
+    void *moved = refuses ? NULL : realloc(at, size > 0 ? size : 1);
+    struct limekeel_memory memory = {moved != NULL, moved ? moved : &nowhere};
+    return memory;
+}
+
+void limekeel_dealloc(uint8_t *at)
+{
+    live--;
+    free(at);
+}
+
+static void expect(const char *what, bool holds)
+{
+    if (!holds) {
+        fprintf(stderr, "not so: %s\n", what);
+        exit(1);
+    }
+}
+
+static struct limekeel_connection connection = LIMEKEEL_CONNECTION;
+static struct limekeel_rooms rooms = LIMEKEEL_ROOMS;
+
+/* Message n, as text. */
+static size_t text_of(size_t message, uint8_t *at, size_t most)
+{
+    int length = snprintf((char *)at, most, "message %zu%s", message, message % 3 == 0 ? " is long" : "");
+    expect("it has room", length > 0 && (size_t)length < most);
+    return (size_t)length;
+}
+
+static size_t made(size_t message, size_t most)
+{
+    uint8_t *room = limekeel_reserve(&rooms, most);
+    expect("there is room", room != NULL);
+    size_t length = text_of(message, room, most);
+    expect("it is written", limekeel_write_reserved(&rooms, &connection, length).id == message);
+    return length;
+}
+
+/* Made and copied in turn, and taken away a few at a time. */
+static void come_in_order(void)
+{
+    static uint8_t wanted[MANY * LONGEST], came[MANY * LONGEST];
+    size_t total = 0, taken = 0;
+    for (size_t message = 0; message < MANY; message++) {
+        size_t length = text_of(message, wanted + total, LONGEST);
+        if (message % 7 == 0)
+            expect("a copy", limekeel_write(&connection, wanted + total, length).id == message);
+        else
+            expect("as long as it should be", made(message, LONGEST) == length);
+        total += length;
+    }
+    expect("flush", limekeel_flush(&connection).count == MANY);
+    for (size_t step = 1; taken < total; step = step % 90 + 7) {
+        struct limekeel_piece pieces[8];
+        struct limekeel_gathered front = limekeel_gather(&connection, pieces, 8, UINT32_MAX);
+        size_t left = step;
+        for (size_t at = 0; at < front.count && left > 0; at++) {
+            size_t part = pieces[at].length < left ? pieces[at].length : left;
+            memcpy(came + taken, pieces[at].at, part);
+            taken += part;
+            left -= part;
+        }
+        struct limekeel_taken gone = limekeel_take_sent(&connection, step - left);
+        expect("take_sent", gone.status == LIMEKEEL_OK);
+        limekeel_let_go(&rooms, gone.to);
+    }
+    expect("as it was made", memcmp(came, wanted, total) == 0);
+    expect("nothing is kept", rooms.first == NULL && rooms.last == NULL);
+}
+
+static void lie_together(void)
+{
+    struct limekeel_piece pieces[MANY];
+    size_t first = MANY, parts = 1;
+    for (size_t message = first; message < 2 * MANY; message++)
+        made(message, LONGEST);
+    expect("flush", limekeel_flush(&connection).count == MANY);
+    expect("gather", limekeel_gather(&connection, pieces, MANY, UINT32_MAX).count == MANY);
+    for (size_t at = 1; at < MANY; at++)
+        parts += pieces[at].at != pieces[at - 1].at + pieces[at - 1].length;
+    /* 10 KB, in what one asks for and in chunks of 1, 2, 4 and 8 KiB */
+    expect("in few pieces", parts <= 5);
+    struct limekeel_taken gone = limekeel_fail_flushed(&connection, 1, true);
+    limekeel_let_go(&rooms, gone.to - 1);
+    expect("the last keeps its chunk alone", rooms.first != NULL && rooms.first == rooms.last);
+    limekeel_let_go(&rooms, gone.to);
+    expect("and lets it go", rooms.first == NULL);
+}
+
+/* A write that is refused memory, behind others in the chunk: they stay, and it can be made again. Returns the next promise. */
+static size_t a_refused_write(size_t first)
+{
+    size_t message = first;
+    struct limekeel_written told = {0};
+    expect("there is room", limekeel_reserve(&rooms, 100 * LONGEST) != NULL);
+    refuses = true;
+    while (told.status == LIMEKEEL_OK && message < first + 100) {
+        size_t length = text_of(message, limekeel_reserve(&rooms, LONGEST), LONGEST);
+        told = limekeel_write_reserved(&rooms, &connection, length);
+        message += told.status == LIMEKEEL_OK;
+    }
+    refuses = false;
+    expect("memory is refused once some wait", told.status == LIMEKEEL_NO_MEMORY && message > first);
+    limekeel_let_go(&rooms, first);
+    made(message++, LONGEST);
+    expect("flush", limekeel_flush(&connection).count == message - first);
+    struct limekeel_piece pieces[100];
+    size_t count = limekeel_gather(&connection, pieces, 100, UINT32_MAX).count;
+    expect("all wait", count == message - first);
+    for (size_t at = 0; at < count; at++) {
+        uint8_t wanted[LONGEST];
+        size_t length = text_of(first + at, wanted, LONGEST);
+        expect("as they were made", pieces[at].length == length && memcmp(pieces[at].at, wanted, length) == 0);
+    }
+    limekeel_let_go(&rooms, limekeel_fail_flushed(&connection, 1, true).to);
+    expect("with what they lay in", rooms.first == NULL);
+    return message;
+}
+
+static void refusals(size_t first)
+{
+    refuses = true;
+    expect("memory is refused", limekeel_reserve(&rooms, 10) == NULL);
+    refuses = false;
+    expect("so is more than there is", limekeel_reserve(&rooms, SIZE_MAX) == NULL && limekeel_reserve(&rooms, SIZE_MAX - 9) == NULL);
+    made(first, LONGEST);
+    refuses = true;
+    expect("and the next chunk", limekeel_reserve(&rooms, 500) == NULL);
+    refuses = false;
+    /* what is reserved and not written comes to nothing */
+    uint8_t *room = limekeel_reserve(&rooms, 500);
+    expect("there is room", room != NULL);
+    memset(room, 'x', 500);
+    expect("the same again", limekeel_reserve(&rooms, 500) == room);
+    expect("no byte", limekeel_write_reserved(&rooms, &connection, 0).id == first + 1);
+    expect("flush", limekeel_flush(&connection).count == 2);
+    struct limekeel_taken gone = limekeel_give_up(&connection, 1);
+    expect("both are gone", gone.to == first + 2);
+    limekeel_let_go(&rooms, gone.to);
+    expect("with what they lay in", rooms.first == NULL);
+    expect("there is room", limekeel_reserve(&rooms, 5) != NULL);
+    expect("a closed one refuses", limekeel_write_reserved(&rooms, &connection, 5).status == LIMEKEEL_CLOSED);
+    expect("free", limekeel_free(&connection) == LIMEKEEL_OK);
+    limekeel_let_go(&rooms, UINT64_MAX);
+    expect("nothing is live", live == 0 && rooms.first == NULL);
+}
+
+int main(void)
+{
+    expect("open", limekeel_open(&connection, 32768, 65536, 96, 8) == LIMEKEEL_OK);
+    come_in_order();
+    lie_together();
+    refusals(a_refused_write(2 * MANY));
+    puts("what is made in place comes in order, and goes");
+    return 0;
+}
