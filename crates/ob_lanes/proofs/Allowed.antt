@@ -1,5 +1,5 @@
 -- Which steps a seat may make on the one word: what the table asks of each.
-use Rattle.std.proofs.Common.{◌≡◌, ℕ, ◌+◌, ◌-◌, ◌^◌, ◌<◌, get_or, ap, subst, sym, ◌∙◌, refl, arith}
+use Rattle.std.proofs.Common.{◌≡◌, ℕ, ◌+◌, ◌-◌, ◌%◌, ◌^◌, ◌<◌, get_or, ap, subst, sym, ◌∙◌, refl, arith}
 use Rattle.std.proofs.Common.{Bool, true, false, eqb, bit_and, bit_or, unwrap_or, ◌≤◌}
 use Rattle.std.specs.Int.{w64, bit_not}
 use mathlib.Core.Option.{some, none}
@@ -22,9 +22,10 @@ use Rattle.ob_lanes.specs.Packed.{packed_after}
 use Rattle.ob_lanes.specs.Ruled.{Ruled}
 use Rattle.ob_lanes.specs.RunningLane.{WordsValue}
 use Rattle.ob_lanes.specs.Told.{Knows, MayMake, Told, ToldTry, ToldOfBit}
-use Rattle.ob_lanes.specs.Told.{MayExpect, PackedTold, MakesOrReads}
+use Rattle.ob_lanes.specs.Told.{IsCalm, Makes, MayExpect, PackedTold, MakesOrReads}
 use Rattle.ob_lanes.specs.declared.facts.Facts.{Facts}
 use Rattle.ob_lanes.specs.declared.words.Words.TheInside.{Inside as WordsInside}
+use Rattle.ob_lanes.proofs.Calm.{clear_after_run, sum_calm, rest_calm}
 use Rattle.ob_lanes.proofs.KeptAccounts.{word_fits}
 use Rattle.ob_lanes.proofs.Moves.{St, core, may_make, grant_known}
 use Rattle.ob_lanes.proofs.Packs.{halves_packed, with_bit-halves, without_bit-halves}
@@ -82,6 +83,51 @@ module _ (words : WordsInside) (are : AreWords words) (value : WordsValue) (view
 
   pub may_load : MayMake value seat Load → MayDo (λ n. n) (Told Load me)
   may_load asked = always Load asked (λ n. n) (λ found small. sym (halves_packed found))
+
+  -- if no total is above the high mark, the table may let the lane add at once, and subtract
+  module _ (calm : IsCalm value.grant) where
+    calm_here : grant.room ≤ grant.marks.high
+    calm_here =
+        let same = are.key ∙ ap (λ (v : WordsValue). v.grant) view_is in
+        let room : grant.room ≡ value.grant.room = ap (λ (o : Grant). o.room) same in
+        let high : grant.marks.high ≡ value.grant.marks.high = ap (λ (o : Grant). o.marks.high) same in
+        omega (arith, room, high, calm)
+
+    at_once : (step : LaneStep) → MayMake value seat step → (makes : ℕ → ℕ)
+        → ((s : St) → Ruled grant s → PackedTold me.0 (get_or s.words 8 0)
+        → makes (get_or s.words 8 0) ≡ packed_after step grant.marks (get_or s.words 8 0))
+        → MayDo makes (Told step me)
+    at_once step asked makes computes =
+        let sixteen = are.sixteen in (
+          asked.of.0 ∙ sym (ap (λ (v : WordsValue). v.table_id) view_is),
+          omega (arith, sixteen),
+          λ s ruled homes at small.
+              let told = packed_told grant s seat.id me.0 are.bits_fit ruled at in
+              may_make grant s seat.id (makes (get_or s.words 8 0)) me step are.room_fits ruled at asked.of.2 asked.may
+              (computes s ruled told) told,
+        )
+
+    pub may_add : (amount k : ℕ) → k ≡ amount → MayMake value seat (Add amount)
+        → MayDo (λ n. (n + k) % 2 ^ 64) (Told (Add k) me)
+    may_add amount k is asked =
+        subst (λ n. MayDo (λ m. (m + n) % 2 ^ 64) (Told (Add n) me)) (sym is)
+        (at_once (Add amount) asked (λ n. (n + amount) % 2 ^ 64) (λ s ruled told.
+        let nothing : owed_by me.0.lane ≡ 0 = ap (λ debt. unwrap_or debt 0) asked.may.0 in
+        let room : me.0.grant.room ≡ value.grant.room = ap (λ (o : Grant). o.room) asked.of.1 in
+        let whole = ap (λ (o : Grant). o.room) (are.key ∙ ap (λ (v : WordsValue). v.grant) view_is) in
+        let fits = are.room_fits in
+        sum_calm grant.marks (get_or s.words 8 0) amount told.fits
+        (omega (arith, nothing, room, whole, told.no_more, asked.may.2, calm_here))
+        (omega (arith, nothing, room, whole, told.no_more, asked.may.2, fits))))
+
+    pub may_subtract : (amount k : ℕ) → k ≡ amount → MayMake value seat (Subtract amount)
+        → MayDo (λ n. (n + (2 ^ 64 - k)) % 2 ^ 64) (Told (Subtract k) me)
+    may_subtract amount k is asked =
+        subst (λ n. MayDo (λ m. (m + (2 ^ 64 - n)) % 2 ^ 64) (Told (Subtract n) me)) (sym is)
+        (at_once (Subtract amount) asked (λ n. (n + (2 ^ 64 - amount)) % 2 ^ 64) (λ s ruled told.
+        let all_of_it : owed_by me.0.lane ≡ amount = ap (λ debt. unwrap_or debt 0) asked.may.0 in
+        rest_calm grant.marks (get_or s.words 8 0) amount told.fits (omega (arith, all_of_it, told.no_less))
+        (clear_after_run grant ruled.run.moves (core grant s) ruled.accounts.bits.mark calm_here ruled.run.leads)))
 
   -- an exchange is the step if it finds what it expects, and a read otherwise
   module _ (step : LaneStep) (asked : MayMake value seat step) (expected next : ℕ)
@@ -181,6 +227,31 @@ made_or_read step_of {found = found} {now = now} {old = old} {new = new} is ensu
   same = (ensured.0, ensured.1);
   told = subst (λ n. ToldTry (step_of n) found old.me now new.me) is ensured.2;
 }
+
+-- or that it has made the step at once
+pub made_at_once : (step_of : ℕ → LaneStep) {amount moved found : ℕ} {old new : Seat (Unit {0}) Facts} → moved ≡ amount
+    → (new.table_id ≡ old.table_id) × (new.id ≡ old.id) × Told (step_of moved) old.me found new.me
+    → Makes (step_of amount) old found new
+made_at_once step_of {found = found} {old = old} {new = new} is ensured = record {
+  same = (ensured.0, ensured.1);
+  told = subst (λ n. Told (step_of n) old.me found new.me) is ensured.2;
+}
+
+-- a charge that a lane may make fits what it finds
+pub added_fits : {value : WordsValue} (seat : Seat (Unit {0}) Facts) (amount found : ℕ)
+    → value.grant.room < 4294967296 → MayMake value seat (Add amount) → PackedTold seat.me.0 found
+    → total_half found + amount < 4294967296
+added_fits seat amount found room asked told =
+    let nothing : owed_by seat.me.0.lane ≡ 0 = ap (λ debt. unwrap_or debt 0) asked.may.0 in
+    let same = ap (λ (o : Grant). o.room) asked.of.1 in
+    omega (arith, nothing, told.no_more, asked.may.2, room, same)
+
+-- and what it owes is in what it finds
+pub taken_fits : {value : WordsValue} (seat : Seat (Unit {0}) Facts) (amount found : ℕ)
+    → MayMake value seat (Subtract amount) → PackedTold seat.me.0 found → amount ≤ total_half found
+taken_fits seat amount found asked told =
+    let all_of_it : owed_by seat.me.0.lane ≡ amount = ap (λ debt. unwrap_or debt 0) asked.may.0 in
+    omega (arith, all_of_it, told.no_less)
 
 -- if no two bits have one mask, a step that is told of the bit of its mask is told of its bit
 pub told_of : (bit_step : ℕ → LaneStep) (mask_of : ℕ → ℕ)

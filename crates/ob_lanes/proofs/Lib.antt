@@ -1,4 +1,5 @@
 pub mod Allowed
+pub mod Calm
 pub mod Ends
 pub mod Halves
 pub mod HeldBits

@@ -2,6 +2,7 @@
 use Rattle.std.specs.Prelude.{false, ◌≡◌, ◌≢◌, ◌≤◌, ◌+◌, ◌-◌, ◌<◌, ℕ}
 use Rattle.atomic_table.specs.Table.{Me, Step}
 use Rattle.ob_types.specs.Packed.{word_half, total_half}
+use Rattle.ob_core.specs.Beginning.{Grant}
 use Rattle.ob_core.specs.LaneStep.{CanMake}
 use Rattle.ob_core.specs.Owed.{owed_by}
 use Rattle.ob_core.specs.declared.lane_step.LaneStep.{LaneStep}
@@ -61,6 +62,10 @@ pub record ToldOfBit (bit_step : ℕ → LaneStep) (mask_of : ℕ → ℕ) (by :
   pub within : index < 32
   pub mask : by.first ≡ mask_of index
   pub told : Told (bit_step index) old found new
+
+-- however much of the whole room is owed, that is not above the high mark
+abbrev pub IsCalm : Grant → Type 0
+IsCalm grant = grant.room ≤ grant.marks.high
 
 -- the seat is of this word, knows what it was opened with, and was not taken in
 abbrev pub IsSeatOf : WordsValue → Seat (Unit {0}) Facts → Type 0

@@ -25,6 +25,20 @@ impl Play<(), Facts> for Subtract {
     ghost then = { ToldSubtracting };
 }
 
+/// An addition that cannot fail.
+pub struct AddAtOnce;
+
+impl Play<(), Facts> for AddAtOnce {
+    ghost then = { λ by old found new. Told (step.Add by.first) old found new };
+}
+
+/// A subtraction that cannot fail.
+pub struct SubtractAtOnce;
+
+impl Play<(), Facts> for SubtractAtOnce {
+    ghost then = { λ by old found new. Told (step.Subtract by.first) old found new };
+}
+
 pub struct SetBit;
 
 impl Play<(), Facts> for SetBit {

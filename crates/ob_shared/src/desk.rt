@@ -1,6 +1,6 @@
 ghost use Rattle.std.specs.Prelude.{◌≡◌, OnOk, OnErr};
 ghost use Rattle.std.specs.Sync.Mutex.{mutex_guard_value};
-ghost use Rattle.ob_history.specs.Words.{IsBeginning, IsCall, IsReservation, IsBufferOf, AreGivenSince, IsLookAt};
+ghost use Rattle.ob_history.specs.Words.{IsBeginning, IsCall, IsRecording, IsReservation, IsBufferOf, AreGivenSince, IsLookAt};
 ghost use Rattle.ob_shared.specs.Words.{one_more, IsAsOpened, share_after};
 
 use crate::locked::Locked;
@@ -124,6 +124,17 @@ impl<'b, L: Named> Booked for Desk<'b, L> {
         let locked = &mut *self.locked;
         let words = self.shared.words();
         locked.call(words, &mut self.share, &mut self.owed, command)
+    }
+
+    fn record(&mut self, command: Command) -> Result<(), Refusal>
+        ensures is_recording { IsRecording self.old.history self.old.maker.caller command result self.new.history }
+        ensures made { OnOk result (self.new.maker ≡ one_more self.old.maker) }
+        ensures caller { self.new.maker.caller ≡ self.old.maker.caller }
+        ensures none_made { OnErr result (self.new.maker ≡ self.old.maker) }
+    {
+        let locked = &mut *self.locked;
+        let words = self.shared.words();
+        locked.record(words, &mut self.share, &mut self.owed, command)
     }
 
     fn reserve(&mut self, count: u32) -> Result<(), Refusal>

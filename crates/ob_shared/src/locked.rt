@@ -4,7 +4,7 @@ ghost use Rattle.std.specs.List.{All, Contains};
 ghost use Rattle.ob_types.specs.declared.promise.Outcome.{Outcome};
 ghost use Rattle.ob_types.specs.declared.promise.PromiseState.TheVariants.{Settled};
 ghost use Rattle.ob_seq.specs.Looks.{promise_after};
-ghost use Rattle.ob_history.specs.Words.{accepted_commands, IsBeginning, IsCall, IsReservation, new_history};
+ghost use Rattle.ob_history.specs.Words.{accepted_commands, IsBeginning, IsCall, IsRecording, IsReservation, new_history};
 ghost use Rattle.ob_history.specs.Words.{IsBufferOf, AreGivenSince, receipt_of, IsLookAt, settlements_in};
 ghost use Rattle.ob_shared.specs.Words.{HandsInAll, StandsIn, first_short, IsForeign, HasNoLooks, LacksShare};
 ghost use Rattle.ob_shared.specs.Words.{made_by, one_more, IsAsOpened, share_after, IsCheckIn, IsCopiedFreely};
@@ -110,6 +110,37 @@ impl<L: Named> Locked<L> {
         share.count(&mut self.book);
         self.rung.hear(&receipt.reply, owed);
         Ok(receipt)
+    }
+
+    /// The same for who wants no receipt: nothing of the record is copied.
+    pub fn record(
+        &mut self,
+        words: &Words<L>,
+        share: &mut Share<L>,
+        owed: &mut Owed,
+        command: Command,
+    ) -> Result<(), Refusal>
+        ensures is_recording { IsRecording self.old share.old.maker.caller command result self.new }
+        ensures made { OnOk result (share.new.maker ≡ one_more share.old.maker) }
+        ensures none_made { OnErr result (share.new.maker ≡ share.old.maker) }
+        ensures sight { share.new.sight ≡ share.old.sight }
+    {
+        // for the proof alone: the records are legal, and at most as many as the limit
+        let _records = self.recorded.records();
+        let Locked {
+            recorded,
+            book,
+            publisher,
+            rung,
+            ..
+        } = self;
+        recorded.record(share.caller(), command)?;
+        publisher.publish(words, recorded);
+        share.count(book);
+        if let Some(last) = recorded.records().last() {
+            rung.hear(&last.reply, owed);
+        }
+        Ok(())
     }
 
     /// The share meets the history: it has seen all of it, and had seen a beginning of it.

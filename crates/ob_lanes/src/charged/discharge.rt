@@ -13,6 +13,7 @@ use std::sync::Wait;
 impl Charged {
     /// Takes the bytes off the total and, if that comes below the low mark, clears bit 0 of the word, in one step. It
     /// tries again for as long as other lanes come between its read and its step, so whether it returns is not promised.
+    /// If the whole room is at most the high mark, no bit can move, and it is one subtraction, which does not fail.
     ///
     /// The change is `Writable` if this call cleared bit 0 and found no other bit set, and else none. The discharge of a
     /// charge of 0 does not touch the word. It never fails.

@@ -12,7 +12,8 @@ use std::sync::Wait;
 
 impl Lane {
     /// Adds bytes to the total and, if that passes the high mark, sets bit 0 of the word, in one step. It tries again
-    /// for as long as other lanes come between its read and its step, so whether it returns is not promised.
+    /// for as long as other lanes come between its read and its step, so whether it returns is not promised. If the whole
+    /// room is at most the high mark, no bit can move, and it is one addition, which does not fail.
     ///
     /// The change is `Unwritable` if this call set bit 0 and found no bit set, and else none. `NoRoom` comes exactly if
     /// the amount is above the lane's room, and hands the lane back as it was. A charge of 0 does not touch the word.

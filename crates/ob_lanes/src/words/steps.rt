@@ -1,8 +1,8 @@
 //! One atomic step each, made by the lane whose seat is passed.
-ghost use Rattle.std.specs.Prelude.{◌≡◌, ◌<◌, ◌+◌, ◌≤◌};
+ghost use Rattle.std.specs.Prelude.{◌≡◌, ◌<◌, ◌+◌, ◌≤◌, ◌↔◌, IsTrue};
 ghost use Rattle.ob_types.specs.Packed.{total_half};
 ghost use Rattle.ob_core.specs.declared.lane_step.LaneStep.TheVariants.{Add, Subtract, SetBit, ClearBit, Load};
-ghost use Rattle.ob_lanes.specs.Told.{MayExpect, MayMake, Makes, MakesOrReads};
+ghost use Rattle.ob_lanes.specs.Told.{IsCalm, MayExpect, MayMake, Makes, MakesOrReads};
 
 use super::Words;
 use crate::both::{HALF, after_add, after_subtract};
@@ -18,6 +18,13 @@ impl Words {
         ensures room { self.now.grant.room < 4294967296 }
     {
         self.grant.marks
+    }
+
+    /// Whether no total is above the high mark, however much of the whole room is owed.
+    pub(crate) fn is_calm(&self) -> bool
+        ensures { IsTrue result ↔ IsCalm self.now.grant }
+    {
+        self.grant.room <= self.grant.marks.high()
     }
 
     /// Reads both.
@@ -73,5 +80,30 @@ impl Words {
         self.table
             .shared
             .compare_exchange::<plays::Subtract>(seat, BOTH, expected, next)
+    }
+
+    /// Adds, if no total is above the high mark: then no bit moves, and it cannot fail.
+    pub(crate) fn add_at_once(&self, seat: &mut Seat<(), Facts>, amount: u32) -> u64
+        requires may { MayMake self.now seat.old (Add amount) }
+        requires calm { IsCalm self.now.grant }
+        ensures made { Makes (Add amount) seat.old result seat.new }
+        ensures fits { total_half result + amount < 4294967296 }
+    {
+        let _marks = self.marks();
+        self.table
+            .shared
+            .fetch_add::<plays::AddAtOnce>(seat, BOTH, u64::from(amount))
+    }
+
+    /// Subtracts, if no total is above the high mark.
+    pub(crate) fn subtract_at_once(&self, seat: &mut Seat<(), Facts>, amount: u32) -> u64
+        requires may { MayMake self.now seat.old (Subtract amount) }
+        requires calm { IsCalm self.now.grant }
+        ensures made { Makes (Subtract amount) seat.old result seat.new }
+        ensures fits { amount ≤ total_half result }
+    {
+        self.table
+            .shared
+            .fetch_sub::<plays::SubtractAtOnce>(seat, BOTH, u64::from(amount))
     }
 }

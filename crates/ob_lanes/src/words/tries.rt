@@ -1,5 +1,6 @@
 //! A charge and a discharge: exchanges until one of them finds what it expects. The first expects what the lane's own last
-//! step left, so a lane alone makes one exchange, and no load; each other expects what the one before it found.
+//! step left, so a lane alone makes one exchange, and no load; each other expects what the one before it found. If no total
+//! is above the high mark, both are one addition or subtraction, which cannot fail.
 ghost use Rattle.std.specs.Prelude.{◌≡◌, ◌<◌, ◌+◌, ◌≤◌, IfSome};
 ghost use Rattle.ob_types.specs.Packed.{total_half};
 ghost use Rattle.ob_core.specs.declared.lane_step.LaneStep.TheVariants.{Add, Load, Subtract};
@@ -38,6 +39,9 @@ impl Words {
         ensures tried { HasTried (Add amount) seat.old.me result seat.new.me }
         ensures fits { total_half result + amount < 4294967296 }
     {
+        if self.is_calm() {
+            return self.add_at_once(seat, amount);
+        }
         let mut expected = self.expected(seat, last);
         'tries: for _ in rt.forever() {
             let found = self.try_add(seat, expected, amount);
@@ -63,6 +67,9 @@ impl Words {
         ensures tried { HasTried (Subtract amount) seat.old.me result seat.new.me }
         ensures fits { amount ≤ total_half result }
     {
+        if self.is_calm() {
+            return self.subtract_at_once(seat, amount);
+        }
         let mut expected = self.expected(seat, last);
         'tries: for _ in rt.forever() {
             let found = self.try_subtract(seat, expected, amount);
