@@ -39,16 +39,22 @@ module _ {old between : Connected} {message : Message} {written : Written}
 
   module _ {new : Connected} where
     -- so the flush after it is not refused
+    pub none_refused : (refusal : Refusal) → (let result : Result Flushed Refusal = Err refusal in
+        Obeys between Flush flushed_reply result new × ¬ IsErrOf result NoMemory) → (commands : List Command) →
+        StandsFor old commands → ⊥
+    none_refused refusal flushes commands stands =
+        let said = flushes.0.answer flushes.1 (commands ++ Write message ∷ []) (writes.stands commands stands) in
+        let shut = closed_if_refused (is_closed (commands ++ Write message ∷ [])) refusal _ said in
+        let unclosed = closed_more commands (Write message) (was_open commands stands) in
+        cc
+
     flushed_after : (result : Result Flushed Refusal) → Obeys between Flush flushed_reply result new →
         ¬ IsErrOf result NoMemory → (commands : List Command) → StandsFor old commands →
         StandsFor new (commands ++ written_and_flushed message)
     flushed_after (Ok flushed) flushes frugal commands stands =
         rw append_assoc at (flushes.stands (commands ++ Write message ∷ []) (writes.stands commands stands))
     flushed_after (Err refusal) flushes frugal commands stands =
-        let said = flushes.answer frugal (commands ++ Write message ∷ []) (writes.stands commands stands) in
-        let shut = closed_if_refused (is_closed (commands ++ Write message ∷ [])) refusal _ said in
-        let unclosed = closed_more commands (Write message) (was_open commands stands) in
-        absurd (cc)
+        absurd (none_refused refusal (flushes, frugal) commands stands)
 
     -- and both are added to the history
     pub both_added : (result : Result Flushed Refusal) → Obeys between Flush flushed_reply result new →
