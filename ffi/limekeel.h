@@ -337,7 +337,7 @@ LIMEKEEL_TOLD struct limekeel_written limekeel_write_pieces(struct limekeel_conn
 LIMEKEEL_TOLD struct limekeel_written limekeel_write_block(struct limekeel_connection *connection,
                                               const struct limekeel_block *block);
 
-/* Writes bytes where they lie: nothing is copied, and no call reads them. Their memory is lent: the bytes have to stay there,
+/* Writes bytes where they lie: nothing is copied, and the socket alone reads them. Their memory is lent: they have to stay there,
  * as they are, until a call takes the message away or limekeel_free frees the connection. Messages are taken away in the
  * order of their promises: limekeel_remove and limekeel_remove_with take the first that waits if they say `any`; the calls that
  * return a limekeel_taken, limekeel_send among them, take each from `from` on and below `to`. So a queue of what was lent, each

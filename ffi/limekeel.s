@@ -4,7 +4,7 @@
 #
 # kit: rattle-kit-13f logic dac8208d650f15bf
 # proved: logic=proved functions=93 axioms=3 target=x86_64-unknown-linux-gnu cpu=x86-64-v2
-# sources: 778a4835f30e078b00b80586f42321e7a595516c5945db12c320b957282aeb5b (ob_types, ob_seq, ob_connection, ob_c)
+# sources: 37bad04b9205ab81f04dc344594336500b8fe30efe7d705df7761295b9dac17c (ob_types, ob_seq, ob_connection, ob_c)
 	.file	"rattle"
 	.section	".text.std_alloc::vec::deque::VecDeque::into_vec::<#b7ffe1be842f416e>","ax",@progbits
 	.p2align	6                               # -- Begin function std_alloc::vec::deque::VecDeque::into_vec::<#b7ffe1be842f416e>

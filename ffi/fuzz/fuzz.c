@@ -128,6 +128,7 @@ static void same_change(uint32_t told, uint32_t wanted)
 /* A connection or a block with what it is to be. A block's bytes are the archive's own, where it says that they lie. */
 struct side {
     struct limekeel_connection connection;
+    struct limekeel_rooms rooms; /* what is made in place, let go as rows go */
     struct model model;
 };
 
@@ -228,6 +229,7 @@ static void frees(struct side *side)
     uint32_t told = limekeel_free(&side->connection);
     refuses_all = false;
     same_status(told, model_free(&side->model));
+    limekeel_let_go(&side->rooms, UINT64_MAX);
 }
 
 /* Writes these bytes in parts, which are cut anywhere. */
@@ -243,7 +245,22 @@ static struct limekeel_written in_parts(struct side *side, const uint8_t *bytes,
     return limekeel_write_parts(&side->connection, parts, count);
 }
 
-/* Bytes of one's own, copied or lent, or so many that they are refused before one is read. */
+/* Writes bytes that are made in place, in room for them and some more. */
+static void makes_bytes(struct side *side, struct row row)
+{
+    allocating("reserve");
+    uint8_t *room = limekeel_reserve(&side->rooms, row.number + below(60));
+    if (!room) {
+        same("a refused reservation", refused, true);
+        free((void *)(uintptr_t)row.bytes);
+        return;
+    }
+    memcpy(room, row.bytes, row.number);
+    allocating("write_reserved");
+    written(side, limekeel_write_reserved(&side->rooms, &side->connection, row.number), row);
+}
+
+/* Bytes of one's own, copied, lent or made in place, or so many that they are refused before one is read. */
 static void writes_bytes(struct side *side)
 {
     static uint8_t bytes[4096];
@@ -257,6 +274,10 @@ static void writes_bytes(struct side *side)
             bytes[at] = copy[at] = (uint8_t)(first + at * 7);
         row.bytes = copy;
         row.is_own = true;
+    }
+    if (row.is_own && chance(4)) {
+        makes_bytes(side, row);
+        return;
     }
     bool none = row.number == 0 && chance(2), lends = chance(4);
     allocating(lends ? "write_lent" : "write");
@@ -592,6 +613,8 @@ static void one_call(void)
         opens(side);
     else
         works_on_a_block();
+    if (side->model.open)
+        limekeel_let_go(&side->rooms, side->model.gone);
     looks(side);
 }
 

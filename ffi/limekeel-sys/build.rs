@@ -38,7 +38,7 @@ fn copy(name: &str, out: &Path) {
 }
 
 /// Links an archive in place of the assembly.
-fn link(archive: &PathBuf) {
+fn link(archive: &Path) {
     println!("cargo::rerun-if-changed={}", archive.display());
     if !archive.exists() {
         // `cargo check`, `clippy` and `doc` link nothing, so they go on without it

@@ -331,7 +331,7 @@ unsafe fn as_pieces(places: &mut [Place]) -> &mut [sys::Piece] {
 /// # Safety
 ///
 /// Each is filled with where bytes lie, which nobody changes during `'a`.
-unsafe fn as_slices<'r, 'a>(places: &'r [Place]) -> &'r [IoSlice<'a>] {
+unsafe fn as_slices<'a>(places: &[Place]) -> &[IoSlice<'a>] {
     // SAFETY: on Unix an `IoSlice` is laid out as `struct iovec`, which is what a `Piece` is.
     unsafe { slice::from_raw_parts(places.as_ptr().cast(), places.len()) }
 }
