@@ -1,6 +1,6 @@
 -- A step on the published word keeps what holds between any two steps.
 use Rattle.std.proofs.Common.{◌≡◌, ◌≢◌, ◌⊎◌, inl, inr, ⊎_elim, ℕ, true, List, [], ◌∷◌, ◌++◌, set, get_or}
-use Rattle.std.proofs.Common.{refl, sym, ◌∙◌, subst, arith, length-set}
+use Rattle.std.proofs.Common.{refl, sym, ap, ◌∙◌, subst, arith, length-set}
 use Rattle.std.proofs.lemmas.List.{get_or-set_same}
 use mathlib.Core.Option.{some}
 use lib.ListN.{get_elem?}
@@ -84,6 +84,17 @@ module _ (settings : Settings) (slots id : ℕ) (me : Knows) where
         },
         refl,
       )
+
+  -- and it may leave the number that it published last, if that is the one after more records
+  pub may_keep : (records : List Record) → me.0.publishes ≡ true → IsBeginning me.0.seen records
+      → IsLegal settings records
+      → packed_glance (glance_after settings me.0.seen) ≡ packed_glance (glance_after settings records)
+      → Allows (Ruled settings) slots id me 8 (λ n. n) (λ _ new. new ≡ (publishing records [], me.1))
+  may_keep records publishes longer legal same = λ s ruled homes at small.
+      let mine = ruled.fits id me.0 at in
+      let shown : get_or s.words 8 0 ≡ packed_glance (glance_after settings me.0.seen) =
+      ruled.shown ∙ ap (λ (log : List Record). packed_glance (glance_after settings log)) (sym (mine.whole publishes)) in
+      may_publish records (get_or s.words 8 0) publishes longer legal (shown ∙ same) s ruled homes at small
 
   -- a load leaves the word, and lets the seat know what fits
   after_load : (s : St) (ruled : Ruled settings s) (new : View) → Fits ruled.publisher ruled.log id new

@@ -1,12 +1,14 @@
 -- What is known of a seat stays so.
-use Rattle.std.proofs.Common.{◌≡◌, List, [], sym, ap, ◌∙◌, subst}
+use Rattle.std.proofs.Common.{◌≡◌, ℕ, List, [], sym, ap, ◌∙◌, subst}
 use Rattle.atomic_table.specs.declared.shared.Seat.{Seat}
+use Rattle.ob_history.specs.Glance.{glance_after}
 use Rattle.ob_history.specs.Legal.{IsLegal}
 use Rattle.ob_history.specs.declared.record.Record.{Record}
 use Rattle.ob_shared.specs.Opened.{Opened}
 use Rattle.ob_shared.specs.Reads.{Knows}
 use Rattle.ob_shared.specs.Ruled.{publishing, reading}
-use Rattle.ob_shared.specs.Seats.{IsPublisher, IsReader}
+use Rattle.ob_shared.specs.Seats.{HasPublished, IsReader}
+use Rattle.ob_shared.specs.Sight.{packed_glance}
 use Rattle.ob_shared.specs.declared.view.View.{View}
 
 module _ (opened : Opened) (old new : Seat (Unit {0}) View) (table : new.table_id ≡ old.table_id) where
@@ -33,19 +35,27 @@ module _ (opened : Opened) (old new : Seat (Unit {0}) View) (table : new.table_i
   }
 
   -- the seat that publishes still does, if it has seen what it had
-  pub still_publishes : IsPublisher opened old → new.me.0.publishes ≡ old.me.0.publishes
-      → new.me.0.seen ≡ old.me.0.seen → IsPublisher opened new
-  still_publishes publishes same seen = record {
-    table = table ∙ publishes.table;
-    publishes = same ∙ publishes.publishes;
-    legal = subst (λ (records : List Record). IsLegal opened.settings records) (sym seen) publishes.legal;
+  pub still_publishes : (number : ℕ) → HasPublished opened old number → new.me.0.publishes ≡ old.me.0.publishes
+      → new.me.0.seen ≡ old.me.0.seen → HasPublished opened new number
+  still_publishes number had same seen = record {
+    is_one = record {
+      table = table ∙ had.is_one.table;
+      publishes = same ∙ had.is_one.publishes;
+      legal = subst (λ (records : List Record). IsLegal opened.settings records) (sym seen) had.is_one.legal;
+    };
+    shown = had.shown
+        ∙ ap (λ (records : List Record). packed_glance (glance_after opened.settings records)) (sym seen);
   }
 
   -- and if it has published more
-  pub has_published : (records : List Record) → old.table_id ≡ opened.table → IsLegal opened.settings records
-      → new.me ≡ (publishing records [], old.me.1) → IsPublisher opened new
-  has_published records of legal me = record {
-    table = table ∙ of;
-    publishes = ap (λ (knows : Knows). knows.0.publishes) me;
-    legal = subst SeenLegally (sym me) legal;
+  pub has_published : (records : List Record) (number : ℕ) → old.table_id ≡ opened.table
+      → IsLegal opened.settings records → new.me ≡ (publishing records [], old.me.1)
+      → number ≡ packed_glance (glance_after opened.settings records) → HasPublished opened new number
+  has_published records number of legal me is = record {
+    is_one = record {
+      table = table ∙ of;
+      publishes = ap (λ (knows : Knows). knows.0.publishes) me;
+      legal = subst SeenLegally (sym me) legal;
+    };
+    shown = is ∙ ap (λ (knows : Knows). packed_glance (glance_after opened.settings knows.0.seen)) (sym me);
   }

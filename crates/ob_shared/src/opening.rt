@@ -1,4 +1,5 @@
 ghost use Rattle.std.specs.Prelude.{◌≡◌, ◌<◌, ◌≤◌, [], IfOk, IsOkUnless, OnOk};
+ghost use Rattle.ob_history.specs.Glance.{glance_after};
 ghost use Rattle.ob_shared.specs.Opened.{IsNameOf};
 ghost use Rattle.ob_shared.specs.Share.{new_shares};
 
@@ -12,7 +13,7 @@ use crate::shared_buffer::SharedBuffer;
 use crate::view::View;
 use crate::words::Words;
 use atomic_table::{Seat, Table};
-use ob_history::Recorded;
+use ob_history::{Glance, Recorded};
 use ob_types::{Estimate, Refusal, WaterMark, pack};
 use std::alloc::{AllocError, Global};
 use std::marker::Model;
@@ -115,7 +116,8 @@ impl Opening {
         } = self;
         let (book, mut whole) = ledger.open::<L>();
         let words = Words::new(table);
-        let mut publisher = Publisher::new(seat);
+        let nothing = glance_at_nothing(alloc, marks, estimate, limit);
+        let mut publisher = Publisher::new(seat, pack(nothing.word, nothing.total));
         let shares = shares(alloc, &words, &mut publisher, &mut whole, callers)?;
         let recorded = Recorded::new(alloc, marks, estimate, limit);
         let locked = Locked::new(recorded, book, whole, publisher);
@@ -148,4 +150,18 @@ fn shares<L: Named>(
         shares.push_reserved(Share::new(caller, part, publisher.reader(words)));
     }
     Ok(shares)
+}
+
+/// The glance at a history without a record.
+fn glance_at_nothing(alloc: Global, marks: WaterMark, estimate: Estimate, limit: u32) -> Glance
+    requires overhead { estimate.overhead ≤ 65535 }
+    requires unknown { estimate.unknown ≤ 65535 }
+    requires some_record { 0 < limit }
+    requires few_records { limit ≤ 1048576 }
+    ensures { result ≡ glance_after (record { marks = marks; estimate = estimate }) [] }
+{
+    let recorded = Recorded::new(alloc, marks, estimate, limit);
+    let nothing = recorded.glance();
+    drop(recorded);
+    nothing
 }

@@ -1,7 +1,8 @@
 ghost use Rattle.std.specs.Prelude.{◌≡◌, []};
 ghost use Rattle.ob_history.specs.Beginning.{IsBeginning};
+ghost use Rattle.ob_history.specs.Glance.{glance_after};
 ghost use Rattle.ob_shared.specs.Ruled.{publishing};
-ghost use Rattle.ob_shared.specs.Sight.{sight_of};
+ghost use Rattle.ob_shared.specs.Sight.{packed_glance, sight_of};
 
 use crate::named::Named;
 use crate::reader::Reader;
@@ -16,30 +17,34 @@ use std::mem;
 #[derive(Drop)]
 pub struct Publisher<L: Named> {
     seat: Seat<(), View>,
+    /// The number that is published.
+    number: u64,
     of: PhantomData<L>,
 }
 
 impl<L: Named> Model for Publisher<L> {
     ghost use Rattle.std.specs.Prelude.{List};
     ghost use Rattle.ob_history.specs.declared.record.Record.{Record};
-    ghost use Rattle.ob_shared.specs.Seats.{IsPublisher};
+    ghost use Rattle.ob_shared.specs.Seats.{HasPublished};
 
     ghost Value = { List Record };
 
     ghost view = { λ publisher. publisher.seat.me.0.seen };
 
-    ghost invariant = { λ publisher. IsPublisher L.opened publisher.seat };
+    ghost invariant = { λ publisher. HasPublished L.opened publisher.seat publisher.number };
 }
 
 impl<L: Named> Publisher<L> {
-    /// The first seat of the words that were opened.
-    pub fn new(seat: Seat<(), View>) -> Publisher<L>
+    /// The first seat of the words that were opened, with the number that is published then.
+    pub fn new(seat: Seat<(), View>, number: u64) -> Publisher<L>
         requires table { seat.table_id ≡ L.opened.table }
         requires me { seat.me ≡ (publishing [] [], []) }
+        requires number { number ≡ packed_glance (glance_after L.opened.settings []) }
         ensures { result ≡ [] }
     {
         Publisher {
             seat,
+            number,
             of: PhantomData,
         }
     }
@@ -50,7 +55,7 @@ impl<L: Named> Publisher<L> {
         requires settings { recorded.now.settings ≡ L.opened.settings }
         ensures { self.new ≡ recorded.now.records }
     {
-        words.publish::<Brand>(&mut self.seat, recorded);
+        self.number = words.publish::<Brand>(&mut self.seat, recorded, self.number);
     }
 
     /// A reader that has seen all that was published.

@@ -1,9 +1,10 @@
 ghost use Rattle.std.specs.Prelude.{◌≡◌, true, false, []};
 ghost use Rattle.ob_history.specs.Beginning.{IsBeginning};
+ghost use Rattle.ob_history.specs.Glance.{glance_after};
 ghost use Rattle.ob_history.specs.Legal.{IsLegal};
 ghost use Rattle.ob_shared.specs.Reads.{Reads};
 ghost use Rattle.ob_shared.specs.Ruled.{publishing, reading};
-ghost use Rattle.ob_shared.specs.Sight.{sight_of};
+ghost use Rattle.ob_shared.specs.Sight.{packed_glance, sight_of};
 
 use crate::named::Named;
 use crate::plays::{Cut, Learn, Publish, Read, Records, Take};
@@ -42,23 +43,38 @@ impl<L: Named> Words<L> {
         }
     }
 
-    /// Publishes the glance after the last record, of a history that begins with all that this seat has seen. One store.
-    pub fn publish<E: Records>(&self, seat: &mut Seat<(), View>, recorded: &Recorded)
+    /// Publishes the glance after the last record, of a history that begins with all that this seat has seen, and returns
+    /// its number. One store, or one load if that is the number which this seat published last: a store has to wait for
+    /// all that was written before.
+    pub fn publish<E: Records>(
+        &self,
+        seat: &mut Seat<(), View>,
+        recorded: &Recorded,
+        last: u64,
+    ) -> u64
         requires table { seat.old.table_id ≡ L.opened.table }
         requires publishes { seat.old.me.0.publishes ≡ true }
         requires longer { IsBeginning seat.old.me.0.seen recorded.now.records }
         requires settings { recorded.now.settings ≡ L.opened.settings }
         requires records { E.records ≡ recorded.now.records }
+        requires last { last ≡ packed_glance (glance_after L.opened.settings seat.old.me.0.seen) }
         ensures table { seat.new.table_id ≡ seat.old.table_id }
         ensures me { seat.new.me ≡ (publishing recorded.now.records [], seat.old.me.1) }
         ensures legal { IsLegal L.opened.settings recorded.now.records }
+        ensures number { result ≡ packed_glance (glance_after L.opened.settings recorded.now.records) }
     {
         // for the proof alone: the records are legal
         let _records = recorded.records();
         let glance = recorded.glance();
+        let number = pack(glance.word, glance.total);
+        if number == last {
+            self.table.shared.load::<Publish<E>>(seat, PUBLISHED);
+            return number;
+        }
         self.table
             .shared
-            .store::<Publish<E>>(seat, PUBLISHED, pack(glance.word, glance.total))
+            .store::<Publish<E>>(seat, PUBLISHED, number);
+        number
     }
 
     /// Reads what is published. One load.

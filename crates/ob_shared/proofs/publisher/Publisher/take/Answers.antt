@@ -4,5 +4,6 @@ use Rattle.ob_shared.proofs.publisher.Publisher.take.Goals as goal
 
 pub invariant_of-self : goal.invariant_of-self
 invariant_of-self g c =
-    still_publishes g.L.Named.opened c.self.inside.seat c.take.new.seat c.take.ensures.table c.self.invariant
-    (c.take.ensures.publishes ∙ sym c.self.invariant.publishes) c.take.ensures.seen
+    still_publishes g.L.Named.opened c.self.inside.seat c.take.new.seat c.take.ensures.table
+    c.self.inside.number c.self.invariant
+    (c.take.ensures.publishes ∙ sym c.self.invariant.is_one.publishes) c.take.ensures.seen
