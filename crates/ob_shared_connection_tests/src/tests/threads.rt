@@ -34,6 +34,8 @@ enum Part {
     WaitsToWrite(Handle),
     /// Waits for work.
     WaitsForWork(Transport),
+    /// Waits for what does not come, for a while.
+    WaitsOut(Transport, Handle),
     /// Naps, and then closes the connection.
     Closes(Handle),
     /// Naps, and then gives the connection up.
@@ -107,6 +109,18 @@ fn locks<R: Wait + Abort + Clock>(rt: &R, mut handle: Handle) -> (Handle, Durati
     (handle, longest)
 }
 
+/// Waits for writability, for work that is there, and for work that is not. Each wait ends by then, and the last by its
+/// time.
+fn waits_out<R: Wait + Clock>(rt: &R, mut transport: Transport, writer: Handle) -> bool {
+    let limit = Duration::from_millis(2);
+    let (guard, waited) = writer.wait_writable_within(rt, limit);
+    drop(guard);
+    let work = transport.wait_for_work_within(rt, limit);
+    let _taken = transport.fail_flushed(rt, Cause(3), true);
+    let none = transport.wait_for_work_within(rt, limit);
+    (waited, work, none) == (Moment::NotYet, Moment::Ready, Moment::NotYet)
+}
+
 fn plays<R: Wait + Abort + Clock>(rt: &R, part: Part) -> Part {
     match part {
         Part::Writes(handle) => Part::Writes(writes(rt, handle)),
@@ -121,6 +135,10 @@ fn plays<R: Wait + Abort + Clock>(rt: &R, part: Part) -> Part {
         }
         Part::WaitsToWrite(handle) => Part::Found(handle.wait_writable(rt).1),
         Part::WaitsForWork(mut transport) => Part::Found(transport.wait_for_work(rt)),
+        Part::WaitsOut(transport, writer) => {
+            assert!(rt; waits_out(rt, transport, writer));
+            Part::Found(Moment::NotYet)
+        }
         Part::Closes(mut handle) => {
             naps(rt);
             assert!(rt; handle.close(rt, Cause(1)).is_ok());
@@ -232,13 +250,10 @@ fn the_transport_wakes_once_it_is_closed(rt: HostRuntime) -> Result<(), Fail> {
 
 #[test]
 fn a_wait_ends_by_its_time(rt: HostRuntime) -> Result<(), Fail> {
-    let (mut transport, writer) = flushed(&rt, rt.alloc(), 5)?;
-    let (guard, waited) = writer.wait_writable_within(&rt, Duration::from_millis(2));
-    drop(guard);
-    let work = transport.wait_for_work_within(&rt, Duration::from_millis(2));
-    let _taken = transport.fail_flushed(&rt, Cause(3), true)?;
-    let none = transport.wait_for_work_within(&rt, Duration::from_millis(2));
-    assert!(rt; (waited, work, none) == (Moment::NotYet, Moment::Ready, Moment::NotYet));
+    let (transport, writer) = flushed(&rt, rt.alloc(), 5)?;
+    let mut parts = Vec::new(rt.alloc());
+    parts.push(Part::WaitsOut(transport, writer))?;
+    drop(played(&rt, parts)?);
     Ok(())
 }
 
