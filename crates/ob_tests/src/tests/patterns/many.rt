@@ -5,10 +5,9 @@ use crate::tests::connection::{four_bytes, open};
 use bytes::Bytes;
 use ob_patterns::{
     Reached, broadcast, forward, forwarded, most_frame_bytes, respond_from_any_thread,
-    send_from_one_thread,
 };
-use ob_types::Cause;
-use std::sync::Mutex;
+use ob_shared_connection::Handle;
+use ob_types::{Cause, Estimate, Refusal, WaterMark};
 use std::test::Fail;
 
 #[test]
@@ -45,27 +44,38 @@ fn a_closed_and_a_slow_one_are_left_out(rt: HostRuntime) -> Result<(), Fail> {
 
 #[test]
 fn a_thread_writes_and_the_one_with_the_socket_sends(rt: HostRuntime) -> Result<(), Fail> {
-    let connection = Mutex::new(open(rt.alloc())?);
+    let estimate = Estimate {
+        overhead: 96,
+        unknown: 8,
+    };
+    let mut transport = Handle::open(rt.alloc(), WaterMark::new(100, 200)?, estimate)?.into_transport();
     let mut socket = Slow::new(rt.alloc(), false);
-    let bytes = || Bytes::from_static(b"four");
-    let ids = [0; 2].map(|_| match respond_from_any_thread(&rt, &connection, bytes()) {
-        Ok(written) => Ok(written.id),
-        Err(refused) => Err(refused.refusal),
-    });
+    let four = || Bytes::from_static(b"four");
+    let first = respond_from_any_thread(&rt, transport.another()?, four());
+    let second = respond_from_any_thread(&rt, first.handle, four());
     let sent = [0; 3].map(|_| {
-        send_from_one_thread(&rt, &connection, &mut socket)
+        transport
+            .send_once(&rt, &mut socket, 64, 65536)
             .map(|sent| sent.bytes)
             .ok()
     });
+    let _closed = transport.give_up(&rt, Cause(7))?;
+    let late = respond_from_any_thread(&rt, second.handle, four());
     assert_eq!(rt;
-        (ids, sent, socket.log.as_slice()),
         (
-            [Ok(0), Ok(1)],
+            [first.written, second.written].map(|written| written.map(|written| written.id).ok()),
+            sent,
+            socket.log.as_slice(),
+            late.written.err().map(|refused| refused.refusal),
+        ),
+        (
+            [Some(0), Some(1)],
             [Some(3), Some(1), Some(1)],
-            b"fourf".as_slice()
+            b"fourf".as_slice(),
+            Some(Refusal::Closed),
         )
     );
-    drop((connection, socket));
+    drop((transport, late.handle, socket));
     Ok(())
 }
 
