@@ -43,7 +43,7 @@ fn four() -> Message {
     Message::Block(Bytes::from_static(b"four"))
 }
 
-/// Returns once so many threads have ended. If they have not in ten seconds, one sleeps that nobody wakes, and this ends
+/// Returns once *n* threads have ended. If they have not in ten seconds, one sleeps that nobody wakes, and this ends
 /// the process: a test that fails must not hang.
 fn watch<R: Abort + Clock>(rt: &R, ended: &AtomicU64, all: u64) {
     for _ in 0..10_000u32 {

@@ -1,8 +1,7 @@
 //! How a transport sends in turns.
 
-ghost use Rattle.std.specs.Prelude.{◌≡◌, ◌≢◌, true, false, List, [], ◌∷◌, ◌++◌};
+ghost use Rattle.std.specs.Prelude.{◌≡◌, List, [], ◌∷◌, ◌++◌};
 ghost use Rattle.ob_connection.specs.declared.connection.sending.Sent.{Sent};
-ghost use Rattle.ob_connection.specs.declared.ending.Ending.TheVariants.{TurnsUsed};
 ghost use Rattle.ob_shared_connection.specs.Turns.{EndsWith, Reports, SendsInTurns, ended_by};
 
 use crate::offered::MOST_PIECES;
@@ -33,7 +32,7 @@ impl Transport {
             Err(fault) => return Err(fault),
         };
         'turns: for turn in 0..max_turns.saturating_sub(1) {
-            if !goes_on(total.ending) {
+            if !total.ending.goes_on() {
                 return Ok(total);
             }
             match self.send_once(rt, socket, MOST_PIECES as u32, max_bytes) {
@@ -43,14 +42,6 @@ impl Transport {
         }
         Ok(total)
     }
-}
-
-/// Whether a further turn may take more.
-fn goes_on(ending: Ending) -> bool
-    ensures yes { result ≡ true → ending ≡ TurnsUsed }
-    ensures no { result ≡ false → ending ≢ TurnsUsed }
-{
-    matches!(ending, Ending::TurnsUsed)
 }
 
 /// The first turn.

@@ -44,7 +44,7 @@ enum Part {
     Drains(Transport),
     /// It has found this.
     Found(Moment),
-    /// Ends all if so many have not ended in time.
+    /// Ends all if *n* have not ended in time.
     Watches(u64),
 }
 
