@@ -40,6 +40,8 @@ enum Sleeper {
     Drains(Transport),
     /// Flushes a message, later.
     Flushes(Handle),
+    /// Flushes a message, later, by calls that try the lock, and wakes whom these tell.
+    Tries(Handle),
     /// Holds the lock for a while each round, and goes on once the other one had it.
     Leads(Handle),
     /// Asks for the lock each round while the other one holds it.
@@ -128,10 +130,29 @@ fn wakes<R: Wait + Clock>(rt: &R, sleeper: Sleeper) -> Sleeper {
             sleep(rt, Duration::from_millis(LATER));
             told(handle.write(rt, four()).is_ok() && handle.flush(rt).is_ok())
         }
+        Sleeper::Tries(handle) => {
+            sleep(rt, Duration::from_millis(LATER));
+            told(tries(handle))
+        }
         Sleeper::Leads(handle) => leads(rt, handle),
         Sleeper::Follows(handle) => follows(rt, handle),
         other => other,
     }
+}
+
+/// Nobody has the lock, and the transport waits for what is flushed, and not for what is written.
+fn tries(mut handle: Handle) -> bool {
+    let Ok((written, wakes)) = handle.try_write(four()) else {
+        return false;
+    };
+    let is_work = wakes.work;
+    handle.wake(wakes);
+    let Some((flushed, wakes)) = handle.try_flush() else {
+        return false;
+    };
+    let is_right = wakes.work && !is_work && written.is_ok() && flushed.is_ok();
+    handle.wake(wakes);
+    is_right
 }
 
 /// Waits until the total is this at least. A glance takes no lock, so it wakes nobody.
@@ -197,6 +218,7 @@ fn who_sleeps_uses_no_processor(rt: HostRuntime) -> Result<(), Fail> {
     let (full, mut writer) = flushed(&rt, rt.alloc(), 5)?;
     let (empty, flusher) = flushed(&rt, rt.alloc(), 0)?;
     let (other, other_flusher) = flushed(&rt, rt.alloc(), 0)?;
+    let (third, trier) = flushed(&rt, rt.alloc(), 0)?;
     let mut holder = opened(rt.alloc())?;
     let mut sleepers = Vec::new(rt.alloc());
     sleepers.push(Sleeper::Locks(holder.another()?))?;
@@ -208,7 +230,9 @@ fn who_sleeps_uses_no_processor(rt: HostRuntime) -> Result<(), Fail> {
     sleepers.push(Sleeper::Flushes(flusher))?;
     sleepers.push(Sleeper::SendsWithin(other))?;
     sleepers.push(Sleeper::Flushes(other_flusher))?;
-    sleepers.push(Sleeper::Watches(9))?;
+    sleepers.push(Sleeper::Sends(third))?;
+    sleepers.push(Sleeper::Tries(trier))?;
+    sleepers.push(Sleeper::Watches(11))?;
     let count = AtomicU64::new(0);
     let sleepers = map_vec(&rt, sleepers, &|sleeper| plays(&rt, &count, sleeper))?;
     assert!(rt; all_ended(&sleepers));
