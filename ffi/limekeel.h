@@ -18,7 +18,7 @@
  * Linking. Compile limekeel.s, heap.c and send.c into the program: `cc server.c limekeel.s heap.c send.c`,
  * with room.c for limekeel_reserve. Or link liblimekeel.a, which has all four: `pkg-config --cflags --libs limekeel` gives the flags. It
  * needs memcpy, memmove, memset and malloc of the C library, and send.c sendmsg and errno; it starts no
- * thread and takes no lock.
+ * thread, waits for none, and takes no lock but that of a shared connection, if it is free.
  *
  * Ownership. A connection and a block are made as LIMEKEEL_CONNECTION and LIMEKEEL_BLOCK, which
  * own nothing, and are filled by limekeel_open and limekeel_block_new. Each is let go once, by
@@ -31,7 +31,7 @@
  * or free. Freeing a block does not end the pieces of messages that share it.
  *
  * Threads. A connection may go from thread to thread, but only one call at a time may use it:
- * give it a lock, or to one thread. Two connections need no lock between them, also if they share
+ * give it a lock, or to one thread; or open a limekeel_shared, of which each thread has a handle. Two connections need no lock between them, also if they share
  * a block; the block itself is used by one call at a time, so each thread takes its own by
  * limekeel_block_share. No call may be made from a signal handler, nor in the child of a fork of a
  * process with threads.
@@ -66,7 +66,7 @@ extern "C" {
 
 /* A number of the structs, functions and numbers of this header. limekeel_open says LIMEKEEL_OTHER_VERSION to an archive of
  * another. Before 1.0 each version may have another. */
-#define LIMEKEEL_EDGE 4269863942u
+#define LIMEKEEL_EDGE 2600298547u
 
 /* What may tell a change of writability is not to be dropped. */
 #if (defined(__cplusplus) && __cplusplus >= 201703L) || (defined(__STDC_VERSION__) && __STDC_VERSION__ >= 202311L)
@@ -90,12 +90,13 @@ enum limekeel_status {
     LIMEKEEL_BAD_INDEX = 8,        /* the index of a user bit is 1 to 31 */
     LIMEKEEL_FLUSHED_LEFT = 9,     /* flushed messages are left: fail or remove them before a close */
     LIMEKEEL_UNKNOWN_PROMISE = 10, /* no write was accepted under this promise */
-    LIMEKEEL_NO_MEMORY = 12,       /* malloc refused, or a block has more owners than can be counted */
+    LIMEKEEL_NO_MEMORY = 12,       /* malloc refused, or a block has more owners, or a connection more handles, than can be counted */
     LIMEKEEL_NOT_OPEN = 13,        /* the connection or block owns nothing */
     LIMEKEEL_ALREADY_OPEN = 14,    /* it owns something already */
     LIMEKEEL_BAD_ESTIMATE = 15,    /* the overhead or the unknown size is above 65535 */
     LIMEKEEL_NO_BLOCK = 16,        /* the block that is to be written owns nothing */
-    LIMEKEEL_OTHER_VERSION = 17    /* the archive is of another version than this header */
+    LIMEKEEL_OTHER_VERSION = 17,   /* the archive is of another version than this header */
+    LIMEKEEL_BUSY = 18             /* another call has the lock of the shared connection: try again */
 };
 
 /* How a call changed writability. Each change is reported once: act on it. */
@@ -163,6 +164,16 @@ struct limekeel_piece {
     const uint8_t *at;
     size_t length;
 };
+
+/* A handle of a connection that several threads use, and the one of its handles that sends. Their members are Limekeel's. */
+struct limekeel_shared {
+    uint8_t *at;
+};
+struct limekeel_transport {
+    uint8_t *at;
+};
+#define LIMEKEEL_SHARED LIMEKEEL_CONNECTION
+#define LIMEKEEL_TRANSPORT LIMEKEEL_CONNECTION
 
 struct limekeel_written {
     uint32_t status;
@@ -262,6 +273,17 @@ struct limekeel_gathered {
     size_t count; /* how many pieces were filled */
 };
 
+struct limekeel_glance {
+    uint32_t status;
+    uint32_t word;  /* 0: writable */
+    uint32_t total; /* the pending bytes */
+};
+
+struct limekeel_laid {
+    uint32_t status;
+    size_t count; /* how many pieces were filled */
+};
+
 /* The layout that the archive was compiled with. */
 #if defined(__cplusplus)
 #define LIMEKEEL_LAYOUT(type, size, last, offset)                                                         \
@@ -288,6 +310,10 @@ LIMEKEEL_LAYOUT(limekeel_promise_told, 16, cause, 12);
 LIMEKEEL_LAYOUT(limekeel_front_told, 16, id, 8);
 LIMEKEEL_LAYOUT(limekeel_current_told, 16, number, 8);
 LIMEKEEL_LAYOUT(limekeel_gathered, 16, count, 8);
+LIMEKEEL_LAYOUT(limekeel_shared, 8, at, 0);
+LIMEKEEL_LAYOUT(limekeel_transport, 8, at, 0);
+LIMEKEEL_LAYOUT(limekeel_glance, 12, total, 8);
+LIMEKEEL_LAYOUT(limekeel_laid, 16, count, 8);
 
 /* Opens a connection with nothing written. It is to stop above `high` pending bytes and to go on
  * below `low`; each message counts `overhead` bytes beside its own, and one that is neither a block
@@ -414,6 +440,63 @@ struct limekeel_current_told limekeel_current(const struct limekeel_connection *
 struct limekeel_gathered limekeel_gather_pieces(const struct limekeel_connection *connection,
                                                 struct limekeel_piece *pieces, size_t length, uint32_t max_bytes);
 
+/* A connection that several threads write to, and one sends from. Each thread has a handle of its own, a limekeel_shared or
+ * the limekeel_transport, and no lock around it: a handle is used by one call at a time, and handles of one connection by
+ * any threads at once. A call takes the lock of the connection if that is free, and else returns LIMEKEEL_BUSY, and nothing
+ * changed: try again, at best after something else, since no call waits, sleeps or wakes. Who is to sleep until the
+ * connection is writable, or until something is flushed, is woken by the program, as by an eventfd.
+ *
+ * Opens such a connection, as limekeel_open opens one for one thread, and gives the handle that sends. Call
+ * limekeel_shared_open. */
+uint32_t limekeel_shared_open_for(struct limekeel_transport *transport, uint32_t edge, uint32_t low, uint32_t high,
+                                  uint32_t overhead, uint32_t unknown);
+static inline uint32_t limekeel_shared_open(struct limekeel_transport *transport, uint32_t low, uint32_t high,
+                                            uint32_t overhead, uint32_t unknown)
+{
+    return limekeel_shared_open_for(transport, LIMEKEEL_EDGE, low, high, overhead, unknown);
+}
+
+/* Makes a second handle of the same connection, for another thread. It takes no lock. */
+uint32_t limekeel_transport_another(struct limekeel_transport *transport, struct limekeel_shared *second);
+uint32_t limekeel_shared_another(struct limekeel_shared *shared, struct limekeel_shared *second);
+
+/* Lets a handle go. The last handle of a connection frees it with all that waits in it. Once the transport is gone nothing
+ * more is sent: give the connection up before that. */
+uint32_t limekeel_shared_free(struct limekeel_shared *shared);
+uint32_t limekeel_transport_free(struct limekeel_transport *transport);
+
+/* Writes a copy of these bytes, which is made before the lock is tried and let go if that is taken; or the bytes of a
+ * block, which the message then shares. If the copy is refused that is LIMEKEEL_NO_MEMORY, whoever has the lock. Each copy
+ * has memory of its own. */
+LIMEKEEL_TOLD struct limekeel_written limekeel_shared_write_bytes(struct limekeel_shared *shared, const uint8_t *bytes,
+                                                                  size_t length);
+LIMEKEEL_TOLD struct limekeel_written limekeel_shared_write_block(struct limekeel_shared *shared,
+                                                                  const struct limekeel_block *block);
+
+/* As limekeel_flush, limekeel_cancel and limekeel_close, if the lock is free. */
+LIMEKEEL_TOLD struct limekeel_flushed limekeel_shared_flush(struct limekeel_shared *shared);
+LIMEKEEL_TOLD struct limekeel_cancelled limekeel_shared_cancel(struct limekeel_shared *shared, uint64_t id);
+LIMEKEEL_TOLD struct limekeel_taken limekeel_shared_close(struct limekeel_shared *shared, uint32_t cause);
+
+/* Whether writers may go on, and the pending bytes: never older than the last call of this handle, and perhaps older than
+ * another's. It takes no lock, so it is never LIMEKEEL_BUSY. */
+struct limekeel_glance limekeel_shared_glance(struct limekeel_shared *shared);
+
+/* Fills pieces with where the flushed blocks in front lie that hold a byte: at most `length` and LIMEKEEL_PIECES of them,
+ * and at most max_bytes bytes, but the first in any case. `pieces` is not NULL. The lock is let go by then, and the pieces
+ * are good until this transport takes those messages away: writers go on meanwhile. It allocates a list of the blocks. If
+ * none is there, limekeel_transport_take_sent(t, 0) takes empty messages in front away. */
+LIMEKEEL_TOLD struct limekeel_laid limekeel_transport_gather_pieces(struct limekeel_transport *transport,
+                                                                    struct limekeel_piece *pieces, size_t length,
+                                                                    uint32_t max_bytes);
+
+/* Takes n bytes off the flushed blocks in front, as sent: what writev took of the pieces. It is refused for no other reason
+ * than LIMEKEEL_BUSY if as many were gathered. */
+LIMEKEEL_TOLD struct limekeel_taken limekeel_transport_take_sent(struct limekeel_transport *transport, uint64_t n);
+
+/* Gives the connection up, as limekeel_give_up, if the lock is free. */
+LIMEKEEL_TOLD struct limekeel_taken limekeel_transport_give_up(struct limekeel_transport *transport, uint32_t cause);
+
 /* How limekeel_send ended. */
 enum limekeel_ending {
     LIMEKEEL_ENDED_DRAINED = 0,  /* no flushed message is left */
@@ -488,6 +571,12 @@ LIMEKEEL_TOLD static inline struct limekeel_written limekeel_write(struct limeke
     return limekeel_write_bytes(connection, length > 0 ? (const uint8_t *)bytes : (const uint8_t *)"", length);
 }
 
+LIMEKEEL_TOLD static inline struct limekeel_written limekeel_shared_write(struct limekeel_shared *shared, const void *bytes,
+                                                                          size_t length)
+{
+    return limekeel_shared_write_bytes(shared, length > 0 ? (const uint8_t *)bytes : (const uint8_t *)"", length);
+}
+
 LIMEKEEL_TOLD static inline struct limekeel_written limekeel_write_lent(struct limekeel_connection *connection,
                                                                         const void *bytes, size_t length)
 {
@@ -544,6 +633,7 @@ static inline const char *limekeel_strstatus(uint32_t status)
     case LIMEKEEL_BAD_ESTIMATE: return "the overhead or the size of unknown messages is above 65535";
     case LIMEKEEL_NO_BLOCK: return "the block that is to be written owns nothing";
     case LIMEKEEL_OTHER_VERSION: return "the archive is of another version than the header";
+    case LIMEKEEL_BUSY: return "another call has the lock";
     default: return "no status of this version";
     }
 }

@@ -1,11 +1,15 @@
--- The two holders.
+-- The four holders.
 use Rattle.std.proofs.Common.{refl, []}
 use Rattle.std.specs.Prelude.{codes}
 use mir.Syntax.{ty_named, tcons, tnil}
 use Rattle.ob_connection.specs.contracts.connection.Connection.{the_row as connection_row}
+use Rattle.ob_shared_connection.specs.contracts.handle.Handle.{the_row as sharer_row}
+use Rattle.ob_shared_connection.specs.contracts.transport.Transport.{the_row as sender_row}
 use Rattle.ob_c.specs.Shared.{bytes_row}
 use Rattle.ob_c.specs.contracts.block.Block as block
 use Rattle.ob_c.specs.contracts.handle.Handle as handle
+use Rattle.ob_c.specs.contracts.shared.Shared as shared
+use Rattle.ob_c.specs.contracts.transport.Transport as transport
 use Rattle.ob_c.proofs.Holder.{Holder}
 
 abbrev pub handles : Holder
@@ -30,6 +34,34 @@ blocks = record {
   one = tt;
   D = block.the_row.Denot;
   codes = block.the_codes;
+  at = λ d. d.at;
+  value = λ d. d.value;
+  make = λ p x. record { at = p; value = x };
+  just = (λ d. refl, λ v g. refl, λ p x. refl);
+}
+
+abbrev pub sharers : Holder
+sharers = record {
+  name = shared.struct.name;
+  inner = sharer_row;
+  written = ty_named (codes "ob_shared_connection::handle::Handle", []) tnil;
+  one = tt;
+  D = shared.the_row.Denot;
+  codes = shared.the_codes;
+  at = λ d. d.at;
+  value = λ d. d.value;
+  make = λ p x. record { at = p; value = x };
+  just = (λ d. refl, λ v g. refl, λ p x. refl);
+}
+
+abbrev pub senders : Holder
+senders = record {
+  name = transport.struct.name;
+  inner = sender_row;
+  written = ty_named (codes "ob_shared_connection::transport::Transport", []) tnil;
+  one = tt;
+  D = transport.the_row.Denot;
+  codes = transport.the_codes;
   at = λ d. d.at;
   value = λ d. d.value;
   make = λ p x. record { at = p; value = x };

@@ -9,3 +9,4 @@ pub mod Parts
 pub mod Reaching
 pub mod Replies
 pub mod Shared
+pub mod Sharing

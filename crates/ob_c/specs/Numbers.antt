@@ -35,6 +35,10 @@ no_block = 16
 abbrev pub other_version : ℕ
 other_version = 17
 
+-- the status of a call that found the lock taken
+abbrev pub busy : ℕ
+busy = 18
+
 -- what a call has to report: its reply, or else the status of a handle that holds nothing, or of its refusal
 abbrev pub accepted : {A : Type 0} → Option (Result A Refusal) → Result A ℕ
 accepted None = Err not_open

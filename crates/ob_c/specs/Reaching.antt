@@ -3,9 +3,16 @@ use Rattle.std.specs.Prelude.{ℕ, List, Some}
 use Rattle.std.specs.Borrow.{Lends, MutBor, Fml}
 use Rattle.ob_connection.specs.Connected.{Connected}
 use Rattle.ob_connection.specs.contracts.connection.Connection.{the_row as connection_row}
+use Rattle.ob_shared_connection.specs.Values.{HandleValue}
+use Rattle.ob_shared_connection.specs.contracts.handle.Handle.{the_row as sharer_row}
+use Rattle.ob_shared_connection.specs.contracts.transport.Transport.{the_row as sender_row}
 use Rattle.ob_c.specs.Shared.{bytes_row}
 use Rattle.ob_c.specs.declared.block.Block.{Block}
 use Rattle.ob_c.specs.declared.handle.Handle.{Handle}
+use Rattle.ob_c.specs.declared.shared.Shared.{Shared}
+use Rattle.ob_c.specs.declared.transport.Transport.{Transport}
+use Rattle.ob_c.specs.contracts.transport.Transport.{the_row as transport_row}
+use Rattle.ob_c.specs.contracts.shared.Shared.{the_row as shared_row}
 use Rattle.ob_c.specs.contracts.block.Block.{the_row as block_row}
 use Rattle.ob_c.specs.contracts.handle.Handle.{the_row as handle_row}
 
@@ -24,3 +31,19 @@ block_with block bytes = record { at = block.at; value = Some bytes }
 -- the block ends with what was left behind the reference
 abbrev pub LendsBytes : MutBor Block → MutBor (List ℕ) → Fml
 LendsBytes block bytes = Lends block_row bytes_row block bytes (block_with block.now)
+
+-- what C holds of a shared connection at the same place, with this handle behind it
+abbrev pub shared_with : Shared → HandleValue → Shared
+shared_with shared handle = record { at = shared.at; value = Some handle }
+
+-- and it ends with what was left behind the reference
+abbrev pub LendsShared : MutBor Shared → MutBor HandleValue → Fml
+LendsShared shared handle = Lends shared_row sharer_row shared handle (shared_with shared.now)
+
+-- what C holds of the handle that sends at the same place, with this handle behind it
+abbrev pub transport_with : Transport → HandleValue → Transport
+transport_with transport handle = record { at = transport.at; value = Some handle }
+
+-- and it ends with what was left behind the reference
+abbrev pub LendsTransport : MutBor Transport → MutBor HandleValue → Fml
+LendsTransport transport handle = Lends transport_row sender_row transport handle (transport_with transport.now)

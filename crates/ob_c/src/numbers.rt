@@ -26,9 +26,12 @@ pub(crate) const NO_BLOCK: u32 = 16;
 /// The status of an opening for another edge than this one.
 pub(crate) const OTHER_VERSION: u32 = 17;
 
+/// The status of a call that found the lock taken by another one: nothing changed.
+pub(crate) const BUSY: u32 = 18;
+
 /// A number of the structs, functions and numbers that C and this library have to agree on: `ffi/check_edge` computes it of
 /// them, and wants another one if they change.
-pub(crate) const EDGE: u32 = 4269863942;
+pub(crate) const EDGE: u32 = 2600298547;
 
 /// What a call has to report: its reply, or else the status of a handle that holds nothing, or of its refusal.
 pub(crate) fn accepted<T>(answer: Option<Result<T, Refusal>>) -> Result<T, u32>

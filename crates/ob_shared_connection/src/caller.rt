@@ -14,6 +14,7 @@ use crate::moment::Moment;
 use crate::place::Place;
 use crate::plays::Accepted;
 use crate::shared::{Seat, Shared};
+use crate::wakes::Wakes;
 use ob_types::{Estimate, Refusal, WaterMark, pack, unpack};
 use std::alloc::Global;
 use std::marker::Brand;
@@ -87,8 +88,18 @@ impl Caller {
         self.shared.try_lock(&mut self.seat)
     }
 
-    /// Lets the lock go.
+    /// Lets the lock go, and wakes those who wait for it, or for what was done under it.
     pub fn unlock(&mut self)
+        requires { IsHolder self.old }
+        ensures free { IsFree self.new }
+        ensures same { caller_handle self.new ≡ caller_handle self.old }
+    {
+        let wakes = self.leave();
+        wakes.pay(&self.shared);
+    }
+
+    /// Lets the lock go, and tells whom to wake: it wakes nobody.
+    pub fn leave(&mut self) -> Wakes
         requires { IsHolder self.old }
         ensures free { IsFree self.new }
         ensures same { caller_handle self.new ≡ caller_handle self.old }
@@ -98,7 +109,7 @@ impl Caller {
             .publish(&mut self.seat, pack(parting.word, parting.total));
         let writers = self.shared.hush(&mut self.seat, parting.writers);
         let work = self.shared.hush(&mut self.seat, parting.work);
-        self.shared.unlock(&mut self.seat, writers, work);
+        self.shared.leave(&mut self.seat, writers, work)
     }
 
     /// Takes the lock, and waits at a bell until who waits there may go on.
@@ -225,6 +236,43 @@ impl Caller {
         let answer = self.act(act);
         self.unlock();
         answer
+    }
+
+    /// One call if the lock is free, which takes it and lets it go, and tells whom to wake.
+    pub fn try_call<A: Act>(&mut self, act: A) -> Result<(Result<A::Answer, A::Fault>, Wakes), A>
+        requires free { IsFree self.old }
+        requires may { MayGive (caller_handle self.old).sends (A.commands act) }
+        ensures free { IsFree self.new }
+        ensures sends { (caller_handle self.new).sends ≡ (caller_handle self.old).sends }
+        ensures under { IfOk result (λ told. UnderLock (caller_handle self.old)
+            (λ before after. IsCall (A.does act) (A.commands act) before told.0 after) (caller_handle self.new)) }
+        ensures busy { OnErr result (caller_handle self.new ≡ caller_handle self.old) }
+        ensures back { IfErr result (λ again. again ≡ act) }
+    {
+        if !self.try_lock() {
+            return Err(act);
+        }
+        let answer = self.act(act);
+        let wakes = self.leave();
+        Ok((answer, wakes))
+    }
+
+    /// One look if the lock is free, which takes it and lets it go, and tells whom to wake.
+    pub fn try_look<A: Ask>(&mut self, ask: A) -> Result<(A::Answer, Wakes), A>
+        requires { IsFree self.old }
+        ensures free { IsFree self.new }
+        ensures sends { (caller_handle self.new).sends ≡ (caller_handle self.old).sends }
+        ensures under { IfOk result (λ told. UnderLock (caller_handle self.old) (IsLook (A.shows ask) told.0)
+            (caller_handle self.new)) }
+        ensures busy { OnErr result (caller_handle self.new ≡ caller_handle self.old) }
+        ensures back { IfErr result (λ again. again ≡ ask) }
+    {
+        if !self.try_lock() {
+            return Err(ask);
+        }
+        let answer = self.ask(ask);
+        let wakes = self.leave();
+        Ok((answer, wakes))
     }
 
     /// One look, which takes the lock and lets it go.

@@ -10,6 +10,7 @@ ghost use Rattle.ob_shared_connection.specs.declared.bell.Waiter.TheVariants as 
 
 mod commands;
 mod looks;
+mod tries;
 
 use crate::bell::Writers;
 use crate::caller::Caller;

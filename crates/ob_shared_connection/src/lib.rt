@@ -23,6 +23,7 @@ mod rule;
 mod shared;
 mod transport;
 mod view;
+mod wakes;
 
 pub use call::Call;
 pub use ended::Ended;
@@ -32,3 +33,4 @@ pub use handle::{Handle, TooManyHandles};
 pub use laws::what_was_gathered_stays_in_front;
 pub use moment::Moment;
 pub use transport::{SendFault, Transport};
+pub use wakes::Wakes;

@@ -2,11 +2,10 @@
 ghost use Rattle.std.specs.Prelude.{◌≡◌};
 
 use crate::bell::Bell;
-use crate::shared::Shared;
 use std::marker::PhantomData;
 
 /// Whether those who waited at a bell are still to be woken, since it was silenced. It cannot be dropped: whoever has it
-/// pays it.
+/// tells it.
 pub struct Owed<B: Bell> {
     /// Whether anyone waited.
     pub waits: bool,
@@ -23,11 +22,11 @@ impl<B: Bell> Owed<B> {
         }
     }
 
-    /// Wakes all who sleep at the bell. No contract sees that: what `wake_all` does is said of no memory.
-    pub fn pay(self, shared: &Shared) {
+    /// Tells whether anyone waited: whoever is told wakes them.
+    pub fn tell(self) -> bool
+        ensures { result ≡ self.waits }
+    {
         let Owed { waits, of: _ } = self;
-        if waits {
-            shared.wake_all::<B>();
-        }
+        waits
     }
 }

@@ -11,6 +11,7 @@ use crate::plays::{
 };
 use crate::rule::{AWAITED, FREE, GIVEN, LOCK, PUBLISHED, Rule, SILENT, TAKEN, WAITED, WORDS};
 use crate::view::View;
+use crate::wakes::Wakes;
 use atomic_table::{Refused, Table};
 use ob_connection::Connection;
 use ob_types::{Estimate, Refusal, WaterMark};
@@ -151,8 +152,8 @@ impl Shared {
         false
     }
 
-    /// Lets the lock go, and wakes one who sleeps for it, and those who are owed it.
-    pub fn unlock(&self, seat: &mut Seat, writers: Owed<Writers>, work: Owed<Work>)
+    /// Lets the lock go, and tells whom to wake: it wakes nobody.
+    pub fn leave(&self, seat: &mut Seat, writers: Owed<Writers>, work: Owed<Work>) -> Wakes
         requires table { IsSeatOf self.now seat.old }
         requires may { MayLeave seat.old.me }
         requires writers { writers.waits ≡ is_owed waiter.Writer seat.old.me.0.bells }
@@ -160,13 +161,15 @@ impl Shared {
         ensures seat { IsSameSeat seat.old seat.new }
         ensures view { seat.new.me.0 ≡ free_view seat.old.me.0 }
         ensures slots { seat.new.me.1 ≡ [] }
+        ensures writers_told { result.writers ≡ is_owed waiter.Writer seat.old.me.0.bells }
+        ensures work_told { result.work ≡ is_owed waiter.Sender seat.old.me.0.bells }
     {
         let found = self.table.shared.swap::<Unlock>(seat, LOCK, FREE);
-        if found == WAITED {
-            self.table.shared.wake_one(LOCK);
+        Wakes {
+            next: found == WAITED,
+            writers: writers.tell(),
+            work: work.tell(),
         }
-        writers.pay(self);
-        work.pay(self);
     }
 
     /// Has a bell ring if who waits there may go on: it is silent then, and what is owed is told.
@@ -237,6 +240,11 @@ impl Shared {
     /// Wakes all who sleep at a bell.
     pub fn wake_all<B: Bell>(&self) {
         self.table.shared.wake_all(B::word());
+    }
+
+    /// Wakes one who sleeps for the lock.
+    pub fn wake_next(&self) {
+        self.table.shared.wake_one(LOCK);
     }
 
     /// Publishes the glance after all calls.

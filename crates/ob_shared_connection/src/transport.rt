@@ -10,6 +10,7 @@ ghost use Rattle.ob_shared_connection.specs.declared.bell.Waiter.TheVariants as 
 
 mod commands;
 mod sending;
+mod tries;
 mod turns;
 
 use crate::bell::Work;

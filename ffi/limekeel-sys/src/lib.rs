@@ -23,7 +23,7 @@ mod heap;
 pub const PIECES: usize = 1024;
 
 /// A number of these declarations, which `limekeel_open_for` compares with the archive's.
-pub const EDGE: u32 = 4269863942;
+pub const EDGE: u32 = 2600298547;
 
 macro_rules! numbers {
     ($($name:ident = $number:literal),* $(,)?) => {
@@ -35,7 +35,7 @@ macro_rules! numbers {
 numbers! {
     OK = 0, OVERSIZE = 1, BAD_MARKS = 2, TOO_MUCH = 3, CLOSED = 4, NOTHING_FLUSHED = 5, TOO_FAR = 6, TOO_MANY_BYTES = 7,
     BAD_INDEX = 8, FLUSHED_LEFT = 9, UNKNOWN_PROMISE = 10, NO_MEMORY = 12, NOT_OPEN = 13, ALREADY_OPEN = 14,
-    BAD_ESTIMATE = 15, NO_BLOCK = 16, OTHER_VERSION = 17,
+    BAD_ESTIMATE = 15, NO_BLOCK = 16, OTHER_VERSION = 17, BUSY = 18,
     UNCHANGED = 0, UNWRITABLE = 1, WRITABLE = 2,
     NO_OUTCOME = 0, SUCCESS = 1, FAILED = 2, CANCELLED = 3,
     UNKNOWN = 0, WAITING = 1, FIXED = 2, SETTLED = 3, SETTLED_BEFORE = 4,
@@ -69,6 +69,24 @@ pub struct Connection {
 #[repr(C)]
 #[derive(Debug)]
 pub struct Block {
+    /// The archive's.
+    pub at: *mut u8,
+}
+
+/// A handle of a connection that several threads use: null, or a pointer that owns one. It is freed by
+/// `limekeel_shared_free` alone.
+#[repr(C)]
+#[derive(Debug)]
+pub struct Shared {
+    /// The archive's.
+    pub at: *mut u8,
+}
+
+/// The handle of such a connection that sends: null, or a pointer that owns one. It is freed by `limekeel_transport_free`
+/// alone.
+#[repr(C)]
+#[derive(Debug)]
+pub struct Transport {
     /// The archive's.
     pub at: *mut u8,
 }
@@ -114,9 +132,14 @@ plain! {
     Current 16 { status at 0: u32, kind at 4: u32, number at 8: u64 }
     /// `struct limekeel_gathered`.
     Gathered 16 { status at 0: u32, front at 4: u32, count at 8: usize }
+    /// `struct limekeel_glance`.
+    Glance 12 { status at 0: u32, word at 4: u32, total at 8: u32 }
+    /// `struct limekeel_laid`.
+    Laid 16 { status at 0: u32, count at 8: usize }
 }
 
 const _: () = assert!(size_of::<Connection>() == 8 && size_of::<Block>() == 8);
+const _: () = assert!(size_of::<Shared>() == 8 && size_of::<Transport>() == 8);
 
 #[allow(missing_docs)]
 unsafe extern "C" {
@@ -166,4 +189,30 @@ unsafe extern "C" {
         length: usize,
         max_bytes: u32,
     ) -> Gathered;
+    pub fn limekeel_shared_open_for(
+        transport: *mut Transport,
+        edge: u32,
+        low: u32,
+        high: u32,
+        overhead: u32,
+        unknown: u32,
+    ) -> u32;
+    pub fn limekeel_transport_another(transport: *mut Transport, second: *mut Shared) -> u32;
+    pub fn limekeel_shared_another(shared: *mut Shared, second: *mut Shared) -> u32;
+    pub fn limekeel_shared_free(shared: *mut Shared) -> u32;
+    pub fn limekeel_transport_free(transport: *mut Transport) -> u32;
+    pub fn limekeel_shared_write_bytes(shared: *mut Shared, bytes: *const u8, length: usize) -> Written;
+    pub fn limekeel_shared_write_block(shared: *mut Shared, block: *const Block) -> Written;
+    pub fn limekeel_shared_flush(shared: *mut Shared) -> Flushed;
+    pub fn limekeel_shared_cancel(shared: *mut Shared, id: u64) -> Cancelled;
+    pub fn limekeel_shared_close(shared: *mut Shared, cause: u32) -> Taken;
+    pub fn limekeel_shared_glance(shared: *mut Shared) -> Glance;
+    pub fn limekeel_transport_gather_pieces(
+        transport: *mut Transport,
+        pieces: *mut Piece,
+        length: usize,
+        max_bytes: u32,
+    ) -> Laid;
+    pub fn limekeel_transport_take_sent(transport: *mut Transport, n: u64) -> Taken;
+    pub fn limekeel_transport_give_up(transport: *mut Transport, cause: u32) -> Taken;
 }

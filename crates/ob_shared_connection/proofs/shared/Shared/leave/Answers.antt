@@ -1,6 +1,6 @@
 use Rattle.std.proofs.Common.{arith}
 use Rattle.ob_shared_connection.proofs.Locking.{may_unlock}
-use Rattle.ob_shared_connection.proofs.shared.Shared.unlock.Goals as goal
+use Rattle.ob_shared_connection.proofs.shared.Shared.leave.Goals as goal
 
 pub swap-found-requires : goal.swap-found-requires
 swap-found-requires c =

@@ -1,0 +1,84 @@
+//! What C holds of a shared connection: a handle for each thread.
+
+ghost use Rattle.std.specs.Prelude.{◌≡◌, IsSome, is_some, Option, Some, None, option_map};
+ghost use Rattle.std.specs.Borrow.{sem};
+ghost use Rattle.ob_c.specs.Held.{held};
+ghost use Rattle.ob_shared_connection.specs.contracts.handle.Handle.{the_row as sharer_row};
+ghost use Rattle.ob_shared_connection.specs.Values.{HandleValue};
+
+use crate::loose::Loose;
+use ob_shared_connection::Handle;
+use std::alloc::Global;
+use std::marker::Model;
+use std::ptr::null_mut;
+
+/// One of the handles of a connection that several threads of C's use, which makes it as `{0}`: none yet.
+#[repr(C)]
+#[derive(Drop)]
+pub struct Shared {
+    at: *mut u8,
+    ghost value: { Option HandleValue },
+}
+
+impl Model for Shared {
+    ghost also_owns = { λ h. held sharer_row h.at h.value };
+}
+
+// The handle behind it may go to another thread, and C gives it to one call at a time.
+unsafe impl Send for Shared {}
+
+impl Shared {
+    ghost use Rattle.ob_c.specs.Reaching.{LendsShared};
+
+    /// Takes the handle out, if there is one.
+    pub(crate) fn handle(&mut self, alloc: Global) -> Option<Box<Handle>>
+        ensures taken { option_map (λ handle. handle.value) result ≡ self.old.value }
+        ensures none { self.new.value ≡ None }
+    {
+        if !self.is_open() {
+            return None;
+        }
+        Some(self.take(alloc).into_box())
+    }
+
+    /// Puts a handle in.
+    pub(crate) fn keep(&mut self, handle: Box<Handle>)
+        ensures { self.new.value ≡ Some handle.value }
+    {
+        self.put(Loose::of(handle));
+    }
+
+    /// Whether it holds a handle.
+    pub(crate) fn is_open(&mut self) -> bool
+        ensures { (result ≡ is_some self.old.value) × (self.new ≡ self.old) }
+    {
+        !self.at.is_null()
+    }
+
+    /// The handle, in its place: the struct is not written.
+    pub(crate) fn reach(&mut self) -> &mut Handle
+        requires { IsSome self.old.value }
+        ensures* writes_back { sem 𝓛 (LendsShared self.entry result) }
+        ensures value { self.old.value ≡ Some result.now }
+    {
+        unsafe { &mut *(self.at as *mut Handle) }
+    }
+
+    /// Takes the handle out as its pointer.
+    fn take(&mut self, alloc: Global) -> Loose<Handle, Global>
+        requires { IsSome self.old.value }
+        ensures { (self.old.value ≡ Some result.value) × (self.new.value ≡ None) }
+    {
+        let at = self.at as *mut Handle;
+        self.at = null_mut();
+        Loose { at, alloc }
+    }
+
+    /// Puts the pointer of a handle in.
+    fn put(&mut self, loose: Loose<Handle, Global>)
+        ensures { self.new.value ≡ Some loose.value }
+    {
+        let Loose { at, alloc: _ } = loose;
+        self.at = at as *mut u8;
+    }
+}

@@ -1,0 +1,83 @@
+//! What C holds of the handle of a shared connection that sends.
+
+ghost use Rattle.std.specs.Prelude.{◌≡◌, IsSome, is_some, Option, Some, None, option_map};
+ghost use Rattle.std.specs.Borrow.{sem};
+ghost use Rattle.ob_c.specs.Held.{held};
+ghost use Rattle.ob_shared_connection.specs.contracts.transport.Transport.{the_row as sender_row};
+ghost use Rattle.ob_shared_connection.specs.Values.{HandleValue};
+
+use crate::loose::Loose;
+use std::alloc::Global;
+use std::marker::Model;
+use std::ptr::null_mut;
+
+/// The handle that sends, of a connection that several threads of C's use, which makes it as `{0}`: none yet.
+#[repr(C)]
+#[derive(Drop)]
+pub struct Transport {
+    at: *mut u8,
+    ghost value: { Option HandleValue },
+}
+
+impl Model for Transport {
+    ghost also_owns = { λ h. held sender_row h.at h.value };
+}
+
+// The handle behind it may go to another thread, and C gives it to one call at a time.
+unsafe impl Send for Transport {}
+
+impl Transport {
+    ghost use Rattle.ob_c.specs.Reaching.{LendsTransport};
+
+    /// Takes the handle out, if there is one.
+    pub(crate) fn sender(&mut self, alloc: Global) -> Option<Box<ob_shared_connection::Transport>>
+        ensures taken { option_map (λ handle. handle.value) result ≡ self.old.value }
+        ensures none { self.new.value ≡ None }
+    {
+        if !self.is_open() {
+            return None;
+        }
+        Some(self.take(alloc).into_box())
+    }
+
+    /// Puts a handle in.
+    pub(crate) fn keep(&mut self, handle: Box<ob_shared_connection::Transport>)
+        ensures { self.new.value ≡ Some handle.value }
+    {
+        self.put(Loose::of(handle));
+    }
+
+    /// Whether it holds a handle.
+    pub(crate) fn is_open(&mut self) -> bool
+        ensures { (result ≡ is_some self.old.value) × (self.new ≡ self.old) }
+    {
+        !self.at.is_null()
+    }
+
+    /// The handle, in its place: the struct is not written.
+    pub(crate) fn reach(&mut self) -> &mut ob_shared_connection::Transport
+        requires { IsSome self.old.value }
+        ensures* writes_back { sem 𝓛 (LendsTransport self.entry result) }
+        ensures value { self.old.value ≡ Some result.now }
+    {
+        unsafe { &mut *(self.at as *mut ob_shared_connection::Transport) }
+    }
+
+    /// Takes the handle out as its pointer.
+    fn take(&mut self, alloc: Global) -> Loose<ob_shared_connection::Transport, Global>
+        requires { IsSome self.old.value }
+        ensures { (self.old.value ≡ Some result.value) × (self.new.value ≡ None) }
+    {
+        let at = self.at as *mut ob_shared_connection::Transport;
+        self.at = null_mut();
+        Loose { at, alloc }
+    }
+
+    /// Puts the pointer of a handle in.
+    fn put(&mut self, loose: Loose<ob_shared_connection::Transport, Global>)
+        ensures { self.new.value ≡ Some loose.value }
+    {
+        let Loose { at, alloc: _ } = loose;
+        self.at = at as *mut u8;
+    }
+}

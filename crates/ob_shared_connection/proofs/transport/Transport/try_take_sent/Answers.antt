@@ -1,0 +1,10 @@
+use Rattle.std.proofs.Common.{sym, subst}
+use Rattle.ob_shared_connection.specs.Staying.{AreInFront}
+use Rattle.ob_shared_connection.specs.Values.{HandleValue}
+use Rattle.ob_shared_connection.proofs.Taking.{taken_if_in_front}
+use Rattle.ob_shared_connection.proofs.transport.Transport.try_take_sent.Goals as goal
+
+pub returns-clause-accepted : goal.returns-clause-accepted
+returns-clause-accepted c = λ in_front.
+    taken_if_in_front _ c.args.n c.in-Ok.told.0 _ c.self.invariant.1 c.in-Ok.ensures.under
+    (subst (λ (handle : HandleValue). AreInFront handle c.args.n) (sym c.self.view_is) in_front)

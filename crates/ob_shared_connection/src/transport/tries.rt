@@ -1,0 +1,67 @@
+//! The calls of a transport that are made if the lock is free. They wait for nobody, and wake nobody: each tells whom to
+//! wake.
+ghost use Rattle.std.specs.Prelude.{◌≡◌, ◌<◌, IfOk, IfSome, IsOk, None};
+ghost use Rattle.ob_types.specs.declared.command.Command.TheVariants as command;
+ghost use Rattle.ob_types.specs.declared.promise.Outcome.TheVariants.{Success};
+ghost use Rattle.ob_seq.specs.Pieces.{bytes_in};
+ghost use Rattle.ob_shared_connection.specs.Calls.{GivingUp, IsCall, Makes, Taking, UnderLock, giving_up};
+ghost use Rattle.ob_shared_connection.specs.Looking.{Gathers, IsLook};
+ghost use Rattle.ob_shared_connection.specs.Staying.{AreInFront};
+
+use crate::transport::Transport;
+use crate::wakes::Wakes;
+use crate::{commands, looks};
+use bytes::Bytes;
+use ob_connection::Taken;
+use ob_types::{Cause, Refusal};
+
+impl Transport {
+    /// The flushed blocks in front that can be sent at once, as `gather`. None if the lock is taken.
+    pub fn try_gather(
+        &mut self,
+        max_count: u32,
+        max_bytes: u32,
+    ) -> Option<(Result<Vec<Bytes>, Refusal>, Wakes)>
+        ensures under { IfSome result (λ told. UnderLock self.old
+            (IsLook (Gathers (λ blocks. blocks.items) max_count max_bytes) told.0) self.new) }
+        ensures in_front { IfSome result (λ told. IfOk told.0 (λ blocks.
+            0 < bytes_in blocks.items → AreInFront self.new (bytes_in blocks.items))) }
+        ensures busy { result ≡ None → self.new ≡ self.old }
+    {
+        let Ok(told) = self.caller.try_look(looks::Gather(max_count, max_bytes)) else {
+            return None;
+        };
+        Some(told)
+    }
+
+    /// Takes *n* bytes off the flushed blocks in front, as sent, as `take_sent`, and is accepted if that is. None if the
+    /// lock is taken.
+    pub fn try_take_sent(&mut self, n: u64) -> Option<(Result<Taken, Refusal>, Wakes)>
+        ensures under { IfSome result (λ told. UnderLock self.old
+            (Makes (Taking Success) (command.RemoveBytes n) told.0) self.new) }
+        ensures accepted { AreInFront self.old n → IfSome result (λ told. IsOk told.0) }
+        ensures busy { result ≡ None → self.new ≡ self.old }
+    {
+        let Ok(told) = self.caller.try_call(commands::TakeSent(n)) else {
+            return None;
+        };
+        Some(told)
+    }
+
+    /// Fails what is flushed and closes the connection, as `give_up`. None if the lock is taken.
+    pub fn try_give_up(&mut self, cause: Cause) -> Option<(Result<Taken, Refusal>, Wakes)>
+        ensures under { IfSome result (λ told. UnderLock self.old
+            (λ before after. IsCall (GivingUp cause) (giving_up cause) before told.0 after) self.new) }
+        ensures busy { result ≡ None → self.new ≡ self.old }
+    {
+        let Ok(told) = self.caller.try_call(commands::GiveUp(cause)) else {
+            return None;
+        };
+        Some(told)
+    }
+
+    /// Wakes whom a call has told.
+    pub fn wake(&self, wakes: Wakes) {
+        wakes.pay(&self.caller.shared);
+    }
+}

@@ -1,0 +1,329 @@
+/*
+ * A connection that four threads write to and one sends from. Each writer has a handle of its own, writes copies and blocks
+ * of many lengths, takes some promises back, and stops while the connection is unwritable; the transport offers what is
+ * flushed to one end of a socket pair. From the other end main reads all, and compares every byte: of each writer the
+ * messages come in order, each once and whole, but for those that were cancelled in time. First each status is asked for,
+ * LIMEKEEL_BUSY from within the allocation of a list, which is made under the lock.
+ */
+#include <errno.h>
+#include <pthread.h>
+#include <sched.h>
+#include <stdio.h>
+#include <stdlib.h>
+#include <string.h>
+#include <sys/socket.h>
+#include <sys/uio.h>
+#include <unistd.h>
+
+#include "limekeel.h"
+
+#define WRITERS 4
+#define MOST 4000
+#define HEAD 8
+
+static uint64_t messages = 3000;
+static struct limekeel_transport transport = LIMEKEEL_TRANSPORT;
+
+static void expect(const char *what, bool holds)
+{
+    if (!holds) {
+        fprintf(stderr, "%s\n", what);
+        exit(1);
+    }
+}
+
+/* A heap that makes one call of another handle from within an allocation. */
+static _Thread_local struct limekeel_shared *meanwhile;
+static _Thread_local uint32_t told;
+static uint8_t nowhere;
+
+struct limekeel_memory limekeel_alloc(size_t size, size_t align)
+{
+    (void)align;
+    if (meanwhile != NULL) {
+        struct limekeel_shared *shared = meanwhile;
+        meanwhile = NULL;
+        told = limekeel_shared_flush(shared).status;
+    }
+    uint8_t *at = malloc(size > 0 ? size : 1);
+    return (struct limekeel_memory){at != NULL, at != NULL ? at : &nowhere};
+}
+
+struct limekeel_memory limekeel_realloc(uint8_t *at, size_t kept, size_t size, size_t align)
+{
+    (void)kept;
+    (void)align;
+    uint8_t *moved = realloc(at, size > 0 ? size : 1);
+    return (struct limekeel_memory){moved != NULL, moved != NULL ? moved : at};
+}
+
+void limekeel_dealloc(uint8_t *at)
+{
+    free(at);
+}
+
+/* The statuses of handles that own nothing, and of those that do. */
+static void statuses(void)
+{
+    struct limekeel_shared none = LIMEKEEL_SHARED, one = LIMEKEEL_SHARED, two = LIMEKEEL_SHARED;
+    struct limekeel_transport alone = LIMEKEEL_TRANSPORT;
+    struct limekeel_block block = LIMEKEEL_BLOCK;
+    struct limekeel_piece piece = {(const uint8_t *)"", 77};
+    expect("another of none", limekeel_shared_another(&none, &one) == LIMEKEEL_NOT_OPEN);
+    expect("another of no transport", limekeel_transport_another(&alone, &one) == LIMEKEEL_NOT_OPEN);
+    expect("free of none", limekeel_shared_free(&none) == LIMEKEEL_NOT_OPEN);
+    expect("free of no transport", limekeel_transport_free(&alone) == LIMEKEEL_NOT_OPEN);
+    expect("write to none", limekeel_shared_write(&none, "", 0).status == LIMEKEEL_NOT_OPEN);
+    expect("block to none", limekeel_shared_write_block(&none, &block).status == LIMEKEEL_NOT_OPEN);
+    expect("flush of none", limekeel_shared_flush(&none).status == LIMEKEEL_NOT_OPEN);
+    expect("cancel of none", limekeel_shared_cancel(&none, 0).status == LIMEKEEL_NOT_OPEN);
+    expect("close of none", limekeel_shared_close(&none, 1).status == LIMEKEEL_NOT_OPEN);
+    expect("glance at none", limekeel_shared_glance(&none).status == LIMEKEEL_NOT_OPEN);
+    expect("gather of none", limekeel_transport_gather_pieces(&alone, &piece, 1, 9).status == LIMEKEEL_NOT_OPEN);
+    expect("take of none", limekeel_transport_take_sent(&alone, 0).status == LIMEKEEL_NOT_OPEN);
+    expect("give up of none", limekeel_transport_give_up(&alone, 1).status == LIMEKEEL_NOT_OPEN);
+    expect("an unknown size", limekeel_shared_open(&alone, 1, 2, 0, 65536) == LIMEKEEL_BAD_ESTIMATE);
+    expect("marks", limekeel_shared_open(&alone, 2, 1, 0, 0) == LIMEKEEL_BAD_MARKS);
+    expect("another edge", limekeel_shared_open_for(&alone, LIMEKEEL_EDGE + 1, 1, 2, 0, 0) == LIMEKEEL_OTHER_VERSION);
+    expect("open", limekeel_shared_open(&alone, 100, 200, 96, 8) == LIMEKEEL_OK);
+    expect("open twice", limekeel_shared_open(&alone, 100, 200, 96, 8) == LIMEKEEL_ALREADY_OPEN);
+    expect("another", limekeel_transport_another(&alone, &one) == LIMEKEEL_OK);
+    expect("another twice", limekeel_transport_another(&alone, &one) == LIMEKEEL_ALREADY_OPEN);
+    expect("a third", limekeel_shared_another(&one, &two) == LIMEKEEL_OK);
+    expect("no block", limekeel_shared_write_block(&one, &block).status == LIMEKEEL_NO_BLOCK);
+    expect("write", limekeel_shared_write(&one, "first", 5).id == 0);
+    expect("it changes writability", limekeel_shared_write(&two, "second", 6).change == LIMEKEEL_UNWRITABLE);
+    expect("glance", limekeel_shared_glance(&one).total == 203 && limekeel_shared_glance(&one).word == 1);
+    expect("cancel", limekeel_shared_cancel(&one, 0).in_time && !limekeel_shared_cancel(&two, 0).in_time);
+    expect("no promise", limekeel_shared_cancel(&one, 2).status == LIMEKEEL_UNKNOWN_PROMISE);
+    expect("nothing is flushed", limekeel_transport_gather_pieces(&alone, &piece, 1, 9).count == 0 && piece.length == 77);
+    expect("flush", limekeel_shared_flush(&two).count == 2);
+    meanwhile = &two;
+    expect("gather", limekeel_transport_gather_pieces(&alone, &piece, 1, 9).count == 1);
+    expect("the lock is had meanwhile", told == LIMEKEEL_BUSY);
+    expect("the bytes", piece.length == 6 && memcmp(piece.at, "second", 6) == 0);
+    expect("too many", limekeel_transport_take_sent(&alone, 7).status == LIMEKEEL_TOO_MANY_BYTES);
+    expect("flushed is left", limekeel_shared_close(&one, 5).status == LIMEKEEL_FLUSHED_LEFT);
+    struct limekeel_taken taken = limekeel_transport_take_sent(&alone, 6);
+    expect("take", taken.count == 2 && taken.outcome == LIMEKEEL_SUCCESS && taken.change == LIMEKEEL_WRITABLE);
+    expect("write", limekeel_shared_write(&one, "third", 5).id == 2);
+    taken = limekeel_shared_close(&one, 5);
+    expect("close", taken.count == 1 && taken.outcome == LIMEKEEL_FAILED && taken.cause == 5 && taken.from == 2);
+    expect("closed", limekeel_transport_give_up(&alone, 6).status == LIMEKEEL_CLOSED);
+    expect("free", limekeel_transport_free(&alone) == LIMEKEEL_OK && limekeel_shared_free(&two) == LIMEKEEL_OK);
+    expect("the last", limekeel_shared_glance(&one).total == 0 && limekeel_shared_free(&one) == LIMEKEEL_OK);
+}
+
+/* What is pending is given up. */
+static void giving_up(void)
+{
+    struct limekeel_transport alone = LIMEKEEL_TRANSPORT;
+    struct limekeel_shared one = LIMEKEEL_SHARED;
+    expect("open", limekeel_shared_open(&alone, 100, 200, 96, 8) == LIMEKEEL_OK);
+    expect("another", limekeel_transport_another(&alone, &one) == LIMEKEEL_OK);
+    for (uint64_t id = 0; id < 3; id++)
+        expect("write", limekeel_shared_write(&one, "lost", 4).id == id && (id > 1 || limekeel_shared_flush(&one).count == 1));
+    struct limekeel_taken taken = limekeel_transport_give_up(&alone, 9);
+    expect("give up", taken.count == 3 && taken.outcome == LIMEKEEL_FAILED && taken.cause == 9 && taken.to == 3);
+    expect("closed", limekeel_shared_write(&one, "late", 4).status == LIMEKEEL_CLOSED);
+    expect("free", limekeel_shared_free(&one) == LIMEKEEL_OK && limekeel_transport_free(&alone) == LIMEKEEL_OK);
+}
+
+struct writer {
+    struct limekeel_shared shared;
+    uint8_t number;
+    bool *cancelled;
+    uint64_t busy;
+};
+
+/* The length of a message, its head included. */
+static size_t length_of(uint8_t writer, uint64_t at)
+{
+    return HEAD + (size_t)((at * 2654435761u + writer * 97u) % (at % 50 == 0 ? MOST : 60));
+}
+
+/* A message: who wrote it, which one it is, how long it is, and bytes that tell where they stand. */
+static size_t message_of(uint8_t writer, uint64_t at, uint8_t *bytes)
+{
+    size_t length = length_of(writer, at);
+    bytes[0] = writer;
+    bytes[1] = (uint8_t)(length & 255);
+    bytes[2] = (uint8_t)(length >> 8);
+    for (int place = 3; place < HEAD; place++)
+        bytes[place] = (uint8_t)(at >> (8 * (place - 3)));
+    for (size_t place = HEAD; place < length; place++)
+        bytes[place] = (uint8_t)(writer * 31 + at * 7 + place);
+    return length;
+}
+
+static struct limekeel_written written(struct writer *writer, const uint8_t *bytes, size_t length, bool as_block)
+{
+    struct limekeel_block block = LIMEKEEL_BLOCK;
+    struct limekeel_written answer;
+    if (as_block)
+        expect("a block", limekeel_block_new(&block, bytes, length) == LIMEKEEL_OK);
+    for (;;) {
+        answer = as_block ? limekeel_shared_write_block(&writer->shared, &block)
+                          : limekeel_shared_write(&writer->shared, bytes, length);
+        if (answer.status != LIMEKEEL_BUSY)
+            break;
+        writer->busy++;
+        sched_yield();
+    }
+    if (as_block)
+        expect("its end", limekeel_block_free(&block) == LIMEKEEL_OK);
+    expect("write", answer.status == LIMEKEEL_OK);
+    return answer;
+}
+
+static void flushed(struct writer *writer)
+{
+    struct limekeel_flushed answer;
+    while ((answer = limekeel_shared_flush(&writer->shared)).status == LIMEKEEL_BUSY) {
+        writer->busy++;
+        sched_yield();
+    }
+    expect("flush", answer.status == LIMEKEEL_OK);
+}
+
+static bool cancelled(struct writer *writer, uint64_t id)
+{
+    struct limekeel_cancelled answer;
+    while ((answer = limekeel_shared_cancel(&writer->shared, id)).status == LIMEKEEL_BUSY) {
+        writer->busy++;
+        sched_yield();
+    }
+    expect("cancel", answer.status == LIMEKEEL_OK);
+    return answer.in_time;
+}
+
+static void *write_all(void *given)
+{
+    struct writer *writer = given;
+    uint8_t bytes[MOST + HEAD];
+    for (uint64_t at = 0; at < messages; at++) {
+        size_t length = message_of(writer->number, at, bytes);
+        struct limekeel_written answer = written(writer, bytes, length, at % 3 == 0);
+        writer->cancelled[at] = at % 7 == 0 && cancelled(writer, answer.id);
+        if (at % 4 == 0 || at + 1 == messages)
+            flushed(writer);
+        while (limekeel_shared_glance(&writer->shared).word != 0) {
+            flushed(writer);
+            sched_yield();
+        }
+    }
+    expect("free", limekeel_shared_free(&writer->shared) == LIMEKEEL_OK);
+    return NULL;
+}
+
+static int ends[2];
+static uint64_t gone, turns_of_the_transport;
+
+static void *send_all(void *given)
+{
+    (void)given;
+    struct limekeel_piece pieces[16];
+    while (gone < WRITERS * messages) {
+        struct limekeel_laid laid = limekeel_transport_gather_pieces(&transport, pieces, 16, 20000);
+        if (laid.status == LIMEKEEL_BUSY) {
+            sched_yield();
+            continue;
+        }
+        expect("gather", laid.status == LIMEKEEL_OK && laid.count <= 16);
+        ssize_t count = 0;
+        if (laid.count > 0)
+            count = writev(ends[0], (struct iovec *)pieces, (int)laid.count);
+        expect("the socket", count >= 0);
+        struct limekeel_taken taken;
+        while ((taken = limekeel_transport_take_sent(&transport, (uint64_t)count)).status == LIMEKEEL_BUSY)
+            sched_yield();
+        expect("what was gathered stays", taken.status == LIMEKEEL_OK && taken.from == gone);
+        gone = taken.to;
+        turns_of_the_transport++;
+        if (laid.count == 0)
+            sched_yield();
+    }
+    close(ends[0]);
+    return NULL;
+}
+
+/* All that comes, up to the end. */
+static uint8_t *read_all(size_t *length)
+{
+    size_t room = 1 << 16;
+    uint8_t *bytes = malloc(room);
+    *length = 0;
+    for (;;) {
+        expect("room", bytes != NULL);
+        ssize_t count = read(ends[1], bytes + *length, room - *length);
+        expect("read", count >= 0);
+        if (count == 0)
+            return bytes;
+        *length += (size_t)count;
+        expect("no more than was written", *length <= WRITERS * messages * (MOST + HEAD));
+        if (*length == room)
+            bytes = realloc(bytes, room *= 2);
+    }
+}
+
+/* Of each writer the messages come in order, but for those that were cancelled. */
+static uint64_t compared(const uint8_t *bytes, size_t length, struct writer *writers)
+{
+    uint64_t next[WRITERS] = {0}, came = 0;
+    uint8_t wanted[MOST + HEAD];
+    for (size_t place = 0; place < length; came++) {
+        uint8_t by = bytes[place];
+        expect("a writer", by < WRITERS);
+        while (next[by] < messages && writers[by].cancelled[next[by]])
+            next[by]++;
+        expect("a message more", next[by] < messages);
+        size_t size = message_of(by, next[by]++, wanted);
+        expect("every byte", size <= length - place && memcmp(bytes + place, wanted, size) == 0);
+        place += size;
+    }
+    for (int by = 0; by < WRITERS; by++) {
+        while (next[by] < messages && writers[by].cancelled[next[by]])
+            next[by]++;
+        expect("all messages", next[by] == messages);
+    }
+    return came;
+}
+
+int main(int count, char **words)
+{
+    if (count > 1)
+        messages = strtoull(words[1], NULL, 10);
+    statuses();
+    giving_up();
+    static struct writer writers[WRITERS];
+    pthread_t threads[WRITERS], sender;
+    expect("a pair", socketpair(AF_UNIX, SOCK_STREAM, 0, ends) == 0);
+    expect("open", limekeel_shared_open(&transport, 4000, 8000, 96, 8) == LIMEKEEL_OK);
+    for (int at = 0; at < WRITERS; at++) {
+        writers[at].number = (uint8_t)at;
+        writers[at].cancelled = calloc(messages, sizeof(bool));
+        expect("another", (at == 0 ? limekeel_transport_another(&transport, &writers[0].shared)
+                                   : limekeel_shared_another(&writers[at - 1].shared, &writers[at].shared)) == LIMEKEEL_OK);
+    }
+    for (int at = 0; at < WRITERS; at++)
+        expect("a thread", pthread_create(&threads[at], NULL, write_all, &writers[at]) == 0);
+    expect("a thread", pthread_create(&sender, NULL, send_all, NULL) == 0);
+    size_t length;
+    uint8_t *bytes = read_all(&length);
+    uint64_t busy = 0;
+    for (int at = 0; at < WRITERS; at++) {
+        expect("its end", pthread_join(threads[at], NULL) == 0);
+        busy += writers[at].busy;
+    }
+    expect("its end", pthread_join(sender, NULL) == 0);
+    uint64_t came = compared(bytes, length, writers);
+    printf("%llu messages, %zu bytes, %llu cancelled, %llu turns, %llu times busy\n", (unsigned long long)came, length,
+           (unsigned long long)(WRITERS * messages - came), (unsigned long long)turns_of_the_transport,
+           (unsigned long long)busy);
+    for (int at = 0; at < WRITERS; at++)
+        free(writers[at].cancelled);
+    free(bytes);
+    expect("free", limekeel_transport_free(&transport) == LIMEKEEL_OK);
+    close(ends[1]);
+    return 0;
+}
