@@ -48,7 +48,11 @@ fn a_thread_writes_and_the_one_with_the_socket_sends(rt: HostRuntime) -> Result<
         overhead: 96,
         unknown: 8,
     };
-    let mut transport = Handle::open(rt.alloc(), WaterMark::new(100, 200)?, estimate)?.into_transport();
+    let mut transport = Handle::open(
+        rt.alloc(),
+        WaterMark::new(100, 200)?,
+        estimate,
+    )?.into_transport();
     let mut socket = Slow::new(rt.alloc(), false);
     let four = || Bytes::from_static(b"four");
     let first = respond_from_any_thread(&rt, transport.another()?, four());
