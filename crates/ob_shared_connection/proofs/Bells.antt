@@ -12,10 +12,14 @@ use Rattle.ob_shared_connection.specs.declared.bell.Waiter.TheVariants.{Writer, 
 use Rattle.ob_shared_connection.specs.declared.view.Bells.{Bells}
 use Rattle.ob_shared_connection.specs.declared.view.View.{View}
 
--- the first three words are no bells
+-- the first three words are no bells, and neither is the word of the role
 pub bell_apart : (waiter : Waiter) (word : ℕ) → word < 3 → bell_word waiter ≢ word
 bell_apart Writer word few = λ e. omega arith
 bell_apart Sender word few = λ e. omega arith
+
+pub role_apart : (waiter : Waiter) → bell_word waiter ≢ 5
+role_apart Writer = λ e. omega arith
+role_apart Sender = λ e. omega arith
 
 -- and one bell is not the other
 pub bells_apart : (waiter other : Waiter) → other ≢ waiter → bell_word other ≢ bell_word waiter

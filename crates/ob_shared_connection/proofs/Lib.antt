@@ -5,6 +5,7 @@ pub mod Lists
 pub mod Locking
 pub mod Publishing
 pub mod Ringing
+pub mod Roles
 pub mod Seating
 pub mod Sending
 pub mod Shares

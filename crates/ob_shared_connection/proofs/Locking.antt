@@ -15,7 +15,7 @@ use Rattle.ob_seq.specs.Settings.{Settings}
 use Rattle.ob_connection.specs.Connected.{Connected}
 use Rattle.ob_shared_connection.specs.Bells.{bell_word, is_silent}
 use Rattle.ob_shared_connection.specs.Log.{IsBeginning, commands_by, commands_of}
-use Rattle.ob_shared_connection.specs.Ruled.{AreCounted, Fits, IsShown, Ruled, free_view, held_view, settings_of}
+use Rattle.ob_shared_connection.specs.Ruled.{AreCounted, Fits, IsShown, IsVacant, Ruled, free_view, held_view, settings_of}
 use Rattle.ob_shared_connection.specs.Steps.{IsRung, MayLeave, Knows, Tries, connected_in}
 use Rattle.ob_shared_connection.specs.Values.{IsLeftBy}
 use Rattle.ob_shared_connection.specs.Waiting.{is_due, moment_after}
@@ -101,6 +101,7 @@ module _ (slots id : ℕ) (me : Knows) where
             published = ruled.shown.published;
             small = ruled.shown.small;
           });
+          role = other_word (λ number. IsVacant then_past number) s.words 0 5 next (λ e. omega arith) ruled.role;
         },
         record {
           taken = λ _. record {
@@ -132,7 +133,8 @@ module _ (slots id : ℕ) (me : Knows) where
             (λ again. absurd (taken (sym (get_or-set_same s.words 0 next 0 (omega arith)) ∙ again)))
             (λ free. absurd (found free))
             (get_or-set_other s.words 0 1 next 0 (λ e. omega arith))
-            (get_or-set_other s.words 0 2 next 0 (λ e. omega arith)) (other_bell s.words 0 next (omega arith)),
+            (get_or-set_other s.words 0 2 next 0 (λ e. omega arith)) (other_bell s.words 0 next (omega arith))
+            (λ vacant. sym (get_or-set_other s.words 0 5 next 0 (λ e. omega arith)) ∙ vacant),
         record { taken = λ free. absurd (found free); missed = λ _. refl },
       )
 
@@ -206,6 +208,7 @@ lets_go slots id view connected one holds shows there left rung s ruled homes at
         counts = other_word (λ number. AreCounted past.log number (set s.views id new)) s.words 0 1 0 (λ e. omega arith)
             (counts_set past.log (get_or s.words 1 0) s.views id view new at refl refl ruled.counts);
         shown = other_word (λ number. IsShown past number) s.words 0 2 0 (λ e. omega arith) ruled.shown;
+        role = other_word (λ number. IsVacant past number) s.words 0 5 0 (λ e. omega arith) ruled.role;
       },
       refl,
     )

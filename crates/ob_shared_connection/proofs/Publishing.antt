@@ -4,7 +4,7 @@ use Rattle.std.proofs.Common.{refl, sym, ap, ◌∙◌, subst, arith, length-set
 use Rattle.std.proofs.lemmas.List.{append-nil, append_assoc, get_or-set_same, get_or-set_other, set-get_or, length-append, length-map}
 use Rattle.std.proofs.lemmas.List.Elements.{All-append, All-nil}
 use mathlib.Core.Logic.{dite}
-use mathlib.Core.Option.{some}
+use mathlib.Core.Option.{some, some-injective}
 use native.Mathlib.Decide.{ℕ_discrete}
 use lib.ListN.{get_elem?}
 use Rattle.atomic_table.specs.Table.{Allows, keeps}
@@ -76,6 +76,7 @@ module _ (slots id : ℕ) (me : Knows) where
               fits = fits_alone past s.views id new ruled.fits fresh;
               counts = counts_set past.log (get_or s.words 1 0) s.views id me.0 new at refl refl ruled.counts;
               shown = ruled.shown;
+              role = ruled.role;
             }),
         record {
           between = seen.rest;
@@ -144,7 +145,7 @@ may_list slots id me commands lock may s ruled homes at small =
       sender_is = old.sender_is;
       untouched = λ sends. All-append Removes old.part.rest more (old.untouched sends)
           (none_removes id me.0.sends commands may (is_false me.0.sends
-          (λ both. apart (old.sender_is sends ∙ sym (mine.sender_is both)))));
+          (λ both. apart (some-injective seat id (sym (old.sender_is sends) ∙ mine.sender_is both)))));
     } in
     let handles = sum_set handles_of s.views id me.0 new at in
     let calls = sum_set calls_with s.views id me.0 new at in
@@ -188,6 +189,7 @@ may_list slots id me commands lock may s ruled homes at small =
               published = ruled.shown.published;
               small = ruled.shown.small;
             };
+            role = ruled.role;
           }),
       refl,
     )
@@ -215,8 +217,9 @@ publishes : (id : ℕ) (me : Knows) (number : ℕ) → HasLock me → IsNow me.0
     → get_elem? s.views id ≡ some me.0 → (words : List ℕ) → length words ≡ 8
     → get_or words 0 0 ≡ get_or s.words 0 0 → get_or words 1 0 ≡ get_or s.words 1 0 → get_or words 2 0 ≡ number
     → ((waiter : Waiter) → get_or words (bell_word waiter) 0 ≡ get_or s.words (bell_word waiter) 0)
+    → get_or words 5 0 ≡ get_or s.words 5 0
     → Ruled (record { words = words; homes = s.homes; views = set s.views id (shown_view me.0) })
-publishes id me number lock now s ruled at words long locked counts published bells =
+publishes id me number lock now s ruled at words long locked counts published bells role =
     let past = ruled.past in
     let mine = ruled.fits id me.0 at in
     let opened = mine.opened lock.seat.there in
@@ -252,6 +255,7 @@ publishes id me number lock now s ruled at words long locked counts published be
         small = subst (λ (log : List Call). (glance_after past.settings log).total < 4294967296) whole
             (subst (λ (settings : Settings). (glance_after settings me.0.seen).total < 4294967296) opened now.small);
       };
+      role = λ vacant. ruled.role (sym role ∙ vacant);
     }
 
 -- a store by the seat that has the lock
@@ -265,7 +269,8 @@ may_publish slots id me number lock now s ruled homes at small =
       publishes id me number lock now s ruled at (set s.words 2 number) (length-set s.words 2 number ∙ words)
           (get_or-set_other s.words 2 0 number 0 (λ e. omega arith))
           (get_or-set_other s.words 2 1 number 0 (λ e. omega arith))
-          (get_or-set_same s.words 2 number 0 (omega arith)) (other_bell s.words 2 number (omega arith)),
+          (get_or-set_same s.words 2 number 0 (omega arith)) (other_bell s.words 2 number (omega arith))
+          (get_or-set_other s.words 2 5 number 0 (λ e. omega arith)),
       refl,
     )
 
@@ -282,7 +287,7 @@ may_find slots id me number lock now s ruled homes at small =
       subst (λ (words : List ℕ).
           Ruled (record { words = words; homes = s.homes; views = set s.views id (shown_view me.0) })) (sym same)
           (publishes id me number lock now s ruled at s.words ruled.words refl refl found
-          (λ waiter. refl)),
+          (λ waiter. refl) refl),
       record { shown = λ _. refl; other = λ other. absurd (other found) },
     ))
     (λ other. (

@@ -11,14 +11,14 @@ use Rattle.atomic_table.specs.declared.shared.Seat.{Seat}
 use Rattle.atomic_table.proofs.Lists.{at_set}
 use Rattle.ob_connection.specs.Connected.{Connected}
 use Rattle.ob_shared_connection.specs.Bells.{awaited, bell_word, is_silent, silent, silenced}
-use Rattle.ob_shared_connection.specs.Ruled.{AreCounted, IsShown, Ruled, hearing_view}
+use Rattle.ob_shared_connection.specs.Ruled.{AreCounted, IsShown, IsVacant, Ruled, hearing_view}
 use Rattle.ob_shared_connection.specs.Steps.{Awaits, HasLock, Hears, Knows}
 use Rattle.ob_shared_connection.specs.Tables.{IsSeatOf, table_of}
 use Rattle.ob_shared_connection.specs.declared.bell.Waiter.{Waiter}
 use Rattle.ob_shared_connection.specs.declared.shared.Shared.{Shared}
 use Rattle.ob_shared_connection.specs.declared.view.Bells.{Bells}
 use Rattle.ob_shared_connection.specs.declared.view.View.{View}
-use Rattle.ob_shared_connection.proofs.Bells.{awaited_else, awaited_now, bell_apart, bell_within, bells_apart, same_or_other, silent_else, silenced_else}
+use Rattle.ob_shared_connection.proofs.Bells.{awaited_else, awaited_now, bell_apart, bell_within, bells_apart, role_apart, same_or_other, silent_else, silenced_else}
 use Rattle.ob_shared_connection.proofs.Shares.{shares_kept}
 use Rattle.ob_shared_connection.proofs.Views.{St, fits_alone, counts_set, taken_set, fits_still, nothing_known, other_word}
 
@@ -61,6 +61,7 @@ module _ (slots id : ℕ) (me : Knows) (waiter : Waiter) (lock : HasLock me) whe
         };
         shown = other_word (λ number. IsShown past number) s.words word 2 next
             (λ e. bell_apart waiter 2 (omega arith) (sym e)) ruled.shown;
+        role = other_word (λ number. IsVacant past number) s.words word 5 next (λ e. role_apart waiter (sym e)) ruled.role;
       }
 
   -- the other bell is as it was, and so is what is known of it

@@ -17,7 +17,7 @@ use Rattle.ob_connection.specs.Connected.{Connected}
 use Rattle.ob_connection.specs.Standing.{StandsFor}
 use Rattle.ob_shared_connection.specs.Bells.{bell_word}
 use Rattle.ob_shared_connection.specs.Log.{commands_by}
-use Rattle.ob_shared_connection.specs.Ruled.{Fits, HasShare, IsShown, Past, Ruled, both_views, calls_with, count_if, first_view, handles_of, named_view, new_view, sharing_view, spent_view}
+use Rattle.ob_shared_connection.specs.Ruled.{Fits, HasShare, IsShown, IsVacant, Past, Ruled, both_views, calls_with, count_if, first_view, handles_of, named_view, new_view, sharing_view, spent_view}
 use Rattle.ob_shared_connection.specs.Steps.{Names}
 use Rattle.ob_shared_connection.specs.declared.bell.Waiter.{Waiter}
 use Rattle.ob_shared_connection.specs.declared.bell.Waiter.TheVariants.{Writer, Sender}
@@ -80,6 +80,7 @@ names_seat slots id view expected s ruled at found =
           counted = counts.counted ∙ omega arith;
         };
         shown = other_word (λ number. IsShown past number) s.words 1 2 (expected + 1) (λ e. omega arith) ruled.shown;
+        role = other_word (λ number. IsVacant past number) s.words 1 5 (expected + 1) (λ e. omega arith) ruled.role;
       },
       record { named = λ _. refl; own = λ _ _ _. none; missed = λ other. absurd (other found) },
     )
@@ -165,6 +166,7 @@ may_cut id view there has_not s ruled at =
         counted = counts.counted ∙ omega arith;
       };
       shown = ruled.shown;
+      role = ruled.role;
     }
 
 -- a seat may take another one in, if neither has the lock
@@ -234,6 +236,7 @@ may_take id view other theirs named there free other_named other_free s ruled at
         counted = counts.counted ∙ omega arith;
       };
       shown = ruled.shown;
+      role = ruled.role;
     }
 
 -- what is behind a connection at the start
@@ -243,7 +246,7 @@ first_past about = record {
   log = [];
   shown = [];
   holder = 0;
-  sender = 0;
+  sender = some 0;
 }
 
 -- the first seat fits
@@ -315,4 +318,5 @@ at_first about connection settings stands =
         published = sym (ap (λ (word : ℕ). packed word 0) (word_at_start (record { marks = about.0; estimate = about.1 })));
         small = omega arith;
       };
+      role = λ never. absurd (cc never);
     }

@@ -133,8 +133,9 @@ module _ (slots id : ℕ) (me : Knows) where
       → get_or (set s.words word next) 1 0 ≡ get_or s.words 1 0
       → get_or (set s.words word next) 2 0 ≡ get_or s.words 2 0
       → ((waiter : Waiter) → get_or (set s.words word next) (bell_word waiter) 0 ≡ get_or s.words (bell_word waiter) 0)
+      → (get_or (set s.words word next) 5 0 ≡ 1 → get_or s.words 5 0 ≡ 1)
       → Ruled (record { words = set s.words word next; homes = s.homes; views = set s.views id me.0 })
-  same_views word next s ruled at locked still counts shown bells =
+  same_views word next s ruled at locked still counts shown bells role =
       let words = ruled.words in
       subst (λ (views : List View). Ruled (record { words = set s.words word next; homes = s.homes; views = views }))
       (sym (set_again s.views id me.0 at))
@@ -151,6 +152,7 @@ module _ (slots id : ℕ) (me : Knows) where
         fits = ruled.fits;
         counts = subst (λ (number : ℕ). AreCounted ruled.past.log number s.views) (sym counts) ruled.counts;
         shown = subst (λ (number : ℕ). IsShown ruled.past number) (sym shown) ruled.shown;
+        role = λ vacant. ruled.role (role vacant);
       })
 
   -- a word that is read, so that nothing is known anew
@@ -161,4 +163,4 @@ module _ (slots id : ℕ) (me : Knows) where
       let still : (read : ℕ) → get_or (set s.words word (get_or s.words word 0)) read 0 ≡ get_or s.words read 0 = λ read.
       ap (λ (words : List ℕ). get_or words read 0) same in
       same_views word (get_or s.words word 0) s ruled at (λ free. sym (still 0) ∙ free) (λ free. still 0 ∙ free)
-      (still 1) (still 2) (λ waiter. still (bell_word waiter))
+      (still 1) (still 2) (λ waiter. still (bell_word waiter)) (λ vacant. sym (still 5) ∙ vacant)

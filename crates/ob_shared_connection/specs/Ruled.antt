@@ -2,7 +2,7 @@
 -- it.
 use Rattle.std.specs.Prelude.{◌≡◌, ◌≢◌, ◌<◌, ◌≤◌, ◌+◌, ◌^◌, ℕ, Bool, true, false, List, [], ◌∷◌, ◌++◌, length, slice_index}
 use Rattle.std.specs.List.{All, sum_by}
-use mathlib.Core.Option.{Option, some}
+use mathlib.Core.Option.{Option, none, some}
 use lib.ListN.{get_elem?}
 use Rattle.atomic_table.specs.Table.{State}
 use Rattle.ob_types.specs.WaterMark.{Marks}
@@ -86,6 +86,13 @@ shown_view view = record view { shows = true }
 abbrev pub hearing_view : Bells → View → View
 hearing_view bells view = record view { bells = bells }
 
+-- once it sends, and once it does not any more
+abbrev pub sending_view : View → View
+sending_view view = record view { sends = true }
+
+abbrev pub resigned_view : View → View
+resigned_view view = record view { sends = false }
+
 -- once it let the lock go
 abbrev pub free_view : View → View
 free_view view = record view { holds = false }
@@ -145,13 +152,13 @@ abbrev pub calls_with : View → ℕ
 calls_with view = count_if view.named (length view.mine + view.handed)
 
 -- what is behind the words and the connection: what was opened, all accepted calls, those after which the glance was
--- published, which seat had the lock last, and which one sends
+-- published, which seat had the lock last, and which one sends, if one does
 pub record Past : Type 0 where
   pub settings : Settings
   pub log : List Call
   pub shown : List Call
   pub holder : ℕ
-  pub sender : ℕ
+  pub sender : Option ℕ
 
 -- what the seat with this number knows fits that: it has seen a beginning of the calls; those of its own number are its
 -- own; if it has the lock it is the only one, has seen all, and knows if all are published; if it has not, what it has
@@ -167,7 +174,7 @@ pub record Fits (past : Past) (seat : ℕ) (view : View) : Type 0 where
   pub whole : view.holds ≡ true → view.seen ≡ past.log
   pub current : view.holds ≡ true → view.shows ≡ true → past.shown ≡ past.log
   pub seen_shown : view.holds ≡ false → IsBeginning view.seen past.shown
-  pub sender_is : view.sends ≡ true → seat ≡ past.sender
+  pub sender_is : view.sends ≡ true → past.sender ≡ some seat
   pub untouched : view.sends ≡ true → NoneRemoves part.rest
 
 -- all seats fit
@@ -229,8 +236,13 @@ pub record IsBell (waiter : Waiter) (past : Past) (lock bell : ℕ) (views : Lis
   pub known : (seat : ℕ) (view : View) → get_elem? views seat ≡ some view → view.holds ≡ true
       → is_silent waiter view.bells ≡ true → bell ≡ 0
 
+-- if this number is 1, nobody sends
+abbrev pub IsVacant : Past → ℕ → Type 0
+IsVacant past number = number ≡ 1 → past.sender ≡ none
+
 -- there is one list of calls, which the views of all seats fit; while the first word is 0 the connection is at home, and
--- else a handle has it; the second counts the handles, the third is published, and the two after it are bells
+-- else a handle has it; the second counts the handles, the third is published, the two after it are bells, and the next one
+-- tells that nobody sends
 pub record Ruled (state : State Connected View) : Type 0 where
   pub past : Past
   pub words : length state.words ≡ 8
@@ -241,3 +253,4 @@ pub record Ruled (state : State Connected View) : Type 0 where
   pub shares : AreShared state.views
   pub bells : (waiter : Waiter) → IsBell waiter past (slice_index state.words 0) (slice_index state.words (bell_word waiter)) state.views
   pub shown : IsShown past (slice_index state.words 2)
+  pub role : IsVacant past (slice_index state.words 5)

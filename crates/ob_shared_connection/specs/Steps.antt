@@ -9,7 +9,7 @@ use Rattle.ob_shared_connection.specs.Glances.{IsLegal, glance_after, packed_gla
 use Rattle.ob_shared_connection.specs.Handles.{IsEnd}
 use Rattle.ob_shared_connection.specs.Log.{IsBeginning, commands_by, commands_of}
 use Rattle.ob_shared_connection.specs.Removals.{NoneRemoves}
-use Rattle.ob_shared_connection.specs.Ruled.{hearing_view, held_view, named_view, seeing_view, settings_of, shown_view}
+use Rattle.ob_shared_connection.specs.Ruled.{hearing_view, held_view, named_view, seeing_view, sending_view, settings_of, shown_view}
 use Rattle.ob_shared_connection.specs.Values.{HandleValue, Held, IsLeftBy}
 use Rattle.ob_shared_connection.specs.Waiting.{is_due, moment_after}
 use Rattle.ob_shared_connection.specs.declared.bell.Waiter.{Waiter}
@@ -128,6 +128,11 @@ pub record IsNow (view : View) (number : ℕ) : Type 0 where
 pub record Finds (number : ℕ) (old : Knows) (found : ℕ) (new : Knows) : Type 0 where
   pub shown : found ≡ number → new ≡ (shown_view old.0, old.1)
   pub other : found ≢ number → new ≡ old
+
+-- the seat that has the lock sends from now on if it found that nobody does, and else nothing changes
+pub record Appoints (old : Knows) (found : ℕ) (new : Knows) : Type 0 where
+  pub sends : found ≡ 1 → new ≡ (sending_view old.0, old.1)
+  pub kept : found ≢ 1 → new ≡ old
 
 -- a seat gets its number if it found what it had expected, and else nothing changes
 pub record Names (expected : ℕ) (old : Knows) (found : ℕ) (new : Knows) : Type 0 where

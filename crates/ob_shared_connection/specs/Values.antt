@@ -1,5 +1,5 @@
 -- What contracts see of a handle, and of what lies under the lock.
-use Rattle.std.specs.Prelude.{◌≡◌, ℕ, Bool, List, ◌++◌}
+use Rattle.std.specs.Prelude.{◌≡◌, ℕ, Bool, false, true, List, ◌++◌}
 use Rattle.atomic_table.specs.Seated.{TableId}
 use Rattle.ob_types.specs.declared.command.Command.{Command}
 use Rattle.ob_seq.specs.Settings.{Settings}
@@ -43,6 +43,14 @@ handle_with commands handle = record handle {
   mine = handle.mine ++ commands;
   seen = handle.seen ++ calls_of handle.caller commands;
 }
+
+-- what lies under the lock, once the handle that has it is the one that sends
+abbrev pub appointed : Held → Held
+appointed held = record held { handle = record held.handle { sends = true } }
+
+-- the handle once it does not send any more
+abbrev pub resigned : HandleValue → HandleValue
+resigned handle = record handle { sends = false }
 
 -- the handle once another got half of its share
 abbrev pub sharing : HandleValue → HandleValue

@@ -1,4 +1,4 @@
-ghost use Rattle.std.specs.Prelude.{◌≡◌, ◌≤◌, false, true, IfErr, IfOk, IsOkUnless, OnErr, OnOk};
+ghost use Rattle.std.specs.Prelude.{◌≡◌, ◌≤◌, false, true, IfErr, IfOk, IfSome, IsOkUnless, None, OnErr, OnOk};
 ghost use Rattle.std.specs.Arc.{arc_value};
 
 mod sending;
@@ -32,12 +32,12 @@ pub struct Caller {
 impl Caller {
     ghost use Rattle.ob_types.specs.Limits.{greatest_overhead, greatest_unknown};
     ghost use Rattle.ob_shared_connection.specs.Handles.{IsAnother, IsButForShare, IsEnd, IsFirst, IsJoined};
-    ghost use Rattle.ob_shared_connection.specs.Values.{sharing};
+    ghost use Rattle.ob_shared_connection.specs.Values.{appointed, resigned, sharing};
     ghost use Rattle.ob_shared_connection.specs.Calls.{IsCall, IsLock, UnderLock};
     ghost use Rattle.ob_shared_connection.specs.Glances.{IsGlance};
     ghost use Rattle.ob_shared_connection.specs.Looking.{IsLook};
     ghost use Rattle.ob_shared_connection.specs.Removals.{MayGive};
-    ghost use Rattle.ob_shared_connection.specs.Waiting.{IsMoment, is_due};
+    ghost use Rattle.ob_shared_connection.specs.Waiting.{IsMoment, Waited, is_due};
     ghost use Rattle.ob_shared_connection.specs.Callers.{caller_handle, caller_held, IsFree, IsHolder};
 
     /// The first caller of a connection with nothing written.
@@ -155,6 +155,27 @@ impl Caller {
             self.lock(rt);
         }
         unreachable!()
+    }
+
+    /// What who waits at a bell finds, if the lock is free. If that is not yet what one waits for, it tells there that
+    /// someone waits: whoever makes it so is told.
+    pub fn try_wait<B: Bell>(&mut self) -> Option<(Moment, Wakes)>
+        requires { IsFree self.old }
+        ensures free { IsFree self.new }
+        ensures sends { (caller_handle self.new).sends ≡ (caller_handle self.old).sends }
+        ensures under { IfSome result (λ told. UnderLock (caller_handle self.old) (Waited B.waiter told.0)
+            (caller_handle self.new)) }
+        ensures busy { result ≡ None → caller_handle self.new ≡ caller_handle self.old }
+    {
+        if !self.try_lock() {
+            return None;
+        }
+        let moment = self.moment::<B>();
+        if !moment.is_due() {
+            let place = self.shared.await_bell::<B>(&mut self.seat);
+            place.leave();
+        }
+        Some((moment, self.leave()))
     }
 
     /// What who waits at a bell finds.
@@ -286,6 +307,26 @@ impl Caller {
         let answer = self.ask(ask);
         self.unlock();
         answer
+    }
+
+    /// Takes the role of the one that sends, if nobody has it.
+    pub fn appoint(&mut self) -> bool
+        requires { IsHolder self.old }
+        ensures holds { IsHolder self.new }
+        ensures sends { result ≡ true → caller_held self.new ≡ appointed (caller_held self.old) }
+        ensures kept { result ≡ false → caller_held self.new ≡ caller_held self.old }
+    {
+        self.shared.appoint(&mut self.seat)
+    }
+
+    /// Gives the role up.
+    pub fn resign(&mut self)
+        requires free { IsFree self.old }
+        requires sends { (caller_handle self.old).sends ≡ true }
+        ensures free { IsFree self.new }
+        ensures resigns { caller_handle self.new ≡ resigned (caller_handle self.old) }
+    {
+        self.shared.resign(&mut self.seat);
     }
 
     /// Takes another caller in.

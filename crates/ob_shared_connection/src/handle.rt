@@ -1,10 +1,10 @@
 ghost use Rattle.std.specs.Prelude.{◌≡◌, ◌≤◌, true, IfErr, IfOk, IsOkUnless, OnErr, OnOk};
 ghost use Rattle.ob_types.specs.Limits.{greatest_overhead, greatest_unknown};
-ghost use Rattle.ob_shared_connection.specs.Calls.{IsLock};
+ghost use Rattle.ob_shared_connection.specs.Calls.{IsLock, UnderLock};
 ghost use Rattle.ob_shared_connection.specs.Glances.{IsGlance};
 ghost use Rattle.ob_shared_connection.specs.Handles.{IsAnother, IsButForShare, IsEnd, IsFirst, IsJoined};
 ghost use Rattle.ob_shared_connection.specs.Log.{commands_by};
-ghost use Rattle.ob_shared_connection.specs.Values.{sharing};
+ghost use Rattle.ob_shared_connection.specs.Values.{appointed, sharing};
 ghost use Rattle.ob_shared_connection.specs.Waiting.{IsMoment, is_due};
 ghost use Rattle.ob_shared_connection.specs.declared.bell.Waiter.TheVariants as waiter;
 
@@ -102,6 +102,23 @@ impl Handle {
     {
         let Handle { caller } = self;
         Transport::new(caller)
+    }
+
+    /// Takes the role of the transport over once no handle has it: its transport was dropped, or gave it up by
+    /// `Transport::retire`. Else the handle comes back. It takes the lock for that, and has seen all calls then.
+    pub fn take_over<R: Wait>(self, rt: &R) -> Result<Transport, Handle>
+        ensures sends { IfOk result (λ transport. UnderLock self (λ before after. after ≡ appointed before) transport) }
+        ensures back { IfErr result (λ handle. UnderLock self (λ before after. after ≡ before) handle) }
+    {
+        let Handle { mut caller } = self;
+        caller.lock(rt);
+        let sends = caller.appoint();
+        caller.unlock();
+        if sends {
+            Ok(Transport::new(caller))
+        } else {
+            Err(Handle::new(caller))
+        }
     }
 
     /// What was accepted from this handle are the calls of its number that it has seen, each once, in order. It does

@@ -2,8 +2,8 @@
 ghost use Rattle.std.specs.Prelude.{◌≡◌};
 ghost use Rattle.atomic_table.specs.Table.{rest};
 ghost use Rattle.ob_shared_connection.specs.Bells.{silenced};
-ghost use Rattle.ob_shared_connection.specs.Steps.{Awaits, Finds, Hears, Names, Reads, Tries};
-ghost use Rattle.ob_shared_connection.specs.Ruled.{free_view, hearing_view, shown_view, view_with};
+ghost use Rattle.ob_shared_connection.specs.Steps.{Appoints, Awaits, Finds, Hears, Names, Reads, Tries};
+ghost use Rattle.ob_shared_connection.specs.Ruled.{free_view, hearing_view, resigned_view, shown_view, view_with};
 
 use crate::bell::Bell;
 use crate::view::View;
@@ -115,6 +115,20 @@ pub struct Await<B> {
 
 impl<B: Bell> Play<Connection, View> for Await<B> {
     ghost then = { λ _ old found new. Awaits B.waiter old found new };
+}
+
+/// The seat that has the lock is to send, if nobody does.
+pub struct Appoint;
+
+impl Play<Connection, View> for Appoint {
+    ghost then = { λ _ old found new. Appoints old found new };
+}
+
+/// The seat that sends does not any more.
+pub struct Resign;
+
+impl Play<Connection, View> for Resign {
+    ghost then = { λ _ old _ new. new ≡ (resigned_view old.0, old.1) };
 }
 
 /// A new seat, which has seen what this one has.

@@ -21,6 +21,15 @@ pub const WRITERS: usize = 3;
 /// The word at which the transport waits for flushed messages.
 pub const WORK: usize = 4;
 
+/// The word that tells if nobody sends.
+pub const ROLE: usize = 5;
+
+/// A handle sends, or was lost with the role.
+pub const GIVEN_OUT: u64 = 0;
+
+/// Nobody sends.
+pub const VACANT: u64 = 1;
+
 /// Nobody waits there.
 pub const SILENT: u64 = 0;
 

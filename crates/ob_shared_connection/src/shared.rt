@@ -6,10 +6,13 @@ use crate::handle::TooManyHandles;
 use crate::owed::Owed;
 use crate::place::Place;
 use crate::plays::{
-    Accepted, Await, Cut, Find, Hear, List, Lock, Name, Publish, Published, Read, Silence, Take,
-    Unlock,
+    Accepted, Appoint, Await, Cut, Find, Hear, List, Lock, Name, Publish, Published, Read, Resign,
+    Silence, Take, Unlock,
 };
-use crate::rule::{AWAITED, FREE, GIVEN, LOCK, PUBLISHED, Rule, SILENT, TAKEN, WAITED, WORDS};
+use crate::rule::{
+    AWAITED, FREE, GIVEN, GIVEN_OUT, LOCK, PUBLISHED, ROLE, Rule, SILENT, TAKEN, VACANT, WAITED,
+    WORDS,
+};
 use crate::view::View;
 use crate::wakes::Wakes;
 use atomic_table::{Refused, Table};
@@ -45,7 +48,7 @@ impl Shared {
     ghost use Rattle.ob_types.specs.Limits.{greatest_overhead, greatest_unknown};
     ghost use Rattle.ob_shared_connection.specs.Bells.{awaited, is_owed, silenced, silent};
     ghost use Rattle.ob_shared_connection.specs.declared.bell.Waiter.TheVariants as waiter;
-    ghost use Rattle.ob_shared_connection.specs.Ruled.{both_views, first_view, free_view, hearing_view, named_view, new_view, sharing_view, shown_view, view_with};
+    ghost use Rattle.ob_shared_connection.specs.Ruled.{both_views, first_view, free_view, hearing_view, named_view, new_view, resigned_view, sending_view, sharing_view, shown_view, view_with};
     ghost use Rattle.ob_shared_connection.specs.Log.{commands_by};
     ghost use Rattle.ob_shared_connection.specs.Removals.{MayGive};
     ghost use Rattle.ob_shared_connection.specs.Steps.{HasLock, Hushes, IsEndOf, IsNamed, IsNow, Locks, MayLeave, Reads, Rests};
@@ -293,6 +296,27 @@ impl Shared {
         ensures me { seat.new.me ≡ (view_with C.commands seat.old.me.0, seat.old.me.1) }
     {
         let _found = self.table.shared.load::<List<C>>(seat, LOCK);
+    }
+
+    /// Has the seat that has the lock send from now on, if nobody does.
+    pub fn appoint(&self, seat: &mut Seat) -> bool
+        requires table { IsSeatOf self.now seat.old }
+        requires lock { HasLock seat.old.me }
+        ensures seat { IsSameSeat seat.old seat.new }
+        ensures sends { result ≡ true → seat.new.me ≡ (sending_view seat.old.me.0, seat.old.me.1) }
+        ensures kept { result ≡ false → seat.new.me ≡ seat.old.me }
+    {
+        self.table.shared.swap::<Appoint>(seat, ROLE, GIVEN_OUT) == VACANT
+    }
+
+    /// Has the seat that sends do so no more: nobody does then.
+    pub fn resign(&self, seat: &mut Seat)
+        requires table { IsSeatOf self.now seat.old }
+        requires sends { seat.old.me.0.sends ≡ true }
+        ensures seat { IsSameSeat seat.old seat.new }
+        ensures me { seat.new.me ≡ (resigned_view seat.old.me.0, seat.old.me.1) }
+    {
+        self.table.shared.store::<Resign>(seat, ROLE, VACANT);
     }
 
     /// A new seat, which has seen what this one has, gets half of its share, and has no number yet.

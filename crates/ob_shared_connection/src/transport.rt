@@ -4,7 +4,7 @@ ghost use Rattle.ob_shared_connection.specs.Calls.{IsLock, UnderLock};
 ghost use Rattle.ob_shared_connection.specs.Handles.{IsAnother, IsButForShare};
 ghost use Rattle.ob_shared_connection.specs.Looking.{Gathers, IsLook};
 ghost use Rattle.ob_shared_connection.specs.Staying.{AreInFront};
-ghost use Rattle.ob_shared_connection.specs.Values.{sharing};
+ghost use Rattle.ob_shared_connection.specs.Values.{resigned, sharing};
 ghost use Rattle.ob_shared_connection.specs.Waiting.{Waited, is_due};
 ghost use Rattle.ob_shared_connection.specs.declared.bell.Waiter.TheVariants as waiter;
 
@@ -29,8 +29,8 @@ use std::time::{Clock, Duration};
 /// The one handle of a connection that sends: flushed messages, and bytes of them, are taken away through it alone. It may
 /// go to another thread. Contracts see it as the handle that it is.
 ///
-/// Each call takes the lock and lets it go, as a call of `Handle` does.
-#[derive(Drop)]
+/// Each call takes the lock and lets it go, as a call of `Handle` does. A transport that is dropped gives its role up, as by
+/// `retire`, and another handle can take it over. One that is lost as a guard or as a handle takes the role with it.
 pub struct Transport {
     caller: Caller,
 }
@@ -66,6 +66,17 @@ impl Transport {
     {
         let Transport { caller } = self;
         Handle::new(caller)
+    }
+
+    /// Gives the role up, so that another handle can take it over (`Handle::take_over`). What is left is a handle that does
+    /// not send. It takes no lock, waits for nobody and does not allocate.
+    pub fn retire(self) -> Handle
+        ensures { result ≡ resigned self }
+    {
+        let Transport { caller } = self;
+        let mut sender = caller;
+        sender.resign();
+        Handle::new(sender)
     }
 
     /// A handle of the same connection, for another thread, as `Handle::another`.
@@ -138,5 +149,11 @@ impl Transport {
         let moment = self.caller.wait_within::<Work, R>(rt, limit);
         self.caller.unlock();
         moment
+    }
+}
+
+impl Drop for Transport {
+    fn drop(self) {
+        let _handle = self.retire();
     }
 }

@@ -1,6 +1,7 @@
 ghost use Rattle.std.specs.Prelude.{◌≡◌, true, IfOk};
 
 mod calls;
+mod roles;
 mod sending;
 mod threads;
 mod wakes;

@@ -6,8 +6,14 @@ ghost use Rattle.ob_connection.specs.Looks.{Shows};
 ghost use Rattle.ob_connection.specs.Replies.{cancelled_reply, flushed_reply};
 ghost use Rattle.ob_shared_connection.specs.Calls.{Makes, ObeyingFreely, TakingQuietly, UnderLock, Writes};
 ghost use Rattle.ob_shared_connection.specs.Looking.{IsLook};
+ghost use Rattle.ob_shared_connection.specs.Values.{appointed};
+ghost use Rattle.ob_shared_connection.specs.Waiting.{Waited};
+ghost use Rattle.ob_shared_connection.specs.declared.bell.Waiter.TheVariants as waiter;
 
+use crate::bell::Writers;
 use crate::handle::Handle;
+use crate::moment::Moment;
+use crate::transport::Transport;
 use crate::wakes::Wakes;
 use crate::{commands, looks};
 use ob_connection::{Flushed, Look, Refused, Taken, Written};
@@ -65,6 +71,39 @@ impl Handle {
         ensures busy { result ≡ None → self.new ≡ self.old }
     {
         self.caller.try_look(looks::Look).ok()
+    }
+
+    /// Whether the connection is writable or closed, for a poll in place of a wait. If it is neither, it leaves word that a
+    /// writer waits: once it is writable or closed, the next to let the lock go is told so by the `writers` of its `Wakes`,
+    /// and has to have all polled again that wait. A call that wakes by itself keeps that to itself, so make all calls of a
+    /// connection that is polled by those that tell. None if the lock is taken.
+    pub fn try_wait_writable(&mut self) -> Option<(Moment, Wakes)>
+        ensures waits { IfSome result (λ told. UnderLock self.old (Waited waiter.Writer told.0) self.new) }
+        ensures busy { result ≡ None → self.new ≡ self.old }
+    {
+        self.caller.try_wait::<Writers>()
+    }
+
+    /// Takes the role of the transport over, as `take_over`. The handle comes back if the lock is taken, and if a handle has
+    /// the role.
+    pub fn try_take_over(self) -> Result<(Result<Transport, Handle>, Wakes), Handle>
+        ensures sends { IfOk result (λ told. IfOk told.0 (λ transport.
+            UnderLock self (λ before after. after ≡ appointed before) transport)) }
+        ensures back { IfOk result (λ told. IfErr told.0 (λ handle.
+            UnderLock self (λ before after. after ≡ before) handle)) }
+        ensures busy { IfErr result (λ handle. handle ≡ self) }
+    {
+        let Handle { mut caller } = self;
+        if !caller.try_lock() {
+            return Err(Handle::new(caller));
+        }
+        let sends = caller.appoint();
+        let wakes = caller.leave();
+        if sends {
+            Ok((Ok(Transport::new(caller)), wakes))
+        } else {
+            Ok((Err(Handle::new(caller)), wakes))
+        }
     }
 
     /// Wakes whom a call has told.

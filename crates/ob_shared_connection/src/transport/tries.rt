@@ -7,7 +7,11 @@ ghost use Rattle.ob_seq.specs.Pieces.{bytes_in};
 ghost use Rattle.ob_shared_connection.specs.Calls.{GivingUp, IsCall, Makes, Taking, UnderLock, giving_up};
 ghost use Rattle.ob_shared_connection.specs.Looking.{Gathers, IsLook};
 ghost use Rattle.ob_shared_connection.specs.Staying.{AreInFront};
+ghost use Rattle.ob_shared_connection.specs.Waiting.{Waited};
+ghost use Rattle.ob_shared_connection.specs.declared.bell.Waiter.TheVariants as waiter;
 
+use crate::bell::Work;
+use crate::moment::Moment;
 use crate::transport::Transport;
 use crate::wakes::Wakes;
 use crate::{commands, looks};
@@ -58,6 +62,16 @@ impl Transport {
             return None;
         };
         Some(told)
+    }
+
+    /// Whether a flushed message is there or the connection is closed, for a poll in place of a wait. If neither is so, it
+    /// leaves word that the transport waits: once one is, the next to let the lock go is told so by the `work` of its
+    /// `Wakes`, as `Handle::try_wait_writable` has it. None if the lock is taken.
+    pub fn try_wait_for_work(&mut self) -> Option<(Moment, Wakes)>
+        ensures waits { IfSome result (λ told. UnderLock self.old (Waited waiter.Sender told.0) self.new) }
+        ensures busy { result ≡ None → self.new ≡ self.old }
+    {
+        self.caller.try_wait::<Work>()
     }
 
     /// Wakes whom a call has told.

@@ -1,0 +1,109 @@
+//! The role of the transport in other hands, and polls in place of waits.
+
+use crate::tests::{flushed, four, opened};
+use ob_shared_connection::{Handle, Moment, Transport, Wakes};
+use ob_types::Cause;
+use std::test::Fail;
+
+#[test]
+fn a_dropped_transport_is_replaced(rt: HostRuntime) -> Result<(), Fail> {
+    let (transport, writer) = flushed(&rt, rt.alloc(), 2)?;
+    let Err(writer) = writer.take_over(&rt) else {
+        panic!(rt; "the transport is there")
+    };
+    drop(transport);
+    let Ok(mut next) = writer.take_over(&rt) else {
+        panic!(rt; "nobody has the role")
+    };
+    let other = next.another()?;
+    let Err(_other) = other.take_over(&rt) else {
+        panic!(rt; "another has the role")
+    };
+    assert!(rt; next.take_sent(&rt, 4)?.count == 1);
+    Ok(())
+}
+
+/// What the handle is that tried to take the role, or the handle if the lock was taken.
+fn tried(
+    told_of: Result<(Result<Transport, Handle>, Wakes), Handle>,
+) -> Result<Result<Transport, Handle>, Handle> {
+    match told_of {
+        Ok((answer, wakes)) => {
+            let _whom = told(wakes);
+            Ok(answer)
+        }
+        Err(handle) => Err(handle),
+    }
+}
+
+#[test]
+fn who_retires_may_take_the_role_again(rt: HostRuntime) -> Result<(), Fail> {
+    let (transport, writer) = flushed(&rt, rt.alloc(), 2)?;
+    let Ok(Err(writer)) = tried(writer.try_take_over()) else {
+        panic!(rt; "the transport is there")
+    };
+    let handle = transport.retire();
+    let guard = writer.lock(&rt);
+    let Err(handle) = tried(handle.try_take_over()) else {
+        panic!(rt; "the lock is taken")
+    };
+    drop(guard);
+    let Ok(Ok(mut transport)) = tried(handle.try_take_over()) else {
+        panic!(rt; "the lock is free, and nobody has the role")
+    };
+    assert!(rt; transport.give_up(&rt, Cause(1))?.count == 2);
+    Ok(())
+}
+
+/// Takes what is told of whom to wake apart: the one who sleeps for the lock, writers, and the transport.
+fn told(wakes: Wakes) -> (bool, bool, bool) {
+    let Wakes {
+        next,
+        writers,
+        work,
+    } = wakes;
+    (next, writers, work)
+}
+
+#[test]
+fn a_writer_that_polls_is_told_of_once(rt: HostRuntime) -> Result<(), Fail> {
+    let (mut transport, mut writer) = flushed(&rt, rt.alloc(), 5)?;
+    let Some((polled, none)) = writer.try_wait_writable() else {
+        panic!(rt; "the lock is free")
+    };
+    let Some((_taken, first)) = transport.try_take_sent(4) else {
+        panic!(rt; "the lock is free")
+    };
+    let Some((_taken, second)) = transport.try_take_sent(12) else {
+        panic!(rt; "the lock is free")
+    };
+    let Some((_taken, third)) = transport.try_take_sent(4) else {
+        panic!(rt; "the lock is free")
+    };
+    let found = (told(none).1, told(first).1, told(second).1, told(third).1);
+    assert!(rt; polled == Moment::NotYet);
+    assert!(rt; found == (false, false, true, false));
+    Ok(())
+}
+
+#[test]
+fn a_transport_that_polls_is_told_of_once(rt: HostRuntime) -> Result<(), Fail> {
+    let mut transport = opened(rt.alloc())?.into_transport();
+    let mut writer = transport.another()?;
+    let Some((polled, none)) = transport.try_wait_for_work() else {
+        panic!(rt; "the lock is free")
+    };
+    let Ok((_written, first)) = writer.try_write(four()) else {
+        panic!(rt; "the lock is free")
+    };
+    let Some((_flushed, second)) = writer.try_flush() else {
+        panic!(rt; "the lock is free")
+    };
+    let Some((ready, third)) = transport.try_wait_for_work() else {
+        panic!(rt; "the lock is free")
+    };
+    let found = (told(none).2, told(first).2, told(second).2, told(third).2);
+    assert!(rt; (polled, ready) == (Moment::NotYet, Moment::Ready));
+    assert!(rt; found == (false, false, true, false));
+    Ok(())
+}
