@@ -2,6 +2,7 @@ ghost use Rattle.std.specs.Prelude.{◌≡◌, true, IfOk};
 
 mod calls;
 mod roles;
+mod rows;
 mod sending;
 mod threads;
 mod wakes;
