@@ -1,0 +1,177 @@
+//! How threads wait for each other: for the lock of a shared connection, and until one rings.
+//!
+//! The archive tries its lock once a call and wakes nobody, so all of that is here. What is told of a connection does not hang
+//! on it: the archive's lock keeps calls apart, and a fault in this file could at most let a thread wait.
+
+use std::sync::atomic::{AtomicBool, Ordering};
+use std::sync::{Condvar, Mutex, MutexGuard, PoisonError};
+use std::thread;
+use std::time::{Duration, Instant};
+
+/// How often a call is tried anew before its thread stands in line. The lock is had for less than a microsecond most often.
+const TRIES: u32 = 20;
+/// How many of these do not give the processor away: whoever has the lock runs on another one, most often.
+const SPINS: u32 = 4;
+/// How long the first in line sleeps between two tries.
+const NAP: Duration = Duration::from_micros(50);
+/// How often the first in line is passed by threads that are not in line, before these stand in line too.
+const PATIENCE: u32 = 10;
+/// Over how many bells those in line are spread, so that few wake in vain.
+const SEATS: usize = 16;
+
+/// A mutex that is never poisoned: what is kept under those of this crate is whole between any two statements that may panic.
+pub(crate) fn lock<T>(mutex: &Mutex<T>) -> MutexGuard<'_, T> {
+    mutex.lock().unwrap_or_else(PoisonError::into_inner)
+}
+
+/// Who waits for the archive's lock. Each thread in line has it before those behind it; and once the first was passed often,
+/// before all others. So who waits has it once those before it, and each call that is under way, are done.
+#[derive(Debug, Default)]
+pub(crate) struct Line {
+    /// Whether the first was passed so often that nobody else tries.
+    pressed: AtomicBool,
+    tickets: Mutex<Tickets>,
+    seats: [Condvar; SEATS],
+}
+
+#[derive(Debug, Default)]
+struct Tickets {
+    /// The next that is given.
+    next: usize,
+    /// That of the first in line.
+    first: usize,
+}
+
+impl Line {
+    /// What this call returns if it has the lock at once; else it returns nothing, and changes nothing.
+    #[inline]
+    pub(crate) fn at_once<T>(&self, call: impl FnOnce() -> Option<T>) -> Option<T> {
+        // a late look at the flag costs the first in line one more nap, and nothing else hangs on it
+        if self.pressed.load(Ordering::Relaxed) { None } else { call() }
+    }
+
+    /// What this call returns once it had the lock; till then it returns nothing, and changes nothing.
+    #[inline]
+    pub(crate) fn had<T>(&self, mut call: impl FnMut() -> Option<T>) -> T {
+        match self.at_once(&mut call) {
+            Some(answer) => answer,
+            None => self.tried_again(&mut call),
+        }
+    }
+
+    #[cold]
+    fn tried_again<T>(&self, call: &mut impl FnMut() -> Option<T>) -> T {
+        for turn in 0..TRIES {
+            if self.pressed.load(Ordering::Relaxed) {
+                break;
+            }
+            if turn < SPINS {
+                std::hint::spin_loop()
+            } else {
+                thread::yield_now()
+            }
+            if let Some(answer) = call() {
+                return answer;
+            }
+        }
+        self.in_line(call)
+    }
+
+    /// Stands in line, and tries until it has the lock.
+    fn in_line<T>(&self, call: &mut impl FnMut() -> Option<T>) -> T {
+        let mine = self.stands_first();
+        let mut passed = 0;
+        let answer = loop {
+            if let Some(answer) = call() {
+                break answer;
+            }
+            passed += 1;
+            if passed >= PATIENCE {
+                self.pressed.store(true, Ordering::Relaxed);
+            }
+            thread::sleep(NAP);
+        };
+        // the next was not passed yet
+        self.pressed.store(false, Ordering::Relaxed);
+        lock(&self.tickets).first = mine.wrapping_add(1);
+        self.seats[mine.wrapping_add(1) % SEATS].notify_all();
+        answer
+    }
+
+    /// Takes a ticket and waits until it is the first.
+    fn stands_first(&self) -> usize {
+        let mut tickets = lock(&self.tickets);
+        let mine = tickets.next;
+        tickets.next = mine.wrapping_add(1);
+        // the number is read under the mutex under which it is written before its seat is woken
+        while tickets.first != mine {
+            tickets = self.seats[mine % SEATS].wait(tickets).unwrap_or_else(PoisonError::into_inner);
+        }
+        mine
+    }
+}
+
+/// Where threads sleep until something came.
+///
+/// No ring is lost. Who waits says so before it looks, and notes before it looks how often was rung. Who lets something come
+/// changes that first and then reads whether one waits. Both look under one lock (the archive's, or a mutex) or by atomics in one
+/// order: so either who waits sees what came, or who lets it come, or one that did so just before, sees that one waits, and then
+/// the number differs. Each who is woken says again that it waits before it looks again.
+#[derive(Debug, Default)]
+pub(crate) struct Bell {
+    /// Whether one may wait that is not woken yet.
+    awaited: AtomicBool,
+    rung: Mutex<u64>,
+    sleepers: Condvar,
+}
+
+impl Bell {
+    /// Looks, and sleeps between looks, until something came or the time is over: then it returns nothing.
+    pub(crate) fn wait<T>(&self, end: Option<Instant>, mut look: impl FnMut() -> Option<T>) -> Option<T> {
+        if let Some(came) = look() {
+            return Some(came);
+        }
+        loop {
+            self.awaited.swap(true, Ordering::SeqCst);
+            let seen = *lock(&self.rung);
+            if let Some(came) = look() {
+                return Some(came);
+            }
+            if !self.sleeps(seen, end) {
+                return look();
+            }
+        }
+    }
+
+    /// Sleeps until it was rung more often than that, or the time is over: then it answers false.
+    fn sleeps(&self, seen: u64, end: Option<Instant>) -> bool {
+        let mut rung = lock(&self.rung);
+        while *rung == seen {
+            let Some(end) = end else {
+                rung = self.sleepers.wait(rung).unwrap_or_else(PoisonError::into_inner);
+                continue;
+            };
+            let left = end.saturating_duration_since(Instant::now());
+            if left.is_zero() {
+                return false;
+            }
+            rung = self.sleepers.wait_timeout(rung, left).unwrap_or_else(PoisonError::into_inner).0;
+        }
+        true
+    }
+
+    /// Wakes all who wait, after something came.
+    #[inline]
+    pub(crate) fn ring(&self) {
+        // read before it is changed, since most often nobody waits
+        if self.awaited.load(Ordering::SeqCst) && self.awaited.swap(false, Ordering::SeqCst) {
+            *lock(&self.rung) += 1;
+            self.sleepers.notify_all();
+        }
+    }
+}
+
+/// When a limit of time ends that begins now: a limit that no clock can tell is none.
+pub(crate) fn end_of(limit: Duration) -> Option<Instant> {
+    Instant::now().checked_add(limit)
+}
