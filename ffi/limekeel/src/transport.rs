@@ -202,7 +202,8 @@ impl Transport {
         let pieces = role
             .sender
             .offered(&common.line, &mut places, u32::MAX)
-            .map_err(|refusal| io::Error::new(ErrorKind::OutOfMemory, refusal))?;
+            // no other refusal comes; this error takes no memory itself
+            .map_err(|_| io::Error::from(ErrorKind::OutOfMemory))?;
         if pieces.is_empty() { Ok((0, false)) } else { written(pieces, write) }
     }
 

@@ -175,3 +175,56 @@ impl Bell {
 pub(crate) fn end_of(limit: Duration) -> Option<Instant> {
     Instant::now().checked_add(limit)
 }
+
+#[cfg(test)]
+mod tests {
+    use super::{Line, lock};
+    use std::sync::Mutex;
+    use std::sync::atomic::{AtomicBool, Ordering};
+    use std::thread;
+    use std::time::{Duration, Instant};
+
+    /// Waits until this is so, for ten seconds at most.
+    fn until(what: &str, mut holds: impl FnMut() -> bool) {
+        let start = Instant::now();
+        while !holds() {
+            assert!(start.elapsed() < Duration::from_secs(10), "{what}");
+            thread::sleep(Duration::from_millis(1));
+        }
+    }
+
+    #[test]
+    fn nobody_passes_one_that_was_passed_often() {
+        let (line, taken) = (Line::default(), AtomicBool::new(true));
+        let call = || (!taken.load(Ordering::SeqCst)).then_some(7);
+        thread::scope(|scope| {
+            let first = scope.spawn(|| line.had(call));
+            // till then others may pass it
+            assert_eq!(line.at_once(|| Some(1)), Some(1));
+            until("it stands in line", || lock(&line.tickets).next == 1);
+            until("it was passed often", || line.at_once(|| Some(1)).is_none());
+            let second = scope.spawn(|| line.had(call));
+            until("so the second stands in line", || lock(&line.tickets).next == 2);
+            taken.store(false, Ordering::SeqCst);
+            assert_eq!((first.join().expect("it ends"), second.join().expect("it ends")), (7, 7));
+        });
+        assert_eq!(line.at_once(|| Some(1)), Some(1));
+    }
+
+    #[test]
+    fn those_in_line_are_served_in_order() {
+        const THREADS: usize = 40;
+        let (line, taken, order) = (Line::default(), AtomicBool::new(true), Mutex::new(Vec::new()));
+        thread::scope(|scope| {
+            for at in 0..THREADS {
+                let (line, taken, order) = (&line, &taken, &order);
+                scope.spawn(move || {
+                    line.had(|| (!taken.load(Ordering::SeqCst)).then(|| lock(order).push(at)));
+                });
+                until("each stands in line", || lock(&line.tickets).next == at + 1);
+            }
+            taken.store(false, Ordering::SeqCst);
+        });
+        assert_eq!(*lock(&order), (0..THREADS).collect::<Vec<_>>());
+    }
+}

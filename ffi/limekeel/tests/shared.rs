@@ -85,21 +85,27 @@ fn a_write_that_waits_is_made_once_there_is_room() {
     });
 }
 
+/// A connection that is unwritable until a flush lets its first message go, which was cancelled.
+fn cancelled() -> (SharedConnection, Transport) {
+    let (connection, transport) = open(200, 300);
+    for id in 0..2 {
+        assert_eq!(connection.write(&[0; 100]).expect("it is open").id, id);
+    }
+    assert_eq!(connection.cancel(0), Ok(true));
+    assert!(!connection.is_writable());
+    (connection, transport)
+}
+
 #[test]
 fn a_flush_that_lets_cancelled_messages_go_makes_room() {
     watched(|| {
-        let (connection, _transport) = open(200, 300);
-        for id in 0..2 {
-            assert_eq!(connection.write(&[0; 100]).expect("it is open").id, id);
-        }
-        assert!(!connection.is_writable());
-        assert_eq!(connection.cancel(0), Ok(true));
+        let (connection, _transport) = cancelled();
         let writer = connection.clone();
-        // what was cancelled counts until a flush
-        assert_eq!(
-            comes_to_who_waits(move || writer.wait_writable(), || assert!(connection.flush().is_ok())),
-            Moment::Ready
-        );
+        let found = comes_to_who_waits(move || writer.wait_writable(), || assert!(connection.flush().is_ok()));
+        assert_eq!(found, Moment::Ready);
+        let (connection, mut transport) = cancelled();
+        let found = comes_to_who_waits(move || connection.wait_writable(), || assert!(transport.flush().is_ok()));
+        assert_eq!(found, Moment::Ready);
     });
 }
 
@@ -359,6 +365,32 @@ fn every_byte_of_each_writer_comes_in_order() {
         assert!(settled.is_sorted_by(|one, other| one < other));
         let taken_back: usize = cancelled.iter().map(BTreeSet::len).sum();
         assert_eq!((settled.len() + taken_back) as u64, all);
+    });
+}
+
+#[test]
+fn no_ring_is_lost_among_threads_that_wait_for_each_other() {
+    const WRITERS: u64 = 3;
+    const COUNT: u64 = 15_000;
+    watched(|| {
+        // each message makes it unwritable, and each that is sent writable: so all wait most of the time
+        let (connection, mut transport) = open(1, 1);
+        for _ in 0..WRITERS {
+            let writer = connection.clone();
+            thread::spawn(move || {
+                for _ in 0..COUNT {
+                    assert_eq!(writer.wait_writable(), Moment::Ready);
+                    let _ = writer.write_static(b"x").expect("it is open");
+                    let _ = writer.flush().expect("it is open");
+                }
+            });
+        }
+        drop(connection);
+        let mut sent = 0;
+        while transport.wait_for_work() == Moment::Ready {
+            sent += transport.send_to(&mut io::sink()).expect("it is open").bytes as u64;
+        }
+        assert_eq!(sent, WRITERS * COUNT);
     });
 }
 
