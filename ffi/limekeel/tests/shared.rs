@@ -5,7 +5,7 @@ use std::collections::BTreeSet;
 use std::io::{self, ErrorKind, IoSlice, Write};
 use std::sync::atomic::{AtomicBool, AtomicU64, AtomicUsize, Ordering};
 use std::sync::mpsc::channel;
-use std::sync::{Arc, Barrier, Mutex};
+use std::sync::{Arc, Barrier};
 use std::thread;
 use std::time::{Duration, Instant};
 
@@ -394,6 +394,139 @@ fn no_ring_is_lost_among_threads_that_wait_for_each_other() {
     });
 }
 
+/// Does two things at once in two threads, for two seconds, and each time a little later in the one; what they return is checked.
+fn at_once<T: Send, A: Send, B: Send>(
+    mut open: impl FnMut() -> (SharedConnection, T),
+    first: impl Fn(&SharedConnection) -> A + Sync,
+    second: impl Fn(T) -> B + Sync,
+    check: impl Fn(A, B),
+) {
+    let start = Instant::now();
+    let mut rounds = 0;
+    while start.elapsed() < Duration::from_secs(2) {
+        rounds += 1;
+        let (connection, other) = open();
+        let ready = AtomicBool::new(false);
+        let (one, two) = thread::scope(|scope| {
+            let one = scope.spawn(|| {
+                while !ready.load(Ordering::SeqCst) {
+                    thread::yield_now();
+                }
+                let connection = connection;
+                first(&connection)
+            });
+            let two = scope.spawn(|| {
+                ready.store(true, Ordering::SeqCst);
+                (0..rounds % 400).for_each(|_| std::hint::spin_loop());
+                second(other)
+            });
+            (one.join().expect("it ends well"), two.join().expect("it ends well"))
+        });
+        check(one, two);
+    }
+    println!("{rounds} rounds");
+}
+
+#[test]
+fn an_end_that_crosses_a_wait_is_told() {
+    let close = |connection: &SharedConnection| assert!(connection.close(1).is_ok());
+    let is_closed = |(), moment| assert_eq!(moment, Moment::Closed);
+    watched(move || {
+        let with_clone = || {
+            let (connection, transport) = filled(100, 200, false);
+            let writer = connection.clone();
+            (connection, (writer, transport))
+        };
+        // the transport is there as long as the writer waits
+        at_once(with_clone, close, |(writer, _transport)| writer.wait_writable(), is_closed);
+        at_once(|| open(100, 200), close, |mut transport| transport.wait_for_work(), is_closed);
+    });
+}
+
+#[test]
+fn what_the_last_writer_flushed_is_told_before_its_end() {
+    watched(|| {
+        let flushes = |connection: &SharedConnection| {
+            let _ = connection.write_static(b"last").expect("it is open");
+            connection.flush().expect("it is open").count
+        };
+        let waits = |mut transport: Transport| {
+            let first = transport.wait_for_work();
+            assert!(transport.take_sent(4).is_ok());
+            (first, transport.wait_for_work())
+        };
+        at_once(
+            || open(100, 200),
+            flushes,
+            waits,
+            |count, moments| {
+                assert_eq!((count, moments), (1, (Moment::Ready, Moment::Abandoned)));
+            },
+        );
+    });
+}
+
+#[test]
+fn a_cancellation_that_crosses_a_flush_settles_once() {
+    watched(|| {
+        let with_message = || {
+            let (connection, transport) = open(100, 200);
+            assert_eq!(connection.write(b"once").expect("it is open").id, 0);
+            (connection, transport)
+        };
+        let cancels = |connection: &SharedConnection| connection.cancel(0).expect("it was written");
+        let sends = |mut transport: Transport| {
+            assert_eq!(transport.flush().expect("it is open").count, 1);
+            transport.send_to(&mut io::sink()).expect("it is open").taken.settled().count()
+        };
+        at_once(with_message, cancels, sends, |in_time, settled| assert_eq!(settled, usize::from(!in_time)));
+    });
+}
+
+#[test]
+fn an_owner_that_crosses_its_removal_is_dropped() {
+    watched(|| {
+        let dropped = AtomicUsize::new(0);
+        let dropped: &'static AtomicUsize = Box::leak(Box::new(dropped));
+        let writes = move |connection: &SharedConnection| {
+            let owner = Counted(dropped);
+            assert!(connection.write_owned(owner).is_ok());
+        };
+        // what no other has flushed yet is flushed here
+        let sends = |mut transport: Transport| {
+            while transport.take_sent(0).expect("it is open").promises.start == 0 {
+                let _ = transport.flush().expect("it is open");
+                let _ = transport.send_to(&mut io::sink()).expect("it is open");
+            }
+            transport
+        };
+        at_once(
+            || open(100, 200),
+            writes,
+            sends,
+            |(), transport| {
+                assert_eq!(dropped.swap(0, Ordering::SeqCst), 1);
+                drop(transport);
+            },
+        );
+    });
+}
+
+/// Two bytes, which count how often they are dropped.
+struct Counted(&'static AtomicUsize);
+
+impl AsRef<[u8]> for Counted {
+    fn as_ref(&self) -> &[u8] {
+        b"ok"
+    }
+}
+
+impl Drop for Counted {
+    fn drop(&mut self) {
+        self.0.fetch_add(1, Ordering::SeqCst);
+    }
+}
+
 /// Bytes that tell when they are dropped.
 struct Told {
     bytes: Vec<u8>,
@@ -482,25 +615,39 @@ fn an_owner_may_use_its_connection_when_it_is_dropped() {
 }
 
 #[test]
-fn one_value_is_used_by_threads_at_once() {
+fn calls_of_one_value_and_of_clones_cross() {
+    const EACH: u64 = 8000;
     watched(|| {
-        let (connection, mut transport) = open(1_000_000, 2_000_000);
-        let ids = Mutex::new(BTreeSet::new());
-        thread::scope(|scope| {
-            for _ in 0..4 {
-                scope.spawn(|| {
-                    for _ in 0..500 {
-                        let id = connection.write_static(b"ok").expect("it is open").id;
-                        assert!(connection.look().total >= 98);
-                        let _ = connection.clone().flush().expect("it is open");
-                        assert!(ids.lock().expect("no thread panics").insert(id));
-                    }
-                });
+        let (connection, mut transport) = open(1_000_000_000, 2_000_000_000);
+        let block = Block::new(b"ok").expect("there is memory");
+        let writes = |connection: &SharedConnection| -> Vec<u64> {
+            let written = (0..EACH).map(|at| match at % 3 {
+                0 => connection.write(b"ok").expect("it is open").id,
+                1 => connection.write_block(&block).expect("it is open").id,
+                _ => connection.write_static(b"ok").expect("it is open").id,
+            });
+            written.collect()
+        };
+        let mut ids: Vec<u64> = thread::scope(|scope| {
+            let (writes, shared) = (&writes, &connection);
+            let threads: Vec<_> = (0..6)
+                .map(|at| {
+                    let own = connection.clone();
+                    scope.spawn(move || writes(if at % 2 == 0 { shared } else { &own }))
+                })
+                .collect();
+            while threads.iter().any(|one| !one.is_finished()) {
+                let _ = shared.flush().expect("it is open");
+                assert!(shared.look().total >= shared.look().size as u32);
+                drop(shared.clone());
             }
+            threads.into_iter().flat_map(|one| one.join().expect("it ends well")).collect()
         });
-        assert_eq!(ids.into_inner().expect("no thread panics"), (0..2000).collect());
-        let sent = transport.send_until_blocked(&mut Vec::new(), 100).expect("it is open");
-        assert_eq!((sent.bytes, sent.taken.count), (4000, 2000));
+        ids.sort_unstable();
+        assert!(ids.iter().copied().eq(0..6 * EACH), "each write has a promise of its own");
+        let _ = connection.flush().expect("it is open");
+        let sent = transport.send_until_blocked(&mut io::sink(), 1000).expect("it is open");
+        assert_eq!((sent.bytes, sent.taken.count), (2 * 6 * EACH, 6 * EACH));
         assert_eq!(connection.look().total, 0);
     });
 }
