@@ -171,17 +171,19 @@ impl Transport {
         max_turns: u32,
         mut write: impl FnMut(&[IoSlice<'_>]) -> io::Result<usize>,
     ) -> Result<SentTurns, Refusal> {
-        let mut taken = self.take(0)?;
+        let mut all: Option<Taken> = None;
         let (mut bytes, mut turns) = (0, 0);
         let ending = loop {
             turns += 1;
             let took = self.write_once(&mut write);
             let count = took.as_ref().map_or(0, |(count, _)| *count as u64);
             bytes += count;
-            // a close can come between two turns, if nothing is flushed then
-            match self.take(count) {
-                Ok(next) => taken.add(next),
-                Err(_) => break Ending::Drained,
+            match (self.take(count), &mut all) {
+                (Ok(taken), Some(all)) => all.add(taken),
+                (Ok(taken), none) => *none = Some(taken),
+                (Err(refusal), None) => return Err(refusal),
+                // a close can come between two turns, if nothing is flushed then
+                (Err(_), Some(_)) => break Ending::Drained,
             }
             match took {
                 Err(error) => break Ending::Broken(error),
@@ -191,6 +193,7 @@ impl Transport {
                 Ok(_) => {}
             }
         };
+        let taken = all.expect("a turn was made");
         Ok(SentTurns { bytes, taken: self.common.settled_by(taken), ending })
     }
 

@@ -14,8 +14,8 @@ const TRIES: u32 = 20;
 const SPINS: u32 = 4;
 /// How long the first in line sleeps between two tries.
 const NAP: Duration = Duration::from_micros(50);
-/// How often the first in line is passed by threads that are not in line, before these stand in line too.
-const PATIENCE: u32 = 10;
+/// How long one waits in line before those stand in line too who come: in line each costs the waking of a thread.
+const PATIENCE: Duration = Duration::from_millis(50);
 /// Over how many bells those in line are spread, so that few wake in vain.
 const SEATS: usize = 16;
 
@@ -24,11 +24,11 @@ pub(crate) fn lock<T>(mutex: &Mutex<T>) -> MutexGuard<'_, T> {
     mutex.lock().unwrap_or_else(PoisonError::into_inner)
 }
 
-/// Who waits for the archive's lock. Each thread in line has it before those behind it; and once the first was passed often,
-/// before all others. So who waits has it once those before it, and each call that is under way, are done.
+/// Who waits for the archive's lock. Each thread in line has it before those behind it; and if the first has waited for long,
+/// before all others. So who waits for long has it once those before it, and each call that is under way, are done.
 #[derive(Debug, Default)]
 pub(crate) struct Line {
-    /// Whether the first was passed so often that nobody else tries.
+    /// Whether the first has waited so long that nobody else tries.
     pressed: AtomicBool,
     tickets: Mutex<Tickets>,
     seats: [Condvar; SEATS],
@@ -79,19 +79,20 @@ impl Line {
 
     /// Stands in line, and tries until it has the lock.
     fn in_line<T>(&self, call: &mut impl FnMut() -> Option<T>) -> T {
+        let since = Instant::now();
         let mine = self.stands_first();
-        let mut passed = 0;
         let answer = loop {
+            let long = since.elapsed() >= PATIENCE;
+            if long {
+                self.pressed.store(true, Ordering::Relaxed);
+            }
             if let Some(answer) = call() {
                 break answer;
             }
-            passed += 1;
-            if passed >= PATIENCE {
-                self.pressed.store(true, Ordering::Relaxed);
-            }
-            thread::sleep(NAP);
+            // nobody comes in between any more, so the lock is free soon
+            if long { thread::yield_now() } else { thread::sleep(NAP) }
         };
-        // the next was not passed yet
+        // the next says so itself
         self.pressed.store(false, Ordering::Relaxed);
         lock(&self.tickets).first = mine.wrapping_add(1);
         self.seats[mine.wrapping_add(1) % SEATS].notify_all();
@@ -194,7 +195,7 @@ mod tests {
     }
 
     #[test]
-    fn nobody_passes_one_that_was_passed_often() {
+    fn nobody_passes_one_that_has_waited_for_long() {
         let (line, taken) = (Line::default(), AtomicBool::new(true));
         let call = || (!taken.load(Ordering::SeqCst)).then_some(7);
         thread::scope(|scope| {
@@ -202,7 +203,7 @@ mod tests {
             // till then others may pass it
             assert_eq!(line.at_once(|| Some(1)), Some(1));
             until("it stands in line", || lock(&line.tickets).next == 1);
-            until("it was passed often", || line.at_once(|| Some(1)).is_none());
+            until("it has waited for long", || line.at_once(|| Some(1)).is_none());
             let second = scope.spawn(|| line.had(call));
             until("so the second stands in line", || lock(&line.tickets).next == 2);
             taken.store(false, Ordering::SeqCst);
