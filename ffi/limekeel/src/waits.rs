@@ -194,11 +194,21 @@ mod tests {
         }
     }
 
+    /// Whatever becomes of a test, its threads have the lock at the end.
+    struct Released<'a>(&'a AtomicBool);
+
+    impl Drop for Released<'_> {
+        fn drop(&mut self) {
+            self.0.store(false, Ordering::SeqCst);
+        }
+    }
+
     #[test]
     fn nobody_passes_one_that_has_waited_for_long() {
         let (line, taken) = (Line::default(), AtomicBool::new(true));
         let call = || (!taken.load(Ordering::SeqCst)).then_some(7);
         thread::scope(|scope| {
+            let _released = Released(&taken);
             let first = scope.spawn(|| line.had(call));
             // till then others may pass it
             assert_eq!(line.at_once(|| Some(1)), Some(1));
@@ -217,6 +227,7 @@ mod tests {
         const THREADS: usize = 40;
         let (line, taken, order) = (Line::default(), AtomicBool::new(true), Mutex::new(Vec::new()));
         thread::scope(|scope| {
+            let _released = Released(&taken);
             for at in 0..THREADS {
                 let (line, taken, order) = (&line, &taken, &order);
                 scope.spawn(move || {
