@@ -18,8 +18,8 @@ use std::time::{Duration, Instant};
 ///
 /// Each call takes the connection's lock and lets it go, and is accepted or refused as that of a [`crate::Connection`] after all
 /// calls that were accepted before it, from whatever thread: that is proved of the archive below. A call waits while other
-/// threads have the lock, and for nothing else, unless its name says so; who waits has it once those who waited before are done.
-/// A thread that panics leaves the connection as it was between two calls.
+/// threads have the lock, and for nothing else, unless its name says so; one that has waited for 50 milliseconds is passed by none
+/// that came later. A thread that panics leaves the connection as it was between two calls.
 ///
 /// Clones can be dropped at any time. The last clone or transport frees the connection with all that waits in it.
 ///
