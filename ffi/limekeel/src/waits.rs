@@ -10,8 +10,9 @@ use std::time::{Duration, Instant};
 
 /// How often a call is tried anew before its thread stands in line. The lock is had for less than a microsecond most often.
 const TRIES: u32 = 20;
-/// How many of these do not give the processor away: whoever has the lock runs on another one, most often.
-const SPINS: u32 = 4;
+/// How many of these do not give the processor away, since whoever has the lock runs on another one, most often. Each pauses twice
+/// as long as the one before it, so that threads that try do not keep it from that; some microseconds in all.
+const SPINS: u32 = 8;
 /// How long the first in line sleeps between two tries.
 const NAP: Duration = Duration::from_micros(50);
 /// How long one waits in line before those stand in line too who come: in line each costs the waking of a thread.
@@ -66,9 +67,9 @@ impl Line {
                 break;
             }
             if turn < SPINS {
-                std::hint::spin_loop()
+                (0..1 << turn).for_each(|_| std::hint::spin_loop());
             } else {
-                thread::yield_now()
+                thread::yield_now();
             }
             if let Some(answer) = call() {
                 return answer;

@@ -695,6 +695,6 @@ fn each_of_64_threads_is_served_in_bounded_time() {
         );
         assert!(fewest >= 10, "{calls:?}");
         assert!(turns >= 10);
-        assert!(longest < 3_000_000, "{longest} us");
+        assert!(longest < 5_000_000, "{longest} us");
     });
 }
