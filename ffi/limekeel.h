@@ -30,11 +30,9 @@
  * the next call on that connection that is no look: until a write, flush, removal, failing, close
  * or free. Freeing a block does not end the pieces of messages that share it.
  *
- * Threads. A connection may go from thread to thread, but only one call at a time may use it:
- * give it a lock, or to one thread; or open a limekeel_shared, of which each thread has a handle. Two connections need no lock between them, also if they share
- * a block; the block itself is used by one call at a time, so each thread takes its own by
- * limekeel_block_share. No call may be made from a signal handler, nor in the child of a fork of a
- * process with threads.
+ * Threads. One call at a time uses a connection, a block or a handle, from whatever thread; two of them need no lock between
+ * them, nor do two handles of one connection (limekeel_shared), or blocks that share their bytes (limekeel_block_share). No call
+ * may be made from a signal handler, nor in the child of a fork of a process with threads.
  *
  * Errors. Each call returns a status, alone or as the first member of a struct: LIMEKEEL_OK, or
  * why the call did nothing. A call that did not return LIMEKEEL_OK left everything as it was, and
@@ -66,7 +64,7 @@ extern "C" {
 
 /* A number of the structs, functions and numbers of this header. limekeel_open says LIMEKEEL_OTHER_VERSION to an archive of
  * another. Before 1.0 each version may have another. */
-#define LIMEKEEL_EDGE 2600298547u
+#define LIMEKEEL_EDGE 3558090269u
 
 /* What may tell a change of writability is not to be dropped. */
 #if (defined(__cplusplus) && __cplusplus >= 201703L) || (defined(__STDC_VERSION__) && __STDC_VERSION__ >= 202311L)
@@ -473,10 +471,18 @@ LIMEKEEL_TOLD struct limekeel_written limekeel_shared_write_bytes(struct limekee
 LIMEKEEL_TOLD struct limekeel_written limekeel_shared_write_block(struct limekeel_shared *shared,
                                                                   const struct limekeel_block *block);
 
+/* Writes bytes where they lie, as limekeel_write_lent: they have to stay there until a call by whatever handle takes the message
+ * away, as its `from` and `to` tell, or the last handle is freed. */
+LIMEKEEL_TOLD struct limekeel_written limekeel_shared_write_lent_bytes(struct limekeel_shared *shared, const uint8_t *bytes,
+                                                                       size_t length);
+
 /* As limekeel_flush, limekeel_cancel and limekeel_close, if the lock is free. */
 LIMEKEEL_TOLD struct limekeel_flushed limekeel_shared_flush(struct limekeel_shared *shared);
 LIMEKEEL_TOLD struct limekeel_cancelled limekeel_shared_cancel(struct limekeel_shared *shared, uint64_t id);
 LIMEKEEL_TOLD struct limekeel_taken limekeel_shared_close(struct limekeel_shared *shared, uint32_t cause);
+
+/* What is pending now, as limekeel_look, if the lock is free. */
+struct limekeel_look_told limekeel_shared_look(struct limekeel_shared *shared);
 
 /* Whether writers may go on, and the pending bytes: never older than the last call of this handle, and perhaps older than
  * another's. It takes no lock, so it is never LIMEKEEL_BUSY. */
@@ -575,6 +581,20 @@ LIMEKEEL_TOLD static inline struct limekeel_written limekeel_shared_write(struct
                                                                           size_t length)
 {
     return limekeel_shared_write_bytes(shared, length > 0 ? (const uint8_t *)bytes : (const uint8_t *)"", length);
+}
+
+LIMEKEEL_TOLD static inline struct limekeel_written limekeel_shared_write_lent(struct limekeel_shared *shared,
+                                                                               const void *bytes, size_t length)
+{
+    return limekeel_shared_write_lent_bytes(shared, length > 0 ? (const uint8_t *)bytes : (const uint8_t *)"", length);
+}
+
+/* Whether writers may go on, as a glance shows: it takes no lock. */
+static inline struct limekeel_truth limekeel_shared_is_writable(struct limekeel_shared *shared)
+{
+    struct limekeel_glance glance = limekeel_shared_glance(shared);
+    struct limekeel_truth truth = {glance.status, glance.status == LIMEKEEL_OK && glance.word == 0};
+    return truth;
 }
 
 LIMEKEEL_TOLD static inline struct limekeel_written limekeel_write_lent(struct limekeel_connection *connection,

@@ -35,6 +35,7 @@ static void expect(const char *what, bool holds)
 /* A heap that makes one call of another handle from within an allocation. */
 static _Thread_local struct limekeel_shared *meanwhile;
 static _Thread_local uint32_t told;
+static _Thread_local struct limekeel_look_told told_of_a_look;
 static uint8_t nowhere;
 
 struct limekeel_memory limekeel_alloc(size_t size, size_t align)
@@ -44,6 +45,7 @@ struct limekeel_memory limekeel_alloc(size_t size, size_t align)
         struct limekeel_shared *shared = meanwhile;
         meanwhile = NULL;
         told = limekeel_shared_flush(shared).status;
+        told_of_a_look = limekeel_shared_look(shared);
     }
     uint8_t *at = malloc(size > 0 ? size : 1);
     return (struct limekeel_memory){at != NULL, at != NULL ? at : &nowhere};
@@ -78,7 +80,11 @@ static void statuses(void)
     expect("flush of none", limekeel_shared_flush(&none).status == LIMEKEEL_NOT_OPEN);
     expect("cancel of none", limekeel_shared_cancel(&none, 0).status == LIMEKEEL_NOT_OPEN);
     expect("close of none", limekeel_shared_close(&none, 1).status == LIMEKEEL_NOT_OPEN);
+    expect("lent to none", limekeel_shared_write_lent(&none, "", 0).status == LIMEKEEL_NOT_OPEN);
+    expect("look at none", limekeel_shared_look(&none).status == LIMEKEEL_NOT_OPEN);
     expect("glance at none", limekeel_shared_glance(&none).status == LIMEKEEL_NOT_OPEN);
+    struct limekeel_truth writable = limekeel_shared_is_writable(&none);
+    expect("none is not writable", writable.status == LIMEKEEL_NOT_OPEN && !writable.holds);
     expect("gather of none", limekeel_transport_gather_pieces(&alone, &piece, 1, 9).status == LIMEKEEL_NOT_OPEN);
     expect("take of none", limekeel_transport_take_sent(&alone, 0).status == LIMEKEEL_NOT_OPEN);
     expect("give up of none", limekeel_transport_give_up(&alone, 1).status == LIMEKEEL_NOT_OPEN);
@@ -94,21 +100,33 @@ static void statuses(void)
     expect("write", limekeel_shared_write(&one, "first", 5).id == 0);
     expect("it changes writability", limekeel_shared_write(&two, "second", 6).change == LIMEKEEL_UNWRITABLE);
     expect("glance", limekeel_shared_glance(&one).total == 203 && limekeel_shared_glance(&one).word == 1);
+    struct limekeel_look_told look = limekeel_shared_look(&one);
+    expect("look", look.status == LIMEKEEL_OK && look.total == 203 && look.word == 1 && look.size == 0);
+    expect("before it is writable", look.before_unwritable == 0 && look.before_writable == 104 && look.current_progress == 0);
+    expect("not writable", !limekeel_shared_is_writable(&two).holds);
     expect("cancel", limekeel_shared_cancel(&one, 0).in_time && !limekeel_shared_cancel(&two, 0).in_time);
     expect("no promise", limekeel_shared_cancel(&one, 2).status == LIMEKEEL_UNKNOWN_PROMISE);
     expect("nothing is flushed", limekeel_transport_gather_pieces(&alone, &piece, 1, 9).count == 0 && piece.length == 77);
     expect("flush", limekeel_shared_flush(&two).count == 2);
+    expect("two are flushed", limekeel_shared_look(&one).size == 2);
     meanwhile = &two;
     expect("gather", limekeel_transport_gather_pieces(&alone, &piece, 1, 9).count == 1);
     expect("the lock is had meanwhile", told == LIMEKEEL_BUSY);
+    expect("and for a look", told_of_a_look.status == LIMEKEEL_BUSY && told_of_a_look.total == 0 && told_of_a_look.size == 0);
     expect("the bytes", piece.length == 6 && memcmp(piece.at, "second", 6) == 0);
     expect("too many", limekeel_transport_take_sent(&alone, 7).status == LIMEKEEL_TOO_MANY_BYTES);
     expect("flushed is left", limekeel_shared_close(&one, 5).status == LIMEKEEL_FLUSHED_LEFT);
     struct limekeel_taken taken = limekeel_transport_take_sent(&alone, 6);
     expect("take", taken.count == 2 && taken.outcome == LIMEKEEL_SUCCESS && taken.change == LIMEKEEL_WRITABLE);
-    expect("write", limekeel_shared_write(&one, "third", 5).id == 2);
+    static const char lent[] = "lent";
+    expect("writable", limekeel_shared_is_writable(&two).status == LIMEKEEL_OK && limekeel_shared_is_writable(&two).holds);
+    expect("lend", limekeel_shared_write_lent(&one, lent, 4).id == 2 && limekeel_shared_flush(&one).count == 1);
+    expect("gather", limekeel_transport_gather_pieces(&alone, &piece, 1, 9).count == 1);
+    expect("where it lies", piece.at == (const uint8_t *)lent && piece.length == 4);
+    expect("take", limekeel_transport_take_sent(&alone, 4).count == 1);
+    expect("write", limekeel_shared_write(&one, "fourth", 6).id == 3);
     taken = limekeel_shared_close(&one, 5);
-    expect("close", taken.count == 1 && taken.outcome == LIMEKEEL_FAILED && taken.cause == 5 && taken.from == 2);
+    expect("close", taken.count == 1 && taken.outcome == LIMEKEEL_FAILED && taken.cause == 5 && taken.from == 3);
     expect("closed", limekeel_transport_give_up(&alone, 6).status == LIMEKEEL_CLOSED);
     expect("free", limekeel_transport_free(&alone) == LIMEKEEL_OK && limekeel_shared_free(&two) == LIMEKEEL_OK);
     expect("the last", limekeel_shared_glance(&one).total == 0 && limekeel_shared_free(&one) == LIMEKEEL_OK);

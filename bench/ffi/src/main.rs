@@ -8,6 +8,7 @@
 mod by_hand;
 
 mod sending;
+mod threads;
 
 use limekeel::{Block, Connection, Estimate, Marks};
 use std::collections::VecDeque;
@@ -250,4 +251,5 @@ fn main() {
     time::<Shared<ByHand>>("by-hand-shared");
     time::<Barest>("barest");
     sending::time_all();
+    threads::time_all();
 }

@@ -1,3 +1,4 @@
+pub mod Another
 pub mod Few
 pub mod Gathered
 pub mod Holder

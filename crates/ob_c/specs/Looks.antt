@@ -30,10 +30,10 @@ abbrev pub Tells : {A C : Type 0} → Option Connected → (Connected → A → 
 Tells handle is_so in_c told new =
     Relays handle (λ old value after. is_so old value × (after ≡ old)) in_c told new
 
--- a look
-abbrev pub look_in_c : Option LookReply → Look
-look_in_c None = record {
-  status = not_open;
+-- no look, for this reason
+abbrev pub no_look : ℕ → Look
+no_look status = record {
+  status = status;
   total = 0;
   word = 0;
   before_unwritable = 0;
@@ -41,6 +41,10 @@ look_in_c None = record {
   size = 0;
   current_progress = 0;
 }
+
+-- a look
+abbrev pub look_in_c : Option LookReply → Look
+look_in_c None = no_look not_open
 look_in_c (Some look) = record {
   status = done;
   total = look.total;

@@ -6,7 +6,9 @@ use Rattle.ob_types.specs.declared.message.Message.TheVariants.{Block as AsBlock
 use Rattle.ob_types.specs.declared.refusal.Refusal.{Refusal}
 use Rattle.ob_seq.specs.Pieces.{bytes_in}
 use Rattle.ob_seq.specs.Settings.{Settings}
+use Rattle.ob_connection.specs.Looks.{Shows}
 use Rattle.ob_connection.specs.Replies.{answer_of_write}
+use Rattle.ob_connection.specs.declared.look.Look.{Look as LookReply}
 use Rattle.ob_connection.specs.declared.refused.Refused.{Refused}
 use Rattle.ob_connection.specs.declared.replies.Written.{Written as WrittenReply}
 use Rattle.ob_shared_connection.specs.Calls.{UnderLock, Writes}
@@ -17,11 +19,13 @@ use Rattle.ob_shared_connection.specs.Staying.{AreInFront}
 use Rattle.ob_shared_connection.specs.Values.{HandleValue, Held, sharing}
 use Rattle.ob_shared_connection.specs.declared.glance.Glance.{Glance as GlanceReply}
 use Rattle.ob_c.specs.Gathering.{AreAt}
+use Rattle.ob_c.specs.Looks.{look_in_c, no_look}
 use Rattle.ob_c.specs.Numbers.{accepted, already_open, busy, done, no_block, no_memory, not_open}
 use Rattle.ob_c.specs.Replies.{written_in_c}
 use Rattle.ob_c.specs.declared.pieces.Piece.{Piece}
 use Rattle.ob_c.specs.declared.replies.Written.{Written}
 use Rattle.ob_c.specs.declared.tries.Glance.{Glance}
+use Rattle.ob_c.specs.declared.views.Look.{Look}
 use Rattle.ob_c.specs.declared.sends.Laid.{Laid}
 
 -- a connection with these settings and nothing written is opened, as its first handle, unless there is one already, they
@@ -31,6 +35,13 @@ OpensShared (Some old) settings status new = (status ≡ already_open) × (new �
 OpensShared None (Err refused) status new = (status ≡ refused) × (new ≡ None)
 OpensShared None (Ok settings) status None = status ≡ no_memory
 OpensShared None (Ok settings) status (Some new) = (status ≡ done) × IsFirst settings new
+
+-- the second holds a handle that was made, if one was and memory does not run out
+abbrev pub KeepsAnother : {E : Type 0} → Result HandleValue E → ℕ → Option HandleValue → Type 0
+KeepsAnother (Err refused) status None = status ≡ no_memory
+KeepsAnother (Err refused) status (Some other) = ⊥
+KeepsAnother (Ok made) status None = status ≡ no_memory
+KeepsAnother (Ok made) status (Some other) = (status ≡ done) × (other ≡ made)
 
 -- the second is another handle of the connection of one, unless that is none, there is a second already, or memory runs
 -- out
@@ -76,6 +87,18 @@ abbrev pub TriesToWriteBlock : Option HandleValue → Option (List ℕ) → Writ
 TriesToWriteBlock None block told new = (told ≡ written_in_c (Err not_open)) × (new ≡ None)
 TriesToWriteBlock (Some old) None told new = (told ≡ written_in_c (Err no_block)) × (new ≡ Some old)
 TriesToWriteBlock (Some old) (Some bytes) told new = TriesToWrite (Some old) bytes told new
+
+-- the lock was taken by another call; or it was had once, and C is told what was pending under it
+abbrev pub IsLookTried : Option LookReply → HandleValue → Look → Option HandleValue → Type 0
+IsLookTried None old told new = (told ≡ no_look busy) × (new ≡ Some old)
+IsLookTried (Some look) old told new =
+    (told ≡ look_in_c (Some look)) × (after : HandleValue) × (new ≡ Some after)
+    × UnderLock old (IsLook Shows look) after
+
+-- with no handle C is told so, and else a look is tried
+abbrev pub TriesToLook : Option HandleValue → Look → Option HandleValue → Type 0
+TriesToLook None told new = (told ≡ no_look not_open) × (new ≡ None)
+TriesToLook (Some old) told new = (tried : Option LookReply) × IsLookTried tried old told new
 
 -- a glance
 abbrev pub glance_in_c : GlanceReply → Glance

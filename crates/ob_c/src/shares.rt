@@ -1,14 +1,14 @@
 //! The handles of a shared connection: the first, which sends; others; and their end.
 
-ghost use Rattle.std.specs.Prelude.{◌≡◌, nat_eq};
+ghost use Rattle.std.specs.Prelude.{◌≡◌, None, nat_eq};
 ghost use Rattle.ob_c.specs.Blocks.{IsLetGo};
 ghost use Rattle.ob_c.specs.Opening.{settings_for, settings_of};
-ghost use Rattle.ob_c.specs.Sharing.{MakesAnother, OpensShared};
+ghost use Rattle.ob_c.specs.Sharing.{KeepsAnother, MakesAnother, OpensShared};
 
 use crate::numbers::{ALREADY_OPEN, BAD_ESTIMATE, DONE, EDGE, NO_MEMORY, NOT_OPEN, OTHER_VERSION};
 use crate::shared::Shared;
 use crate::transport::Transport;
-use ob_shared_connection::Handle;
+use ob_shared_connection::{Handle, TooManyHandles};
 use ob_types::{Estimate, WaterMark};
 use std::alloc::Global;
 
@@ -73,16 +73,7 @@ pub extern "C" fn limekeel_transport_another(
     if second.is_open() {
         return ALREADY_OPEN;
     }
-    let Ok(other) = transport.reach().another() else {
-        return NO_MEMORY;
-    };
-    match Box::new(alloc, other) {
-        Ok(other) => {
-            second.keep(other);
-            DONE
-        }
-        Err(_) => NO_MEMORY,
-    }
+    keep_another(alloc, transport.reach().another(), second)
 }
 
 /// Another handle of the connection of this one, as `limekeel_transport_another`.
@@ -100,16 +91,7 @@ pub extern "C" fn limekeel_shared_another(
     if second.is_open() {
         return ALREADY_OPEN;
     }
-    let Ok(other) = shared.reach().another() else {
-        return NO_MEMORY;
-    };
-    match Box::new(alloc, other) {
-        Ok(other) => {
-            second.keep(other);
-            DONE
-        }
-        Err(_) => NO_MEMORY,
-    }
+    keep_another(alloc, shared.reach().another(), second)
 }
 
 /// Lets a handle go, and with the last one of a connection all that it holds.
@@ -135,5 +117,22 @@ pub extern "C" fn limekeel_transport_free(alloc: Global, transport: &mut Transpo
     match transport.sender(alloc) {
         None => NOT_OPEN,
         Some(_) => DONE,
+    }
+}
+
+/// Keeps a handle that was made in a second that holds none.
+fn keep_another(alloc: Global, made: Result<Handle, TooManyHandles>, second: &mut Shared) -> u32
+    requires { second.old.value ≡ None }
+    ensures { KeepsAnother made result second.new.value }
+{
+    let Ok(other) = made else {
+        return NO_MEMORY;
+    };
+    match Box::new(alloc, other) {
+        Ok(other) => {
+            second.keep(other);
+            DONE
+        }
+        Err(_) => NO_MEMORY,
     }
 }

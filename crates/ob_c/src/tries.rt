@@ -8,12 +8,14 @@ ghost use Rattle.ob_connection.specs.declared.refused.Refused.{Refused};
 ghost use Rattle.ob_connection.specs.declared.replies.Written.{Written as WrittenReply};
 ghost use Rattle.ob_shared_connection.specs.Calls.{Makes, ObeyingFreely, TakingQuietly};
 ghost use Rattle.ob_c.specs.Replies.{cancelled_in_c, flushed_in_c, taken_in_c};
-ghost use Rattle.ob_c.specs.Sharing.{GlancesFor, IsWriteTried, Tries, TriesToWrite, TriesToWriteBlock};
+ghost use Rattle.ob_c.specs.Sharing.{GlancesFor, IsWriteTried, Tries, TriesToLook, TriesToWrite, TriesToWriteBlock};
 
 use crate::block::Block;
 use crate::numbers::{BUSY, DONE, NO_BLOCK, NO_MEMORY, NOT_OPEN, accepted};
 use crate::replies::{Cancelled, Flushed, Taken, Written};
 use crate::shared::Shared;
+use crate::views::Look;
+use crate::writes::lent;
 use bytes::Bytes;
 use ob_connection::Refused;
 use ob_shared_connection::{Handle, Wakes};
@@ -74,6 +76,22 @@ pub extern "C" fn limekeel_shared_write_block(shared: &mut Shared, block: &mut B
     write(shared.reach(), Message::Block(copy))
 }
 
+/// Writes these bytes where they lie, as `limekeel_write_lent_bytes`: no byte is copied.
+///
+/// The status is 13 if there is no handle, and 18 if another call has the lock.
+#[unsafe(no_mangle)]
+pub extern "C" fn limekeel_shared_write_lent_bytes(
+    shared: &mut Shared,
+    bytes: &'static [u8],
+) -> Written
+    ensures { TriesToWrite shared.old.value bytes.now result shared.new.value }
+{
+    if !shared.is_open() {
+        return Written::of(Err(NOT_OPEN));
+    }
+    write(shared.reach(), lent(bytes))
+}
+
 /// Lets the transport have all that was written so far.
 #[unsafe(no_mangle)]
 pub extern "C" fn limekeel_shared_flush(shared: &mut Shared) -> Flushed
@@ -125,6 +143,25 @@ pub extern "C" fn limekeel_shared_close(shared: &mut Shared, cause: u32) -> Take
         Some((answer, wakes)) => {
             wake_nobody(wakes);
             Taken::of(accepted(Some(answer)))
+        }
+    }
+}
+
+/// What is pending now, as `limekeel_look`, under the lock.
+///
+/// The status is 13 if there is no handle, and 18 if another call has the lock.
+#[unsafe(no_mangle)]
+pub extern "C" fn limekeel_shared_look(shared: &mut Shared) -> Look
+    ensures { TriesToLook shared.old.value result shared.new.value }
+{
+    if !shared.is_open() {
+        return Look::without(NOT_OPEN);
+    }
+    match shared.reach().try_look() {
+        None => Look::without(BUSY),
+        Some((look, wakes)) => {
+            wake_nobody(wakes);
+            Look::of(Some(look))
         }
     }
 }

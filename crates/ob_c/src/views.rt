@@ -2,7 +2,7 @@
 
 ghost use Rattle.std.specs.Option.{option_copied};
 ghost use Rattle.std.specs.Prelude.{◌≡◌, option_map, Some, None};
-ghost use Rattle.ob_c.specs.Looks.{counts_in_c, settings_in_c, look_in_c, truth_in_c, promise_in_c, front_in_c, less_progress, current_in_c};
+ghost use Rattle.ob_c.specs.Looks.{counts_in_c, no_look, settings_in_c, look_in_c, truth_in_c, promise_in_c, front_in_c, less_progress, current_in_c};
 
 use crate::numbers::{DONE, NOT_OPEN, cause_number, outcome_number};
 use ob_connection::Status;
@@ -29,20 +29,27 @@ pub struct Look {
 }
 
 impl Look {
+    /// What C gets if nothing was looked at.
+    pub(crate) fn without(status: u32) -> Look
+        ensures { result ≡ no_look status }
+    {
+        Look {
+            status,
+            total: 0,
+            word: 0,
+            before_unwritable: 0,
+            before_writable: 0,
+            size: 0,
+            current_progress: 0,
+        }
+    }
+
     /// What C gets for this look.
     pub(crate) fn of(look: Option<ob_connection::Look>) -> Look
         ensures { result ≡ look_in_c look }
     {
         match look {
-            None => Look {
-                status: NOT_OPEN,
-                total: 0,
-                word: 0,
-                before_unwritable: 0,
-                before_writable: 0,
-                size: 0,
-                current_progress: 0,
-            },
+            None => Look::without(NOT_OPEN),
             Some(look) => Look {
                 status: DONE,
                 total: look.total,

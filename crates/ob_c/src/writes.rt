@@ -88,7 +88,7 @@ fn write_shared(
 }
 
 /// A message of bytes that are lent.
-fn lent(bytes: &'static [u8]) -> Message
+pub(crate) fn lent(bytes: &'static [u8]) -> Message
     ensures { result ≡ AsBlock bytes.now }
 {
     Message::Block(Bytes::from_static(bytes))

@@ -23,7 +23,7 @@ mod heap;
 pub const PIECES: usize = 1024;
 
 /// A number of these declarations, which `limekeel_open_for` compares with the archive's.
-pub const EDGE: u32 = 2600298547;
+pub const EDGE: u32 = 3558090269;
 
 macro_rules! numbers {
     ($($name:ident = $number:literal),* $(,)?) => {
@@ -203,9 +203,11 @@ unsafe extern "C" {
     pub fn limekeel_transport_free(transport: *mut Transport) -> u32;
     pub fn limekeel_shared_write_bytes(shared: *mut Shared, bytes: *const u8, length: usize) -> Written;
     pub fn limekeel_shared_write_block(shared: *mut Shared, block: *const Block) -> Written;
+    pub fn limekeel_shared_write_lent_bytes(shared: *mut Shared, bytes: *const u8, length: usize) -> Written;
     pub fn limekeel_shared_flush(shared: *mut Shared) -> Flushed;
     pub fn limekeel_shared_cancel(shared: *mut Shared, id: u64) -> Cancelled;
     pub fn limekeel_shared_close(shared: *mut Shared, cause: u32) -> Taken;
+    pub fn limekeel_shared_look(shared: *mut Shared) -> Look;
     pub fn limekeel_shared_glance(shared: *mut Shared) -> Glance;
     pub fn limekeel_transport_gather_pieces(
         transport: *mut Transport,

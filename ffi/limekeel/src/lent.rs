@@ -167,9 +167,9 @@ impl Lent {
 
     /// Lets go of that in which no message from this promise on has a part. It does not allocate.
     pub(crate) fn let_go_below(&mut self, end: u64) {
-        while self.owners.front().is_some_and(|(last, _)| *last < end) {
+        while let Some(owner) = self.next_below(end) {
             // a drop of the owner's that panics leaves the others for the next call
-            drop(self.owners.pop_front());
+            drop(owner);
         }
         if self.owners.capacity() > FEW {
             self.give_back();
@@ -177,6 +177,12 @@ impl Lent {
         if self.last < end {
             drop(take(&mut self.chunk));
         }
+    }
+
+    /// Hands out the first owner in which no message from this promise on has a part, to be dropped.
+    #[inline]
+    pub(crate) fn next_below(&mut self, end: u64) -> Option<Kept> {
+        if self.owners.front()?.0 < end { self.owners.pop_front().map(|(_, owner)| owner) } else { None }
     }
 
     /// Keeps no room for owners if there are none.

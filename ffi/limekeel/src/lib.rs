@@ -4,7 +4,7 @@
 //! above a high mark it tells writers to stop, below a low mark to go on. It is Netty's `ChannelOutboundBuffer` and
 //! `WriteBufferWaterMark`, without end. The archive below was compiled from a proof that each call returns what a short
 //! definition says, whatever was called before. This crate over it is not proved; it is small, and its `unsafe` stands
-//! in two files.
+//! in four files.
 //!
 //! ```
 //! use limekeel::{Change, Connection, Estimate, Marks};
@@ -21,7 +21,7 @@
 //! # Ok::<(), Box<dyn std::error::Error>>(())
 //! ```
 //!
-//! A connection goes from thread to thread, and is used by one at a time:
+//! A [`SharedConnection`] is one that threads use at once. A connection goes from thread to thread, and is used by one at a time:
 //!
 //! ```
 //! fn goes_to_another_thread<T: Send>() {}
@@ -31,6 +31,11 @@
 //! ```compile_fail
 //! fn is_shared<T: Sync>() {}
 //! is_shared::<limekeel::Connection>();
+//! ```
+//!
+//! ```
+//! fn is_shared_and_cloned<T: Clone + Send + Sync>() {}
+//! is_shared_and_cloned::<limekeel::SharedConnection>();
 //! ```
 //!
 //! What is gathered borrows the connection, so that nothing is taken away while the pieces are in use:
@@ -77,14 +82,19 @@
 #![deny(unsafe_code, missing_docs)]
 
 mod block;
+mod common;
 mod connection;
 mod promises;
 mod replies;
 mod room;
 mod send;
 mod shared;
+mod transport;
 mod views;
+mod waits;
 
+#[allow(unsafe_code)]
+mod handles;
 #[allow(unsafe_code)]
 mod lent;
 #[allow(unsafe_code)]
@@ -96,8 +106,9 @@ pub use raw::Pieces;
 pub use replies::{Change, Flushed, Outcome, Refusal, Refused, Removed, Settled, Taken, Written};
 pub use room::Room;
 pub use send::{Ending, Sent, SentTurns};
-pub use shared::{Guard, Shared};
-pub use views::{Counts, Current, Front, Look, Promise};
+pub use shared::{Moment, SharedConnection, Unwritten};
+pub use transport::Transport;
+pub use views::{Counts, Current, Front, Glance, Look, Promise};
 
 /// The code of `ffi/README.md`, which a test compiles and runs.
 #[cfg(doctest)]

@@ -1,4 +1,4 @@
-//! All `unsafe` of this crate but that of `lent.rs`. Each call here is as safe as its signature.
+//! The `unsafe` of this crate, but that of `lent.rs`, `handles.rs` and `common.rs`. Each call here is as safe as its signature.
 //!
 //! What the archive asks of a caller, and why it is so here:
 //!
@@ -321,7 +321,7 @@ pub(crate) type Place = MaybeUninit<sys::Piece>;
 /// # Safety
 ///
 /// Each is filled.
-unsafe fn as_pieces(places: &mut [Place]) -> &mut [sys::Piece] {
+pub(crate) unsafe fn as_pieces(places: &mut [Place]) -> &mut [sys::Piece] {
     // SAFETY: a `MaybeUninit` is laid out as what it holds, and the caller says that each is there.
     unsafe { slice::from_raw_parts_mut(places.as_mut_ptr().cast(), places.len()) }
 }
@@ -331,7 +331,7 @@ unsafe fn as_pieces(places: &mut [Place]) -> &mut [sys::Piece] {
 /// # Safety
 ///
 /// Each is filled with where bytes lie, which nobody changes during `'a`.
-unsafe fn as_slices<'a>(places: &[Place]) -> &[IoSlice<'a>] {
+pub(crate) unsafe fn as_slices<'a>(places: &[Place]) -> &[IoSlice<'a>] {
     // SAFETY: on Unix an `IoSlice` is laid out as `struct iovec`, which is what a `Piece` is.
     unsafe { slice::from_raw_parts(places.as_ptr().cast(), places.len()) }
 }
@@ -340,7 +340,7 @@ unsafe fn as_slices<'a>(places: &[Place]) -> &[IoSlice<'a>] {
 ///
 /// Two blocks that a heap lays side by side, with no byte of its own between them, are one piece then, though they are two
 /// allocations. Their pointers come out of the archive, into which no compiler of Rust sees, and the bytes are only read.
-fn joined(pieces: &mut [sys::Piece]) -> usize {
+pub(crate) fn joined(pieces: &mut [sys::Piece]) -> usize {
     let mut count: usize = 0;
     for at in 0..pieces.len() {
         let piece = pieces[at];
@@ -447,6 +447,12 @@ impl Slot {
         // SAFETY: both are this value's own.
         done(unsafe { sys::limekeel_block_piece(&slot.inner, &mut slot.piece) })?;
         Ok(slot)
+    }
+
+    /// The archive's block, to be read.
+    #[inline]
+    pub(crate) fn inner(&self) -> *const sys::Block {
+        &self.inner
     }
 
     #[inline]

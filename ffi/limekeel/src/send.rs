@@ -5,7 +5,7 @@ use limekeel_sys as sys;
 use std::io::{self, ErrorKind, IoSlice, Write};
 
 /// How many pieces one vectored write is given at most: as many as Linux takes.
-const PIECES: usize = sys::PIECES;
+pub(crate) const PIECES: usize = sys::PIECES;
 
 /// What a connection sent at once.
 #[must_use = "nothing tells the change of writability or the settlements again"]
@@ -142,17 +142,25 @@ impl Connection {
         if pieces.is_empty() {
             return Ok((0, false));
         }
-        loop {
-            match write(pieces) {
-                Ok(0) => return Err(ErrorKind::WriteZero.into()),
-                Ok(bytes) if bytes > pieces.iter().map(|piece| piece.len()).sum() => {
-                    return Err(io::Error::new(ErrorKind::InvalidData, "a writer took more than it was given"));
-                }
-                Ok(bytes) => return Ok((bytes, false)),
-                Err(error) if error.kind() == ErrorKind::WouldBlock => return Ok((0, true)),
-                Err(error) if error.kind() == ErrorKind::Interrupted => {}
-                Err(error) => return Err(error),
+        written(pieces, &mut write)
+    }
+}
+
+/// How many bytes of these pieces a writer took, and whether it would block.
+pub(crate) fn written(
+    pieces: &[IoSlice<'_>],
+    write: &mut impl FnMut(&[IoSlice<'_>]) -> io::Result<usize>,
+) -> io::Result<(usize, bool)> {
+    loop {
+        match write(pieces) {
+            Ok(0) => return Err(ErrorKind::WriteZero.into()),
+            Ok(bytes) if bytes > pieces.iter().map(|piece| piece.len()).sum() => {
+                return Err(io::Error::new(ErrorKind::InvalidData, "a writer took more than it was given"));
             }
+            Ok(bytes) => return Ok((bytes, false)),
+            Err(error) if error.kind() == ErrorKind::WouldBlock => return Ok((0, true)),
+            Err(error) if error.kind() == ErrorKind::Interrupted => {}
+            Err(error) => return Err(error),
         }
     }
 }

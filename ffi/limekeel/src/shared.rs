@@ -1,84 +1,310 @@
-use crate::connection::Connection;
-use std::ops::{Deref, DerefMut};
-use std::sync::atomic::{AtomicU32, Ordering};
-use std::sync::{Mutex, MutexGuard, PoisonError};
+use crate::block::Block;
+use crate::common::{Common, Role};
+use crate::connection::{Estimate, Marks};
+use crate::handles::{Sender, Sharer};
+use crate::replies::{Change, Flushed, Refusal, Refused, Taken, Written};
+use crate::transport::Transport;
+use crate::views::{Glance, Look};
+use crate::waits::{end_of, lock};
+use std::alloc::{Layout, handle_alloc_error};
+use std::error::Error;
+use std::fmt;
+use std::sync::Arc;
+use std::sync::atomic::Ordering;
+use std::time::{Duration, Instant};
 
-/// A connection that several threads use, one at a time, with a word that each reads without the lock.
+/// A connection that any number of threads write to, while one sends: each thread has a clone, or a reference to one, and the
+/// one that sends the [`Transport`].
 ///
-/// Nothing of this type is proved: the archive is proved for one call at a time, and the lock and the mirror are Rust's.
-/// (`ob_shared` of the repository is proved for threads, within Rattle.)
+/// Each call takes the connection's lock and lets it go, and is accepted or refused as that of a [`crate::Connection`] after all
+/// calls that were accepted before it, from whatever thread: that is proved of the archive below. A call waits while other
+/// threads have the lock, and for nothing else, unless its name says so; one that has waited for 50 milliseconds is passed by none
+/// that came later. A thread that panics leaves the connection as it was between two calls.
+///
+/// Clones can be dropped at any time. The last clone or transport frees the connection with all that waits in it.
 ///
 /// ```
-/// use limekeel::{Connection, Estimate, Marks, Shared};
+/// use limekeel::{Estimate, Marks, Moment, SharedConnection};
 /// use std::thread;
 ///
-/// let shared = Shared::new(Connection::open(Marks { low: 500, high: 1000 }, Estimate::default())?);
+/// let (connection, mut transport) = SharedConnection::open(Marks { low: 500, high: 1000 }, Estimate::default())?;
+/// let mut socket = Vec::new();
 /// thread::scope(|scope| {
 ///     for _ in 0..4 {
-///         scope.spawn(|| {
-///             let mut written = 0;
-///             while shared.is_writable() && written < 20 {
-///                 let _ = shared.lock().write(b"news").expect("it is open");
-///                 written += 1;
+///         let writer = connection.clone();
+///         scope.spawn(move || {
+///             for _ in 0..100 {
+///                 let _ = writer.write_waiting(b"news").expect("it is open, and there is a transport");
+///                 let _ = writer.flush().expect("it is open");
 ///             }
-///             assert!(written < 20); // eleven messages of 100 bytes are more than 1000
 ///         });
 ///     }
+///     drop(connection);
+///     // until nobody writes any more and all is sent
+///     while transport.wait_for_work() == Moment::Ready {
+///         let _ = transport.send_to(&mut socket).expect("it takes all");
+///     }
 /// });
-/// assert!(shared.lock().look().total > 1000);
+/// assert_eq!(socket.len(), 4 * 100 * 4);
 /// # Ok::<(), limekeel::Refusal>(())
 /// ```
 #[derive(Debug)]
-pub struct Shared {
-    connection: Mutex<Connection>,
-    /// The word as the last guard left it.
-    word: AtomicU32,
+pub struct SharedConnection {
+    // the archive's connection goes before what its messages are lent
+    sharer: Sharer,
+    common: Arc<Common>,
 }
 
-impl Shared {
-    /// Shares a connection.
+/// What was found at the end of a wait.
+#[must_use = "it may not be what was waited for"]
+#[derive(Clone, Copy, Debug, PartialEq, Eq, Hash)]
+pub enum Moment {
+    /// What was waited for: the connection is writable, or a flushed message is there.
+    Ready,
+    /// The connection is closed.
+    Closed,
+    /// Whom one waits for is gone: a writer was not writable, and no [`Transport`] is there, which could make room; or no message
+    /// was flushed, and no [`SharedConnection`] is there, which could write one.
+    Abandoned,
+    /// The time is over.
+    NotYet,
+}
+
+/// Why a write that waits did not write. Nothing changed.
+#[derive(Clone, Copy, Debug, PartialEq, Eq, Hash)]
+pub enum Unwritten {
+    /// The write was refused; [`Refusal::Closed`] comes also if the connection was closed meanwhile.
+    Refused(Refusal),
+    /// The connection was not writable, and no [`Transport`] is there, which could make room.
+    Abandoned,
+    /// The time is over.
+    NotYet,
+}
+
+impl fmt::Display for Unwritten {
+    fn fmt(&self, f: &mut fmt::Formatter<'_>) -> fmt::Result {
+        match self {
+            Unwritten::Refused(refusal) => fmt::Display::fmt(refusal, f),
+            Unwritten::Abandoned => f.write_str("the connection is not writable, and nobody sends"),
+            Unwritten::NotYet => f.write_str("the connection was not writable in time"),
+        }
+    }
+}
+
+impl Error for Unwritten {}
+
+impl From<Refusal> for Unwritten {
+    fn from(refusal: Refusal) -> Unwritten {
+        Unwritten::Refused(refusal)
+    }
+}
+
+impl SharedConnection {
+    /// A connection with nothing written, and its transport.
+    pub fn open(marks: Marks, estimate: Estimate) -> Result<(SharedConnection, Transport), Refusal> {
+        let mut sender = Sender::open(marks, estimate)?;
+        let common = Arc::new(Common::new());
+        let connection = SharedConnection::new(sender.another()?, &common);
+        let sharer = connection.another()?;
+        let transport = Transport::new(Role { sender, sharer }, &common);
+        Ok((connection, transport))
+    }
+
+    /// One more that can write.
+    pub(crate) fn new(sharer: Sharer, common: &Arc<Common>) -> SharedConnection {
+        common.sharers.fetch_add(1, Ordering::SeqCst);
+        SharedConnection { sharer, common: Arc::clone(common) }
+    }
+
+    fn another(&self) -> Result<Sharer, Refusal> {
+        self.common.line.had(|| self.sharer.another())
+    }
+
+    /// A second one of the same connection, as for another thread. [`Refusal::NoMemory`] comes if the allocator refused the few
+    /// bytes of a handle.
+    pub fn try_clone(&self) -> Result<SharedConnection, Refusal> {
+        Ok(SharedConnection::new(self.another()?, &self.common))
+    }
+
+    /// Writes a copy of these bytes after all else, as [`crate::Connection::write`], also if the connection is not writable. Each
+    /// copy has memory of its own.
+    #[inline]
+    pub fn write(&self, bytes: &[u8]) -> Result<Written, Refusal> {
+        match self.common.line.at_once(|| self.sharer.write(bytes)) {
+            Some(told) => Written::of(told),
+            // not copied again at each try
+            None => self.write_block(&Block::new(bytes)?),
+        }
+    }
+
+    /// Waits until the connection is writable, and writes then, as [`SharedConnection::write`]. Threads that found it writable at
+    /// once may all write: so the pending bytes pass the high mark by a message of each thread at most.
+    pub fn write_waiting(&self, bytes: &[u8]) -> Result<Written, Unwritten> {
+        self.write_at(self.wait_until(None), bytes)
+    }
+
+    /// The same, but the wait for room ends after `limit`.
+    pub fn write_within(&self, bytes: &[u8], limit: Duration) -> Result<Written, Unwritten> {
+        self.write_at(self.wait_writable_within(limit), bytes)
+    }
+
+    fn write_at(&self, moment: Moment, bytes: &[u8]) -> Result<Written, Unwritten> {
+        match moment {
+            Moment::Ready => Ok(self.write(bytes)?),
+            Moment::Closed => Err(Refusal::Closed.into()),
+            Moment::Abandoned => Err(Unwritten::Abandoned),
+            Moment::NotYet => Err(Unwritten::NotYet),
+        }
+    }
+
+    /// Writes the bytes of a block, which the message then shares: nothing is copied.
+    #[inline]
+    pub fn write_block(&self, block: &Block) -> Result<Written, Refusal> {
+        Written::of(self.common.line.had(|| self.sharer.write_block(&block.slot)))
+    }
+
+    /// Writes bytes that are there for good: nothing is copied, and nothing is kept for them.
+    #[inline]
+    pub fn write_static(&self, bytes: &'static [u8]) -> Result<Written, Refusal> {
+        Written::of(self.common.line.had(|| self.sharer.write_static(bytes)))
+    }
+
+    /// Writes the bytes of `owner` where they lie, as [`crate::Connection::write_owned`]: nothing is copied. The owner moves into a
+    /// small allocation of its own. The thread drops it whose call told the message as gone, before that returns, or the one that
+    /// frees the connection.
+    ///
+    /// ```
+    /// use limekeel::{Estimate, Marks, SharedConnection};
+    ///
+    /// let (connection, mut transport) = SharedConnection::open(Marks::default(), Estimate::default())?;
+    /// let image = vec![7; 100_000];
+    /// let at = image.as_ptr();
+    /// let _ = connection.write_owned(image)?;
+    /// let _ = connection.flush()?;
+    /// let sent = transport.send_with(|pieces| {
+    ///     assert_eq!(pieces[0].as_ptr(), at);
+    ///     Ok(pieces[0].len())
+    /// });
+    /// assert_eq!(sent.expect("it took all").bytes, 100_000);
+    /// # Ok::<(), limekeel::Refusal>(())
+    /// ```
+    pub fn write_owned<T: AsRef<[u8]> + Send + 'static>(&self, owner: T) -> Result<Written, Refused<T>> {
+        self.common.write_owned(&self.sharer, owner).map_err(|(refusal, owner)| Refused { refusal, owner })
+    }
+
+    /// Lets the transport have all that was written so far, by whatever thread, and fixes its promises. It wakes the transport
+    /// if that waits for work.
+    #[inline]
+    pub fn flush(&self) -> Result<Flushed, Refusal> {
+        let flushed = Flushed::of(self.common.line.had(|| self.sharer.flush()))?;
+        if flushed.count > 0 {
+            self.common.work.ring();
+        }
+        if flushed.change == Some(Change::Writable) {
+            self.common.writers.ring();
+        }
+        Ok(flushed)
+    }
+
+    /// Takes a promise back, and returns whether that came in time: a promise that a flush has fixed stays as it is.
+    /// [`Refusal::NoMemory`] comes if the allocator refused.
+    pub fn cancel(&self, id: u64) -> Result<bool, Refusal> {
+        self.common.cancel(&self.sharer, id)
+    }
+
+    /// Closes for good, as [`crate::Connection::close`]: each command of each thread is refused after it, and all who wait are
+    /// woken. [`Refusal::FlushedLeft`] comes while flushed messages are there, which the transport takes away.
+    pub fn close(&self, cause: u32) -> Result<Taken, Refusal> {
+        let taken = Taken::of(self.common.line.had(|| self.sharer.close(cause)))?;
+        self.common.closes();
+        Ok(self.common.settled_by(taken))
+    }
+
+    /// What is pending now.
     #[must_use]
-    pub fn new(connection: Connection) -> Shared {
-        let word = AtomicU32::new(connection.look().word);
-        Shared { connection: Mutex::new(connection), word }
+    pub fn look(&self) -> Look {
+        Look::of(self.common.line.had(|| self.sharer.look()))
     }
 
-    /// Takes the lock. A thread that panicked under it left the connection between two calls, so it goes on.
-    pub fn lock(&self) -> Guard<'_> {
-        let connection = self.connection.lock().unwrap_or_else(PoisonError::into_inner);
-        Guard { connection, word: &self.word }
+    /// Whether a close was accepted, from a call that has returned.
+    #[must_use]
+    pub fn is_closed(&self) -> bool {
+        self.common.is_closed()
     }
 
-    /// Whether writers may go on, as the last holder of the lock left it. It takes no lock.
+    /// The word and the pending bytes, without the lock: never older than the last call by this clone, and perhaps older than the
+    /// newest call by another.
+    #[inline]
+    #[must_use]
+    pub fn glance(&self) -> Glance {
+        Glance::of(self.common.line.had(|| self.sharer.glance()))
+    }
+
+    /// Whether writers may go on, as a [`SharedConnection::glance`] shows.
+    #[inline]
     #[must_use]
     pub fn is_writable(&self) -> bool {
-        self.word.load(Ordering::Acquire) == 0
+        self.glance().word == 0
+    }
+
+    /// Sleeps until the connection is writable or closed, or nobody sends. Never [`Moment::NotYet`].
+    pub fn wait_writable(&self) -> Moment {
+        self.wait_until(None)
+    }
+
+    /// The same, but no longer than `limit`.
+    pub fn wait_writable_within(&self, limit: Duration) -> Moment {
+        self.wait_until(end_of(limit))
+    }
+
+    fn wait_until(&self, end: Option<Instant>) -> Moment {
+        self.common.writers.wait(end, || self.moment()).unwrap_or(Moment::NotYet)
+    }
+
+    fn moment(&self) -> Option<Moment> {
+        if self.is_closed() {
+            return Some(Moment::Closed);
+        }
+        if self.look().word == 0 {
+            return Some(Moment::Ready);
+        }
+        self.common.nobody_sends().then_some(Moment::Abandoned)
+    }
+
+    /// The transport, if it was dropped, as by a thread that panicked: nothing is sent until someone has it.
+    ///
+    /// ```
+    /// use limekeel::{Estimate, Marks, Moment, SharedConnection};
+    ///
+    /// let (connection, transport) = SharedConnection::open(Marks { low: 100, high: 200 }, Estimate::default())?;
+    /// let _ = connection.write(&[0; 200])?;
+    /// let _ = connection.flush()?;
+    /// assert!(connection.transport().is_none());
+    /// drop(transport);
+    /// assert_eq!(connection.wait_writable(), Moment::Abandoned);
+    /// let mut transport = connection.transport().expect("it was dropped");
+    /// let _ = transport.give_up(1)?;
+    /// assert_eq!(connection.wait_writable(), Moment::Closed);
+    /// # Ok::<(), limekeel::Refusal>(())
+    /// ```
+    #[must_use]
+    pub fn transport(&self) -> Option<Transport> {
+        let role = lock(&self.common.role).take()?;
+        Some(Transport::new(role, &self.common))
     }
 }
 
-/// The connection under the lock.
-#[derive(Debug)]
-pub struct Guard<'a> {
-    connection: MutexGuard<'a, Connection>,
-    word: &'a AtomicU32,
-}
-
-impl Deref for Guard<'_> {
-    type Target = Connection;
-
-    fn deref(&self) -> &Connection {
-        &self.connection
+impl Clone for SharedConnection {
+    /// As [`SharedConnection::try_clone`], but ends the process if memory is refused.
+    fn clone(&self) -> SharedConnection {
+        self.try_clone().unwrap_or_else(|_| handle_alloc_error(Layout::new::<SharedConnection>()))
     }
 }
 
-impl DerefMut for Guard<'_> {
-    fn deref_mut(&mut self) -> &mut Connection {
-        &mut self.connection
-    }
-}
-
-impl Drop for Guard<'_> {
+impl Drop for SharedConnection {
     fn drop(&mut self) {
-        self.word.store(self.connection.look().word, Ordering::Release);
+        if self.common.sharers.fetch_sub(1, Ordering::SeqCst) == 1 {
+            self.common.work.ring();
+        }
     }
 }

@@ -34,6 +34,23 @@ impl Look {
     }
 }
 
+/// What is seen without the lock.
+#[derive(Clone, Copy, Debug, PartialEq, Eq)]
+pub struct Glance {
+    /// Bit 0 is the mark, bit i the user bit i. The connection is writable if the word is 0.
+    pub word: u32,
+    /// The pending bytes.
+    pub total: u32,
+}
+
+impl Glance {
+    #[inline]
+    pub(crate) fn of(told: sys::Glance) -> Glance {
+        debug_assert!(done(told.status).is_ok());
+        Glance { word: told.word, total: told.total }
+    }
+}
+
 /// How many messages wait.
 #[derive(Clone, Copy, Debug, PartialEq, Eq)]
 pub struct Counts {

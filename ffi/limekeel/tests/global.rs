@@ -1,6 +1,6 @@
 //! With the feature `global-allocator` all memory is that of Rust's global allocator.
 
-use limekeel::{Block, Connection, Estimate, Marks, Refusal};
+use limekeel::{Block, Connection, Estimate, Marks, Refusal, SharedConnection};
 use std::alloc::{GlobalAlloc, Layout, System};
 use std::cell::Cell;
 use std::ptr::null_mut;
@@ -58,5 +58,51 @@ fn each_block_is_counted_and_comes_back() {
     connection.shrink_to_fit();
     assert_eq!(LIVE.get() - before, opened);
     drop(connection);
+    assert_eq!(LIVE.get(), before);
+}
+
+/// What a call returns if no memory is given.
+fn without_memory<A>(call: impl FnOnce() -> A) -> A {
+    REFUSES.set(true);
+    let answer = call();
+    REFUSES.set(false);
+    answer
+}
+
+#[test]
+fn a_shared_connection_is_counted_and_comes_back() {
+    let before = LIVE.get();
+    let (connection, mut transport) =
+        SharedConnection::open(Marks::default(), Estimate::default()).expect("there is memory");
+    let opened = LIVE.get() - before;
+    let second = connection.clone();
+    let handle = LIVE.get() - before - opened;
+    assert!((600..=664).contains(&opened) && handle <= 8 + 16, "{opened} {handle}");
+    for id in (0..100).step_by(2) {
+        assert_eq!(second.write(&[2; 100]).expect("it is accepted").id, id);
+        assert_eq!(connection.write_owned([3; 50]).expect("it is accepted").id, id + 1);
+    }
+    assert_eq!(second.cancel(99), Ok(true));
+    let kept = LIVE.get();
+    without_memory(|| {
+        assert_eq!(second.write(&[4; 5000]), Err(Refusal::NoMemory));
+        assert_eq!(second.write_owned([5; 50]).map_err(|refused| refused.refusal), Err(Refusal::NoMemory));
+        assert_eq!(second.cancel(98), Err(Refusal::NoMemory));
+        assert!(matches!(second.try_clone(), Err(Refusal::NoMemory)));
+        assert!(matches!(transport.connection(), Err(Refusal::NoMemory)));
+        // these take none
+        assert_eq!(connection.flush().expect("it is open").count, 100);
+        assert_eq!((connection.look().size, connection.is_writable()), (100, true));
+        let refused = transport.send_with(|_| unreachable!("there is no list to offer")).expect_err("no memory");
+        assert_eq!(refused.kind(), std::io::ErrorKind::OutOfMemory);
+        assert_eq!(transport.take_sent(150).expect("they wait").count, 2);
+    });
+    assert!(LIVE.get() < kept);
+    let sent = transport.send_until_blocked(&mut std::io::sink(), 9).expect("it is open");
+    // the last was cancelled, and holds no byte
+    assert_eq!((sent.bytes, sent.taken.count), (48 * 150 + 100 + 50 - 50, 98));
+    // which knows what was cancelled
+    drop((sent, second));
+    drop((connection, transport));
     assert_eq!(LIVE.get(), before);
 }

@@ -1,7 +1,6 @@
 //! What a connection goes by, and what it shows.
 
-use limekeel::{Change, Connection, Estimate, Marks, Shared};
-use std::panic::{AssertUnwindSafe, catch_unwind};
+use limekeel::{Change, Connection, Estimate, Marks};
 
 #[test]
 fn the_defaults_are_netty_s() {
@@ -33,31 +32,4 @@ fn each_look_shows_its_own() {
     assert_eq!((connection.look().word, connection.is_writable()), (8, false));
     assert_eq!(connection.user_bit(3, true), Ok(Some(Change::Writable)));
     assert!(connection.is_writable());
-}
-
-#[test]
-fn a_shared_one_mirrors_its_word_from_the_start() {
-    let mut connection = Connection::open(Marks { low: 5, high: 10 }, Estimate::default()).expect("there is memory");
-    assert!(connection.write(b"stop").expect("it is accepted").change.is_some());
-    let shared = Shared::new(connection);
-    assert!(!shared.is_writable());
-    let mut guard = shared.lock();
-    let _ = guard.flush().expect("it is open");
-    let _ = guard.take_sent(4).expect("they wait");
-    assert!(!shared.is_writable(), "it shows what the last holder left");
-    drop(guard);
-    assert!(shared.is_writable());
-}
-
-#[test]
-fn a_shared_one_goes_on_after_a_panic() {
-    let shared = Shared::new(Connection::open(Marks { low: 5, high: 10 }, Estimate::default()).expect("there is memory"));
-    let panicked = catch_unwind(AssertUnwindSafe(|| {
-        let mut guard = shared.lock();
-        let _ = guard.write(b"stop").expect("it is accepted");
-        panic!("under the lock");
-    }));
-    assert!(panicked.is_err());
-    assert!(!shared.is_writable());
-    assert_eq!(shared.lock().write(b"more").expect("it is accepted").id, 1);
 }

@@ -1,0 +1,152 @@
+use crate::handles::{Sender, Sharer};
+use crate::lent::{Kept, Lent, Owner};
+use crate::promises::{Node, Promises};
+use crate::replies::{Refusal, Taken, Written, done};
+use crate::waits::{Bell, Line, lock};
+use std::sync::Mutex;
+use std::sync::atomic::{AtomicBool, AtomicUsize, Ordering};
+
+/// What all that have a shared connection have in common, beside what the archive keeps.
+#[derive(Debug)]
+pub(crate) struct Common {
+    /// Who waits for the lock.
+    pub(crate) line: Line,
+    /// Where writers wait for room.
+    pub(crate) writers: Bell,
+    /// Where the transport waits for flushed messages.
+    pub(crate) work: Bell,
+    /// What a `Transport` needs, while there is none.
+    pub(crate) role: Mutex<Option<Role>>,
+    /// How many there are that can write.
+    pub(crate) sharers: AtomicUsize,
+    /// Whether a close was accepted. It is raised after that.
+    closed: AtomicBool,
+    // dropped last: the archive's messages are gone by then
+    books: Mutex<Books>,
+}
+
+/// What a `Transport` needs: the handle that sends, and one for what that has no call for, which is not counted as a writer.
+#[derive(Debug)]
+pub(crate) struct Role {
+    pub(crate) sender: Sender,
+    pub(crate) sharer: Sharer,
+}
+
+impl Role {
+    pub(crate) fn none() -> Role {
+        Role { sender: Sender::none(), sharer: Sharer::none() }
+    }
+}
+
+/// What is noted of messages that wait. The mutex is had from before the call that makes an entry to after it: so whoever takes
+/// the message away finds the entry.
+#[derive(Debug, Default)]
+struct Books {
+    /// Promises that were cancelled and whose messages are not gone.
+    cancelled: Promises,
+    /// What messages are lent.
+    lent: Lent,
+}
+
+impl Common {
+    /// Of a connection that is open, before anyone has it.
+    pub(crate) fn new() -> Common {
+        Common {
+            line: Line::default(),
+            writers: Bell::default(),
+            work: Bell::default(),
+            role: Mutex::new(None),
+            sharers: AtomicUsize::new(0),
+            closed: AtomicBool::new(false),
+            books: Mutex::default(),
+        }
+    }
+
+    pub(crate) fn is_closed(&self) -> bool {
+        self.closed.load(Ordering::SeqCst)
+    }
+
+    /// Whether nobody sends.
+    pub(crate) fn nobody_sends(&self) -> bool {
+        lock(&self.role).is_some()
+    }
+
+    /// Whether nobody can write.
+    pub(crate) fn nobody_writes(&self) -> bool {
+        self.sharers.load(Ordering::SeqCst) == 0
+    }
+
+    /// Tells all who wait that the connection was closed.
+    pub(crate) fn closes(&self) {
+        self.closed.store(true, Ordering::SeqCst);
+        self.writers.ring();
+        self.work.ring();
+    }
+
+    /// Takes a promise back.
+    pub(crate) fn cancel(&self, sharer: &Sharer, id: u64) -> Result<bool, Refusal> {
+        // memory comes first, so that nothing has changed if it is refused
+        let node = Node::new(id)?;
+        let mut books = lock(&self.books);
+        let told = self.line.had(|| sharer.cancel(id));
+        done(told.status)?;
+        if told.in_time {
+            books.cancelled.insert(node);
+        }
+        Ok(told.in_time)
+    }
+
+    /// Writes the bytes of an owner, and keeps it until the message is gone.
+    #[allow(unsafe_code)]
+    pub(crate) fn write_owned<T: AsRef<[u8]> + Send + 'static>(
+        &self,
+        sharer: &Sharer,
+        owner: T,
+    ) -> Result<Written, (Refusal, T)> {
+        let owner = Owner::new(owner).map_err(|owner| (Refusal::NoMemory, owner))?;
+        // what a user's owner does here, and when it is dropped, is not done under the mutex
+        let bytes = owner.bytes();
+        let mut books = lock(&self.books);
+        if let Err(refusal) = books.lent.make_room() {
+            return Err((refusal, owner.into_inner()));
+        }
+        // SAFETY: the owner is kept under the promise of the message, before anyone can tell that as gone: who does takes the
+        // books after that. What is kept is let go then, or behind the archive's connection at the end.
+        let told = self.line.had(|| unsafe { sharer.write_lent(bytes) });
+        match done(told.status) {
+            Ok(()) => {
+                books.lent.keep(told.id, owner.of_any_type());
+                Ok(Written::accepted(told))
+            }
+            Err(refusal) => {
+                drop(books);
+                Err((refusal, owner.into_inner()))
+            }
+        }
+    }
+
+    /// Leaves out those of these promises that were cancelled before, and lets go what their messages were lent.
+    pub(crate) fn settled_by(&self, taken: Taken) -> Taken {
+        let end = taken.promises.end;
+        // as in `write_owned`
+        while let Some(owner) = self.next_owner_below(end) {
+            drop(owner);
+        }
+        let mut books = lock(&self.books);
+        if books.cancelled.is_empty() {
+            return taken;
+        }
+        let (gone, left) = std::mem::take(&mut books.cancelled).cut(end);
+        books.cancelled = left;
+        taken.without(gone)
+    }
+
+    fn next_owner_below(&self, end: u64) -> Option<Kept> {
+        let mut books = lock(&self.books);
+        let owner = books.lent.next_below(end);
+        if books.lent.is_empty() {
+            books.lent.give_back();
+        }
+        owner
+    }
+}
