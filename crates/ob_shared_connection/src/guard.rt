@@ -6,6 +6,7 @@ mod looks;
 use crate::caller::Caller;
 use crate::handle::Handle;
 use crate::transport::Transport;
+use crate::wakes::Wakes;
 use std::marker::Model;
 
 /// The connection in the hands of one handle, which has the lock until the guard is let go. Contracts see the connection,
@@ -59,6 +60,27 @@ impl Guard {
         let mut sender = caller;
         sender.unlock();
         Transport::new(sender)
+    }
+
+    /// Lets the lock go as `unlock`, and wakes nobody: it gives the handle back and tells whom to wake. It waits for nobody
+    /// and does not allocate.
+    pub fn leave(self) -> (Handle, Wakes)
+        ensures { result.0 ≡ self.handle }
+    {
+        let Guard { mut caller } = self;
+        let wakes = caller.leave();
+        (Handle::new(caller), wakes)
+    }
+
+    /// The same for the guard of a transport, which it gives back.
+    pub fn leave_transport(self) -> (Transport, Wakes)
+        requires { self.handle.sends ≡ true }
+        ensures { result.0 ≡ self.handle }
+    {
+        let Guard { caller } = self;
+        let mut sender = caller;
+        let wakes = sender.leave();
+        (Transport::new(sender), wakes)
     }
 
     /// The connection is what all calls leave that the handle has seen. It does nothing.
