@@ -187,3 +187,8 @@ commands_after_within limit settings commands command =
 -- the accepted commands of a buffer after one more command
 abbrev pub commands_after : Settings → List Command → Command → List Command
 commands_after settings commands command = commands_after_within buffer_limit settings commands command
+
+-- the result of a call as that of the model, if this is what its value says
+abbrev pub told_by : {A : Type 0} → (A → Reply) → Result A Refusal → Result Reply Refusal
+told_by tell (Ok value) = Ok (tell value)
+told_by tell (Err refusal) = Err refusal

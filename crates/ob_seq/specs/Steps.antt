@@ -13,3 +13,4 @@ pub mod Close
 pub mod UserBit
 pub mod SetMarks
 pub mod OfCommand
+pub mod Within

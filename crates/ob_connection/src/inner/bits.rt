@@ -16,17 +16,7 @@ impl Inner {
         ensures frugal { ¬ IsErrOf result Refusal.NoMemory }
         ensures room { KeepsRoom self.old self.new }
     {
-        if self.contents.is_closed() {
-            return Err(Refusal::Closed);
-        }
-        if self.contents.line_count() == 0 {
-            return Err(Refusal::NothingFlushed);
-        }
-        if !self.contents.has_progress_left(n) {
-            return Err(Refusal::TooFar);
-        }
-        self.contents.tell_front(n);
-        Ok(())
+        self.contents.progress(n)
     }
 
     /// The step of `Connection::user_bit`.
@@ -35,15 +25,7 @@ impl Inner {
         ensures frugal { ¬ IsErrOf result Refusal.NoMemory }
         ensures room { KeepsRoom self.old self.new }
     {
-        if self.contents.is_closed() {
-            return Err(Refusal::Closed);
-        }
-        if index == 0 || index > 31 {
-            return Err(Refusal::BadIndex);
-        }
-        let before = self.contents.word();
-        self.contents.set_user_bit(index, writable);
-        Ok(self.change_since(before))
+        self.contents.user_bit(index, writable)
     }
 
     /// The step of `Connection::set_marks`.
@@ -52,10 +34,6 @@ impl Inner {
         ensures frugal { ¬ IsErrOf result Refusal.NoMemory }
         ensures room { KeepsRoom self.old self.new }
     {
-        if self.contents.is_closed() {
-            return Err(Refusal::Closed);
-        }
-        self.contents.set_marks(marks);
-        Ok(())
+        self.contents.set_marks(marks)
     }
 }

@@ -15,15 +15,8 @@ impl Inner {
         ensures frugal { ¬ IsErrOf result Refusal.NoMemory }
         ensures room { KeepsRoom self.old self.new }
     {
-        if self.contents.is_closed() {
-            return Err(Refusal::Closed);
-        }
-        let before = self.contents.word();
         let count = self.contents.unflushed_count() as u64;
-        self.contents.flush_all();
-        Ok(Flushed {
-            count,
-            change: self.change_since(before),
-        })
+        let change = self.contents.flush()?;
+        Ok(Flushed { count, change })
     }
 }

@@ -8,7 +8,7 @@ ghost use Rattle.ob_seq.specs.Pending.{Obeys};
 ghost use Rattle.ob_seq.specs.Settles.{SparesMemory};
 
 use crate::buffer::Buffer;
-use ob_types::{Cause, Message, PromiseId, Refusal, Reply, WaterMark};
+use ob_types::{Cause, Message, Outcome, PromiseId, Refusal, Reply, WaterMark};
 
 impl Buffer {
     /// Adds a message behind all others (Netty's `addMessage`), and returns its promise. It takes the same few steps
@@ -46,7 +46,7 @@ impl Buffer {
         ensures obeys { Obeys self.old Remove result self.new }
         ensures frugal { ¬ IsErrOf result Refusal.NoMemory }
     {
-        self.contents.remove()
+        self.contents.remove(Outcome::Success)
     }
 
     /// Takes the first flushed message away as `remove` does, but as failed for this cause (Netty's
@@ -57,7 +57,7 @@ impl Buffer {
         ensures obeys { Obeys self.old (RemoveWith cause) result self.new }
         ensures frugal { ¬ IsErrOf result Refusal.NoMemory }
     {
-        self.contents.remove_with(cause)
+        self.contents.remove(Outcome::Failed(cause))
     }
 
     /// Takes *n* bytes off the flushed blocks in front, as sent (Netty's `removeBytes`), and returns how many messages

@@ -11,12 +11,12 @@ impl Whole {
         ensures makes { Makes self.old (flush_step self.old) result self.new }
         ensures frugal { ¬ IsErrOf result Refusal.NoMemory }
     {
-        if self.is_closed() {
-            return Err(Refusal::Closed);
-        }
-        let before = self.word();
-        let reached = self.unflushed_count();
-        self.contents.flush_all();
-        Ok(self.reply(Answer::Count(reached as u32), self.no_settlements(), before))
+        let answer = Answer::Count(self.unflushed_count() as u32);
+        let change = self.contents.flush()?;
+        Ok(Reply {
+            answer,
+            settled: self.no_settlements(),
+            change,
+        })
     }
 }
