@@ -12,9 +12,8 @@ use Rattle.ob_types.specs.declared.promise.Outcome.TheVariants.{Success}
 use Rattle.ob_types.specs.declared.promise.PromiseState.TheVariants.{Waiting}
 use Rattle.ob_types.specs.declared.refusal.Refusal.TheVariants.{Oversize, TooMuch}
 use Rattle.ob_connection.proofs.Words.{zero, suc}
-use Rattle.ob_seq.specs.Steps.Held.{front_id, times}
-use Rattle.ob_seq.specs.Steps.Remove.{front_taken}
-use Rattle.ob_seq.specs.Steps.Write.{has_bytes_left, has_room_within, write_step_within, written}
+use Rattle.ob_seq.specs.Steps.Step.{front_id, times}
+use Rattle.ob_seq.specs.Steps.Commands.{front_taken, has_bytes_left, has_room_within, write_step_within, written}
 use Rattle.ob_seq.proofs.Inside.Rooms.{promises_there, front_id_there as there}
 use Rattle.ob_seq.proofs.Inside.Made.{nothing_turned}
 

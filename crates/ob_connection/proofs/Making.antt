@@ -5,7 +5,7 @@ use Rattle.ob_connection.proofs.Words.{first_of_step, Option, Command, Moves, st
 use Rattle.ob_connection.proofs.Words.{connection_limit}
 use Rattle.ob_seq.proofs.Inside.Made.{makes_refused, makes_taken, makes_wanting}
 use Rattle.ob_connection.specs.Becoming.{Becomes, IsFirstRefusal}
-use Rattle.ob_connection.specs.Keeping.{room_in, roomed}
+use Rattle.ob_connection.specs.Connected.{room_in, roomed}
 
 -- what an open connection refuses is what its step refuses
 pub first_where_open : (old : Pending) (step : Step) (value : Option Refusal) → old.closed ≡ false → step.refusal ≡ value →

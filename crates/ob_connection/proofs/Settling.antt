@@ -9,17 +9,16 @@ use Rattle.ob_types.specs.declared.promise.PromiseState.TheVariants.{Settled}
 use Rattle.ob_types.specs.declared.refusal.Refusal.TheVariants.{FlushedLeft, TooManyBytes}
 use Rattle.ob_types.specs.declared.reply.Answer.TheVariants.{Count}
 use Rattle.ob_types.specs.declared.reply.Change.{Change}
-use Rattle.ob_seq.specs.Entry.{blocks_left}
-use Rattle.ob_seq.specs.Pieces.{bytes_in}
-use Rattle.ob_seq.specs.Steps.Close.{closing_step, failures}
-use Rattle.ob_seq.specs.Steps.Held.{front_id, unflushed_id}
-use Rattle.ob_seq.specs.Steps.RemoveBytes.{bytes_step, cut_of, entry_settlements, whole_cut}
+use Rattle.ob_seq.specs.Looks.{blocks_left}
+use Rattle.ob_seq.specs.Effect.{bytes_in}
+use Rattle.ob_seq.specs.Steps.Commands.{closing_step, failures, bytes_step, cut_of, entry_settlements, whole_cut}
+use Rattle.ob_seq.specs.Steps.Step.{front_id, unflushed_id}
 use Rattle.ob_seq.specs.Unsent.{fixed_state, pending_entries, states_of, unreached_entry, waiting_state}
 use Rattle.ob_seq.specs.declared.contents.cut.Cut.{Cut}
 use Rattle.ob_seq.specs.declared.entry.Entry.{Entry}
 use Rattle.ob_seq.proofs.Inside.Rooms.{fresh_states, promises_there}
 use Rattle.ob_seq.proofs.Rows.Acceptance.{same_reply}
-use Rattle.ob_connection.specs.Replies.{settled_from, taken_reply}
+use Rattle.ob_connection.specs.Obeying.{settled_from, taken_reply}
 use Rattle.ob_connection.specs.declared.replies.Taken.{Taken}
 use Rattle.ob_connection.proofs.Kept.{front_id_there}
 

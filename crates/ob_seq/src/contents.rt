@@ -1,7 +1,7 @@
 ghost use Rattle.std.specs.Prelude.{◌≡◌, ◌≤◌, [], length};
 ghost use Rattle.ob_types.specs.Limits.{greatest_overhead, greatest_unknown};
 ghost use Rattle.ob_seq.specs.Inside.{unsent_of, IsSound};
-ghost use Rattle.ob_seq.specs.Steps.Held.{pending_total};
+ghost use Rattle.ob_seq.specs.Steps.Step.{pending_total};
 ghost use Rattle.ob_seq.specs.Unsent.{Unsent, nothing_unsent, whole, waiting_count};
 
 mod add;

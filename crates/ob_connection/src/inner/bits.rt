@@ -3,8 +3,8 @@
 ghost use Rattle.std.specs.Prelude.{IsErrOf};
 ghost use Rattle.ob_types.specs.declared.command.Command.TheVariants.{Progress, UserBit, SetMarks};
 ghost use Rattle.ob_connection.specs.Becoming.{Moves};
-ghost use Rattle.ob_connection.specs.Replies.{bit_reply, done_reply};
-ghost use Rattle.ob_connection.specs.Keeping.{KeepsRoom};
+ghost use Rattle.ob_connection.specs.Obeying.{bit_reply, done_reply};
+ghost use Rattle.ob_connection.specs.Connected.{KeepsRoom};
 
 use crate::inner::Inner;
 use ob_types::{Change, Refusal, WaterMark};

@@ -1,8 +1,8 @@
 ghost use Rattle.std.specs.Prelude.{IsErrOf};
 ghost use Rattle.ob_types.specs.declared.command.Command.TheVariants.{Cancel};
 ghost use Rattle.ob_connection.specs.Becoming.{Moves};
-ghost use Rattle.ob_connection.specs.Replies.{cancelled_reply};
-ghost use Rattle.ob_connection.specs.Keeping.{KeepsRoom};
+ghost use Rattle.ob_connection.specs.Obeying.{cancelled_reply};
+ghost use Rattle.ob_connection.specs.Connected.{KeepsRoom};
 
 use crate::inner::Inner;
 use ob_types::Refusal;

@@ -1,8 +1,8 @@
 ghost use Rattle.std.specs.Prelude.{IsErrOf};
-ghost use Rattle.ob_seq.specs.Steps.Remove.{removal_step};
+ghost use Rattle.ob_seq.specs.Steps.Commands.{removal_step};
 ghost use Rattle.ob_connection.specs.Becoming.{Steps};
-ghost use Rattle.ob_connection.specs.Replies.{removed_reply};
-ghost use Rattle.ob_connection.specs.Keeping.{TakesNoRoom};
+ghost use Rattle.ob_connection.specs.Obeying.{removed_reply};
+ghost use Rattle.ob_connection.specs.Connected.{TakesNoRoom};
 
 use crate::inner::Inner;
 use crate::replies::Removed;

@@ -3,9 +3,8 @@ use Rattle.ob_seq.proofs.Words.{[], ◌≡◌, ℕ, zero, suc, ◌+◌, ◌∷�
 use Rattle.ob_seq.proofs.Words.{Outcome, Unsent, whole, waiting_count, fixed_state, waiting_state, Pending, times, next_flushed}
 use Rattle.ob_seq.proofs.Words.{Settled, map, PromiseState, slice_set, cond, Bool, false, true, Fixed, Waiting, get_or, ◌<◌, ◌≤◌, front_taken, unflushed_id, front_id}
 use Rattle.ob_seq.proofs.Words.{Entry, PendingEntry, pending_entry, unreached_entry, pending_entries, is_waiting, drop, append_assoc, ltb, nat_tests}
-use Rattle.ob_seq.specs.Steps.RemoveBytes.{front_skipped}
-use Rattle.ob_seq.specs.Steps.Flush.{is_next_cancelled}
-use Rattle.ob_seq.specs.Steps.Held.{is_first_voided, promise_set, state_at}
+use Rattle.ob_seq.specs.Steps.Commands.{front_skipped, is_next_cancelled}
+use Rattle.ob_seq.specs.Steps.Step.{is_first_voided, promise_set, state_at}
 use Rattle.std.proofs.Math.ListN.{get_or-append}
 use Rattle.std.proofs.lemmas.List.{drop_at}
 use Rattle.std.proofs.lemmas.List.{length-set}

@@ -1,7 +1,9 @@
--- What a call does to what waits, whatever outcomes the messages had that are gone, and what its result says.
+-- What a call does to what waits, whatever outcomes the messages had that are gone, and what its result says, as the
+-- reply of the model. Each reply goes by the promises as they were before the call.
 use Rattle.std.specs.Prelude.{◌∷◌, ℕ, Bool, true, false, List, [], if◌then◌else◌, Option, Some, None, Result, Ok, Err, ⊤}
 use Rattle.ob_types.specs.declared.promise.Outcome.{Outcome}
 use Rattle.ob_types.specs.declared.promise.Outcome.TheVariants.{Cancelled}
+use Rattle.ob_types.specs.declared.promise.PromiseState.{PromiseState}
 use Rattle.ob_types.specs.declared.refusal.Refusal.{Refusal}
 use Rattle.ob_types.specs.declared.reply.Answer.TheVariants.{Count, Yes, Done}
 use Rattle.ob_types.specs.declared.reply.Change.{Change}
@@ -13,25 +15,27 @@ use Rattle.ob_seq.specs.Unsent.{Unsent, whole}
 use Rattle.ob_seq.specs.declared.contents.take.Front.{Front}
 
 -- a call makes this step, and its result says this; it lets no message go
-abbrev pub MakesWithin : {A : Type 0} → (Pending → Step) → (A → Reply) → Unsent → Result A Refusal → Unsent → Type 0
+abbrev pub MakesWithin : {A : Type 0} → (Pending → Step) → (List PromiseState → A → Reply) → Unsent → Result A Refusal →
+    Unsent → Type 0
 MakesWithin step tell old result new =
-    (gone : List Outcome) → Makes (whole gone old) (step (whole gone old)) (told_by tell result) (whole gone new)
+    (gone : List Outcome) → let now = whole gone old in
+    Makes now (step now) (told_by (tell now.promises) result) (whole gone new)
 
 -- a call that has nothing to say
-abbrev pub done_reply : ⊤ → Reply
-done_reply done = record { answer = Done; settled = []; change = None }
+abbrev pub done_reply : List PromiseState → ⊤ → Reply
+done_reply promises done = record { answer = Done; settled = []; change = None }
 
 -- a change of a user bit: the change of writability
-abbrev pub bit_reply : Option Change → Reply
-bit_reply change = record { answer = Done; settled = []; change = change }
+abbrev pub bit_reply : List PromiseState → Option Change → Reply
+bit_reply promises change = record { answer = Done; settled = []; change = change }
 
 -- a call that settles nothing and counts this many messages: the change of writability
-abbrev pub counted_reply : ℕ → Option Change → Reply
-counted_reply count change = record { answer = Count count; settled = []; change = change }
+abbrev pub counted_reply : ℕ → List PromiseState → Option Change → Reply
+counted_reply count promises change = record { answer = Count count; settled = []; change = change }
 
 -- a cancellation of this promise: whether it came in time
-abbrev pub cancelled_reply : ℕ → Bool → Reply
-cancelled_reply id in_time = record {
+abbrev pub cancelled_reply : ℕ → List PromiseState → Bool → Reply
+cancelled_reply id promises in_time = record {
   answer = Yes in_time;
   settled = if in_time then (record { 0 = id }, Cancelled) ∷ [] else [];
   change = None;

@@ -4,8 +4,7 @@ ghost use Rattle.std.specs.Prelude.{IsErrOf};
 ghost use Rattle.ob_types.specs.declared.command.Command.TheVariants.{Write, Flush, Remove, RemoveWith, RemoveBytes};
 ghost use Rattle.ob_types.specs.declared.command.Command.TheVariants.{Progress, Cancel, FailFlushed, Close, UserBit};
 ghost use Rattle.ob_types.specs.declared.command.Command.TheVariants.{SetMarks};
-ghost use Rattle.ob_seq.specs.Pending.{Obeys};
-ghost use Rattle.ob_seq.specs.Settles.{SparesMemory};
+ghost use Rattle.ob_seq.specs.Pending.{Obeys, SparesMemory};
 
 use crate::buffer::Buffer;
 use ob_types::{Cause, Message, Outcome, PromiseId, Refusal, Reply, WaterMark};
@@ -93,7 +92,7 @@ impl Buffer {
 
     /// Takes a promise back (Netty's `Future.cancel`), and returns whether that came in time: a promise that a
     /// flush has fixed, or that is settled, stays as it is. The pending bytes stay too: they fall at the flush. It
-    /// takes the same few steps whatever is pending, at most 20 more if the message is gone, and does not allocate.
+    /// takes the same few steps whatever is pending, and does not allocate.
     ///
     /// `Closed` comes if the buffer is closed, and then `UnknownPromise` if no write was accepted under the id.
     pub fn cancel(&mut self, id: PromiseId) -> Result<Reply, Refusal>

@@ -1,9 +1,7 @@
 //! Calls that move no message: progress, user bits and marks.
 
 ghost use Rattle.std.specs.Prelude.{◌≡◌, IsErrOf, OnErr};
-ghost use Rattle.ob_seq.specs.Steps.Progress.{progress_step};
-ghost use Rattle.ob_seq.specs.Steps.SetMarks.{marks_step};
-ghost use Rattle.ob_seq.specs.Steps.UserBit.{bit_step};
+ghost use Rattle.ob_seq.specs.Steps.Commands.{progress_step, marks_step, bit_step};
 ghost use Rattle.ob_seq.specs.Steps.Within.{MakesWithin, bit_reply, done_reply};
 ghost use Rattle.ob_seq.specs.Unsent.{waiting_count};
 

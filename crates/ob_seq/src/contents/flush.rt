@@ -1,7 +1,7 @@
 ghost use Rattle.std.specs.Prelude.{◌≡◌, ◌<◌, List, length, true, IsErrOf, OnErr};
 ghost use Rattle.ob_types.specs.declared.promise.Outcome.{Outcome};
-ghost use Rattle.ob_seq.specs.Steps.Flush.{flush_step, next_flushed, reached_entry};
-ghost use Rattle.ob_seq.specs.Steps.Held.{times};
+ghost use Rattle.ob_seq.specs.Steps.Commands.{flush_step, next_flushed, reached_entry};
+ghost use Rattle.ob_seq.specs.Steps.Step.{times};
 ghost use Rattle.ob_seq.specs.Steps.Within.{MakesWithin, counted_reply};
 ghost use Rattle.ob_seq.specs.Unsent.{whole, pending_entry, waiting_count};
 

@@ -1,10 +1,9 @@
 ghost use Rattle.std.specs.Prelude.{◌≡◌, ◌+◌, ◌<◌, ◌≤◌, List, length, nat_le};
 ghost use Rattle.ob_types.specs.Limits.{greatest_progress};
 ghost use Rattle.ob_types.specs.declared.promise.Outcome.{Outcome};
-ghost use Rattle.ob_seq.specs.ByteRun.{block_bytes};
-ghost use Rattle.ob_seq.specs.Steps.Held.{first_progress, front_changed};
-ghost use Rattle.ob_seq.specs.Steps.Progress.{progressed_entry};
-ghost use Rattle.ob_seq.specs.Steps.RemoveBytes.{first_length, front_skipped, skipped_entry};
+ghost use Rattle.ob_seq.specs.Effect.{block_bytes};
+ghost use Rattle.ob_seq.specs.Steps.Step.{first_progress, front_changed};
+ghost use Rattle.ob_seq.specs.Steps.Commands.{progressed_entry, first_length, front_skipped, skipped_entry};
 ghost use Rattle.ob_seq.specs.Unsent.{pending_entries, pending_entry, whole};
 
 use crate::contents::Contents;

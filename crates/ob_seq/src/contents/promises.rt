@@ -3,9 +3,8 @@ ghost use Rattle.ob_types.specs.declared.promise.Outcome.{Outcome};
 ghost use Rattle.ob_types.specs.declared.promise.Outcome.TheVariants.{Cancelled};
 ghost use Rattle.ob_types.specs.declared.promise.PromiseState.TheVariants.{Settled};
 ghost use Rattle.ob_seq.specs.Answer.{told_by};
-ghost use Rattle.ob_seq.specs.Steps.Cancel.{cancel_step};
-ghost use Rattle.ob_seq.specs.Steps.Held.{promise_set, state_at};
-ghost use Rattle.ob_seq.specs.Steps.Step.{Makes};
+ghost use Rattle.ob_seq.specs.Steps.Commands.{cancel_step};
+ghost use Rattle.ob_seq.specs.Steps.Step.{promise_set, state_at, Makes};
 ghost use Rattle.ob_seq.specs.Steps.Within.{cancelled_reply};
 ghost use Rattle.ob_seq.specs.Unsent.{whole, waiting_count};
 
@@ -32,7 +31,8 @@ impl Contents {
     #[inline(always)]
     pub fn cancel(&mut self, id: u64, first: u64) -> Result<bool, Refusal>
         ensures makes { (gone : List Outcome) → length gone ≡ first → Makes (whole gone self.old)
-            (cancel_step id (whole gone self.old)) (told_by (cancelled_reply id) result) (whole gone self.new) }
+            (cancel_step id (whole gone self.old)) (told_by (cancelled_reply id (whole gone self.old).promises) result)
+            (whole gone self.new) }
         ensures as_many { waiting_count self.new ≡ waiting_count self.old }
         ensures frugal { ¬ IsErrOf result Refusal.NoMemory }
         ensures refused { OnErr result (self.new ≡ self.old) }

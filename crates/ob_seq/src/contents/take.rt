@@ -2,9 +2,8 @@ ghost use Rattle.std.specs.Prelude.{◌≡◌, ◌<◌, ◌+◌, ◌++◌, ◌�
 ghost use Rattle.ob_types.specs.declared.promise.Outcome.{Outcome};
 ghost use Rattle.ob_types.specs.declared.promise.Outcome.TheVariants.{Cancelled};
 ghost use Rattle.ob_seq.specs.Answer.{told_by};
-ghost use Rattle.ob_seq.specs.Steps.Held.{is_first_voided};
-ghost use Rattle.ob_seq.specs.Steps.Remove.{front_taken, removal_step};
-ghost use Rattle.ob_seq.specs.Steps.Step.{Makes};
+ghost use Rattle.ob_seq.specs.Steps.Step.{is_first_voided, Makes};
+ghost use Rattle.ob_seq.specs.Steps.Commands.{front_taken, removal_step};
 ghost use Rattle.ob_seq.specs.Steps.Within.{front_endings, front_reply};
 ghost use Rattle.ob_seq.specs.Unsent.{pending_entries, waiting_count, whole};
 

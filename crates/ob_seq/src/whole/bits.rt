@@ -1,10 +1,8 @@
 //! Calls that move no message: progress, user bits and marks.
 
 ghost use Rattle.std.specs.Prelude.{◌≡◌, [], IsErrOf};
-ghost use Rattle.ob_seq.specs.Steps.Progress.{progress_step};
-ghost use Rattle.ob_seq.specs.Steps.SetMarks.{marks_step};
+ghost use Rattle.ob_seq.specs.Steps.Commands.{progress_step, marks_step, bit_step};
 ghost use Rattle.ob_seq.specs.Steps.Step.{Makes};
-ghost use Rattle.ob_seq.specs.Steps.UserBit.{bit_step};
 
 use crate::whole::Whole;
 use ob_types::{Answer, Change, Refusal, Reply, WaterMark};

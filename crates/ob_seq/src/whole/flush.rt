@@ -1,6 +1,6 @@
 ghost use Rattle.std.specs.Prelude.{IsErrOf};
 ghost use Rattle.ob_seq.specs.Steps.Step.{Makes};
-ghost use Rattle.ob_seq.specs.Steps.Flush.{flush_step};
+ghost use Rattle.ob_seq.specs.Steps.Commands.{flush_step};
 
 use crate::whole::Whole;
 use ob_types::{Answer, Refusal, Reply};

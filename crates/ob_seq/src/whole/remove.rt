@@ -1,6 +1,6 @@
 ghost use Rattle.std.specs.Prelude.{IsErrOf};
 ghost use Rattle.ob_seq.specs.Steps.Step.{Makes};
-ghost use Rattle.ob_seq.specs.Steps.Remove.{removal_step};
+ghost use Rattle.ob_seq.specs.Steps.Commands.{removal_step};
 
 use crate::whole::Whole;
 use ob_types::{Answer, Outcome, PromiseId, Refusal, Reply, Settlements};

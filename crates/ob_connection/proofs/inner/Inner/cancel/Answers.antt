@@ -1,5 +1,5 @@
-use Rattle.ob_seq.specs.Steps.Cancel.{cancel_step}
-use Rattle.ob_connection.specs.Replies.{cancelled_reply}
+use Rattle.ob_seq.specs.Steps.Commands.{cancel_step}
+use Rattle.ob_connection.specs.Obeying.{cancelled_reply}
 use Rattle.ob_connection.proofs.Making.{made_within}
 use Rattle.ob_connection.proofs.inner.Inner.cancel.Goals as goal
 

@@ -1,7 +1,7 @@
 use Rattle.ob_connection.proofs.Words.{Ok, Err}
 use Rattle.std.proofs.lemmas.Result.{err_from_is_err_and}
-use Rattle.ob_seq.specs.Steps.Flush.{flush_step}
-use Rattle.ob_connection.specs.Replies.{flushed_reply}
+use Rattle.ob_seq.specs.Steps.Commands.{flush_step}
+use Rattle.ob_connection.specs.Obeying.{flushed_reply}
 use Rattle.ob_connection.proofs.Making.{made_within}
 use Rattle.ob_connection.proofs.inner.Inner.flush.Goals as goal
 

@@ -5,8 +5,8 @@ use Rattle.std.proofs.lemmas.Result.{err_from_is_err_and}
 use Rattle.ob_types.specs.declared.promise.Outcome.TheVariants.{Cancelled}
 use Rattle.ob_types.specs.declared.promise.PromiseId.{PromiseId}
 use Rattle.ob_types.specs.declared.reply.Answer.TheVariants.{Yes}
-use Rattle.ob_seq.specs.Steps.Remove.{removal_step}
-use Rattle.ob_connection.specs.Replies.{removed_reply, settled_if}
+use Rattle.ob_seq.specs.Steps.Commands.{removal_step}
+use Rattle.ob_connection.specs.Obeying.{removed_reply, settled_if}
 use Rattle.ob_connection.specs.declared.replies.Removed.{Removed}
 use Rattle.ob_connection.proofs.Making.{made, made_within, steps_roomed}
 use Rattle.ob_connection.proofs.inner.Inner.remove.Goals as goal

@@ -1,5 +1,5 @@
-use Rattle.ob_seq.specs.Steps.SetMarks.{marks_step}
-use Rattle.ob_connection.specs.Replies.{done_reply}
+use Rattle.ob_seq.specs.Steps.Commands.{marks_step}
+use Rattle.ob_connection.specs.Obeying.{done_reply}
 use Rattle.ob_connection.proofs.Making.{made_within}
 use Rattle.ob_connection.proofs.inner.Inner.set_marks.Goals as goal
 

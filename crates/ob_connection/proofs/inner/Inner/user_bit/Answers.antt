@@ -1,5 +1,5 @@
-use Rattle.ob_seq.specs.Steps.UserBit.{bit_step}
-use Rattle.ob_connection.specs.Replies.{bit_reply}
+use Rattle.ob_seq.specs.Steps.Commands.{bit_step}
+use Rattle.ob_connection.specs.Obeying.{bit_reply}
 use Rattle.ob_connection.proofs.Making.{made_within}
 use Rattle.ob_connection.proofs.inner.Inner.user_bit.Goals as goal
 

@@ -1,7 +1,7 @@
 use Rattle.ob_seq.proofs.Words.{[], ◌≡◌, ◌+◌, ◌-◌, ◌<◌, ◌≤◌, ℕ, Bool, true, false, List, length, refl, sym, ap, ◌∙◌, arith, ltb}
 use Rattle.ob_seq.proofs.Words.{None, nat_tests, is_waiting, promise_set, Settled, Cancelled, Outcome, PromiseState, Pending, Unsent, whole}
-use Rattle.ob_seq.specs.Steps.Cancel.{cancel_step}
-use Rattle.ob_seq.specs.Steps.Held.{state_at}
+use Rattle.ob_seq.specs.Steps.Commands.{cancel_step}
+use Rattle.ob_seq.specs.Steps.Step.{state_at}
 use Rattle.ob_seq.specs.Steps.Within.{cancelled_reply}
 use Rattle.ob_seq.proofs.Inside.Fields.{entry_count}
 use Rattle.ob_seq.proofs.Inside.Made.{makes_taken, nothing_turned}
@@ -12,7 +12,7 @@ known : (id : ℕ) (now : Pending) → id < length now.promises → (cancel_step
 known id now within = let test : ltb id (length now.promises) ≡ true = grind (arith, nat_tests) in rw test refl
 
 replied : (id : ℕ) (now : Pending) (waits : Bool) → waits ≡ is_waiting (state_at now id) →
-    cancelled_reply id waits ≡ (cancel_step id now).reply
+    cancelled_reply id now.promises waits ≡ (cancel_step id now).reply
 replied id now waits is = rw (is, nothing_turned) refl
 
 pub returns-then-id-first-clause-makes : goal.returns-then-id-first-clause-makes
@@ -20,7 +20,7 @@ returns-then-id-first-clause-makes c gone is =
     let old = c.args.self.now in
     let id = c.args.id in
     let early = gone_waits_not gone old id (omega (arith, is, c.if-id-first.true)) in
-    makes_taken (whole gone old) (cancel_step id (whole gone old)) (cancelled_reply id false) (whole gone old)
+    makes_taken (whole gone old) (cancel_step id (whole gone old)) (cancelled_reply id (whole gone old).promises false) (whole gone old)
     (ap (λ (one : Unsent). one.closed) (sym c.self.view_is) ∙ c.if-self.false)
     (known id (whole gone old) (omega (arith, is, promises_there gone old, c.if-id-first.true)))
     (replied id (whole gone old) false (sym early)) (rw early refl)
@@ -50,7 +50,7 @@ returns-then-waits-clause-makes c gone is =
     let late = c.if-id-first.false in
     let waits = waits_there gone old id c.args.first is late c.is_waiting-waits.ensures (c.state_at.ensures gone) in
     let place = at gone id c.args.first is late in
-    makes_taken (whole gone old) (cancel_step id (whole gone old)) (cancelled_reply id c.is_waiting-waits.result)
+    makes_taken (whole gone old) (cancel_step id (whole gone old)) (cancelled_reply id (whole gone old).promises c.is_waiting-waits.result)
     (whole gone c.take_back.new.self)
     (ap (λ (one : Unsent). one.closed) (sym c.self.view_is) ∙ c.if-self.false)
     (known id (whole gone old) (omega (arith, place, promises_there gone old, c.if-place-len.false, c.len.ensures, entry_count old c.self.inside c.self.view_is c.self.invariant)))
@@ -70,7 +70,7 @@ returns-else-waits-clause-makes c gone is =
     let late = c.if-id-first.false in
     let waits = waits_there gone old id c.args.first is late c.is_waiting-waits.ensures (c.state_at.ensures gone) in
     let place = at gone id c.args.first is late in
-    makes_taken (whole gone old) (cancel_step id (whole gone old)) (cancelled_reply id c.is_waiting-waits.result)
+    makes_taken (whole gone old) (cancel_step id (whole gone old)) (cancelled_reply id (whole gone old).promises c.is_waiting-waits.result)
     (whole gone old)
     (ap (λ (one : Unsent). one.closed) (sym c.self.view_is) ∙ c.if-self.false)
     (known id (whole gone old) (omega (arith, place, promises_there gone old, c.if-place-len.false, c.len.ensures, entry_count old c.self.inside c.self.view_is c.self.invariant)))

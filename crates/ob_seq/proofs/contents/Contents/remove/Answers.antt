@@ -2,8 +2,8 @@ use Rattle.ob_seq.proofs.Words.{[], ◌≡◌, ◌∷◌, ◌++◌, ◌<◌, ℕ
 use Rattle.ob_seq.proofs.Words.{change_between, Cancelled, Outcome, Pending, Unsent, whole, front_taken, pending_entry}
 use Rattle.ob_seq.proofs.Words.{Some, Option, if◌then◌else◌, front_id, List, PromiseId}
 use Rattle.ob_types.specs.declared.reply.Change.{Change}
-use Rattle.ob_seq.specs.Steps.Held.{is_first_voided}
-use Rattle.ob_seq.specs.Steps.Remove.{removal_reply, removal_step}
+use Rattle.ob_seq.specs.Steps.Step.{is_first_voided}
+use Rattle.ob_seq.specs.Steps.Commands.{removal_reply, removal_step}
 use Rattle.ob_seq.specs.Steps.Within.{front_reply}
 use Rattle.ob_seq.proofs.Inside.Fields.{line_count}
 use Rattle.ob_seq.proofs.Inside.Made.{makes_taken}
