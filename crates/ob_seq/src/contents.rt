@@ -27,8 +27,9 @@ use std::collections::VecDeque;
 use std::marker::Model;
 pub use take::Front;
 
-/// What waits to be sent, each message with its promise. What is gone is no part of it, so no call knows an id: each
-/// does what the step of a buffer does, whatever outcomes are gone.
+/// What waits to be sent, each message with its promise. What is gone is no part of it, so no call keeps an id: each
+/// does what the step of a buffer does, whatever outcomes are gone. A command is refused as that of `Buffer` is, as
+/// `Closed` first, and a refusal changes nothing.
 ///
 /// No call goes over entries that it neither takes away, voids nor hands out, but for the one where it ends: the bytes
 /// that are pending are kept as they change, a flush moves the end of the line behind the last entry, and a removal

@@ -25,7 +25,7 @@ impl Contents {
     }
 
     /// Whether *n* more bytes of progress of the front do not pass the limit.
-    pub fn has_progress_left(&self, n: u64) -> bool
+    pub(super) fn has_progress_left(&self, n: u64) -> bool
         ensures { result ≡ nat_le (first_progress (pending_entries self.now.line) + n) greatest_progress }
     {
         self.current_progress()
@@ -34,7 +34,7 @@ impl Contents {
     }
 
     /// Adds *n* bytes to the progress of the front.
-    pub fn tell_front(&mut self, n: u64)
+    pub(super) fn tell_front(&mut self, n: u64)
         requires some { 0 < length self.old.line }
         requires fits { first_progress (pending_entries self.old.line) + n ≤ greatest_progress }
         ensures after { (gone : List Outcome) →
