@@ -2,7 +2,7 @@
 
 ghost use Rattle.std.specs.Option.{option_copied};
 ghost use Rattle.std.specs.Prelude.{◌≡◌, [], List, IfOk, IfErr, IsOk};
-ghost use Rattle.ob_types.specs.declared.command.Command.{Command as ACommand};
+ghost use Rattle.ob_types.specs.declared.command.Command.{Command};
 ghost use Rattle.ob_seq.specs.Looks.{gathered_after};
 ghost use Rattle.ob_seq.specs.Pending.{AreFlushed, AreGathered, Gives, IsCurrent, IsFrontPromise, Settles, Shows};
 ghost use Rattle.ob_seq.specs.Pending.{StandsFor, Tells};
@@ -142,7 +142,7 @@ impl Buffer {
     pub fn gather(&self, max_count: u32, max_bytes: u32) -> Result<Vec<Bytes>, Refusal>
         ensures blocks { IfOk result (λ blocks. AreGathered self.now max_count max_bytes blocks.items) }
         ensures no_memory { IfErr result (λ refusal. refusal ≡ Refusal.NoMemory) }
-        ensures frugal { (commands : List ACommand) → StandsFor self.now commands
+        ensures frugal { (commands : List Command) → StandsFor self.now commands
             → gathered_after self.now.settings commands max_count max_bytes ≡ [] → IsOk result }
     {
         self.contents.gather(max_count, max_bytes)
