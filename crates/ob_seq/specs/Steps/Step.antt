@@ -1,4 +1,5 @@
 -- What one command does to a buffer that is not closed, and the words of what a buffer holds that several steps speak.
+-- Of public clauses those of `Contents` cite it.
 use Rattle.std.specs.Prelude.{◌≡◌, ◌<◌, ℕ, length, if◌then◌else◌, Option, Some, None, Result, is_ok, IsErrOf, ◌+◌, ◌-◌}
 use Rattle.std.specs.Prelude.{Bool, false, List, [], ◌∷◌, sum_by, slice_set, zero, suc, slice_index_or, ◌*◌, ◌/◌, ◌&&◌}
 use Rattle.std.specs.Prelude.{true, nat_lt}

@@ -1,5 +1,6 @@
 -- What a call does to what waits, whatever outcomes the messages had that are gone, and what its result says, as the
--- reply of the model. Each reply goes by the promises as they were before the call.
+-- reply of the model. Each reply goes by the promises as they were before the call. Of public clauses those of
+-- `Contents` cite it, and of the replies those of connections.
 use Rattle.std.specs.Prelude.{◌∷◌, ℕ, Bool, true, false, List, [], if◌then◌else◌, Option, Some, None, Result, Ok, Err, ⊤}
 use Rattle.ob_types.specs.declared.promise.Outcome.{Outcome}
 use Rattle.ob_types.specs.declared.promise.Outcome.TheVariants.{Cancelled}
