@@ -4,10 +4,8 @@ use Rattle.std.specs.Prelude.{Option, min, max, take}
 use Rattle.std.proofs.lemmas.List.{length-take}
 use Rattle.ob_types.specs.Refusal.{number_of}
 use Rattle.ob_types.specs.declared.refusal.Refusal.{Refusal}
-use Rattle.ob_seq.specs.ByteRun.{byte_run}
-use Rattle.ob_seq.specs.Effect.{rows_after}
-use Rattle.ob_seq.specs.Gathering.{first_blocks, with_bytes}
-use Rattle.ob_seq.specs.Pieces.{bytes_in, pieces_within}
+use Rattle.ob_seq.specs.Effect.{byte_run, rows_after, bytes_in, pieces_within}
+use Rattle.ob_seq.specs.Looks.{first_blocks, with_bytes}
 use Rattle.ob_connection.specs.Calls.{most_pieces}
 use Rattle.ob_shared_connection.specs.Calls.{UnderLock}
 use Rattle.ob_shared_connection.specs.Log.{commands_of}

@@ -5,18 +5,13 @@ use Rattle.ob_types.specs.declared.command.Command.{Command}
 use Rattle.ob_types.specs.declared.message.Message.{Message}
 use Rattle.ob_types.specs.declared.message.Message.TheVariants.{Block, Region, Other}
 use Rattle.ob_types.specs.Block.{is_block}
-use Rattle.ob_seq.specs.ByteRun.{block_bytes, blocks_in_front}
-use Rattle.ob_seq.specs.Effect.{rows_after}
-use Rattle.ob_seq.specs.Gathering.{first_blocks, with_bytes, gathered_after}
-use Rattle.ob_seq.specs.Line.{line}
-use Rattle.ob_seq.specs.Looks.{flushed_after}
-use Rattle.ob_seq.specs.Row.{Row, Place, unread_part, without_skipped, is_flushed}
-use Rattle.ob_seq.specs.Settings.{Settings}
+use Rattle.ob_seq.specs.Effect.{block_bytes, blocks_in_front, rows_after}
+use Rattle.ob_seq.specs.Looks.{first_blocks, with_bytes, gathered_after, flushed_after}
+use Rattle.ob_seq.specs.Rows.{line, Row, Place, unread_part, without_skipped, is_flushed, Settings}
 use Rattle.ob_seq.proofs.Words.{cond, take_while-cons}
 use Rattle.ob_seq.proofs.Inside.Gathered.{ended, first_blocks_are, more_blocks, none_left, passed, pushed}
-use Rattle.ob_connection.specs.Connected.{Connected}
+use Rattle.ob_connection.specs.Connected.{Connected, Gives}
 use Rattle.ob_connection.specs.Looks.{AreFlushed}
-use Rattle.ob_connection.specs.Standing.{Gives}
 use Rattle.ob_c.specs.Gathering.{AreAt, gathered_as, piece_of}
 use Rattle.ob_c.specs.declared.pieces.Piece.{Piece}
 

@@ -4,7 +4,7 @@ use denote.Ref.{Bor}
 use Rattle.ob_types.specs.declared.command.Command.TheVariants.{Write}
 use Rattle.ob_types.specs.declared.message.Message.TheVariants.{Block as AsBlock}
 use Rattle.ob_connection.specs.Connected.{Connected}
-use Rattle.ob_connection.specs.Replies.{written_reply}
+use Rattle.ob_connection.specs.Obeying.{written_reply}
 use Rattle.ob_c.specs.Numbers.{done, no_memory, already_open, not_open, no_block}
 use Rattle.ob_c.specs.Gathering.{piece_of}
 use Rattle.ob_c.specs.Obeying.{ObeysFor}

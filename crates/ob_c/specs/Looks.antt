@@ -6,11 +6,10 @@ use Rattle.ob_types.specs.declared.estimate.Estimate.{Estimate}
 use Rattle.ob_types.specs.declared.message.Message.{Message}
 use Rattle.ob_types.specs.declared.message.Message.TheVariants.{Block, Region, Other}
 use Rattle.ob_seq.specs.Looks.{current_after, look_after}
-use Rattle.ob_seq.specs.MarksInForce.{marks_after}
-use Rattle.ob_seq.specs.Settings.{Settings}
-use Rattle.ob_connection.specs.Connected.{Connected}
+use Rattle.ob_seq.specs.Mark.{marks_after}
+use Rattle.ob_seq.specs.Rows.{Settings}
+use Rattle.ob_connection.specs.Connected.{Connected, Gives}
 use Rattle.ob_connection.specs.Looks.{unflushed_count_after, waiting_count_after}
-use Rattle.ob_connection.specs.Standing.{Gives}
 use Rattle.ob_connection.specs.declared.look.Look.{Look as LookReply}
 use Rattle.ob_connection.specs.declared.status.Status.{Status}
 use Rattle.ob_connection.specs.declared.status.Status.TheVariants.{Waiting, Fixed, Settled, SettledBefore}

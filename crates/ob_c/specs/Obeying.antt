@@ -8,11 +8,8 @@ use Rattle.ob_types.specs.declared.refusal.Refusal.{Refusal}
 use Rattle.ob_types.specs.declared.refusal.Refusal.TheVariants.{Closed, NoMemory}
 use Rattle.ob_types.specs.declared.reply.Reply.{Reply}
 use Rattle.ob_seq.specs.State.{closed_after}
-use Rattle.ob_connection.specs.Connected.{Connected}
-use Rattle.ob_connection.specs.GivingUp.{GivesUp}
-use Rattle.ob_connection.specs.Obeying.{Obeys, IsNext}
-use Rattle.ob_connection.specs.Replies.{taken_reply}
-use Rattle.ob_connection.specs.Standing.{Gives}
+use Rattle.ob_connection.specs.Connected.{Connected, Gives}
+use Rattle.ob_connection.specs.Obeying.{GivesUp, Obeys, IsNext, taken_reply}
 use Rattle.ob_connection.specs.declared.replies.Taken.{Taken as TakenReply}
 use Rattle.ob_c.specs.Numbers.{accepted}
 use Rattle.ob_c.specs.Replies.{taken_in_c}

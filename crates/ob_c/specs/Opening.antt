@@ -5,11 +5,9 @@ use Rattle.ob_types.specs.Refusal.{number_of}
 use Rattle.ob_types.specs.WaterMark.{Marks, water_mark_of}
 use Rattle.ob_types.specs.declared.command.Command.TheVariants.{SetMarks}
 use Rattle.ob_types.specs.declared.refusal.Refusal.{Refusal}
-use Rattle.ob_seq.specs.Settings.{Settings}
-use Rattle.ob_connection.specs.Connected.{Connected}
-use Rattle.ob_connection.specs.Keeping.{Shrinks}
-use Rattle.ob_connection.specs.Replies.{done_reply}
-use Rattle.ob_connection.specs.Standing.{StandsFor}
+use Rattle.ob_seq.specs.Rows.{Settings}
+use Rattle.ob_connection.specs.Connected.{Connected, Shrinks, StandsFor}
+use Rattle.ob_connection.specs.Obeying.{done_reply}
 use Rattle.ob_c.specs.Numbers.{done, no_memory, not_open, already_open, bad_estimate, other_version, status_in_c}
 use Rattle.ob_c.specs.Obeying.{ObeysFrugallyFor}
 

@@ -4,10 +4,10 @@ use Rattle.ob_types.specs.Refusal.{number_of}
 use Rattle.ob_types.specs.declared.message.Message.{Message}
 use Rattle.ob_types.specs.declared.message.Message.TheVariants.{Block as AsBlock}
 use Rattle.ob_types.specs.declared.refusal.Refusal.{Refusal}
-use Rattle.ob_seq.specs.Pieces.{bytes_in}
-use Rattle.ob_seq.specs.Settings.{Settings}
+use Rattle.ob_seq.specs.Effect.{bytes_in}
+use Rattle.ob_seq.specs.Rows.{Settings}
 use Rattle.ob_connection.specs.Looks.{Shows}
-use Rattle.ob_connection.specs.Replies.{answer_of_write}
+use Rattle.ob_connection.specs.Obeying.{answer_of_write}
 use Rattle.ob_connection.specs.declared.look.Look.{Look as LookReply}
 use Rattle.ob_connection.specs.declared.refused.Refused.{Refused}
 use Rattle.ob_connection.specs.declared.replies.Written.{Written as WrittenReply}

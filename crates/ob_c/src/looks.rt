@@ -2,7 +2,7 @@
 
 ghost use Rattle.ob_seq.specs.State.{writable_after, closed_after, empty_after};
 ghost use Rattle.ob_connection.specs.Looks.{Shows, IsFrontPromise, Tells as TellsOf};
-ghost use Rattle.ob_connection.specs.Standing.{Gives};
+ghost use Rattle.ob_connection.specs.Connected.{Gives};
 ghost use Rattle.ob_c.specs.Looks.{Tells, AreCounted, AreInForce, IsLeft, counts_in_c, look_in_c, settings_in_c, truth_in_c, promise_in_c, front_in_c, current_in_c};
 
 use crate::handle::Handle;

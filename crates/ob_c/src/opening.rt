@@ -2,7 +2,7 @@
 
 ghost use Rattle.std.specs.Prelude.{◌≡◌, ◌≤◌, IfOk, OnErr, [], nat_eq};
 ghost use Rattle.ob_types.specs.Limits.{greatest_overhead, greatest_unknown};
-ghost use Rattle.ob_connection.specs.Standing.{StandsFor};
+ghost use Rattle.ob_connection.specs.Connected.{StandsFor};
 ghost use Rattle.ob_c.specs.Blocks.{IsLetGo};
 ghost use Rattle.ob_c.specs.Opening.{Opens, ShrinksFor, settings_for, settings_of};
 

@@ -5,10 +5,8 @@ ghost use Rattle.ob_types.specs.Limits.{greatest_pending_size};
 ghost use Rattle.ob_types.specs.declared.command.Command.TheVariants.{Write};
 ghost use Rattle.ob_types.specs.declared.message.Message.TheVariants.{Block as AsBlock};
 ghost use Rattle.ob_connection.specs.Looks.{Refuses};
-ghost use Rattle.ob_connection.specs.Obeying.{Obeys};
-ghost use Rattle.ob_connection.specs.Replies.{written_reply};
+ghost use Rattle.ob_connection.specs.Obeying.{Obeys, written_reply, joined};
 ghost use Rattle.ob_c.specs.Obeying.{ObeysFor};
-ghost use Rattle.ob_connection.specs.Parts.{joined};
 ghost use Rattle.ob_c.specs.Parts.{slices_of};
 ghost use Rattle.ob_c.specs.Replies.{written_in_c};
 

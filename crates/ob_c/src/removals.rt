@@ -2,7 +2,7 @@
 
 ghost use Rattle.ob_types.specs.declared.command.Command.TheVariants.{Remove, RemoveWith, RemoveBytes, FailFlushed, Close};
 ghost use Rattle.ob_types.specs.declared.promise.Outcome.TheVariants.{Success, Failed};
-ghost use Rattle.ob_connection.specs.Replies.{removed_reply};
+ghost use Rattle.ob_connection.specs.Obeying.{removed_reply};
 ghost use Rattle.ob_c.specs.Obeying.{Answers, GivesUpIfOpen, ObeysFrugallyFor, TakesFor};
 ghost use Rattle.ob_c.specs.Replies.{removed_in_c, taken_in_c};
 

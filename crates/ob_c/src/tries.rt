@@ -3,7 +3,7 @@
 ghost use Rattle.std.specs.Prelude.{◌≡◌, ⊤, Option, Some, Result};
 ghost use Rattle.ob_types.specs.declared.command.Command.TheVariants as command;
 ghost use Rattle.ob_types.specs.declared.promise.Outcome.TheVariants.{Failed};
-ghost use Rattle.ob_connection.specs.Replies.{answer_of_write, cancelled_reply, flushed_reply};
+ghost use Rattle.ob_connection.specs.Obeying.{answer_of_write, cancelled_reply, flushed_reply};
 ghost use Rattle.ob_connection.specs.declared.refused.Refused.{Refused};
 ghost use Rattle.ob_connection.specs.declared.replies.Written.{Written as WrittenReply};
 ghost use Rattle.ob_shared_connection.specs.Calls.{Makes, ObeyingFreely, TakingQuietly};

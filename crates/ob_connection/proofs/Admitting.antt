@@ -8,7 +8,7 @@ use Rattle.ob_types.specs.declared.estimate.Estimate.{Estimate}
 use Rattle.ob_types.specs.declared.message.Message.{Message}
 use Rattle.ob_types.specs.declared.message.Message.TheVariants.{Block}
 use Rattle.ob_types.specs.declared.refusal.Refusal.TheVariants.{Oversize, TooMuch}
-use Rattle.ob_seq.specs.Steps.Write.{has_bytes_left, write_step_within}
+use Rattle.ob_seq.specs.Steps.Commands.{has_bytes_left, write_step_within}
 use Rattle.ob_types.specs.declared.command.Command.TheVariants.{Write}
 use Rattle.ob_connection.specs.Becoming.{Admits, IsFirstRefusal}
 use Rattle.ob_connection.proofs.Kept.{accepted_there, ids_are, no_room, oversize_is, size_is, too_much}

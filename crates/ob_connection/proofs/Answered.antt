@@ -5,9 +5,8 @@ use Rattle.std.specs.List.{sum_by}
 use Rattle.std.proofs.lemmas.List.{map-append}
 use Rattle.std.proofs.lemmas.List.Elements.{All-append, All-cons, All-nil}
 use Rattle.std.proofs.lemmas.List.Sums.{sum_by-append, sum_by-cons}
-use Rattle.ob_connection.specs.Calls.{Call, answers_in, bytes_of, calls_with}
-use Rattle.ob_connection.specs.Telling.{with_more}
-use Rattle.ob_connection.specs.Turns.{AllTook, AsksInTurns, ended_by, EndsWithin, OffersInTurns, Stopped}
+use Rattle.ob_connection.specs.Calls.{Call, answers_in, bytes_of, calls_with, with_more}
+use Rattle.ob_connection.specs.Sending.{AllTook, AsksInTurns, ended_by, EndsWithin, OffersInTurns, Stopped}
 use Rattle.ob_connection.specs.declared.ending.Ending.{Ending}
 use Rattle.ob_connection.specs.declared.ending.Ending.TheVariants.{Drained, Blocked, OtherInFront, TurnsUsed, Broken}
 use Rattle.ob_connection.specs.declared.socket.SocketFault.{SocketFault}

@@ -1,7 +1,6 @@
 -- What is gathered from a connection.
 use Rattle.ob_connection.proofs.Words.{◌≡◌, ℕ, ap, ◌∙◌, whole, Unsent, Connected, List, Command, StandsFor}
-use Rattle.ob_seq.specs.Entry.{blocks_left}
-use Rattle.ob_seq.specs.Gathering.{first_blocks, gathered_after, with_bytes}
+use Rattle.ob_seq.specs.Looks.{blocks_left, first_blocks, gathered_after, with_bytes}
 use Rattle.ob_seq.specs.Unsent.{pending_entries}
 use Rattle.ob_seq.proofs.Inside.Looked.{gathered_is}
 

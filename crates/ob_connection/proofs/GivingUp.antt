@@ -3,7 +3,7 @@ use Rattle.ob_connection.proofs.Words.{◌≡◌, subst, false, StandsForSome, C
 use Rattle.ob_types.specs.declared.command.Command.TheVariants.{Close, FailFlushed}
 use Rattle.ob_types.specs.declared.promise.Cause.{Cause}
 use Rattle.ob_connection.specs.Becoming.{FailsAll}
-use Rattle.ob_connection.specs.GivingUp.{GivesUp}
+use Rattle.ob_connection.specs.Obeying.{GivesUp}
 use Rattle.ob_connection.specs.declared.replies.Taken.{Taken}
 use Rattle.ob_connection.proofs.Obeyed.{obeys, stays}
 

@@ -1,31 +1,21 @@
 -- What the steps refuse, settle and keep, over what is held.
-use Rattle.ob_connection.proofs.Words.{◌≡◌, refl, ap, ◌∙◌, arith, nat_tests, ℕ, ◌+◌, ◌<◌, ◌≤◌, [], ◌∷◌, Bool}
-use Rattle.ob_connection.proofs.Words.{true, false, length, ltb, not, Some, None, change_between, Outcome}
+use Rattle.ob_connection.proofs.Words.{◌≡◌, refl, ap, ◌∙◌, arith, nat_tests, ℕ, ◌+◌, ◌<◌, [], ◌∷◌, Bool}
+use Rattle.ob_connection.proofs.Words.{true, false, length, Some, None, change_between, Outcome}
 use Rattle.ob_connection.proofs.Words.{Pending, Unsent, whole, waiting_count, Past, held, Connected, accepted_writes}
-use Rattle.ob_connection.proofs.Words.{most_ids, connection_limit, if◌then◌else◌, Refusal, Ok, Err, ◌⊎◌, inl, inr}
-use Rattle.std.specs.Prelude.{nat_le}
-use Rattle.std.specs.Bool.{then_some}
+use Rattle.ob_connection.proofs.Words.{most_ids, connection_limit, Refusal, Ok, Err, ◌⊎◌, inl, inr}
 use Rattle.std.proofs.Common.{length-append, replicate}
-use Rattle.std.proofs.lemmas.List.{length-map, length-replicate}
-use Rattle.ob_types.specs.Limits.{greatest_progress}
+use Rattle.std.proofs.lemmas.List.{length-replicate}
 use Rattle.ob_types.specs.PendingSize.{counted_bytes, is_oversize, pending_size_of}
 use Rattle.ob_types.specs.declared.estimate.Estimate.{Estimate}
 use Rattle.ob_types.specs.declared.message.Message.{Message}
 use Rattle.ob_types.specs.declared.promise.Outcome.TheVariants.{Success}
 use Rattle.ob_types.specs.declared.promise.PromiseState.TheVariants.{Waiting}
-use Rattle.ob_types.specs.declared.refusal.Refusal.TheVariants.{NothingFlushed, TooFar, BadIndex}
 use Rattle.ob_types.specs.declared.refusal.Refusal.TheVariants.{Oversize, TooMuch}
-use Rattle.ob_types.specs.declared.reply.Answer.TheVariants.{Yes}
 use Rattle.ob_connection.proofs.Words.{zero, suc}
-use Rattle.ob_seq.specs.Steps.Held.{first_progress, front_id, times}
-use Rattle.ob_seq.specs.Steps.Progress.{progress_step}
-use Rattle.ob_seq.specs.Steps.Remove.{front_removed, front_settlement, front_taken, removal_reply}
-use Rattle.ob_seq.specs.Steps.UserBit.{bit_step}
-use Rattle.ob_seq.specs.Steps.Write.{has_bytes_left, has_room_within, write_step_within, written}
-use Rattle.ob_seq.specs.Unsent.{pending_entry, unreached_entry}
-use Rattle.ob_seq.proofs.Inside.Rooms.{promises_there}
-use Rattle.ob_connection.specs.Replies.{settled_if}
-use Rattle.ob_connection.proofs.Making.{nothing_turned}
+use Rattle.ob_seq.specs.Steps.Step.{front_id, times}
+use Rattle.ob_seq.specs.Steps.Commands.{front_taken, has_bytes_left, has_room_within, write_step_within, written}
+use Rattle.ob_seq.proofs.Inside.Rooms.{promises_there, front_id_there as there}
+use Rattle.ob_seq.proofs.Inside.Made.{nothing_turned}
 
 -- as many promises as ids
 pub ids_are : {connection : Connected} (past : Past connection) →
@@ -37,27 +27,6 @@ ids_are {connection} past =
 pub same_change : {before before' after after' : ℕ} → before ≡ before' → after ≡ after' →
     change_between before after ≡ change_between before' after'
 same_change before after = cc
-
--- progress with nothing in line, too far, and within the limit
-pub no_progress : (n : ℕ) (now : Pending) → length now.line ≡ 0 → (progress_step n now).refusal ≡ Some NothingFlushed
-no_progress n now none = grind (arith, nat_tests)
-
-pub too_far : (n : ℕ) (now : Pending) → 0 < length now.line →
-    nat_le (first_progress now.line + n) greatest_progress ≡ false → (progress_step n now).refusal ≡ Some TooFar
-too_far n now some far = grind (arith, nat_tests)
-
-pub near : (n : ℕ) (now : Pending) → 0 < length now.line →
-    nat_le (first_progress now.line + n) greatest_progress ≡ true → (progress_step n now).refusal ≡ None
-near n now some within = grind (arith, nat_tests)
-
--- a user bit of no index, and of one
-pub no_index : (index : ℕ) (writable : Bool) (now : Pending) → (index ≤ 0) ⊎ (31 < index) →
-    (bit_step index writable now).refusal ≡ Some BadIndex
-no_index index writable now out = grind (arith, nat_tests)
-
-pub an_index : (index : ℕ) (writable : Bool) (now : Pending) → 0 < index → index ≤ 31 →
-    (bit_step index writable now).refusal ≡ None
-an_index index writable now some few = grind (arith, nat_tests)
 
 -- the size of a message, and none of one that is too large
 pub oversize_is : (estimate : Estimate) (message : Message) (refusal : Refusal) →
@@ -108,43 +77,7 @@ added_waiting old new message size is =
 
 -- the promise of the front is that of the first message that waits
 pub front_id_there : {connection : Connected} (past : Past connection) → front_id (held past) ≡ connection.gone
-front_id_there {connection} past =
-    let all = promises_there past.outcomes connection.unsent in
-    let line = length-map connection.unsent.line pending_entry in
-    let fresh = length-map connection.unsent.unflushed unreached_entry in
-    omega (arith, past.count)
-
--- a removal with nothing in line
-no_line : (now : Pending) → length now.line ≡ 0 → ltb 0 (length now.line) ≡ false
-no_line now none = grind (arith, nat_tests)
-
-some_line : (now : Pending) → 0 < length now.line → ltb 0 (length now.line) ≡ true
-some_line now some = grind (arith, nat_tests)
-
-pub nothing_replied : (outcome : Outcome) (now : Pending) → length now.line ≡ 0 →
-    record { answer = Yes false; settled = []; change = None } ≡ removal_reply outcome now
-nothing_replied outcome now none = rw (no_line now none, nothing_turned) refl
-
-pub nothing_removed : (outcome : Outcome) (now : Pending) → length now.line ≡ 0 → now ≡ front_removed outcome now
-nothing_removed outcome now none = rw (no_line now none) refl
-
--- and with some
-pub front_replied : (outcome : Outcome) (now : Pending) → 0 < length now.line →
-    record {
-      answer = Yes true;
-      settled = front_settlement now outcome;
-      change = change_between now.word (front_taken true outcome now).word;
-    } ≡ removal_reply outcome now
-front_replied outcome now some = rw (some_line now some) refl
-
-pub front_is_removed : (outcome : Outcome) (now : Pending) → 0 < length now.line →
-    front_taken true outcome now ≡ front_removed outcome now
-front_is_removed outcome now some = rw (some_line now some) refl
-
-pub settled_front : (voided settles : Bool) (id : ℕ) (outcome : Outcome) → settles ≡ not voided →
-    settled_if (then_some settles (id, outcome)) ≡ (if voided then [] else (record { 0 = id }, outcome) ∷ [])
-settled_front true settles id outcome is = rw is refl
-settled_front false settles id outcome is = rw is refl
+front_id_there {connection} past = there past.outcomes connection.unsent ∙ past.count
 
 -- some outcomes of what is gone
 pub some_past : (connection : Connected) → Past connection

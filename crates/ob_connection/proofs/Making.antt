@@ -1,42 +1,37 @@
 -- Steps that are refused, and steps that are taken.
 use Rattle.ob_connection.proofs.Words.{◌≡◌, refl, sym, subst, List, true, false, Some, None, Ok, Err, Refusal, Closed}
 use Rattle.ob_connection.proofs.Words.{NoMemory, Reply, PromiseState, Pending, Step, Makes, Past, held, Steps, Connected}
-use Rattle.ob_connection.proofs.Words.{first_of_step, change_between, ℕ, Option, arith, Command, Moves, step_within}
+use Rattle.ob_connection.proofs.Words.{first_of_step, Option, Command, Moves, step_within, Result, OnErr, Unsent, whole, ap, told_by}
 use Rattle.ob_connection.proofs.Words.{connection_limit}
+use Rattle.ob_seq.proofs.Inside.Made.{makes_refused, makes_taken, makes_wanting}
 use Rattle.ob_connection.specs.Becoming.{Becomes, IsFirstRefusal}
-use Rattle.ob_connection.specs.Keeping.{room_in, roomed}
+use Rattle.ob_connection.specs.Connected.{room_in, roomed}
 
 -- what an open connection refuses is what its step refuses
 pub first_where_open : (old : Pending) (step : Step) (value : Option Refusal) → old.closed ≡ false → step.refusal ≡ value →
     first_of_step old step ≡ value
 first_where_open old step value unclosed is = rw (unclosed, is) refl
 
--- a step that is refused
-makes_refused : (old : Pending) (step : Step) (refusal : Refusal) → ¬ (refusal ≡ NoMemory) →
-    first_of_step old step ≡ Some refusal → Makes old step (Err refusal) old
-makes_refused old step refusal other is = record {
-  answer = λ wanted. rw is refl;
-  after = refl;
-  no_memory_last = λ wants. absurd (other (cc));
-}
+-- what waits makes its step, and so does a connection
+module _ {A : Type 0} (step : Pending → Step) (tell : List PromiseState → A → Reply) {inside old : Connected}
+    (view : inside ≡ old) where
+  pub made : {new : Connected} (result : Result A Refusal) →
+      ((past : Past inside) → (after : Past new)
+      × Makes (held past) (step (held past)) (told_by (tell (held past).promises) result) (held after)) →
+      OnErr result (new ≡ inside) → Steps step old tell result new
+  made {new} result makes refused =
+      subst (λ one. Steps step one tell result new) view (record { makes = makes; refused = refused })
 
--- a step that is out of memory, and is not refused otherwise
-makes_wanting : (old : Pending) (step : Step) → old.closed ≡ false → step.refusal ≡ None →
-    Makes old step (Err NoMemory) old
-makes_wanting old step unclosed none = record {
-  answer = λ wanted. absurd (wanted refl);
-  after = refl;
-  no_memory_last = λ wants. rw (unclosed, none) refl;
-}
-
--- a step that is taken
-makes_taken : (old : Pending) (step : Step) (reply : Reply) (new : Pending) → old.closed ≡ false → step.refusal ≡ None →
-    reply ≡ step.reply → new ≡ step.after → Makes old step (Ok reply) new
-makes_taken old step reply new unclosed none same after = record {
-  answer = λ wanted. rw (unclosed, none, same) refl;
-  after = after;
-  no_memory_last = λ wants. absurd (cc);
-}
+  -- and one that lets no message go
+  pub made_within : (new : Unsent) (result : Result A Refusal) →
+      ((past : Past inside) → Makes (held past) (step (held past)) (told_by (tell (held past).promises) result)
+      (whole past.outcomes new)) →
+      OnErr result (new ≡ inside.unsent) → Steps step old tell result (record { unsent = new; gone = inside.gone })
+  made_within new (Ok value) makes refused =
+      made (Ok value) (λ past. (record { outcomes = past.outcomes; count = past.count }, makes past)) tt
+  made_within new (Err refusal) makes refused =
+      made (Err refusal) (λ past. (record { outcomes = past.outcomes; count = past.count }, makes past))
+      (ap (λ unsent. record { unsent = unsent; gone = inside.gone }) refused)
 
 module _ {A : Type 0} (step : Pending → Step) (tell : List PromiseState → A → Reply) {inside old : Connected}
     (view : inside ≡ old) where
@@ -85,18 +80,6 @@ module _ {A : Type 0} (step : Pending → Step) (tell : List PromiseState → A 
           );
       refused = tt;
     })
-
-    -- a step that leaves all as it is
-    pub unchanged : (value : A) → ((past : Past inside) → (step (held past)).refusal ≡ None) →
-        ((past : Past inside) → tell (held past).promises value ≡ (step (held past)).reply) →
-        ((past : Past inside) → held past ≡ (step (held past)).after) → Steps step old tell (Ok value) old
-    unchanged value none same after =
-        subst (λ one. Steps step old tell (Ok value) one) view
-        (taken {new = inside} value none same (λ past. (past, after past)))
-
--- a word that stays turns nothing
-pub nothing_turned : (word : ℕ) → change_between word word ≡ None
-nothing_turned word = grind arith
 
 -- a call is refused so if that is the first refusal of its step
 pub first_refused : {A : Type 0} (command : Command) (tell : List PromiseState → A → Reply) {old : Connected}

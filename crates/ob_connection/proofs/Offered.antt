@@ -11,15 +11,12 @@ use Rattle.std.specs.List.{prefix_len, take_while}
 use Rattle.std.proofs.lemmas.List.{length-map, length-take, take_all}
 use Rattle.ob_types.specs.Block.{is_block}
 use Rattle.ob_types.specs.declared.message.Message.{Message}
-use Rattle.ob_seq.specs.ByteRun.{block_bytes, blocks_in_front}
-use Rattle.ob_seq.specs.Entry.{PendingEntry}
-use Rattle.ob_seq.specs.Gathering.{with_bytes}
-use Rattle.ob_seq.specs.Pieces.{pieces_within}
+use Rattle.ob_seq.specs.Effect.{block_bytes, blocks_in_front, pieces_within}
+use Rattle.ob_seq.specs.Looks.{PendingEntry, with_bytes}
 use Rattle.ob_seq.specs.Unsent.{pending_entries, pending_entry}
-use Rattle.ob_connection.specs.Calls.{Call}
+use Rattle.ob_connection.specs.Calls.{Call, with_more}
 use Rattle.ob_connection.specs.Offering.{Offers, offered, run_of}
 use Rattle.ob_connection.specs.declared.inner.offer.Offer.{Offer}
-use Rattle.ob_connection.specs.Telling.{with_more}
 
 -- the bytes of pieces, one after another
 pub joined : (pieces : List IoSlice) → io_slices_bytes pieces ≡ concat (map io_slice_bytes pieces)

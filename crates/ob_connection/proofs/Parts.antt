@@ -6,7 +6,7 @@ use Rattle.std.specs.List.{concat}
 use Rattle.std.proofs.Math.ListN.{get_or}
 use Rattle.std.proofs.lemmas.List.{map-append, take-append-drop, take_more}
 use Rattle.std.proofs.lemmas.List.Folds.{concat-append}
-use Rattle.ob_connection.specs.Parts.{joined}
+use Rattle.ob_connection.specs.Obeying.{joined}
 
 abbrev pub Part : Type 0
 Part = Bor (List ℕ)

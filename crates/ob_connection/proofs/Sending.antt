@@ -4,9 +4,9 @@ use Rattle.ob_connection.proofs.Words.{arith, nat_tests, Some, None, Option, Err
 use Rattle.ob_connection.proofs.Words.{Connected, StandsFor, Gives, most_ids, true, ◌<◌}
 use Rattle.std.proofs.lemmas.List.{length-map}
 use Rattle.ob_types.specs.Limits.{greatest_total}
-use Rattle.ob_seq.specs.Entry.{PendingEntry, entry_of}
-use Rattle.ob_seq.specs.Line.{line}
-use Rattle.ob_seq.specs.State.{closed_after, empty_after}
+use Rattle.ob_seq.specs.Looks.{PendingEntry, entry_of, first_blocks, gathered_after, with_bytes}
+use Rattle.ob_seq.specs.Rows.{line}
+use Rattle.ob_seq.specs.State.{closed_after, empty_after, is_closed}
 use Rattle.ob_seq.specs.Unsent.{pending_entry}
 use Rattle.ob_seq.proofs.Rows.Limits.{run_within}
 use Rattle.ob_connection.specs.declared.ending.Ending.{Ending}
@@ -22,18 +22,13 @@ use Rattle.ob_connection.proofs.Words.{◌∷◌, ◌++◌, Past, held, connecti
 use Rattle.ob_types.specs.declared.command.Command.TheVariants.{RemoveBytes}
 use Rattle.ob_types.specs.declared.refusal.Refusal.TheVariants.{TooManyBytes}
 use Rattle.ob_seq.specs.Answer.{reply_of, unless_refused}
-use Rattle.ob_seq.specs.ByteRun.{byte_run}
-use Rattle.ob_seq.specs.Closed.{is_closed}
-use Rattle.ob_seq.specs.Effect.{rows_after}
-use Rattle.ob_seq.specs.Gathering.{first_blocks, gathered_after, with_bytes}
-use Rattle.ob_seq.specs.Pieces.{bytes_in}
+use Rattle.ob_seq.specs.Effect.{byte_run, rows_after, bytes_in}
 use Rattle.ob_seq.proofs.Inside.Gathered.{gathered_first, length_of_concat, more_gathered}
 use Rattle.ob_seq.proofs.Simulating.BytesRemoved.{run_is}
-use Rattle.ob_connection.specs.Limit.{answer_of_connection}
-use Rattle.ob_connection.specs.Calls.{Call, calls_with, had_no_room, most_pieces}
+use Rattle.ob_connection.specs.Connected.{answer_of_connection}
+use Rattle.ob_connection.specs.Calls.{Call, calls_with, had_no_room, most_pieces, with_more}
 use Rattle.ob_connection.specs.Becoming.{removed}
 use Rattle.ob_connection.specs.Offering.{answer_of, EndsAt, IsLeft, offered, Offers, run_of}
-use Rattle.ob_connection.specs.Telling.{with_more}
 use Rattle.ob_connection.proofs.Turns.{not_too_many}
 use Rattle.ob_seq.proofs.Inside.Looked.{gathered_is}
 use Rattle.ob_seq.proofs.Simulating.Simulated.{goes_on, simulated}

@@ -3,28 +3,24 @@ use Rattle.ob_connection.proofs.Words.{◌≡◌, refl, sym, ap, ◌∙◌, arit
 use Rattle.ob_connection.proofs.Words.{true, false, length, map, take, drop, ltb, Option, Outcome, PromiseState, Pending}
 use Rattle.ob_connection.proofs.Words.{Past, held, Connected, Some, None, Refusal, cond, nat_tests}
 use Rattle.std.proofs.lemmas.List.{drop_at, length-map, nil_from_length, take_all}
-use Rattle.ob_types.specs.Waiting.{is_waiting}
 use Rattle.ob_types.specs.declared.promise.Cause.{Cause}
-use Rattle.ob_types.specs.declared.promise.Outcome.TheVariants.{Cancelled, Failed}
+use Rattle.ob_types.specs.declared.promise.Outcome.TheVariants.{Failed}
 use Rattle.ob_types.specs.declared.promise.PromiseState.TheVariants.{Settled}
-use Rattle.ob_types.specs.declared.refusal.Refusal.TheVariants.{FlushedLeft, TooManyBytes, UnknownPromise}
+use Rattle.ob_types.specs.declared.refusal.Refusal.TheVariants.{FlushedLeft, TooManyBytes}
 use Rattle.ob_types.specs.declared.reply.Answer.TheVariants.{Count}
 use Rattle.ob_types.specs.declared.reply.Change.{Change}
-use Rattle.ob_seq.specs.Entry.{blocks_left}
-use Rattle.ob_seq.specs.Pieces.{bytes_in}
-use Rattle.ob_seq.specs.Steps.Cancel.{cancel_step}
-use Rattle.ob_seq.specs.Steps.Close.{closing_step, failures}
-use Rattle.ob_seq.specs.Steps.Held.{front_id, promise_set, state_at, unflushed_id}
-use Rattle.ob_seq.specs.Steps.RemoveBytes.{bytes_step, cut_of, entry_settlements, whole_cut}
+use Rattle.ob_seq.specs.Looks.{blocks_left}
+use Rattle.ob_seq.specs.Effect.{bytes_in}
+use Rattle.ob_seq.specs.Steps.Commands.{closing_step, failures, bytes_step, cut_of, entry_settlements, whole_cut}
+use Rattle.ob_seq.specs.Steps.Step.{front_id, unflushed_id}
 use Rattle.ob_seq.specs.Unsent.{fixed_state, pending_entries, states_of, unreached_entry, waiting_state}
 use Rattle.ob_seq.specs.declared.contents.cut.Cut.{Cut}
 use Rattle.ob_seq.specs.declared.entry.Entry.{Entry}
-use Rattle.ob_seq.proofs.Inside.Rooms.{fresh_states, promises_there, waits_behind}
+use Rattle.ob_seq.proofs.Inside.Rooms.{fresh_states, promises_there}
 use Rattle.ob_seq.proofs.Rows.Acceptance.{same_reply}
-use Rattle.ob_connection.specs.Replies.{cancelled_reply, settled_from, taken_reply}
+use Rattle.ob_connection.specs.Obeying.{settled_from, taken_reply}
 use Rattle.ob_connection.specs.declared.replies.Taken.{Taken}
 use Rattle.ob_connection.proofs.Kept.{front_id_there}
-use Rattle.ob_connection.proofs.Making.{nothing_turned}
 
 -- the promises of the first `count` entries in line settle what the entries do
 settled_entries : (outcome : Outcome) (id count : ℕ) (line : List Entry) (rest : List PromiseState) →
@@ -129,35 +125,3 @@ no_cut n now none = by_test (ltb (bytes_in (blocks_left now.line)) n) (whole_cut
 pub a_cut : (n : ℕ) (now : Pending) (cut : Cut) → Some cut ≡ cut_of n (blocks_left now.line) →
     ((bytes_step n now).refusal ≡ None) × (cut ≡ whole_cut n (blocks_left now.line))
 a_cut n now cut some = by_found (ltb (bytes_in (blocks_left now.line)) n) (whole_cut n (blocks_left now.line)) cut some
-
--- a cancellation of an id that no write has, and of one that a write has
-pub unknown : (id : ℕ) (now : Pending) → length now.promises ≤ id → (cancel_step id now).refusal ≡ Some UnknownPromise
-unknown id now past = let test : ltb id (length now.promises) ≡ false = grind (arith, nat_tests) in rw test refl
-
-pub known : (id : ℕ) (now : Pending) → id < length now.promises → (cancel_step id now).refusal ≡ None
-known id now within = let test : ltb id (length now.promises) ≡ true = grind (arith, nat_tests) in rw test refl
-
-pub cancel_replied : (id : ℕ) (now : Pending) (waits : Bool) → waits ≡ is_waiting (state_at now id) →
-    cancelled_reply id now.promises waits ≡ (cancel_step id now).reply
-cancel_replied id now waits is = rw (is, nothing_turned) refl
-
-pub cancelled_in_time : (id : ℕ) (now : Pending) → is_waiting (state_at now id) ≡ true →
-    promise_set id (Settled Cancelled) now ≡ (cancel_step id now).after
-cancelled_in_time id now is = rw is refl
-
-pub cancelled_late : (id : ℕ) (now : Pending) → is_waiting (state_at now id) ≡ false →
-    now ≡ (cancel_step id now).after
-cancelled_late id now is = rw is refl
-
-by_waiting : (now waits : Bool) → now ≡ waits → (now ≡ true → ⊥) → waits ≡ false
-by_waiting now true same never = absurd (never same)
-by_waiting now false same never = refl
-
--- what is gone waits no more
-pub gone_waits_not : {connection : Connected} (past : Past connection) (id : ℕ) → id < connection.gone →
-    is_waiting (state_at (held past) id) ≡ false
-gone_waits_not {connection} past id early =
-    by_waiting (is_waiting (state_at (held past) id)) (is_waiting (state_at (held past) id)) refl (λ waits.
-    let behind = waits_behind past.outcomes connection.unsent id waits
-    (ltb id (length past.outcomes + length connection.unsent.line)) refl in
-    omega (arith, past.count))

@@ -8,9 +8,8 @@ use Rattle.std.proofs.lemmas.List.{length-take}
 use Rattle.std.proofs.lemmas.List.Sums.{sum_by-cons}
 use Rattle.ob_types.specs.declared.message.Message.{Message}
 use Rattle.ob_types.specs.declared.message.Message.TheVariants.{Block, Region, Other}
-use Rattle.ob_seq.specs.Entry.{PendingEntry, blocks_left}
-use Rattle.ob_seq.specs.Gathering.{first_blocks, with_bytes}
-use Rattle.ob_seq.specs.Pieces.{bytes_in, pieces_within}
+use Rattle.ob_seq.specs.Looks.{PendingEntry, blocks_left, first_blocks, with_bytes}
+use Rattle.ob_seq.specs.Effect.{bytes_in, pieces_within}
 use Rattle.ob_seq.proofs.Inside.Blocks.{left_from_block, left_from_other}
 use Rattle.ob_seq.proofs.Inside.Gathered.{all_bytes, gathered_first, length_of_concat}
 use Rattle.ob_connection.specs.Becoming.{removed}

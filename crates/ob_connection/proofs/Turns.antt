@@ -9,12 +9,12 @@ use Rattle.std.proofs.lemmas.List.Sums.{sum_by-cons}
 use Rattle.ob_types.specs.declared.message.Message.{Message}
 use Rattle.ob_types.specs.declared.message.Message.TheVariants.{Block, Region, Other}
 use Rattle.ob_types.specs.declared.promise.Outcome.TheVariants.{Success}
-use Rattle.ob_seq.specs.Entry.{PendingEntry, blocks_left}
-use Rattle.ob_seq.specs.Pieces.{bytes_in}
-use Rattle.ob_seq.specs.Row.{without_skipped}
-use Rattle.ob_seq.specs.Steps.Held.{first_changed, front_changed}
-use Rattle.ob_seq.specs.Steps.Remove.{front_taken}
-use Rattle.ob_seq.specs.Steps.RemoveBytes.{bytes_removed, bytes_step, cut_of, front_skipped, skipped_entry, whole_cut}
+use Rattle.ob_seq.specs.Looks.{PendingEntry, blocks_left}
+use Rattle.ob_seq.specs.Effect.{bytes_in}
+use Rattle.ob_seq.specs.Rows.{without_skipped}
+use Rattle.ob_seq.specs.Steps.Step.{first_changed, front_changed}
+use Rattle.ob_seq.specs.Steps.Commands.{front_taken, bytes_removed, bytes_step, cut_of, front_skipped, skipped_entry}
+use Rattle.ob_seq.specs.Steps.Commands.{whole_cut}
 use Rattle.ob_seq.specs.Unsent.{pending_entries, pending_entry}
 use Rattle.ob_seq.specs.declared.contents.cut.Cut.{Cut}
 use Rattle.ob_seq.proofs.Inside.Blocks.{few_entries, left_from_block, left_from_other}

@@ -11,16 +11,13 @@ pub use Rattle.ob_types.specs.declared.refusal.Refusal.{Refusal}
 pub use Rattle.ob_types.specs.declared.refusal.Refusal.TheVariants.{Closed, NoMemory}
 pub use Rattle.ob_types.specs.declared.reply.Reply.{Reply}
 pub use Rattle.ob_seq.specs.Answer.{answer_within}
-pub use Rattle.ob_seq.specs.Leaves.{Leaves}
-pub use Rattle.ob_seq.specs.Pending.{Pending}
-pub use Rattle.ob_seq.specs.Settings.{Settings}
-pub use Rattle.ob_seq.specs.Steps.OfCommand.{step_within}
+pub use Rattle.ob_seq.specs.Pending.{Leaves, Pending}
+pub use Rattle.ob_seq.specs.Rows.{Settings}
+pub use Rattle.ob_seq.specs.Steps.Commands.{step_within}
 pub use Rattle.ob_seq.specs.Steps.Step.{Step, Makes, answer_by, held_by, first_of_step}
 pub use Rattle.ob_seq.specs.Unsent.{whole, Unsent, waiting_count}
 pub use Rattle.ob_connection.specs.Becoming.{Past, held, Becomes, Steps, Moves}
-pub use Rattle.ob_connection.specs.Connected.{Connected, accepted_writes}
+pub use Rattle.ob_connection.specs.Connected.{Connected, accepted_writes, connection_limit, most_ids, StandsFor}
+pub use Rattle.ob_connection.specs.Connected.{StandsForSome, Gives}
 pub use Rattle.ob_connection.specs.Inside.{connected_of}
-pub use Rattle.ob_connection.specs.Limit.{connection_limit, most_ids}
-pub use Rattle.ob_connection.specs.Obeying.{Answers, Follows, Obeys, commands_with, promises_after}
-pub use Rattle.ob_connection.specs.Replies.{told_by}
-pub use Rattle.ob_connection.specs.Standing.{StandsFor, StandsForSome, Gives}
+pub use Rattle.ob_connection.specs.Obeying.{Answers, Follows, Obeys, commands_with, promises_after, told_by}

@@ -10,18 +10,14 @@ use Rattle.ob_types.specs.declared.promise.Outcome.{Outcome}
 use Rattle.ob_types.specs.declared.promise.PromiseState.{PromiseState}
 use Rattle.ob_types.specs.declared.refusal.Refusal.{Refusal}
 use Rattle.ob_types.specs.declared.reply.Reply.{Reply}
-use Rattle.ob_seq.specs.Entry.{blocks_left}
+use Rattle.ob_seq.specs.Looks.{blocks_left}
 use Rattle.ob_seq.specs.Pending.{Pending}
-use Rattle.ob_seq.specs.Steps.OfCommand.{step_within}
-use Rattle.ob_seq.specs.Steps.RemoveBytes.{bytes_removed, whole_cut}
+use Rattle.ob_seq.specs.Steps.Commands.{step_within, bytes_removed, whole_cut, has_bytes_left}
 use Rattle.ob_seq.specs.Steps.Step.{Step, Makes, first_of_step}
-use Rattle.ob_seq.specs.Steps.Write.{has_bytes_left}
 use Rattle.ob_seq.specs.Unsent.{whole}
 use Rattle.ob_seq.specs.declared.contents.cut.Cut.{Cut}
-use Rattle.ob_connection.specs.Connected.{Connected, accepted_writes}
-use Rattle.ob_connection.specs.Limit.{connection_limit, most_ids}
-use Rattle.ob_connection.specs.GivingUp.{as_result, GivesUpBy}
-use Rattle.ob_connection.specs.Replies.{taken_reply, told_by}
+use Rattle.ob_connection.specs.Connected.{Connected, accepted_writes, connection_limit, most_ids}
+use Rattle.ob_connection.specs.Obeying.{as_result, GivesUpBy, taken_reply, told_by}
 use Rattle.ob_connection.specs.declared.replies.Taken.{Taken}
 
 -- outcomes of as many messages as are gone

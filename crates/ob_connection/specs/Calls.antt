@@ -1,10 +1,15 @@
--- The calls of a socket.
-use Rattle.std.specs.Prelude.{◌≡◌, ℕ, nat_eq, Bool, true, false, List, [], ◌∷◌, Option, Some, None, Result, Ok, Err}
+-- What a socket reports of itself, and of its calls.
+use Rattle.std.specs.Prelude.{◌++◌, List, Option, option_map, ◌≡◌, ℕ, nat_eq, Bool, true, false, [], ◌∷◌, Some, None}
+use Rattle.std.specs.Prelude.{Result, Ok, Err}
 use Rattle.std.specs.IoError.{error_kind}
 use Rattle.std.specs.declared.io.Error.{Error}
 use Rattle.std.specs.declared.io.ErrorKind.TheVariants.{WouldBlock}
 use Rattle.ob_connection.specs.declared.socket.SocketFault.{SocketFault}
 use Rattle.ob_connection.specs.declared.socket.SocketFault.TheVariants.{Blocked, Broken}
+
+-- what a socket reported so far, once these came to it; a socket that reports nothing reports nothing then
+abbrev pub with_more : {A : Type 0} → Option (List A) → List A → Option (List A)
+with_more told more = option_map (λ before. before ++ more) told
 
 -- a call of a socket: the pieces that it was offered, and how many of their bytes it took, or why none
 pub record Call : Type 0 where

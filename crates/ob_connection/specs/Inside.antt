@@ -1,7 +1,6 @@
 -- How a connection is kept. No public clause cites this module.
 use Rattle.std.specs.Prelude.{◌≤◌}
-use Rattle.ob_connection.specs.Connected.{Connected, accepted_writes}
-use Rattle.ob_connection.specs.Limit.{most_ids}
+use Rattle.ob_connection.specs.Connected.{Connected, accepted_writes, most_ids}
 use Rattle.ob_connection.specs.declared.inner.Inner.TheInside.{Inside}
 
 -- what a contract sees of what is kept

@@ -7,14 +7,11 @@ use Rattle.ob_types.specs.declared.promise.PromiseState.TheVariants.{Waiting as 
 use Rattle.ob_types.specs.declared.refusal.Refusal.{Refusal}
 use Rattle.ob_seq.specs.Answer.{first_refusal_within}
 use Rattle.ob_seq.specs.Effect.{rows_after}
-use Rattle.ob_seq.specs.Gathering.{gathered_after}
-use Rattle.ob_seq.specs.Line.{line, unflushed}
-use Rattle.ob_seq.specs.Looks.{look_after, promise_after, current_after, front_promise_after, flushed_after}
-use Rattle.ob_seq.specs.Settings.{Settings}
+use Rattle.ob_seq.specs.Looks.{gathered_after, look_after, promise_after, current_after, front_promise_after}
+use Rattle.ob_seq.specs.Looks.{flushed_after}
+use Rattle.ob_seq.specs.Rows.{line, unflushed, Settings}
 use Rattle.ob_seq.specs.declared.look.Look.{Look as BufferLook}
-use Rattle.ob_connection.specs.Connected.{Connected}
-use Rattle.ob_connection.specs.Limit.{connection_limit}
-use Rattle.ob_connection.specs.Standing.{Gives}
+use Rattle.ob_connection.specs.Connected.{Connected, connection_limit, Gives}
 use Rattle.ob_connection.specs.declared.look.Look.{Look}
 use Rattle.ob_connection.specs.declared.status.Status.{Status}
 use Rattle.ob_connection.specs.declared.status.Status.TheVariants.{Waiting, Fixed, Settled, SettledBefore}

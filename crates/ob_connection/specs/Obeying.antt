@@ -1,18 +1,73 @@
--- What a call of a connection promises.
-use Rattle.std.specs.Prelude.{◌≡◌, ◌+◌, List, ◌∷◌, [], ◌++◌, map, true, is_ok, if◌then◌else◌, Result, IsErrOf, OnErr, IfOk, None}
-use Rattle.ob_types.specs.declared.command.Command.{Command}
+-- What a call of a connection promises: its answer, as the reply of the model, and how it follows. A call reports ids and
+-- intervals of ids, and the model lists settlements; each goes by the promises as they were before the call.
+use Rattle.std.specs.List.{concat}
+use Rattle.std.specs.Prelude.{ℕ, List, map, suc, ◌-◌, [], ◌∷◌, ◌++◌, take, drop, Option, Some, None, Result, Ok, Err}
+use Rattle.std.specs.Prelude.{◌≡◌, ◌+◌, true, IsErrOf, OnErr, IfOk, false}
 use Rattle.ob_types.specs.declared.promise.Outcome.{Outcome}
+use Rattle.ob_types.specs.declared.promise.Outcome.TheVariants.{Failed}
+use Rattle.ob_types.specs.declared.promise.PromiseId.{PromiseId}
 use Rattle.ob_types.specs.declared.promise.PromiseState.{PromiseState}
 use Rattle.ob_types.specs.declared.refusal.Refusal.{Refusal}
-use Rattle.ob_types.specs.declared.refusal.Refusal.TheVariants.{NoMemory}
+use Rattle.ob_types.specs.declared.reply.Answer.TheVariants.{Id, Count, Yes}
 use Rattle.ob_types.specs.declared.reply.Reply.{Reply}
-use Rattle.ob_seq.specs.Effect.{rows_after}
-use Rattle.ob_seq.specs.Settings.{Settings}
-use Rattle.ob_connection.specs.Connected.{Connected}
-use Rattle.ob_connection.specs.Limit.{answer_of_connection, connection_accepts}
-use Rattle.ob_connection.specs.Replies.{told_by}
-use Rattle.ob_connection.specs.Standing.{StandsFor, Gives}
+use Rattle.ob_types.specs.declared.command.Command.{Command}
+use Rattle.ob_types.specs.declared.refusal.Refusal.TheVariants.{NoMemory}
+use Rattle.ob_types.specs.declared.command.Command.TheVariants.{Close, FailFlushed}
+use Rattle.ob_types.specs.declared.promise.Cause.{Cause}
+use denote.Ref.{Bor}
+pub use Rattle.ob_seq.specs.Answer.{commands_with, told_by}
+use Rattle.ob_seq.specs.Answer.{outcome_of, settlement}
+pub use Rattle.ob_seq.specs.Steps.Within.{bit_reply, cancelled_reply, done_reply}
+use Rattle.ob_connection.specs.declared.replies.Written.{Written}
+use Rattle.ob_connection.specs.declared.replies.Flushed.{Flushed}
+use Rattle.ob_connection.specs.declared.replies.Removed.{Removed}
 use Rattle.ob_connection.specs.declared.replies.Taken.{Taken}
+use Rattle.ob_connection.specs.declared.refused.Refused.{Refused}
+use Rattle.ob_seq.specs.Effect.{rows_after}
+use Rattle.ob_seq.specs.Rows.{Settings}
+use Rattle.ob_connection.specs.Connected.{Connected, answer_of_connection, connection_accepts, StandsFor, Gives}
+
+-- the bytes of parts, one behind the other
+abbrev pub joined : List (Bor (List ℕ)) → List ℕ
+joined parts = concat (map (λ part. part.now) parts)
+
+-- an accepted write: its promise
+abbrev pub written_reply : List PromiseState → Written → Reply
+written_reply promises written =
+    record { answer = Id (record { 0 = written.id }); settled = []; change = written.change }
+
+-- a flush: how many messages it reached
+abbrev pub flushed_reply : List PromiseState → Flushed → Reply
+flushed_reply promises flushed = record { answer = Count flushed.count; settled = []; change = flushed.change }
+
+-- one settlement, if there is one
+abbrev pub settled_if : Option (ℕ × Outcome) → List (PromiseId × Outcome)
+settled_if None = []
+settled_if (Some settled) = (record { 0 = settled.0 }, settled.1) ∷ []
+
+-- a removal of the front: whether there was one, and the promise that is settled by it
+abbrev pub removed_reply : List PromiseState → Removed → Reply
+removed_reply promises removed =
+    record { answer = Yes removed.any; settled = settled_if removed.settled; change = removed.change }
+
+-- what promises settle whose ids go on from this one: those that were not settled before, each with this outcome
+abbrev pub settled_from : Outcome → ℕ → List PromiseState → List (PromiseId × Outcome)
+settled_from outcome id [] = []
+settled_from outcome id (state ∷ states) =
+    settlement id (outcome_of state) (Some outcome) ++ settled_from outcome (suc id) states
+
+-- messages that were taken away: how many, and the interval of their promises with the outcome
+abbrev pub taken_reply : List PromiseState → Taken → Reply
+taken_reply promises taken = record {
+  answer = Count taken.count;
+  settled = settled_from taken.outcome taken.from (take (taken.to - taken.from) (drop taken.from promises));
+  change = taken.change;
+}
+
+-- the answer of a write, but for the message that came back
+abbrev pub answer_of_write : Result Written Refused → Result Written Refusal
+answer_of_write (Ok written) = Ok written
+answer_of_write (Err refused) = Err refused.refusal
 
 -- the states of all promises after a history
 abbrev pub promises_after : Settings → List Command → List PromiseState
@@ -24,10 +79,6 @@ Answers old command tell result =
     (commands : List Command) → StandsFor old commands →
     told_by (tell (promises_after old.unsent.settings commands)) result
     ≡ answer_of_connection old.unsent.settings commands command
-
--- the accepted commands once one more has this result: a refused one has no effect
-abbrev pub commands_with : {A : Type 0} → List Command → Command → Result A Refusal → List Command
-commands_with commands command result = if is_ok result then commands ++ command ∷ [] else commands
 
 -- whatever history the old connection stands for, the new one stands for it with the command, if that was accepted, and
 -- else for the same history
@@ -59,3 +110,33 @@ IsNext old outcome result new =
 -- a call that took messages away without notice reported no change of writability
 abbrev pub IsQuiet : Result Taken Refusal → Type 0
 IsQuiet result = IfOk result (λ taken. taken.change ≡ None)
+
+-- the result of a call that was not refused
+abbrev pub as_result : Taken → Result Taken Refusal
+as_result taken = Ok taken
+
+-- what is flushed fails without notice, and then the connection closes, each as a call does it that takes messages
+-- away; what both took away is one interval, and no change of writability is reported
+pub record GivesUpBy (Takes : Connected → Command → Taken → Connected → Type 0) (old : Connected) (cause : Cause)
+    (taken : Taken) (new : Connected) : Type 0 where
+  pub between : Connected
+  pub failed : Taken
+  pub closed : Taken
+  pub fails : Takes old (FailFlushed cause false) failed between
+  pub closes : Takes between (Close cause) closed new
+  pub failed_next : IsNext old (Failed cause) (as_result failed) between
+  pub closed_next : IsNext between (Failed cause) (as_result closed) new
+  pub failed_quiet : IsQuiet (as_result failed)
+  pub closed_quiet : IsQuiet (as_result closed)
+  pub all : taken ≡ record {
+    count = new.gone - old.gone;
+    change = None;
+    from = old.gone;
+    to = new.gone;
+    outcome = Failed cause;
+  }
+
+-- a connection is given up by calls that each obey their command
+abbrev pub GivesUp : Connected → Cause → Taken → Connected → Type 0
+GivesUp old cause taken new =
+    GivesUpBy (λ before command told after. Obeys before command taken_reply (as_result told) after) old cause taken new

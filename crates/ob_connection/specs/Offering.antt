@@ -1,16 +1,14 @@
 -- What a socket is offered, and what it made of that. No public clause cites this module.
 use Rattle.std.specs.List.{concat}
 use Rattle.std.specs.Prelude.{◌≡◌, ◌≤◌, ◌<◌, ℕ, List, [], length, take, Option, Some, None, Result, Ok, Err}
-use Rattle.ob_seq.specs.Entry.{blocks_left}
-use Rattle.ob_seq.specs.Gathering.{first_blocks, with_bytes}
+use Rattle.ob_seq.specs.Looks.{blocks_left, first_blocks, with_bytes}
 use Rattle.ob_seq.specs.Unsent.{Unsent, pending_entries}
-use Rattle.ob_seq.specs.Pieces.{bytes_in}
+use Rattle.ob_seq.specs.Effect.{bytes_in}
 use Rattle.ob_connection.specs.declared.ending.Ending.{Ending}
 use Rattle.ob_connection.specs.declared.ending.Ending.TheVariants.{Drained, Blocked as EndsBlocked, OtherInFront, TurnsUsed, Broken as EndsBroken}
 use Rattle.ob_connection.specs.Becoming.{Past, held, removed}
-use Rattle.ob_connection.specs.Calls.{Call, calls_with, most_pieces}
+use Rattle.ob_connection.specs.Calls.{Call, calls_with, most_pieces, with_more}
 use Rattle.ob_connection.specs.Connected.{Connected}
-use Rattle.ob_connection.specs.Telling.{with_more}
 use Rattle.ob_connection.specs.declared.socket.SocketFault.{SocketFault}
 use Rattle.ob_connection.specs.declared.socket.SocketFault.TheVariants.{Blocked as HasNoRoom, Broken as IsBroken}
 use Rattle.ob_connection.specs.declared.inner.offer.Offer.{Offer}

@@ -1,32 +1,73 @@
--- What a connection sends at once.
-use Rattle.std.specs.List.{concat}
-use Rattle.std.specs.Prelude.{◌≡◌, IfOk, ◌<◌, ℕ, Bool, not, nat_lt, length, ◌&&◌, List, [], ◌∷◌, ◌++◌, take, min, max, true, false, Option, Some, None, is_some, Result, Ok, Err}
+-- What a sending promises, at once and in turns.
+use Rattle.std.specs.List.{concat, All, sum_by}
+use Rattle.std.specs.Prelude.{◌≡◌, IfOk, ◌<◌, ℕ, Bool, not, nat_lt, length, ◌&&◌, List, [], ◌∷◌, ◌++◌, take, min, max}
+use Rattle.std.specs.Prelude.{true, false, Option, Some, None, is_some, Result, Ok, Err, ◌≤◌, ◌+◌, zero, suc, map, ⊤}
 use Rattle.ob_types.specs.declared.command.Command.{Command}
 use Rattle.ob_types.specs.declared.command.Command.TheVariants.{RemoveBytes}
 use Rattle.ob_types.specs.declared.promise.Outcome.TheVariants.{Success}
 use Rattle.ob_types.specs.declared.refusal.Refusal.{Refusal}
-use Rattle.ob_seq.specs.ByteRun.{byte_run}
-use Rattle.ob_seq.specs.Effect.{rows_after}
-use Rattle.ob_seq.specs.Gathering.{gathered_after}
-use Rattle.ob_seq.specs.Pieces.{bytes_in}
-use Rattle.ob_seq.specs.Settings.{Settings}
+use Rattle.ob_seq.specs.Effect.{byte_run, rows_after, bytes_in}
+use Rattle.ob_seq.specs.Looks.{gathered_after}
+use Rattle.ob_seq.specs.Rows.{Settings}
 use Rattle.ob_seq.specs.State.{closed_after, empty_after}
-use Rattle.ob_connection.specs.Calls.{Call, calls_with, had_no_room, most_pieces}
-use Rattle.ob_connection.specs.Connected.{Connected}
-use Rattle.ob_connection.specs.Obeying.{IsNext, Obeys}
-use Rattle.ob_connection.specs.Replies.{taken_reply}
-use Rattle.ob_connection.specs.Standing.{Gives}
-use Rattle.ob_connection.specs.Telling.{with_more}
-use Rattle.ob_connection.specs.Turns.{AsksInTurns}
+use Rattle.ob_connection.specs.Calls.{Call, calls_with, had_no_room, most_pieces, with_more, bytes_of}
+use Rattle.ob_connection.specs.Connected.{Connected, Gives}
+use Rattle.ob_connection.specs.Obeying.{IsNext, Obeys, taken_reply}
 use Rattle.ob_connection.specs.declared.connection.sending.SendFault.{SendFault}
 use Rattle.ob_connection.specs.declared.connection.sending.SendFault.TheVariants.{Closed, Broken}
 use Rattle.ob_connection.specs.declared.connection.sending.Sent.{Sent}
 use Rattle.ob_connection.specs.declared.ending.Ending.{Ending}
-use Rattle.ob_connection.specs.declared.ending.Ending.TheVariants.{Drained, Blocked, OtherInFront, TurnsUsed, Broken as IsBroken}
+use Rattle.ob_connection.specs.declared.ending.Ending.TheVariants.{Drained, Blocked, OtherInFront, TurnsUsed}
+use Rattle.ob_connection.specs.declared.ending.Ending.TheVariants.{Broken as IsBroken}
 use Rattle.ob_connection.specs.declared.replies.SentTurns.{SentTurns}
 use Rattle.ob_connection.specs.declared.socket.SocketFault.{SocketFault}
 use Rattle.ob_connection.specs.declared.socket.SocketFault.TheVariants.{Blocked as HasNoRoom, Broken as FailedForGood}
 use Rattle.ob_connection.specs.declared.replies.Taken.{Taken}
+
+-- how a socket ends a sending by an answer, unless that reports bytes
+abbrev pub ended_by : Result ℕ SocketFault → Option Ending
+ended_by (Ok zero) = Some Blocked
+ended_by (Ok (suc more)) = None
+ended_by (Err HasNoRoom) = Some Blocked
+ended_by (Err (FailedForGood error)) = Some (IsBroken error)
+
+-- each of these answers reported bytes
+abbrev pub AllTook : List (Result ℕ SocketFault) → Type 0
+AllTook answers = All (λ answer. ended_by answer ≡ None) answers
+
+-- the last of these answers ended the sending so, and each before it reported bytes
+pub record Stopped (answers : List (Result ℕ SocketFault)) (ending : Ending) : Type 0 where
+  pub earlier : List (Result ℕ SocketFault)
+  pub last : Result ℕ SocketFault
+  pub all : answers ≡ earlier ++ last ∷ []
+  pub took : AllTook earlier
+  pub ends : ended_by last ≡ Some ending
+
+-- a sending of at most `turns` turns ended so by what the socket returned: it took bytes in each turn, but in the last
+-- if it is blocked or broken; and the turns are used up once it took bytes in as many
+abbrev pub EndsWithin : ℕ → List (Result ℕ SocketFault) → Ending → Type 0
+EndsWithin turns answers Drained = AllTook answers × (length answers ≤ turns)
+EndsWithin turns answers OtherInFront = AllTook answers × (length answers < turns)
+EndsWithin turns answers TurnsUsed = AllTook answers × (length answers ≡ turns)
+EndsWithin turns answers Blocked = Stopped answers Blocked × (length answers ≤ turns)
+EndsWithin turns answers (IsBroken error) = Stopped answers (IsBroken error) × (length answers ≤ turns)
+
+-- the calls of a socket after it took `taken` bytes: each was offered what is due past the bytes that it took until
+-- then
+abbrev pub OffersInTurns : (ℕ → List (List ℕ) → Type 0) → ℕ → List Call → Type 0
+OffersInTurns IsDue taken [] = ⊤
+OffersInTurns IsDue taken (call ∷ calls) =
+    IsDue taken call.offered × OffersInTurns IsDue (taken + bytes_of call.answer) calls
+
+-- the calls of a socket that a sending of at most `turns` turns made: each was offered what is due, together they took
+-- the bytes that it reports, and it ended so by what they returned
+pub record AsksInTurns (IsDue : ℕ → List (List ℕ) → Type 0) (turns sent : ℕ) (before : Option (List Call)) (ending : Ending)
+    (after : Option (List Call)) : Type 0 where
+  pub made : List Call
+  pub calls : after ≡ with_more before made
+  pub offers : OffersInTurns IsDue 0 made
+  pub bytes : sum_by (λ call. bytes_of call.answer) made ≡ sent
+  pub ends : EndsWithin turns (map (λ call. call.answer) made) ending
 
 -- how many bytes stand in front of the first message that is no block, after a history
 abbrev pub bytes_in_front_after : Settings → List Command → ℕ

@@ -2,7 +2,7 @@
 
 ghost use Rattle.std.specs.Prelude.{◌≡◌, ◌+◌, ◌≤◌, ◌<◌, ◌++◌, length, box_value, IfOk, IfSome, None};
 ghost use Rattle.ob_types.specs.Limits.{greatest_pending_size};
-ghost use Rattle.ob_connection.specs.Parts.{joined};
+ghost use Rattle.ob_connection.specs.Obeying.{joined};
 
 use bytes::{Bytes, BytesMut};
 use std::alloc::{AllocError, Global};

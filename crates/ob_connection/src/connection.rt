@@ -1,8 +1,7 @@
 ghost use Rattle.std.specs.Prelude.{◌≡◌, ◌≤◌, List, []};
 ghost use Rattle.ob_types.specs.Limits.{greatest_overhead, greatest_unknown};
 ghost use Rattle.ob_types.specs.declared.command.Command.{Command};
-ghost use Rattle.ob_connection.specs.Standing.{StandsFor};
-ghost use Rattle.ob_connection.specs.Keeping.{Shrinks, room_in};
+ghost use Rattle.ob_connection.specs.Connected.{StandsFor, Shrinks, room_in};
 
 mod commands;
 mod copying;
@@ -34,8 +33,7 @@ pub struct Connection {
 
 /// Each connection holds what some list of accepted commands leaves.
 impl Model for Connection {
-    ghost use Rattle.ob_connection.specs.Connected.{Connected};
-    ghost use Rattle.ob_connection.specs.Standing.{StandsForSome};
+    ghost use Rattle.ob_connection.specs.Connected.{Connected, StandsForSome};
 
     ghost Value = { Connected };
 

@@ -2,10 +2,9 @@ ghost use Rattle.std.specs.Prelude.{◌≡◌, ◌≤◌, true};
 ghost use Rattle.ob_types.specs.Change.{change_between};
 ghost use Rattle.ob_types.specs.Limits.{greatest_overhead, greatest_unknown};
 ghost use Rattle.ob_seq.specs.Unsent.{nothing_unsent, waiting_count};
-ghost use Rattle.ob_connection.specs.Connected.{Connected, accepted_writes};
+ghost use Rattle.ob_connection.specs.Connected.{Connected, accepted_writes, most_ids, Shrinks, TakesNoRoom, room_in};
+ghost use Rattle.ob_connection.specs.Connected.{roomed};
 ghost use Rattle.ob_connection.specs.Inside.{connected_of, HasIds};
-ghost use Rattle.ob_connection.specs.Limit.{most_ids};
-ghost use Rattle.ob_connection.specs.Keeping.{Shrinks, TakesNoRoom, room_in, roomed};
 
 mod bits;
 mod cancel;

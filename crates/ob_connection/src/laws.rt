@@ -10,11 +10,11 @@ ghost use Rattle.ob_types.specs.declared.promise.PromiseId.{PromiseId};
 ghost use Rattle.ob_types.specs.declared.promise.PromiseState.TheVariants.{Settled};
 ghost use Rattle.ob_seq.specs.Answer.{answer_to};
 ghost use Rattle.ob_seq.specs.Looks.{promise_after};
-ghost use Rattle.ob_seq.specs.Settings.{Settings};
-ghost use Rattle.ob_seq.specs.Settles.{times_settled};
-ghost use Rattle.ob_seq.specs.Writes.{writes_in};
-ghost use Rattle.ob_connection.specs.Limit.{accepted_by_connection, answer_of_connection, answer_without_limit, most_ids};
-ghost use Rattle.ob_connection.specs.Limit.{settled_by_connection};
+ghost use Rattle.ob_seq.specs.Rows.{Settings};
+ghost use Rattle.ob_seq.specs.Pending.{times_settled};
+ghost use Rattle.ob_seq.specs.State.{writes_in};
+ghost use Rattle.ob_connection.specs.Connected.{accepted_by_connection, answer_of_connection, answer_without_limit};
+ghost use Rattle.ob_connection.specs.Connected.{most_ids, settled_by_connection};
 
 /// After fewer than 2^64 - 1 writes each command has the answer that it has without a limit on writes, and after fewer
 /// than 1048576 the answer of a buffer.

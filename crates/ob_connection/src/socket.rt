@@ -2,8 +2,7 @@
 
 ghost use Rattle.std.specs.Io.Slices.{io_slice_bytes, io_slices_bytes};
 ghost use Rattle.std.specs.Prelude.{◌≡◌, ◌≤◌, [], ◌∷◌, List, ℕ, length, map, take, Option, IfOk, OnErr};
-ghost use Rattle.ob_connection.specs.Calls.{Call, IsFaultOf};
-ghost use Rattle.ob_connection.specs.Telling.{with_more};
+ghost use Rattle.ob_connection.specs.Calls.{Call, IsFaultOf, with_more};
 
 use std::io;
 use std::io::IoSlice;

@@ -7,7 +7,7 @@ use Rattle.std.proofs.lemmas.List.Elements.{filter-append}
 use Rattle.ob_types.specs.declared.command.Command.{Command}
 use Rattle.ob_types.specs.declared.refusal.Refusal.{Refusal}
 use Rattle.ob_types.specs.declared.reply.Reply.{Reply}
-use Rattle.ob_seq.specs.Settings.{Settings}
+use Rattle.ob_seq.specs.Rows.{Settings}
 use Rattle.ob_seq.specs.Answer.{answer_to, commands_after}
 use Rattle.ob_history.specs.Accepted.{accepted_commands, is_accepted}
 use Rattle.ob_history.specs.History.{History}

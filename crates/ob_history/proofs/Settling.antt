@@ -1,9 +1,9 @@
 -- The settlements of a legal history are what its commands settle, given one after another.
 use Rattle.std.proofs.Common.{◌≡◌, List, [], ◌∷◌, ◌++◌, length, map, refl, sym, ap, ◌∙◌, append_assoc, subst}
 use Rattle.std.proofs.Math.Seq.{take-append_seam}
-use Rattle.ob_seq.specs.Settings.{Settings}
+use Rattle.ob_seq.specs.Rows.{Settings}
 use Rattle.ob_seq.specs.Answer.{answer_to}
-use Rattle.ob_seq.specs.Settles.{settled_along, settled_by}
+use Rattle.ob_seq.specs.Pending.{settled_along, settled_by}
 use Rattle.ob_history.specs.Accepted.{accepted_commands}
 use Rattle.ob_history.specs.Legal.{IsLegal}
 use Rattle.ob_history.specs.Settlements.{settlements_in}

@@ -15,11 +15,10 @@ use Rattle.ob_types.specs.declared.command.Command.{Command}
 use Rattle.ob_types.specs.declared.promise.Outcome.{Outcome}
 use Rattle.ob_types.specs.declared.promise.PromiseId.{PromiseId}
 use Rattle.ob_types.specs.declared.promise.PromiseState.TheVariants.{Settled}
-use Rattle.ob_seq.specs.Accepted.{accepted_among}
-use Rattle.ob_seq.specs.Answer.{answer_to, are_accepted, commands_after}
+use Rattle.ob_seq.specs.Answer.{accepted_among, answer_to, are_accepted, commands_after}
 use Rattle.ob_seq.specs.Looks.{promise_after}
-use Rattle.ob_seq.specs.Settings.{Settings}
-use Rattle.ob_seq.specs.Settles.{settled_by}
+use Rattle.ob_seq.specs.Rows.{Settings}
+use Rattle.ob_seq.specs.Pending.{settled_by}
 use Rattle.ob_seq.proofs.Rows.Accepting.{among_are_accepted}
 use Rattle.ob_seq.proofs.Rows.Told.{settled_is_told}
 use Rattle.ob_history.specs.Accepted.{accepted_commands}

@@ -7,7 +7,7 @@ use Rattle.ob_types.specs.declared.command.Command.{Command}
 use Rattle.ob_types.specs.declared.refusal.Refusal.{Refusal}
 use Rattle.ob_types.specs.declared.refusal.Refusal.TheVariants.{HistoryFull, NoMemory}
 use Rattle.ob_seq.specs.Answer.{answer_to}
-use Rattle.ob_seq.specs.Settles.{settled_after}
+use Rattle.ob_seq.specs.Pending.{settled_after}
 use Rattle.ob_history.specs.Accepted.{accepted_commands}
 use Rattle.ob_history.specs.History.{History}
 use Rattle.ob_history.specs.Receipt.{receipt_of}

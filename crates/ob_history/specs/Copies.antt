@@ -3,8 +3,7 @@ use Rattle.std.specs.Prelude.{◌≡◌, ℕ, ◌≤◌, false, List}
 use Rattle.ob_types.specs.Limits.{inline_settlements}
 use Rattle.ob_types.specs.Write.{is_write}
 use Rattle.ob_types.specs.declared.command.Command.{Command}
-use Rattle.ob_seq.specs.Pending.{Pending, StandsFor}
-use Rattle.ob_seq.specs.Settles.{settled_after}
+use Rattle.ob_seq.specs.Pending.{Pending, StandsFor, settled_after}
 
 -- whatever history a buffer stands for, a command settles at most `most` promises after it
 abbrev pub SettlesAtMost : Pending → Command → ℕ → Type 0

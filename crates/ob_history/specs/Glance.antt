@@ -1,8 +1,7 @@
 -- The two numbers that can be seen of a buffer at a glance.
 use Rattle.std.specs.Prelude.{List}
-use Rattle.ob_seq.specs.Settings.{Settings}
+use Rattle.ob_seq.specs.Rows.{Settings, total}
 use Rattle.ob_seq.specs.Effect.{rows_after}
-use Rattle.ob_seq.specs.Total.{total}
 use Rattle.ob_seq.specs.Word.{word_after}
 use Rattle.ob_history.specs.Accepted.{accepted_commands}
 use Rattle.ob_history.specs.declared.glance.Glance.{Glance}

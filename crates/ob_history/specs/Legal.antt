@@ -1,6 +1,6 @@
 -- Legal histories.
 use Rattle.std.specs.Prelude.{◌≡◌, ℕ, List, Some, slice_get, take}
-use Rattle.ob_seq.specs.Settings.{Settings}
+use Rattle.ob_seq.specs.Rows.{Settings}
 use Rattle.ob_seq.specs.Answer.{answer_to}
 use Rattle.ob_seq.specs.Pending.{Pending, StandsFor}
 use Rattle.ob_history.specs.Accepted.{accepted_commands}

@@ -1,6 +1,6 @@
 -- A history that is played again. No public clause cites this module.
 use Rattle.std.specs.Prelude.{◌≡◌, ◌≤◌, List, length, take}
-use Rattle.ob_seq.specs.Settings.{Settings}
+use Rattle.ob_seq.specs.Rows.{Settings}
 use Rattle.ob_seq.specs.Pending.{StandsFor}
 use Rattle.ob_history.specs.Accepted.{accepted_commands}
 use Rattle.ob_history.specs.declared.record.Record.{Record}

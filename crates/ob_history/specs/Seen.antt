@@ -1,6 +1,6 @@
 -- Looks at the buffer of a history.
 use Rattle.std.specs.Prelude.{◌≡◌, ◌≤◌, List, length, take}
-use Rattle.ob_seq.specs.Settings.{Settings}
+use Rattle.ob_seq.specs.Rows.{Settings}
 use Rattle.ob_seq.specs.Looks.{look_after}
 use Rattle.ob_history.specs.Accepted.{accepted_commands}
 use Rattle.ob_history.specs.History.{History, IsBounded}

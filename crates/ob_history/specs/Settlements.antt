@@ -3,7 +3,7 @@ use Rattle.std.specs.Prelude.{◌==◌, Bool, List}
 use Rattle.std.specs.List.{flat_map, list_any}
 use Rattle.ob_types.specs.declared.promise.PromiseId.{PromiseId}
 use Rattle.ob_types.specs.declared.promise.Outcome.{Outcome}
-use Rattle.ob_seq.specs.Settles.{settled_by}
+use Rattle.ob_seq.specs.Pending.{settled_by}
 use Rattle.ob_history.specs.declared.record.Record.{Record}
 
 -- the settlements of a history: the promises and outcomes in its replies, in order

@@ -5,9 +5,9 @@ pub use Rattle.ob_types.specs.declared.promise.Outcome.{Outcome}
 pub use Rattle.ob_types.specs.declared.promise.PromiseId.{PromiseId}
 pub use Rattle.ob_seq.specs.Answer.{commands_after}
 pub use Rattle.ob_seq.specs.Looks.{promise_after}
-pub use Rattle.ob_seq.specs.Settings.{Settings}
-pub use Rattle.ob_seq.specs.Settles.{times_settled}
-pub use Rattle.ob_seq.specs.Writes.{writes_in}
+pub use Rattle.ob_seq.specs.Rows.{Settings}
+pub use Rattle.ob_seq.specs.Pending.{times_settled}
+pub use Rattle.ob_seq.specs.State.{writes_in}
 pub use Rattle.ob_history.specs.Accepted.{accepted_commands, is_accepted}
 pub use Rattle.ob_history.specs.Beginning.{IsBeginning}
 pub use Rattle.ob_history.specs.Call.{IsCall, IsRecording, history_after, next_record}

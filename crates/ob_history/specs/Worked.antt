@@ -11,7 +11,7 @@ use Rattle.ob_types.specs.declared.reply.Reply.{Reply}
 use Rattle.ob_types.specs.declared.reply.Answer.{Answer}
 use Rattle.ob_types.specs.declared.reply.Answer.TheVariants.{Id, Count, Yes, Done}
 use Rattle.ob_types.specs.declared.reply.Change.TheVariants.{Unwritable}
-use Rattle.ob_seq.specs.Settings.{Settings}
+use Rattle.ob_seq.specs.Rows.{Settings}
 use Rattle.ob_seq.specs.Worked.{empty_look}
 use Rattle.ob_history.specs.Accepted.{accepted_commands}
 use Rattle.ob_history.specs.Call.{IsCovered, call_answer, history_after}

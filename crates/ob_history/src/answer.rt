@@ -1,8 +1,7 @@
 //! The answer of a buffer, and what is done with it.
 
 ghost use Rattle.std.specs.Prelude.{◌≡◌, ◌≤◌, ◌↔◌, List, length, IsErrOf, IsOk, IsTrue, IfOk, OnErr};
-ghost use Rattle.ob_seq.specs.Pending.{Accepts, Answers, Follows};
-ghost use Rattle.ob_seq.specs.Settles.{settled_by};
+ghost use Rattle.ob_seq.specs.Pending.{Accepts, Answers, Follows, settled_by};
 ghost use Rattle.ob_types.specs.Limits.{inline_settlements};
 ghost use Rattle.ob_types.specs.declared.command.Command.{Command};
 ghost use Rattle.ob_history.specs.Copies.{IsSmall};

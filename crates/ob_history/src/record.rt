@@ -1,7 +1,7 @@
 ghost use Rattle.std.specs.Prelude.{◌≡◌, ◌≤◌, false, length, IsOk, IfOk};
 ghost use Rattle.ob_types.specs.Block.{writes_block};
 ghost use Rattle.ob_types.specs.Limits.{inline_settlements};
-ghost use Rattle.ob_seq.specs.Settles.{settled_by};
+ghost use Rattle.ob_seq.specs.Pending.{settled_by};
 ghost use Rattle.ob_history.specs.Receipt.{receipt_of};
 
 use crate::receipt::{Receipt, copied};

@@ -8,12 +8,10 @@ use Rattle.ob_types.specs.declared.refusal.Refusal.{Refusal}
 use Rattle.ob_types.specs.declared.refusal.Refusal.TheVariants.{Closed, NoMemory}
 use Rattle.ob_types.specs.declared.reply.Reply.{Reply}
 use Rattle.ob_seq.specs.Answer.{unless_refused}
-use Rattle.ob_seq.specs.Closed.{is_closed}
+use Rattle.ob_seq.specs.State.{is_closed}
 use Rattle.ob_seq.proofs.Rows.History.{closed_more}
-use Rattle.ob_connection.specs.Connected.{Connected}
-use Rattle.ob_connection.specs.Obeying.{Obeys}
-use Rattle.ob_connection.specs.Replies.{flushed_reply, written_reply}
-use Rattle.ob_connection.specs.Standing.{StandsFor}
+use Rattle.ob_connection.specs.Connected.{Connected, StandsFor}
+use Rattle.ob_connection.specs.Obeying.{Obeys, flushed_reply, written_reply}
 use Rattle.ob_connection.specs.declared.replies.Flushed.{Flushed}
 use Rattle.ob_connection.specs.declared.replies.Written.{Written}
 use Rattle.ob_patterns.specs.Adding.{accepted, Adds, RefusesWrite, written_and_flushed}

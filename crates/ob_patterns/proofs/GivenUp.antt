@@ -6,11 +6,9 @@ use Rattle.ob_types.specs.declared.command.Command.{Command}
 use Rattle.ob_types.specs.declared.command.Command.TheVariants.{Close, FailFlushed}
 use Rattle.ob_types.specs.declared.promise.Cause.{Cause}
 use Rattle.ob_types.specs.declared.refusal.Refusal.{Refusal}
-use Rattle.ob_seq.specs.Closed.{is_close, is_closed}
-use Rattle.ob_seq.specs.State.{closed_after}
-use Rattle.ob_connection.specs.Connected.{Connected}
-use Rattle.ob_connection.specs.GivingUp.{GivesUp}
-use Rattle.ob_connection.specs.Standing.{StandsFor, StandsForSome, Gives}
+use Rattle.ob_seq.specs.State.{is_close, is_closed, closed_after}
+use Rattle.ob_connection.specs.Connected.{Connected, StandsFor, StandsForSome, Gives}
+use Rattle.ob_connection.specs.Obeying.{GivesUp}
 use Rattle.ob_connection.specs.declared.replies.Taken.{Taken}
 
 -- a close at the end of a history closes it

@@ -8,11 +8,9 @@ use Rattle.ob_types.specs.declared.command.Command.TheVariants.{Write}
 use Rattle.ob_types.specs.declared.message.Message.TheVariants.{Block}
 use Rattle.ob_seq.specs.State.{writable_after}
 use Rattle.ob_connection.proofs.Offered.{taken_twice}
-use Rattle.ob_connection.specs.Connected.{Connected}
-use Rattle.ob_connection.specs.Obeying.{Obeys}
-use Rattle.ob_connection.specs.Replies.{written_reply}
-use Rattle.ob_connection.specs.Standing.{Gives}
-use Rattle.ob_connection.specs.Telling.{with_more}
+use Rattle.ob_connection.specs.Connected.{Connected, Gives}
+use Rattle.ob_connection.specs.Obeying.{Obeys, written_reply}
+use Rattle.ob_connection.specs.Calls.{with_more}
 use Rattle.ob_connection.specs.declared.refused.Refused.{Refused}
 use Rattle.ob_connection.specs.declared.replies.Written.{Written}
 use Rattle.ob_patterns.specs.Adding.{accepted, Adds, RefusesWrite}

@@ -3,8 +3,7 @@ use Rattle.std.proofs.Common.{◌≡◌, refl, sym, ◌∙◌, arith, ℕ, ◌+�
 use Rattle.std.specs.Prelude.{Option}
 use Rattle.ob_seq.specs.State.{closed_after}
 use Rattle.ob_connection.specs.Calls.{Call}
-use Rattle.ob_connection.specs.Connected.{Connected}
-use Rattle.ob_connection.specs.Standing.{Gives}
+use Rattle.ob_connection.specs.Connected.{Connected, Gives}
 use Rattle.ob_patterns.specs.Sending.{Serves, Spins}
 use Rattle.ob_patterns.specs.declared.next.Next.{Next}
 use Rattle.ob_patterns.specs.declared.next.Next.TheVariants.{ComeAgain}

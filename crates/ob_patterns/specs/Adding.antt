@@ -5,9 +5,7 @@ use Rattle.ob_types.specs.declared.command.Command.TheVariants.{Write, Flush}
 use Rattle.ob_types.specs.declared.message.Message.{Message}
 use Rattle.ob_types.specs.declared.refusal.Refusal.{Refusal}
 use Rattle.ob_types.specs.declared.refusal.Refusal.TheVariants.{NoMemory}
-use Rattle.ob_connection.specs.Connected.{Connected}
-use Rattle.ob_connection.specs.Limit.{answer_of_connection}
-use Rattle.ob_connection.specs.Standing.{StandsFor, Gives}
+use Rattle.ob_connection.specs.Connected.{Connected, answer_of_connection, StandsFor, Gives}
 use Rattle.ob_connection.specs.declared.replies.Written.{Written}
 
 -- whatever history the old connection stands for, the new one stands for it with these commands after it, and its

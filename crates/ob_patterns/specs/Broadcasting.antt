@@ -2,8 +2,7 @@
 use Rattle.std.specs.Prelude.{◌≡◌, ℕ, List, Bool, true, false, Result, Ok, Err, Some, slice_get, length, count_by}
 use Rattle.ob_types.specs.declared.message.Message.TheVariants.{Block}
 use Rattle.ob_seq.specs.State.{writable_after}
-use Rattle.ob_connection.specs.Connected.{Connected}
-use Rattle.ob_connection.specs.Standing.{Gives}
+use Rattle.ob_connection.specs.Connected.{Connected, Gives}
 use Rattle.ob_patterns.specs.Adding.{Adds, RefusesWrite, written_and_flushed}
 use Rattle.ob_patterns.specs.declared.many.LeftOut.{LeftOut}
 use Rattle.ob_patterns.specs.declared.many.LeftOut.TheVariants.{Unwritable, Refused}

@@ -6,9 +6,8 @@ use Rattle.ob_types.specs.declared.command.Command.TheVariants.{Write}
 use Rattle.ob_types.specs.declared.message.Message.{Message}
 use Rattle.ob_types.specs.declared.message.Message.TheVariants.{Block, Region, Other}
 use Rattle.ob_seq.specs.State.{writable_after}
-use Rattle.ob_connection.specs.Connected.{Connected}
-use Rattle.ob_connection.specs.Standing.{Gives}
-use Rattle.ob_connection.specs.Telling.{with_more}
+use Rattle.ob_connection.specs.Connected.{Connected, Gives}
+use Rattle.ob_connection.specs.Calls.{with_more}
 use Rattle.ob_connection.specs.declared.refused.Refused.{Refused}
 use Rattle.ob_patterns.specs.Adding.{Adds, RefusesWrite}
 use Rattle.ob_patterns.specs.declared.chunks.Progress.{Progress}

@@ -1,9 +1,8 @@
 -- What is so of a connection, by what is said to do next.
 use Rattle.std.specs.Prelude.{true, false}
 use Rattle.ob_seq.specs.State.{closed_after, empty_after}
-use Rattle.ob_connection.specs.Connected.{Connected}
+use Rattle.ob_connection.specs.Connected.{Connected, Gives}
 use Rattle.ob_connection.specs.Sending.{bytes_in_front_after}
-use Rattle.ob_connection.specs.Standing.{Gives}
 use Rattle.ob_patterns.specs.declared.next.Next.{Next}
 use Rattle.ob_patterns.specs.declared.next.Next.TheVariants.{Rest, WaitForRoom, ComeAgain, SendFront, Closed, Broken}
 

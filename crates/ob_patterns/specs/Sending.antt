@@ -3,10 +3,9 @@ use Rattle.std.specs.Prelude.{◌≡◌, ◌<◌, ◌⊎◌, ℕ, List, Option, 
 use Rattle.ob_types.specs.declared.promise.Cause.{Cause}
 use Rattle.ob_seq.specs.State.{closed_after}
 use Rattle.ob_connection.specs.Calls.{Call}
-use Rattle.ob_connection.specs.Connected.{Connected}
-use Rattle.ob_connection.specs.GivingUp.{GivesUp}
+use Rattle.ob_connection.specs.Connected.{Connected, Gives}
+use Rattle.ob_connection.specs.Obeying.{GivesUp}
 use Rattle.ob_connection.specs.Sending.{SendsInTurns}
-use Rattle.ob_connection.specs.Standing.{Gives}
 use Rattle.ob_connection.specs.declared.ending.Ending.{Ending}
 use Rattle.ob_connection.specs.declared.ending.Ending.TheVariants.{Drained, Blocked, OtherInFront, TurnsUsed, Broken as EndsBroken}
 use Rattle.ob_connection.specs.declared.replies.SentTurns.{SentTurns}

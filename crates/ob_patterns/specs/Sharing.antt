@@ -4,8 +4,7 @@ use Rattle.ob_types.specs.declared.command.Command.TheVariants.{Write}
 use Rattle.ob_types.specs.declared.message.Message.{Message}
 use Rattle.ob_types.specs.declared.refusal.Refusal.TheVariants.{NoMemory}
 use Rattle.ob_connection.specs.Connected.{Connected}
-use Rattle.ob_connection.specs.Obeying.{Accepts, Answers}
-use Rattle.ob_connection.specs.Replies.{answer_of_write, written_reply}
+use Rattle.ob_connection.specs.Obeying.{Accepts, Answers, answer_of_write, written_reply}
 use Rattle.ob_connection.specs.declared.refused.Refused.{Refused}
 use Rattle.ob_connection.specs.declared.replies.Written.{Written}
 

@@ -1,5 +1,5 @@
 ghost use Rattle.std.specs.Prelude.{◌≡◌, ◌∷◌, [], ℕ, List, Option};
-ghost use Rattle.ob_connection.specs.Telling.{with_more};
+ghost use Rattle.ob_connection.specs.Calls.{with_more};
 ghost use Rattle.ob_patterns.specs.Chunking.{WritesGiven};
 
 use bytes::Bytes;

@@ -1,7 +1,7 @@
 ghost use Rattle.std.specs.Prelude.{◌≡◌, ◌+◌, ◌≤◌, List, IfSome, IfNone};
 ghost use Rattle.ob_types.specs.declared.command.Command.{Command};
 ghost use Rattle.ob_seq.specs.Looks.{look_after};
-ghost use Rattle.ob_connection.specs.Standing.{Gives, StandsFor};
+ghost use Rattle.ob_connection.specs.Connected.{Gives, StandsFor};
 
 use ob_connection::Connection;
 

@@ -1,7 +1,7 @@
 ghost use Rattle.std.specs.Prelude.{◌≡◌, ◌<◌, ◌≤◌, ◌⊎◌, true, false, IfSome, IfNone};
 ghost use Rattle.ob_seq.specs.State.{closed_after, writable_after};
-ghost use Rattle.ob_connection.specs.GivingUp.{GivesUp};
-ghost use Rattle.ob_connection.specs.Standing.{Gives};
+ghost use Rattle.ob_connection.specs.Obeying.{GivesUp};
+ghost use Rattle.ob_connection.specs.Connected.{Gives};
 ghost use Rattle.ob_patterns.specs.Broadcasting.{Broadcasts, IsHanded};
 ghost use Rattle.ob_patterns.specs.Sending.{too_slow};
 

@@ -1,6 +1,6 @@
 ghost use Rattle.std.specs.Prelude.{true};
 ghost use Rattle.ob_seq.specs.State.{closed_after};
-ghost use Rattle.ob_connection.specs.Standing.{Gives};
+ghost use Rattle.ob_connection.specs.Connected.{Gives};
 ghost use Rattle.ob_patterns.specs.Saying.{Says};
 ghost use Rattle.ob_patterns.specs.Sending.{IsGivenUp, Serves, Spins, broken};
 

@@ -39,52 +39,33 @@ pub use Rattle.ob_types.specs.declared.refusal.Refusal.{Refusal}
 pub use Rattle.ob_types.specs.declared.refusal.Refusal.TheVariants.{Closed, TooManyBytes}
 pub use Rattle.ob_types.specs.declared.reply.Answer.TheVariants.{Yes, Count}
 pub use Rattle.ob_types.specs.declared.reply.Reply.{Reply}
-pub use Rattle.ob_seq.specs.Accepted.{accepted_among}
-pub use Rattle.ob_seq.specs.Answer.{first_refusal, refusal_of, reply_of, unless_refused, is_accepted, are_accepted}
-pub use Rattle.ob_seq.specs.Answer.{answer_to, commands_after, outcome_of, settlement, settlements_from, promise_at}
-pub use Rattle.ob_seq.specs.Answer.{settlements_of}
-pub use Rattle.ob_seq.specs.ByteRun.{block_bytes, blocks_in_front, byte_run, whole_rows, bytes_left_over}
-pub use Rattle.ob_seq.specs.Closed.{is_close, is_closed}
-pub use Rattle.ob_seq.specs.Effect.{effect, rows_after, reached_row, cancelled, closed_row, taken_row, with_front}
-pub use Rattle.ob_seq.specs.Effect.{with_first, with_skipped, progressed_row, with_first_behind, failed, flushed_row}
-pub use Rattle.ob_seq.specs.Effect.{failed_row, skipped_row, with_cancelled}
-pub use Rattle.ob_seq.specs.Entry.{entry_of, PendingEntry, blocks_left, messages_to_send}
-pub use Rattle.ob_seq.specs.Gathering.{with_bytes, first_blocks}
-pub use Rattle.ob_seq.specs.Leaves.{Leaves}
+pub use Rattle.ob_seq.specs.Answer.{accepted_among, first_refusal, refusal_of, reply_of, unless_refused, is_accepted}
+pub use Rattle.ob_seq.specs.Answer.{are_accepted, answer_to, commands_after, outcome_of, settlement, settlements_from}
+pub use Rattle.ob_seq.specs.Answer.{promise_at, settlements_of}
+pub use Rattle.ob_seq.specs.Effect.{block_bytes, blocks_in_front, byte_run, whole_rows, bytes_left_over, effect}
+pub use Rattle.ob_seq.specs.Effect.{rows_after, reached_row, cancelled, closed_row, taken_row, with_front, with_first}
+pub use Rattle.ob_seq.specs.Effect.{with_skipped, progressed_row, with_first_behind, failed, flushed_row, failed_row}
+pub use Rattle.ob_seq.specs.Effect.{skipped_row, with_cancelled, bytes_in, pieces_within}
+pub use Rattle.ob_seq.specs.State.{is_close, is_closed, writes_in}
+pub use Rattle.ob_seq.specs.Looks.{entry_of, PendingEntry, blocks_left, messages_to_send, with_bytes, first_blocks}
+pub use Rattle.ob_seq.specs.Looks.{promise_after, front_promise_after}
+pub use Rattle.ob_seq.specs.Pending.{Leaves, Pending, StandsFor, settled_along, settled_by, SparesMemory}
 pub use Rattle.ob_seq.specs.Inside.{IsSound, unsent_of, counted, none_taken_back}
 pub use Rattle.ob_seq.specs.Room.{IsRoomy}
 pub use Rattle.ob_seq.specs.Unsent.{pending_entry, pending_entries, unreached_entry, fixed_state, waiting_state, whole}
 pub use Rattle.ob_seq.specs.Unsent.{Unsent, states_of, ended, waiting_count}
-pub use Rattle.ob_seq.specs.Line.{is_in_line, line, unflushed, front}
-pub use Rattle.ob_seq.specs.Looks.{promise_after, front_promise_after}
-pub use Rattle.ob_seq.specs.Mark.{mark_after}
-pub use Rattle.ob_seq.specs.MarksInForce.{marks_after, marks_set_by}
-pub use Rattle.ob_seq.specs.Moment.{Moment, moments_of, moment_of, moments_along}
-pub use Rattle.ob_seq.specs.Order.{gone, is_gone}
-pub use Rattle.ob_seq.specs.Pending.{Pending, StandsFor}
-pub use Rattle.ob_seq.specs.Pieces.{bytes_in, pieces_within}
-pub use Rattle.ob_seq.specs.Row.{Row, is_cancelled, is_voided, new_row, unread_part, without_skipped, is_unflushed}
-pub use Rattle.ob_seq.specs.Row.{Gone, Unflushed, Flushed, Voided, is_flushed}
-pub use Rattle.ob_seq.specs.Settings.{Settings}
-pub use Rattle.ob_seq.specs.Settles.{settled_along, settled_by, SparesMemory}
-pub use Rattle.ob_seq.specs.Steps.Held.{pending_total, first_size, unflushed_id, times, front_id}
-pub use Rattle.ob_seq.specs.Steps.Flush.{reached_entry, next_flushed, flush_step}
-pub use Rattle.ob_seq.specs.Steps.Word.{word_after_fall, word_after_rise}
-pub use Rattle.ob_seq.specs.Steps.RemoveBytes.{cut_of, bytes_reply, entry_settlements, entry_settlement, whole_cut}
-pub use Rattle.ob_seq.specs.Steps.Remove.{front_taken}
-pub use Rattle.ob_seq.specs.Steps.Write.{write_step}
-pub use Rattle.ob_seq.specs.Steps.Held.{sum_of, first_progress, first_changed, front_changed, promise_set}
-pub use Rattle.ob_seq.specs.Steps.Progress.{progress_step}
-pub use Rattle.ob_seq.specs.Steps.Close.{failures, closed_pending, closing_reply}
-pub use Rattle.ob_seq.specs.Steps.FailFlushed.{failing_step}
-pub use Rattle.ob_seq.specs.Steps.Step.{settled_by_step}
-pub use Rattle.ob_seq.specs.Steps.UserBit.{bit_step}
-pub use Rattle.ob_seq.specs.Steps.SetMarks.{marks_step}
-pub use Rattle.ob_seq.specs.Steps.OfCommand.{step_of}
-pub use Rattle.ob_seq.specs.Total.{counted_size, total}
-pub use Rattle.ob_seq.specs.UserBit.{bit_request, user_bit}
-pub use Rattle.ob_seq.specs.Word.{bit_value, word_after}
-pub use Rattle.ob_seq.specs.Writes.{writes_in}
+pub use Rattle.ob_seq.specs.Rows.{is_in_line, line, unflushed, front, gone, is_gone, Row, is_cancelled, is_voided}
+pub use Rattle.ob_seq.specs.Rows.{new_row, unread_part, without_skipped, is_unflushed, Gone, Unflushed, Flushed, Voided}
+pub use Rattle.ob_seq.specs.Rows.{is_flushed, Settings, counted_size, total}
+pub use Rattle.ob_seq.specs.Mark.{mark_after, marks_after, marks_set_by, Moment, moments_of, moment_of, moments_along}
+pub use Rattle.ob_seq.specs.Steps.Step.{pending_total, first_size, unflushed_id, times, front_id, word_after_fall}
+pub use Rattle.ob_seq.specs.Steps.Step.{word_after_rise, sum_of, first_progress, first_changed, front_changed}
+pub use Rattle.ob_seq.specs.Steps.Step.{promise_set, settled_by_step}
+pub use Rattle.ob_seq.specs.Steps.Commands.{reached_entry, next_flushed, flush_step, cut_of, bytes_reply}
+pub use Rattle.ob_seq.specs.Steps.Commands.{entry_settlements, entry_settlement, whole_cut, front_taken, write_step}
+pub use Rattle.ob_seq.specs.Steps.Commands.{progress_step, failures, closed_pending, closing_reply, failing_step}
+pub use Rattle.ob_seq.specs.Steps.Commands.{bit_step, marks_step, step_of}
+pub use Rattle.ob_seq.specs.Word.{bit_request, user_bit, bit_value, word_after}
 pub use Rattle.ob_seq.specs.declared.contents.Contents.TheInside.{Inside}
 pub use Rattle.ob_seq.specs.declared.contents.cut.Cut.{Cut}
 pub use Rattle.ob_seq.specs.declared.entry.Entry.{Entry}

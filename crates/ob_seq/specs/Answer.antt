@@ -1,7 +1,7 @@
--- The answer to one more command.
+-- The answer to one more command, and which commands are accepted.
 use Rattle.std.specs.Prelude.{ℕ, suc, ◌+◌, ◌||◌, Bool, List, [], ◌∷◌, ◌++◌, length, nat_lt, nat_le, if◌then◌else◌}
 use Rattle.std.specs.Prelude.{is_some, is_ok, Option, Some, None, Result, Ok, Err, option_map, slice_get, true, false}
-use Rattle.std.specs.Prelude.{◌&&◌}
+use Rattle.std.specs.Prelude.{◌&&◌, fold}
 use Rattle.ob_types.specs.PendingSize.{counted_bytes, is_oversize}
 use Rattle.ob_types.specs.Change.{change_between}
 use Rattle.ob_types.specs.Limits.{greatest_progress, greatest_total, most_writes}
@@ -20,16 +20,10 @@ use Rattle.ob_types.specs.declared.reply.Answer.TheVariants.{Id, Count, Yes, Don
 use Rattle.ob_types.specs.declared.refusal.Refusal.{Refusal}
 use Rattle.ob_types.specs.declared.refusal.Refusal.TheVariants.{Oversize, TooMuch, Closed, NothingFlushed, TooFar}
 use Rattle.ob_types.specs.declared.refusal.Refusal.TheVariants.{TooManyBytes, BadIndex, FlushedLeft, UnknownPromise}
-use Rattle.ob_seq.specs.Settings.{Settings}
-use Rattle.ob_seq.specs.Row.{Row}
-use Rattle.ob_seq.specs.Line.{front, line, unflushed}
-use Rattle.ob_seq.specs.Pieces.{bytes_in}
-use Rattle.ob_seq.specs.ByteRun.{byte_run, whole_rows}
-use Rattle.ob_seq.specs.Total.{total}
-use Rattle.ob_seq.specs.Effect.{effect, rows_after}
-use Rattle.ob_seq.specs.UserBit.{is_user_index}
-use Rattle.ob_seq.specs.Word.{word_after}
-use Rattle.ob_seq.specs.Closed.{is_closed}
+use Rattle.ob_seq.specs.Rows.{Settings, Row, front, line, unflushed, total}
+use Rattle.ob_seq.specs.Effect.{bytes_in, byte_run, whole_rows, effect, rows_after}
+use Rattle.ob_seq.specs.Word.{is_user_index, word_after}
+use Rattle.ob_seq.specs.State.{is_closed}
 
 -- whether this many writes are all that a limit allows; without a limit they never are
 abbrev pub is_full : Option ℕ → ℕ → Bool
@@ -175,9 +169,9 @@ is_accepted settings commands command = is_accepted_within buffer_limit settings
 abbrev pub are_accepted : Settings → List Command → List Command → Bool
 are_accepted settings earlier commands = are_accepted_within buffer_limit settings earlier commands
 
--- the accepted commands once one more has this answer: a refused one has no effect
-abbrev pub commands_with : List Command → Command → Result Reply Refusal → List Command
-commands_with commands command answer = if is_ok answer then commands ++ command ∷ [] else commands
+-- the accepted commands once one more has this result: a refused one has no effect
+abbrev pub commands_with : {A : Type 0} → List Command → Command → Result A Refusal → List Command
+commands_with commands command result = if is_ok result then commands ++ command ∷ [] else commands
 
 -- the accepted commands after one more command under a limit on writes
 abbrev pub commands_after_within : Option ℕ → Settings → List Command → Command → List Command
@@ -187,3 +181,16 @@ commands_after_within limit settings commands command =
 -- the accepted commands of a buffer after one more command
 abbrev pub commands_after : Settings → List Command → Command → List Command
 commands_after settings commands command = commands_after_within buffer_limit settings commands command
+
+-- the result of a call as that of the model, if this is what its value says
+abbrev pub told_by : {A : Type 0} → (A → Reply) → Result A Refusal → Result Reply Refusal
+told_by tell (Ok value) = Ok (tell value)
+told_by tell (Err refusal) = Err refusal
+
+-- of commands that are given one after another under a limit on writes those that are accepted, oldest first
+abbrev pub accepted_among_within : Option ℕ → Settings → List Command → List Command
+accepted_among_within limit settings commands = fold (commands_after_within limit settings) [] commands
+
+-- of commands that a new buffer is given those that are accepted
+abbrev pub accepted_among : Settings → List Command → List Command
+accepted_among settings commands = accepted_among_within buffer_limit settings commands

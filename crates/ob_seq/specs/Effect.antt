@@ -1,6 +1,10 @@
--- What an accepted command does to the rows.
-use Rattle.std.specs.Prelude.{List, [], ◌∷◌, ◌++◌, map, fold, length, if◌then◌else◌, ℕ, zero, suc, ◌+◌, min, nat_lt}
-use Rattle.std.specs.Prelude.{Bool, ◌&&◌}
+-- What an accepted command does to the rows, and the byte run: the beginning of the line, as far as it is made of bytes.
+use Rattle.std.specs.Prelude.{ℕ, suc, List, length, take, filter, fold, max, nat_le, sum_by, ◌-◌, [], map, ◌∷◌, ◌++◌}
+use Rattle.std.specs.Prelude.{if◌then◌else◌, zero, ◌+◌, min, nat_lt, Bool, ◌&&◌}
+use Rattle.std.specs.List.{range_with_len, take_while}
+use Rattle.ob_types.specs.Block.{is_block}
+use Rattle.ob_types.specs.declared.message.Message.{Message}
+use Rattle.ob_types.specs.declared.message.Message.TheVariants.{Block, Region, Other}
 use Rattle.ob_types.specs.Limits.{greatest_progress}
 use Rattle.ob_types.specs.declared.estimate.Estimate.{Estimate}
 use Rattle.ob_types.specs.declared.command.Command.{Command}
@@ -10,10 +14,45 @@ use Rattle.ob_types.specs.declared.promise.Cause.{Cause}
 use Rattle.ob_types.specs.declared.promise.Outcome.{Outcome}
 use Rattle.ob_types.specs.declared.promise.Outcome.TheVariants.{Success, Failed, Cancelled}
 use Rattle.ob_types.specs.declared.promise.PromiseState.TheVariants.{Fixed, Settled, Waiting}
-use Rattle.ob_seq.specs.Row.{Row, Flushed, Gone, new_row, is_unflushed, is_flushed, Voided, is_cancelled}
-use Rattle.ob_seq.specs.Line.{is_in_line, line}
-use Rattle.ob_seq.specs.ByteRun.{whole_rows, bytes_left_over}
 use Rattle.ob_types.specs.declared.promise.PromiseState.{PromiseState}
+use Rattle.ob_seq.specs.Rows.{Row, unread_part, line, Flushed, Gone, new_row, is_unflushed, is_flushed, Voided}
+use Rattle.ob_seq.specs.Rows.{is_cancelled, is_in_line}
+
+-- the bytes that pieces hold together
+abbrev pub bytes_in : List (List ℕ) → ℕ
+bytes_in pieces = sum_by (λ piece. length piece) pieces
+
+-- the greatest of some numbers
+abbrev pub greatest : List ℕ → ℕ
+greatest numbers = fold max 0 numbers
+
+-- the greatest number of pieces, from the first on, that hold together at most `limit` bytes
+abbrev pub pieces_within : ℕ → List (List ℕ) → ℕ
+pieces_within limit pieces =
+    greatest (filter (λ count. nat_le (bytes_in (take count pieces)) limit) (range_with_len 0 (suc (length pieces))))
+
+-- the bytes of a block, and none of any other message
+abbrev pub block_bytes : Message → List ℕ
+block_bytes (Block bytes) = bytes
+block_bytes (Region units) = []
+block_bytes (Other value) = []
+
+-- the bytes of each message before the first that is no block
+abbrev pub blocks_in_front : List Message → List (List ℕ)
+blocks_in_front messages = map block_bytes (take_while is_block messages)
+
+-- the byte run: the unread bytes of each row in line before the first whose unread part is no block; those of a
+-- voided row are none
+abbrev pub byte_run : List Row → List (List ℕ)
+byte_run rows = blocks_in_front (map unread_part (line rows))
+
+-- how many rows a removal of n bytes takes away whole: the most that have together at most n unread bytes
+abbrev pub whole_rows : ℕ → List Row → ℕ
+whole_rows n rows = pieces_within n (byte_run rows)
+
+-- how many of n bytes are left over once those rows are taken away
+abbrev pub bytes_left_over : ℕ → List Row → ℕ
+bytes_left_over n rows = n - bytes_in (take (whole_rows n rows) (byte_run rows))
 
 -- a row that a flush reaches: it stands in line, voided if its promise was cancelled, and else with its promise fixed
 abbrev pub reached_row : Row → Row

@@ -1,22 +1,58 @@
--- What a look at a buffer shows.
-use Rattle.std.specs.Prelude.{ℕ, ◌+◌, ◌-◌, ◌&&◌, not, List, length, map, filter, min, nat_le, if◌then◌else◌, Option}
-use Rattle.std.specs.Prelude.{Some, None, option_map, position}
+-- What a contract sees of a message in a buffer, and what the looks show.
+use Rattle.std.specs.Prelude.{ℕ, Bool, not, List, map, filter, take, length, min, max, nat_lt, ◌+◌, ◌-◌, ◌&&◌, nat_le}
+use Rattle.std.specs.Prelude.{if◌then◌else◌, Option, Some, None, option_map, position}
+use Rattle.ob_types.specs.declared.message.Message.{Message}
+use Rattle.ob_types.specs.declared.command.Command.{Command}
 use Rattle.ob_types.specs.Change.{is_writable}
 use Rattle.ob_types.specs.Limits.{greatest_total}
 use Rattle.ob_types.specs.WaterMark.{Marks}
-use Rattle.ob_types.specs.declared.command.Command.{Command}
-use Rattle.ob_seq.specs.declared.look.Look.{Look}
-use Rattle.ob_seq.specs.Settings.{Settings}
-use Rattle.ob_seq.specs.MarksInForce.{marks_after}
-use Rattle.ob_seq.specs.Row.{Row, is_flushed, unread_part}
-use Rattle.ob_seq.specs.Line.{is_in_line, line, front}
-use Rattle.ob_seq.specs.Total.{total}
-use Rattle.ob_seq.specs.Effect.{rows_after}
-use Rattle.ob_seq.specs.Word.{word_after}
 use Rattle.ob_types.specs.declared.promise.PromiseId.{PromiseId}
 use Rattle.ob_types.specs.declared.promise.PromiseState.{PromiseState}
-use Rattle.ob_types.specs.declared.message.Message.{Message}
+use Rattle.ob_seq.specs.Rows.{Row, unread_part, is_voided, counted_size, Settings, is_flushed, is_in_line, line, front}
+use Rattle.ob_seq.specs.Rows.{total}
+use Rattle.ob_seq.specs.Effect.{blocks_in_front, pieces_within, byte_run, rows_after}
+use Rattle.ob_seq.specs.declared.look.Look.{Look}
+use Rattle.ob_seq.specs.Mark.{marks_after}
+use Rattle.ob_seq.specs.Word.{word_after}
 use Rattle.ob_seq.specs.Answer.{promise_at}
+
+-- what is left of a message, the bytes that it counts, its progress so far, and whether it was voided
+pub record PendingEntry : Type 0 where
+  pub message : Message
+  pub size : ℕ
+  pub progress : ℕ
+  pub voided : Bool
+
+-- a row as an entry
+abbrev pub entry_of : Row → PendingEntry
+entry_of row =
+    record { message = unread_part row; size = counted_size row; progress = row.progress; voided = is_voided row.place }
+
+-- what is left of each entry that was not voided
+abbrev pub messages_to_send : List PendingEntry → List Message
+messages_to_send entries = map (λ entry. entry.message) (filter (λ entry. not entry.voided) entries)
+
+-- the bytes left in each entry before the first that is no block
+abbrev pub blocks_left : List PendingEntry → List (List ℕ)
+blocks_left entries = blocks_in_front (map (λ entry. entry.message) entries)
+
+-- of a list of blocks those that hold a byte
+abbrev pub with_bytes : List (List ℕ) → List (List ℕ)
+with_bytes blocks = filter (λ block. nat_lt 0 (length block)) blocks
+
+-- of a list of blocks as many from the front as hold together at most `max_bytes` bytes, but the first in any case, and
+-- at most `max_count`
+abbrev pub first_blocks : ℕ → ℕ → List (List ℕ) → List (List ℕ)
+first_blocks max_count max_bytes blocks = take (min max_count (max 1 (pieces_within max_bytes blocks))) blocks
+
+-- what is gathered from rows: the first blocks of the byte run that hold a byte
+abbrev pub gathered : ℕ → ℕ → List Row → List (List ℕ)
+gathered max_count max_bytes rows = first_blocks max_count max_bytes (with_bytes (byte_run rows))
+
+-- what is gathered after a history of accepted commands
+abbrev pub gathered_after : Settings → List Command → ℕ → ℕ → List (List ℕ)
+gathered_after settings commands max_count max_bytes =
+    gathered max_count max_bytes (rows_after settings.estimate commands)
 
 -- how many bytes more make a writable buffer unwritable (Netty's `bytesBeforeUnwritable`); 0 if it is not writable
 abbrev pub before_unwritable : Marks → ℕ → ℕ → ℕ

@@ -1,20 +1,48 @@
--- The history that a buffer stands for.
-use Rattle.std.specs.Prelude.{◌≡◌, ℕ, Bool, true, not, List, [], Result, Option, IsErrOf, OnErr}
-use Rattle.ob_types.specs.Traits.{traits_of}
+-- What a contract sees of a buffer, the history that it stands for, and what commands settle.
+use Rattle.std.specs.Prelude.{ℕ, Bool, List, ◌≡◌, map, true, not, [], Result, Option, IsErrOf, OnErr, ◌≤◌, ◌==◌, ◌∷◌}
+use Rattle.std.specs.Prelude.{◌++◌, count_by, length, Ok, Err}
+use Rattle.ob_types.specs.WaterMark.{Marks}
+use Rattle.ob_types.specs.declared.promise.PromiseState.{PromiseState}
 use Rattle.ob_types.specs.declared.command.Command.{Command}
+use Rattle.ob_types.specs.Traits.{traits_of}
 use Rattle.ob_types.specs.declared.message.Message.{Message}
 use Rattle.ob_types.specs.declared.promise.PromiseId.{PromiseId}
-use Rattle.ob_types.specs.declared.promise.PromiseState.{PromiseState}
 use Rattle.ob_types.specs.declared.reply.Reply.{Reply}
 use Rattle.ob_types.specs.declared.refusal.Refusal.{Refusal}
 use Rattle.ob_types.specs.declared.refusal.Refusal.TheVariants.{NoMemory}
-use Rattle.ob_seq.specs.Settings.{Settings}
-use Rattle.ob_seq.specs.Leaves.{Leaves}
-pub use Rattle.ob_seq.specs.Holding.{Pending}
-use Rattle.ob_seq.specs.Answer.{answer_to, commands_with, is_accepted, are_accepted}
+use Rattle.ob_types.specs.Limits.{inline_settlements}
+use Rattle.ob_types.specs.declared.promise.Outcome.{Outcome}
+use Rattle.ob_seq.specs.Rows.{Settings, line, unflushed}
+use Rattle.ob_seq.specs.Looks.{PendingEntry, entry_of, look_after, promise_after, current_after, front_promise_after}
+use Rattle.ob_seq.specs.Looks.{flushed_after, gathered_after}
+use Rattle.ob_seq.specs.Mark.{marks_after}
+use Rattle.ob_seq.specs.Effect.{rows_after}
+use Rattle.ob_seq.specs.State.{is_closed}
+use Rattle.ob_seq.specs.Word.{word_after}
+use Rattle.ob_seq.specs.Answer.{answer_to, commands_with, is_accepted, are_accepted, answer_within, buffer_limit}
+use Rattle.ob_seq.specs.Answer.{commands_after_within}
 use Rattle.ob_seq.specs.declared.look.Look.{Look}
-use Rattle.ob_seq.specs.Looks.{look_after, promise_after, current_after, front_promise_after, flushed_after}
-use Rattle.ob_seq.specs.Gathering.{gathered_after}
+
+-- what a buffer holds: what it was opened with, the marks in force, the entries in line and those that no flush has
+-- reached, each oldest first, the state of each promise that it ever gave, the word, and whether it is closed
+pub record Pending : Type 0 where
+  pub settings : Settings
+  pub marks : Marks
+  pub line : List PendingEntry
+  pub unflushed : List PendingEntry
+  pub promises : List PromiseState
+  pub word : ℕ
+  pub closed : Bool
+
+-- a buffer is what these commands leave if it holds the marks in force, and what the rows and the moments say, after
+-- them, and it is closed exactly if one of them is a close
+pub record Leaves (buffer : Pending) (commands : List Command) : Type 0 where
+  pub closed : buffer.closed ≡ is_closed commands
+  pub marks : buffer.marks ≡ marks_after buffer.settings commands
+  pub line : buffer.line ≡ map entry_of (line (rows_after buffer.settings.estimate commands))
+  pub unflushed : buffer.unflushed ≡ map entry_of (unflushed (rows_after buffer.settings.estimate commands))
+  pub promises : buffer.promises ≡ map (λ row. row.promise) (rows_after buffer.settings.estimate commands)
+  pub word : buffer.word ≡ word_after buffer.settings commands
 
 -- a buffer stands for a history exactly if each command of it was accepted, and the buffer is what they leave
 pub record StandsFor (buffer : Pending) (commands : List Command) : Type 0 where
@@ -77,3 +105,39 @@ AreGathered buffer max_count max_bytes blocks =
 -- whether a command never runs out of memory
 abbrev pub takes_no_memory : Command → Bool
 takes_no_memory command = not (traits_of command).wants_memory
+
+-- what an answer settles: the settlements of a reply, and nothing if the command was refused
+abbrev pub settled_by : Result Reply Refusal → List (PromiseId × Outcome)
+settled_by (Ok reply) = reply.settled
+settled_by (Err refusal) = []
+
+-- how many promises one more command settles after a history
+abbrev pub settled_after : Settings → List Command → Command → ℕ
+settled_after settings commands command = length (settled_by (answer_to settings commands command))
+
+-- whatever history the buffer stands for, one more command settles `count` promises after it
+abbrev pub Settles : Pending → Command → ℕ → Type 0
+Settles buffer command count = Gives buffer (λ settings commands. settled_after settings commands command) count
+
+-- whatever history the old buffer stands for, if the command settles no more promises after it than fit without an
+-- allocation, its result is not NoMemory
+abbrev pub SparesMemory : Pending → Command → Result Reply Refusal → Type 0
+SparesMemory old command result =
+    (commands : List Command) → StandsFor old commands
+    → settled_after old.settings commands command ≤ inline_settlements → ¬ IsErrOf result NoMemory
+
+-- what commands settle that are given one after another after a history under a limit on writes; a refused one settles
+-- nothing and has no effect
+abbrev pub settled_along_within : Option ℕ → Settings → List Command → List Command → List (PromiseId × Outcome)
+settled_along_within limit settings earlier [] = []
+settled_along_within limit settings earlier (command ∷ commands) =
+    settled_by (answer_within limit settings earlier command)
+    ++ settled_along_within limit settings (commands_after_within limit settings earlier command) commands
+
+-- what commands settle that a buffer is given one after another after a history
+abbrev pub settled_along : Settings → List Command → List Command → List (PromiseId × Outcome)
+settled_along settings earlier commands = settled_along_within buffer_limit settings earlier commands
+
+-- how often a promise stands among settlements
+abbrev pub times_settled : PromiseId → List (PromiseId × Outcome) → ℕ
+times_settled id settlements = count_by (λ settlement. settlement.0.0 == id.0) settlements

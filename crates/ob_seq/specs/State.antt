@@ -1,14 +1,26 @@
--- What a buffer shows of its state: whether it is writable, whether it is empty, its user bits, and the writes left.
-use Rattle.std.specs.Prelude.{ℕ, ◌-◌, ◌==◌, ◌&&◌, Bool, not, List, length, if◌then◌else◌}
+-- What a buffer shows of its state: whether it is closed, writable or empty, its user bits, and the writes left.
+use Rattle.std.specs.Prelude.{Bool, List, ℕ, count_by, ◌-◌, ◌==◌, ◌&&◌, not, length, if◌then◌else◌}
+use Rattle.std.specs.List.{list_any}
+use Rattle.ob_types.specs.Traits.{traits_of}
+use Rattle.ob_types.specs.declared.command.Command.{Command}
+use Rattle.ob_types.specs.Write.{is_write}
 use Rattle.ob_types.specs.Change.{is_writable}
 use Rattle.ob_types.specs.Limits.{most_writes}
-use Rattle.ob_types.specs.declared.command.Command.{Command}
-use Rattle.ob_seq.specs.Settings.{Settings}
-use Rattle.ob_seq.specs.Line.{line}
+use Rattle.ob_seq.specs.Rows.{Settings, line}
 use Rattle.ob_seq.specs.Effect.{rows_after}
-use Rattle.ob_seq.specs.UserBit.{is_user_index, user_bit}
-use Rattle.ob_seq.specs.Word.{word_after}
-use Rattle.ob_seq.specs.Closed.{is_closed}
+use Rattle.ob_seq.specs.Word.{is_user_index, user_bit, word_after}
+
+-- whether a command is a close
+abbrev pub is_close : Command → Bool
+is_close command = (traits_of command).close
+
+-- a buffer is closed once a close was accepted
+abbrev pub is_closed : List Command → Bool
+is_closed commands = list_any is_close commands
+
+-- how many of these commands are writes
+abbrev pub writes_in : List Command → ℕ
+writes_in commands = count_by is_write commands
 
 -- whether the buffer is writable after a history (Netty's `isWritable`)
 abbrev pub writable_after : Settings → List Command → Bool

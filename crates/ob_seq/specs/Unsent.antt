@@ -1,13 +1,14 @@
--- What waits to be sent, each message with its promise.
-use Rattle.std.specs.Prelude.{ℕ, ◌+◌, Bool, false, List, [], ◌++◌, length, map, if◌then◌else◌}
+-- What waits to be sent, each message with its promise, and for how many messages the ring has room.
+use Rattle.std.specs.Prelude.{ℕ, ◌+◌, Bool, false, List, [], ◌++◌, length, map, if◌then◌else◌, ◌≡◌, ◌≤◌, true, max}
+use Rattle.std.specs.Prelude.{nat_lt}
 use Rattle.ob_types.specs.WaterMark.{Marks}
 use Rattle.ob_types.specs.declared.promise.Outcome.{Outcome}
 use Rattle.ob_types.specs.declared.promise.Outcome.TheVariants.{Cancelled}
 use Rattle.ob_types.specs.declared.promise.PromiseState.{PromiseState}
 use Rattle.ob_types.specs.declared.promise.PromiseState.TheVariants.{Waiting, Fixed, Settled}
-use Rattle.ob_seq.specs.Entry.{PendingEntry}
+use Rattle.ob_seq.specs.Looks.{PendingEntry}
 use Rattle.ob_seq.specs.Pending.{Pending}
-use Rattle.ob_seq.specs.Settings.{Settings}
+use Rattle.ob_seq.specs.Rows.{Settings}
 use Rattle.ob_seq.specs.declared.entry.Entry.{Entry}
 
 -- what was opened, the marks in force, the entries in line and those that no flush has reached, each oldest first and
@@ -78,3 +79,28 @@ whole gone unsent = record {
 -- how the promise of an entry ends that leaves with this outcome: it was settled before if it was taken back
 abbrev pub ended : Outcome → Entry → Outcome
 ended outcome entry = if entry.taken_back then Cancelled else outcome
+
+-- whether the ring has a place to spare
+abbrev pub spares : Unsent → Bool
+spares unsent = nat_lt (waiting_count unsent) unsent.room
+
+-- the room of a ring for one more than this many, if it had room for so many: as much if one place is to spare, and else
+-- for as many again, and for 8 more at least
+abbrev pub grown_room : ℕ → ℕ → ℕ
+grown_room count room = if nat_lt count room then room else count + max 8 count
+
+-- for how many messages it has room once it takes in one more
+abbrev pub room_for_one_more : Unsent → ℕ
+room_for_one_more unsent = grown_room (waiting_count unsent) unsent.room
+
+-- all is as it was, but the ring may have less room, and it has none if it is closed and nothing waits
+pub record GivesBack (old new : Unsent) : Type 0 where
+  pub same : new ≡ record old { room = new.room }
+  pub less : new.room ≤ old.room
+  pub closed : old.closed ≡ true → waiting_count old ≡ 0 → new.room ≡ 0
+
+-- all is as it was, but the ring may have less room, and it has none if nothing waits
+pub record Shrinks (old new : Unsent) : Type 0 where
+  pub same : new ≡ record old { room = new.room }
+  pub less : new.room ≤ old.room
+  pub empty : waiting_count old ≡ 0 → new.room ≡ 0

@@ -8,8 +8,7 @@ use Rattle.ob_types.specs.declared.promise.Outcome.TheVariants.{Failed, Cancelle
 use Rattle.ob_types.specs.declared.refusal.Refusal.TheVariants.{TooManyBytes}
 use Rattle.ob_types.specs.declared.reply.Answer.TheVariants.{Id, Count, Yes, Done}
 use Rattle.ob_types.specs.declared.reply.Change.TheVariants.{Unwritable, Writable}
-use Rattle.ob_seq.specs.Gathering.{gathered_after}
-use Rattle.ob_seq.specs.Looks.{current_after, flushed_after, look_after}
+use Rattle.ob_seq.specs.Looks.{gathered_after, current_after, flushed_after, look_after}
 use Rattle.ob_seq.specs.Worked.{marked, refused, replied, settles, shown, succeeds}
 
 -- a write of a block of these bytes

@@ -6,8 +6,7 @@ use Rattle.ob_types.specs.declared.promise.Outcome.TheVariants.{Success, Failed,
 use Rattle.ob_types.specs.declared.promise.PromiseState.TheVariants.{Waiting, Fixed, Settled}
 use Rattle.ob_types.specs.declared.refusal.Refusal.TheVariants.{Closed, FlushedLeft}
 use Rattle.ob_types.specs.declared.reply.Answer.TheVariants.{Id, Count, Yes}
-use Rattle.ob_seq.specs.Gathering.{gathered_after}
-use Rattle.ob_seq.specs.Looks.{current_after, flushed_after, promise_after}
+use Rattle.ob_seq.specs.Looks.{gathered_after, current_after, flushed_after, promise_after}
 use Rattle.ob_seq.specs.Worked.{marked, refused, replied, settles, shown, succeeds}
 use Rattle.ob_seq.specs.WorkedBytes.{block_of}
 

@@ -5,14 +5,12 @@ use Rattle.ob_types.specs.declared.command.Command.TheVariants.{Flush, Remove, P
 use Rattle.ob_types.specs.declared.message.Message.TheVariants.{Block}
 use Rattle.ob_types.specs.declared.promise.Outcome.TheVariants.{Success, Failed, Cancelled}
 use Rattle.ob_types.specs.declared.promise.PromiseState.TheVariants.{Waiting, Settled}
-use Rattle.ob_seq.specs.Accepted.{accepted_among}
+use Rattle.ob_seq.specs.Answer.{accepted_among}
 use Rattle.ob_seq.specs.Effect.{rows_after, taken_row, with_first}
-use Rattle.ob_seq.specs.Fitting.{FitsItsPlace}
-use Rattle.ob_seq.specs.Order.{StandInOrder}
-use Rattle.ob_seq.specs.Row.{Row, Place, Unflushed, Flushed, Voided, Gone}
-use Rattle.ob_seq.specs.Settles.{settled_along}
+use Rattle.ob_seq.specs.Rows.{FitsItsPlace, StandInOrder, Row, Place, Unflushed, Flushed, Voided, Gone}
+use Rattle.ob_seq.specs.Pending.{settled_along}
 use Rattle.ob_seq.specs.Worked.{block, marked, settles, succeeds}
-use Rattle.ob_seq.specs.Writes.{writes_in}
+use Rattle.ob_seq.specs.State.{writes_in}
 
 -- four messages, of which the first is removed, the second voided in line, the third in line and the last unflushed;
 -- progress before the flush and the cancellation of a promise that nobody was given are refused

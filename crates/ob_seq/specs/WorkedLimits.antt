@@ -7,7 +7,7 @@ use Rattle.ob_types.specs.declared.refusal.Refusal.TheVariants.{Oversize, TooMuc
 use Rattle.ob_types.specs.declared.reply.Answer.TheVariants.{Id, Count, Yes, Done}
 use Rattle.ob_types.specs.declared.reply.Change.TheVariants.{Unwritable}
 use Rattle.ob_seq.specs.Looks.{current_after, look_after}
-use Rattle.ob_seq.specs.Settings.{Settings}
+use Rattle.ob_seq.specs.Rows.{Settings}
 use Rattle.ob_seq.specs.Worked.{empty_look, marked, refused, replied, shown, succeeds}
 use Rattle.ob_seq.specs.WorkedBytes.{block_of}
 

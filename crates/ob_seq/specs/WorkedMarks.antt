@@ -7,7 +7,7 @@ use Rattle.ob_types.specs.declared.refusal.Refusal.TheVariants.{Closed}
 use Rattle.ob_types.specs.declared.reply.Answer.TheVariants.{Id, Count, Yes, Done}
 use Rattle.ob_types.specs.declared.reply.Change.TheVariants.{Unwritable, Writable}
 use Rattle.ob_seq.specs.Looks.{look_after}
-use Rattle.ob_seq.specs.MarksInForce.{marks_after}
+use Rattle.ob_seq.specs.Mark.{marks_after}
 use Rattle.ob_seq.specs.Worked.{block, marked, refused, replied, settles, shown, succeeds}
 
 -- the marks set to these

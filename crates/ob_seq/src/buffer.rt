@@ -2,14 +2,10 @@ ghost use Rattle.std.specs.Prelude.{◌≡◌, ◌≤◌, false, [], List, IsTru
 ghost use Rattle.ob_types.specs.Limits.{greatest_overhead, greatest_unknown};
 ghost use Rattle.ob_types.specs.Write.{is_write};
 ghost use Rattle.ob_types.specs.declared.command.Command.{Command};
-ghost use Rattle.ob_seq.specs.Pending.{Pending, StandsFor, Obeys, takes_no_memory};
-ghost use Rattle.ob_seq.specs.Settles.{SparesMemory};
+ghost use Rattle.ob_seq.specs.Pending.{Pending, StandsFor, Obeys, takes_no_memory, SparesMemory};
 
 mod commands;
-mod gather;
-mod look;
 mod looks;
-mod state;
 
 use crate::whole::Whole;
 use ob_types::{Command, Estimate, Refusal, Reply, WaterMark};

@@ -1,11 +1,11 @@
 ghost use Rattle.std.specs.Prelude.{◌≡◌, ◌≤◌, [], length};
 ghost use Rattle.ob_types.specs.Limits.{greatest_overhead, greatest_unknown};
 ghost use Rattle.ob_seq.specs.Inside.{unsent_of, IsSound};
-ghost use Rattle.ob_seq.specs.Steps.Held.{pending_total};
-ghost use Rattle.ob_seq.specs.Steps.UserBit.{with_user_bit};
+ghost use Rattle.ob_seq.specs.Steps.Step.{pending_total};
 ghost use Rattle.ob_seq.specs.Unsent.{Unsent, nothing_unsent, whole, waiting_count};
 
 mod add;
+mod bits;
 mod cut;
 mod flush;
 pub(crate) mod front;
@@ -25,9 +25,11 @@ use ob_types::{Estimate, WaterMark};
 use std::alloc::Global;
 use std::collections::VecDeque;
 use std::marker::Model;
+pub use take::Front;
 
-/// What waits to be sent, each message with its promise. What is gone is no part of it, so no call knows an id: each
-/// does what the step of a buffer does, whatever outcomes are gone.
+/// What waits to be sent, each message with its promise. What is gone is no part of it, so no call keeps an id: each
+/// does what the step of a buffer does, whatever outcomes are gone. A command is refused as that of `Buffer` is, as
+/// `Closed` first, and a refusal changes nothing.
 ///
 /// No call goes over entries that it neither takes away, voids nor hands out, but for the one where it ends: the bytes
 /// that are pending are kept as they change, a flush moves the end of the line behind the last entry, and a removal
@@ -148,20 +150,5 @@ impl Contents {
         ensures { result ≡ self.now.marks }
     {
         self.marks
-    }
-
-    /// Puts these marks in force.
-    pub fn set_marks(&mut self, marks: WaterMark)
-        ensures { self.new ≡ record self.old { marks = marks } }
-    {
-        self.marks = marks;
-    }
-
-    /// Sets the user bit of this index, or clears it if it is to be writable.
-    pub fn set_user_bit(&mut self, index: u32, writable: bool)
-        requires { index ≤ 31 }
-        ensures { self.new ≡ record self.old { word = with_user_bit index writable self.old.word } }
-    {
-        self.word = word::with_user_bit(self.word, index, writable);
     }
 }

@@ -1,7 +1,7 @@
 ghost use Rattle.std.specs.Prelude.{◌≡◌};
 ghost use Rattle.std.specs.Iterator.{YieldsFirstRef, item_count};
 ghost use Rattle.std.specs.VecDeque.Iter.{deque_iter_rest};
-ghost use Rattle.ob_seq.specs.Entry.{messages_to_send};
+ghost use Rattle.ob_seq.specs.Looks.{messages_to_send};
 ghost use Rattle.ob_seq.specs.Unsent.{pending_entries};
 
 use crate::entry::Entry;
@@ -25,7 +25,7 @@ impl<'a> Model for Flushed<'a> {
     ghost Value = { List Message };
 
     ghost use Rattle.std.specs.VecDeque.Iter.{deque_iter_rest};
-    ghost use Rattle.ob_seq.specs.Entry.{messages_to_send};
+    ghost use Rattle.ob_seq.specs.Looks.{messages_to_send};
     ghost use Rattle.ob_seq.specs.Unsent.{pending_entries};
 
     ghost view = { λ flushed. messages_to_send (pending_entries (deque_iter_rest flushed.entries)) };

@@ -12,21 +12,14 @@ ghost use Rattle.ob_types.specs.declared.estimate.Estimate.{Estimate};
 ghost use Rattle.ob_types.specs.declared.promise.Outcome.{Outcome};
 ghost use Rattle.ob_types.specs.declared.promise.PromiseId.{PromiseId};
 ghost use Rattle.ob_types.specs.declared.promise.PromiseState.TheVariants.{Settled};
-ghost use Rattle.ob_seq.specs.Accepted.{accepted_among};
-ghost use Rattle.ob_seq.specs.Answer.{is_accepted, are_accepted, commands_after};
-ghost use Rattle.ob_seq.specs.Closed.{is_closed};
+ghost use Rattle.ob_seq.specs.Answer.{accepted_among, is_accepted, are_accepted, commands_after};
+ghost use Rattle.ob_seq.specs.State.{is_closed, writes_in};
 ghost use Rattle.ob_seq.specs.Effect.{rows_after};
-ghost use Rattle.ob_seq.specs.Fitting.{FitsItsPlace};
+ghost use Rattle.ob_seq.specs.Rows.{FitsItsPlace, StandInOrder, Settings, total};
 ghost use Rattle.ob_seq.specs.Looks.{before_unwritable, before_writable, look_after, promise_after};
-ghost use Rattle.ob_seq.specs.Mark.{mark_after};
-ghost use Rattle.ob_seq.specs.MarksInForce.{marks_after, marks_set_by};
-ghost use Rattle.ob_seq.specs.Order.{StandInOrder};
-ghost use Rattle.ob_seq.specs.Settings.{Settings};
-ghost use Rattle.ob_seq.specs.Settles.{settled_along, times_settled};
-ghost use Rattle.ob_seq.specs.Total.{total};
-ghost use Rattle.ob_seq.specs.UserBit.{user_bit};
-ghost use Rattle.ob_seq.specs.Word.{word_after};
-ghost use Rattle.ob_seq.specs.Writes.{writes_in};
+ghost use Rattle.ob_seq.specs.Mark.{mark_after, marks_after, marks_set_by};
+ghost use Rattle.ob_seq.specs.Pending.{settled_along, times_settled};
+ghost use Rattle.ob_seq.specs.Word.{user_bit, word_after};
 
 /// Whatever commands a new buffer is given, no promise is settled twice, and one that is settled keeps its outcome.
 pub fn no_promise_is_settled_twice()

@@ -12,7 +12,7 @@ mod whole;
 mod worked;
 
 pub use buffer::Buffer;
-pub use contents::{Contents, Cut};
+pub use contents::{Contents, Cut, Front};
 pub use flushed::Flushed;
 pub use laws::{
     a_promise_is_unknown_past_the_writes, a_settled_promise_is_told,

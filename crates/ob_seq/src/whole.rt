@@ -1,10 +1,12 @@
-ghost use Rattle.std.specs.Prelude.{◌≡◌, ◌<◌, ◌≤◌, [], length};
+ghost use Rattle.std.specs.Prelude.{◌≡◌, ◌<◌, ◌≤◌, [], length, option_map, slice_get, IfErr, IfOk, IsOk};
+ghost use Rattle.std.specs.Option.{option_copied};
 ghost use Rattle.ob_types.specs.Change.{change_between};
 ghost use Rattle.ob_types.specs.Limits.{greatest_overhead, greatest_unknown, most_writes};
-ghost use Rattle.ob_seq.specs.Looks.{before_unwritable, before_writable};
+ghost use Rattle.ob_seq.specs.Looks.{before_unwritable, before_writable, blocks_left, first_blocks, messages_to_send};
+ghost use Rattle.ob_seq.specs.Looks.{with_bytes};
 ghost use Rattle.ob_seq.specs.Pending.{Pending};
 ghost use Rattle.ob_seq.specs.Room.{IsRoomy};
-ghost use Rattle.ob_seq.specs.Steps.Held.{first_progress, front_id, pending_total, state_at, unflushed_id};
+ghost use Rattle.ob_seq.specs.Steps.Step.{first_progress, front_id, pending_total, state_at, unflushed_id};
 ghost use Rattle.ob_seq.specs.Unsent.{nothing_unsent, whole};
 
 mod bits;
@@ -12,16 +14,18 @@ mod cancel;
 mod close;
 mod flush;
 mod remove;
-mod seen;
 mod settles;
 mod take;
 mod taking;
 pub(crate) mod write;
 
 use crate::contents::Contents;
+use crate::flushed::Flushed;
 use crate::outcomes::Outcomes;
+use bytes::Bytes;
 use ob_types::{
-    Answer, Change, Command, Estimate, PromiseState, Refusal, Reply, Settlements, WaterMark,
+    Answer, Change, Command, Estimate, Message, PromiseState, Refusal, Reply, Settlements,
+    WaterMark,
 };
 use std::alloc::Global;
 use std::marker::Model;
@@ -147,6 +151,30 @@ impl Whole {
             return PromiseState::Settled(self.gone.at(id));
         }
         self.contents.state_at(id - gone)
+    }
+
+    /// What is left of the first entry in line.
+    pub fn current(&self) -> Option<&Message>
+        ensures { option_copied result ≡ option_map (λ entry. entry.message) (slice_get self.now.line 0) }
+    {
+        self.contents.current()
+    }
+
+    /// What is left of each entry in line that was not voided, oldest first.
+    pub fn to_send(&self) -> Flushed<'_>
+        ensures { result ≡ messages_to_send self.now.line }
+    {
+        self.contents.to_send()
+    }
+
+    /// The blocks in front that `Buffer::gather` gives.
+    pub fn gather(&self, max_count: u32, max_bytes: u32) -> Result<Vec<Bytes>, Refusal>
+        ensures blocks { IfOk result (λ blocks. blocks.items
+            ≡ first_blocks max_count max_bytes (with_bytes (blocks_left self.now.line))) }
+        ensures no_memory { IfErr result (λ refusal. refusal ≡ Refusal.NoMemory) }
+        ensures frugal { first_blocks max_count max_bytes (with_bytes (blocks_left self.now.line)) ≡ [] → IsOk result }
+    {
+        self.contents.gather(max_count, max_bytes)
     }
 
     /// The reply of a call that found the word `before`.

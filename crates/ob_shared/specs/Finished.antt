@@ -1,7 +1,7 @@
 -- What the end of a shared buffer compares.
 use Rattle.std.specs.Prelude.{◌≡◌, ℕ, ◌==◌, Bool, not, List, length, map, Option, option_map}
 use Rattle.std.specs.List.{All, find}
-use Rattle.ob_seq.specs.Settings.{Settings}
+use Rattle.ob_seq.specs.Rows.{Settings}
 use Rattle.ob_history.specs.Own.{AreOwn, records_of}
 use Rattle.ob_history.specs.Receipt.{IsReceiptIn, record_of}
 use Rattle.ob_history.specs.Seen.{IsSeenIn}

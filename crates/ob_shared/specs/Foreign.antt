@@ -1,7 +1,7 @@
 -- The first item that callers hand in and that is not of the history.
 use Rattle.std.specs.Prelude.{◌≡◌, ℕ, List, Some, slice_get, ◌⊎◌}
 use Rattle.std.specs.List.{All}
-use Rattle.ob_seq.specs.Settings.{Settings}
+use Rattle.ob_seq.specs.Rows.{Settings}
 use Rattle.ob_history.specs.First.{IsFirstBreak}
 use Rattle.ob_history.specs.Own.{AreOwn}
 use Rattle.ob_history.specs.Receipt.{IsReceiptIn}

@@ -1,7 +1,7 @@
 -- What a shared buffer is opened with.
 use Rattle.std.specs.Prelude.{◌≡◌, ℕ, []}
 use Rattle.atomic_table.specs.Seated.{TableId}
-use Rattle.ob_seq.specs.Settings.{Settings}
+use Rattle.ob_seq.specs.Rows.{Settings}
 use Rattle.ob_history.specs.History.{History}
 use Rattle.ob_history.specs.Legal.{IsLegal}
 

@@ -1,7 +1,7 @@
 -- What a step on the published word tells the seat that makes it. No public clause cites it.
 use Rattle.std.specs.Prelude.{◌≡◌, ℕ, [], ◌∷◌, ◌++◌}
 use Rattle.atomic_table.specs.Table.{Me}
-use Rattle.ob_seq.specs.Settings.{Settings}
+use Rattle.ob_seq.specs.Rows.{Settings}
 use Rattle.ob_history.specs.Beginning.{IsBeginning}
 use Rattle.ob_history.specs.Glance.{glance_after}
 use Rattle.ob_history.specs.Legal.{IsLegal}

@@ -2,7 +2,7 @@
 use Rattle.std.specs.Prelude.{ℕ, ◌==◌, Bool, not, List, length, count_by, Result}
 use Rattle.ob_types.specs.declared.reply.Reply.{Reply}
 use Rattle.ob_types.specs.declared.refusal.Refusal.{Refusal}
-use Rattle.ob_seq.specs.Settles.{settled_by}
+use Rattle.ob_seq.specs.Pending.{settled_by}
 use Rattle.ob_history.specs.declared.record.Record.{Record}
 
 -- whether an answer settles a promise

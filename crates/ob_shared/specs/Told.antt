@@ -4,8 +4,8 @@ use Rattle.std.specs.List.{All, Contains}
 use Rattle.ob_types.specs.Block.{writes_block}
 use Rattle.ob_types.specs.declared.promise.Outcome.{Outcome}
 use Rattle.ob_types.specs.declared.promise.PromiseId.{PromiseId}
-use Rattle.ob_seq.specs.Settles.{settled_by}
-use Rattle.ob_seq.specs.Writes.{writes_in}
+use Rattle.ob_seq.specs.Pending.{settled_by}
+use Rattle.ob_seq.specs.State.{writes_in}
 use Rattle.ob_history.specs.Accepted.{accepted_commands}
 use Rattle.ob_history.specs.Receipt.{IsReceiptIn, record_of}
 use Rattle.ob_history.specs.Settlements.{settlements_in, settles}

@@ -2,7 +2,7 @@ ghost use Rattle.std.specs.Prelude.{◌≡◌, ℕ, ◌≤◌, ◌↔◌, length
 ghost use Rattle.std.specs.List.{All};
 ghost use Rattle.std.specs.Sync.Mutex.{mutex_guard_value};
 ghost use Rattle.ob_types.specs.declared.promise.PromiseId.{PromiseId};
-ghost use Rattle.ob_seq.specs.Settles.{times_settled};
+ghost use Rattle.ob_seq.specs.Pending.{times_settled};
 ghost use Rattle.ob_history.specs.Words.{IsBeginning, settlements_in};
 ghost use Rattle.ob_shared.specs.Words.{IsKept, HandsInAll, StandsIn, first_short, IsGivenBack, HasNoLooks, LacksShare};
 ghost use Rattle.ob_shared.specs.Words.{made_by, IsAsOpened, IsCheckIn, IsToldFreely, IsUnknown, IsUnsettled};

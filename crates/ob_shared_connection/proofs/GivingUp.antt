@@ -4,9 +4,8 @@ use Rattle.ob_types.specs.declared.command.Command.{Command}
 use Rattle.ob_types.specs.declared.command.Command.TheVariants.{Close, FailFlushed}
 use Rattle.ob_types.specs.declared.promise.Cause.{Cause}
 use Rattle.ob_types.specs.declared.refusal.Refusal.{Refusal}
-use Rattle.ob_connection.specs.Connected.{Connected}
-use Rattle.ob_connection.specs.GivingUp.{GivesUp}
-use Rattle.ob_connection.specs.Standing.{StandsFor}
+use Rattle.ob_connection.specs.Connected.{Connected, StandsFor}
+use Rattle.ob_connection.specs.Obeying.{GivesUp}
 use Rattle.ob_connection.specs.declared.replies.Taken.{Taken}
 use Rattle.ob_shared_connection.specs.Acts.{Continues}
 use Rattle.ob_shared_connection.specs.Calls.{giving_up}

@@ -11,7 +11,7 @@ use lib.ListN.{get_elem?}
 use Rattle.atomic_table.specs.Table.{State, Act, Allows, Splits, Joins, Valid, keeps, takes, gives, stepped, carried_after, opening}
 use Rattle.atomic_table.specs.Table as table
 use Rattle.atomic_table.proofs.Lists.{at_set, exchanged, set_here}
-use Rattle.ob_seq.specs.Settings.{Settings}
+use Rattle.ob_seq.specs.Rows.{Settings}
 use Rattle.ob_connection.specs.Connected.{Connected}
 use Rattle.ob_shared_connection.specs.Bells.{bell_word, is_silent}
 use Rattle.ob_shared_connection.specs.Log.{IsBeginning, commands_by, commands_of}

@@ -9,7 +9,7 @@ use native.Mathlib.Decide.{ℕ_discrete}
 use lib.ListN.{get_elem?}
 use Rattle.atomic_table.specs.Table.{Allows, keeps}
 use Rattle.ob_types.specs.declared.command.Command.{Command}
-use Rattle.ob_seq.specs.Settings.{Settings}
+use Rattle.ob_seq.specs.Rows.{Settings}
 use Rattle.ob_shared_connection.specs.Bells.{bell_word}
 use Rattle.ob_shared_connection.specs.Glances.{IsLegal, glance_after, packed_glance}
 use Rattle.ob_shared_connection.specs.Log.{IsBeginning, calls_of, commands_by}

@@ -13,8 +13,7 @@ use Rattle.ob_types.specs.Packed.{packed}
 use Rattle.ob_types.specs.WaterMark.{Marks}
 use Rattle.ob_types.specs.declared.estimate.Estimate.{Estimate}
 use Rattle.ob_seq.proofs.Word.Marks.{word_at_start}
-use Rattle.ob_connection.specs.Connected.{Connected}
-use Rattle.ob_connection.specs.Standing.{StandsFor}
+use Rattle.ob_connection.specs.Connected.{Connected, StandsFor}
 use Rattle.ob_shared_connection.specs.Bells.{bell_word}
 use Rattle.ob_shared_connection.specs.Log.{commands_by}
 use Rattle.ob_shared_connection.specs.Ruled.{Fits, HasShare, IsShown, IsVacant, Past, Ruled, both_views, calls_with, count_if, first_view, handles_of, named_view, new_view, sharing_view, spent_view}

@@ -9,17 +9,15 @@ use Rattle.ob_types.specs.declared.command.Command.{Command}
 use Rattle.ob_types.specs.declared.command.Command.TheVariants.{RemoveBytes}
 use Rattle.ob_types.specs.declared.promise.Outcome.TheVariants.{Success}
 use Rattle.ob_types.specs.declared.refusal.Refusal.{Refusal}
-use Rattle.ob_seq.specs.ByteRun.{byte_run}
-use Rattle.ob_seq.specs.Effect.{rows_after}
-use Rattle.ob_seq.specs.Gathering.{with_bytes}
-use Rattle.ob_seq.specs.Pieces.{bytes_in, pieces_within}
-use Rattle.ob_seq.specs.Settings.{Settings}
+use Rattle.ob_seq.specs.Effect.{byte_run, rows_after, bytes_in, pieces_within}
+use Rattle.ob_seq.specs.Looks.{with_bytes}
+use Rattle.ob_seq.specs.Rows.{Settings}
 use Rattle.ob_seq.specs.State.{closed_after, empty_after}
 use Rattle.ob_seq.proofs.Inside.Gathered.{length_of_concat}
 use Rattle.ob_connection.specs.Calls.{bytes_of, most_pieces}
 use Rattle.ob_connection.specs.Looks.{AreGathered}
 use Rattle.ob_connection.specs.Sending.{offered_after}
-use Rattle.ob_connection.specs.Standing.{Gives}
+use Rattle.ob_connection.specs.Connected.{Gives}
 use Rattle.ob_connection.specs.declared.connection.sending.Sent.{Sent}
 use Rattle.ob_connection.specs.declared.replies.Taken.{Taken}
 use Rattle.ob_connection.specs.declared.socket.SocketFault.{SocketFault}

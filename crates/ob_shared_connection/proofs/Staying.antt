@@ -15,18 +15,15 @@ use Rattle.ob_types.specs.declared.message.Message.{Message}
 use Rattle.ob_types.specs.declared.promise.Cause.{Cause}
 use Rattle.ob_types.specs.declared.refusal.Refusal.TheVariants.{Closed, FlushedLeft, TooManyBytes}
 use Rattle.ob_seq.specs.Answer.{are_accepted_within, first_refusal_within, is_accepted_within, refusal_within}
-use Rattle.ob_seq.specs.ByteRun.{block_bytes, blocks_in_front}
-use Rattle.ob_seq.specs.Closed.{is_close, is_closed}
-use Rattle.ob_seq.specs.Effect.{cancelled, closed_row, effect, flushed_row, progressed_row, reached_row, rows_after, with_cancelled, with_front}
-use Rattle.ob_seq.specs.Line.{front, is_in_line, line}
-use Rattle.ob_seq.specs.Pieces.{bytes_in}
-use Rattle.ob_seq.specs.Row.{Row, new_row, unread_part}
-use Rattle.ob_seq.specs.Settings.{Settings}
+use Rattle.ob_seq.specs.Effect.{block_bytes, blocks_in_front, cancelled, closed_row, effect, flushed_row}
+use Rattle.ob_seq.specs.Effect.{progressed_row, reached_row, rows_after, with_cancelled, with_front, bytes_in}
+use Rattle.ob_seq.specs.State.{is_close, is_closed}
+use Rattle.ob_seq.specs.Rows.{front, is_in_line, line, Row, new_row, unread_part, Settings}
 use Rattle.ob_seq.proofs.Rows.Accepting.{kept_along_within, not_refused_within, open_and_fit_within}
 use Rattle.ob_seq.proofs.Rows.History.{accepted_by, closed_more, rows_after_more}
 use Rattle.ob_seq.proofs.Rows.Order.{IsFresh, IsStanding, Layout, each_append, flush_parts, layout_of, reached_stands}
 use Rattle.ob_seq.proofs.Rows.Parts.{front_of_parts, line_of_parts}
-use Rattle.ob_connection.specs.Limit.{connection_limit}
+use Rattle.ob_connection.specs.Connected.{connection_limit}
 use Rattle.ob_shared_connection.specs.Removals.{leaves_flushed}
 use Rattle.ob_shared_connection.specs.Staying.{BytesStay, Stays, blocks_after}
 

@@ -10,14 +10,13 @@ use Rattle.ob_types.specs.declared.command.Command.TheVariants.{RemoveBytes}
 use Rattle.ob_types.specs.declared.promise.Outcome.TheVariants.{Success}
 use Rattle.ob_types.specs.declared.refusal.Refusal.{Refusal}
 use Rattle.ob_types.specs.declared.reply.Reply.{Reply}
-use Rattle.ob_seq.specs.Gathering.{gathered_after, with_bytes}
-use Rattle.ob_seq.specs.Pieces.{bytes_in, pieces_within}
-use Rattle.ob_seq.specs.Settings.{Settings}
+use Rattle.ob_seq.specs.Looks.{gathered_after, with_bytes}
+use Rattle.ob_seq.specs.Effect.{bytes_in, pieces_within}
+use Rattle.ob_seq.specs.Rows.{Settings}
 use Rattle.ob_seq.proofs.Inside.Gathered.{all_bytes, length_of_concat}
-use Rattle.ob_connection.specs.Limit.{connection_accepts, connection_accepts_all}
+use Rattle.ob_connection.specs.Connected.{connection_accepts, connection_accepts_all}
 use Rattle.ob_connection.specs.Looks.{AreGathered}
-use Rattle.ob_connection.specs.Obeying.{promises_after}
-use Rattle.ob_connection.specs.Replies.{taken_reply, told_by}
+use Rattle.ob_connection.specs.Obeying.{promises_after, taken_reply, told_by}
 use Rattle.ob_connection.specs.declared.replies.Taken.{Taken}
 use Rattle.ob_shared_connection.specs.Calls.{IsLock, Makes, Taking, UnderLock}
 use Rattle.ob_shared_connection.specs.Log.{commands_of}

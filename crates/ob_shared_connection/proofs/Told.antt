@@ -5,8 +5,7 @@ use Rattle.atomic_table.specs.Seated.{TableId}
 use Rattle.atomic_table.specs.Table.{rest}
 use Rattle.ob_types.specs.Packed.{packed}
 use Rattle.ob_types.specs.declared.command.Command.{Command}
-use Rattle.ob_connection.specs.Connected.{Connected}
-use Rattle.ob_connection.specs.Standing.{StandsFor}
+use Rattle.ob_connection.specs.Connected.{Connected, StandsFor}
 use Rattle.ob_shared_connection.specs.Acts.{Continues}
 use Rattle.ob_shared_connection.specs.Calls.{IsCall, IsLock}
 use Rattle.ob_shared_connection.specs.Glances.{IsGlance, IsLegal, glance_after}

@@ -10,12 +10,9 @@ use Rattle.ob_types.specs.declared.refusal.Refusal.{Refusal}
 use Rattle.ob_types.specs.declared.refusal.Refusal.TheVariants.{Closed, NoMemory}
 use Rattle.ob_types.specs.declared.reply.Reply.{Reply}
 use Rattle.ob_seq.specs.State.{closed_after}
-use Rattle.ob_connection.specs.Connected.{Connected}
-use Rattle.ob_connection.specs.GivingUp.{GivesUp}
-use Rattle.ob_connection.specs.Obeying.{IsNext, IsQuiet, Obeys}
-use Rattle.ob_connection.specs.Replies.{answer_of_write, taken_reply, written_reply}
+use Rattle.ob_connection.specs.Connected.{Connected, Gives}
+use Rattle.ob_connection.specs.Obeying.{GivesUp, IsNext, IsQuiet, Obeys, answer_of_write, taken_reply, written_reply}
 use Rattle.ob_connection.specs.declared.refused.Refused.{Refused}
-use Rattle.ob_connection.specs.Standing.{Gives}
 use Rattle.ob_connection.specs.declared.replies.Taken.{Taken}
 use Rattle.ob_connection.specs.declared.replies.Written.{Written}
 use Rattle.ob_shared_connection.specs.Log.{commands_by}

@@ -2,10 +2,9 @@
 use Rattle.std.specs.Prelude.{◌≡◌, ℕ, true, List, [], ◌++◌}
 use Rattle.ob_types.specs.Packed.{packed}
 use Rattle.ob_seq.specs.Effect.{rows_after}
-use Rattle.ob_seq.specs.Settings.{Settings}
-use Rattle.ob_seq.specs.Total.{total}
+use Rattle.ob_seq.specs.Rows.{Settings, total}
 use Rattle.ob_seq.specs.Word.{word_after}
-use Rattle.ob_connection.specs.Limit.{connection_accepts_all}
+use Rattle.ob_connection.specs.Connected.{connection_accepts_all}
 use Rattle.ob_shared_connection.specs.Log.{commands_by, commands_of}
 use Rattle.ob_shared_connection.specs.Removals.{NoneRemoves}
 use Rattle.ob_shared_connection.specs.Values.{HandleValue}

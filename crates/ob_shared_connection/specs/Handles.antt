@@ -1,6 +1,6 @@
 -- How handles begin, and how they end.
 use Rattle.std.specs.Prelude.{◌≡◌, ◌≤◌, ◌+◌, true, false, List, [], ◌∷◌, ◌++◌, length}
-use Rattle.ob_seq.specs.Settings.{Settings}
+use Rattle.ob_seq.specs.Rows.{Settings}
 use Rattle.ob_shared_connection.specs.Log.{IsBeginning, commands_by}
 use Rattle.ob_shared_connection.specs.Shares.{IsWhole, halves}
 use Rattle.ob_shared_connection.specs.Values.{HandleValue, IsLeftBy}

@@ -1,7 +1,6 @@
 -- What whoever lets the lock go has to know. No public clause cites it.
 use Rattle.ob_seq.specs.Looks.{look_after}
-use Rattle.ob_connection.specs.Connected.{Connected}
-use Rattle.ob_connection.specs.Standing.{Gives}
+use Rattle.ob_connection.specs.Connected.{Connected, Gives}
 use Rattle.ob_shared_connection.specs.Waiting.{is_due, moment_after}
 use Rattle.ob_shared_connection.specs.declared.bell.Waiter.TheVariants.{Writer, Sender}
 use Rattle.ob_shared_connection.specs.declared.looks.Parting.{Parting}

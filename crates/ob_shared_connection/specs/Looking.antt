@@ -3,10 +3,9 @@ use Rattle.std.specs.Prelude.{◌≡◌, ℕ, List, [], Option, Some, Result, If
 use Rattle.ob_types.specs.declared.command.Command.{Command}
 use Rattle.ob_types.specs.declared.refusal.Refusal.{Refusal}
 use Rattle.ob_types.specs.declared.refusal.Refusal.TheVariants.{NoMemory}
-use Rattle.ob_seq.specs.Gathering.{gathered_after}
-use Rattle.ob_connection.specs.Connected.{Connected}
+use Rattle.ob_seq.specs.Looks.{gathered_after}
+use Rattle.ob_connection.specs.Connected.{Connected, StandsFor}
 use Rattle.ob_connection.specs.Looks.{AreGathered, Refuses}
-use Rattle.ob_connection.specs.Standing.{StandsFor}
 use Rattle.ob_shared_connection.specs.Values.{Held}
 
 -- a look shows this of the connection, and nothing changes

@@ -7,10 +7,9 @@ use Rattle.ob_types.specs.declared.command.Command.TheVariants.{RemoveBytes}
 use Rattle.ob_types.specs.declared.promise.Outcome.TheVariants.{Success}
 use Rattle.ob_types.specs.declared.refusal.Refusal.{Refusal}
 use Rattle.ob_seq.specs.State.{closed_after, empty_after}
-use Rattle.ob_connection.specs.Calls.{Call, bytes_of, had_no_room}
-use Rattle.ob_connection.specs.Limit.{connection_accepts}
+use Rattle.ob_connection.specs.Calls.{Call, bytes_of, had_no_room, with_more}
+use Rattle.ob_connection.specs.Connected.{connection_accepts}
 use Rattle.ob_connection.specs.Sending.{offered_after}
-use Rattle.ob_connection.specs.Telling.{with_more}
 use Rattle.ob_connection.specs.declared.connection.sending.Sent.{Sent}
 use Rattle.ob_connection.specs.declared.replies.Taken.{Taken}
 use Rattle.ob_connection.specs.declared.socket.SocketFault.{SocketFault}

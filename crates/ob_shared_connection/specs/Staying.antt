@@ -3,11 +3,9 @@ use Rattle.std.specs.Prelude.{◌≡◌, ◌≤◌, ◌<◌, ℕ, true, List, �
 use Rattle.std.specs.List.{list_all}
 use Rattle.ob_types.specs.declared.command.Command.{Command}
 use Rattle.ob_types.specs.declared.command.Command.TheVariants.{RemoveBytes}
-use Rattle.ob_seq.specs.ByteRun.{byte_run}
-use Rattle.ob_seq.specs.Effect.{rows_after}
-use Rattle.ob_seq.specs.Pieces.{bytes_in}
-use Rattle.ob_seq.specs.Settings.{Settings}
-use Rattle.ob_connection.specs.Limit.{connection_accepts, connection_accepts_all}
+use Rattle.ob_seq.specs.Effect.{byte_run, rows_after, bytes_in}
+use Rattle.ob_seq.specs.Rows.{Settings}
+use Rattle.ob_connection.specs.Connected.{connection_accepts, connection_accepts_all}
 use Rattle.ob_shared_connection.specs.Log.{commands_of}
 use Rattle.ob_shared_connection.specs.Removals.{leaves_flushed}
 use Rattle.ob_shared_connection.specs.Values.{HandleValue}

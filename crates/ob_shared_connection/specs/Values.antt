@@ -2,9 +2,8 @@
 use Rattle.std.specs.Prelude.{◌≡◌, ℕ, Bool, false, true, List, ◌++◌}
 use Rattle.atomic_table.specs.Seated.{TableId}
 use Rattle.ob_types.specs.declared.command.Command.{Command}
-use Rattle.ob_seq.specs.Settings.{Settings}
-use Rattle.ob_connection.specs.Connected.{Connected}
-use Rattle.ob_connection.specs.Standing.{StandsFor}
+use Rattle.ob_seq.specs.Rows.{Settings}
+use Rattle.ob_connection.specs.Connected.{Connected, StandsFor}
 use Rattle.ob_shared_connection.specs.Log.{calls_of, commands_of}
 use Rattle.ob_shared_connection.specs.Shares.{halves}
 use Rattle.ob_shared_connection.specs.declared.call.Call.{Call}

@@ -1,7 +1,7 @@
 -- What a handle waits for.
 use Rattle.std.specs.Prelude.{◌≡◌, Bool, true, false, List, if◌then◌else◌}
 use Rattle.ob_types.specs.declared.command.Command.{Command}
-use Rattle.ob_seq.specs.Settings.{Settings}
+use Rattle.ob_seq.specs.Rows.{Settings}
 use Rattle.ob_seq.specs.State.{closed_after, empty_after, writable_after}
 use Rattle.ob_shared_connection.specs.Log.{commands_of}
 use Rattle.ob_shared_connection.specs.Values.{Held}

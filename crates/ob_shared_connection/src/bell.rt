@@ -1,6 +1,6 @@
 //! Bells, at which handles wait.
 ghost use Rattle.std.specs.Prelude.{◌≡◌, ◌<◌};
-ghost use Rattle.ob_connection.specs.Standing.{Gives};
+ghost use Rattle.ob_connection.specs.Connected.{Gives};
 ghost use Rattle.ob_shared_connection.specs.Bells.{bell_word};
 ghost use Rattle.ob_shared_connection.specs.Waiting.{moment_after};
 

@@ -1,5 +1,5 @@
 ghost use Rattle.std.specs.Prelude.{◌≡◌, ◌<◌, true, IfErr, IfOk, OnErr, OnOk};
-ghost use Rattle.ob_seq.specs.Pieces.{bytes_in};
+ghost use Rattle.ob_seq.specs.Effect.{bytes_in};
 ghost use Rattle.ob_shared_connection.specs.Calls.{IsLock, UnderLock};
 ghost use Rattle.ob_shared_connection.specs.Handles.{IsAnother, IsButForShare};
 ghost use Rattle.ob_shared_connection.specs.Looking.{Gathers, IsLook};

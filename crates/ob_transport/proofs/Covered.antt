@@ -11,10 +11,8 @@ use Rattle.ob_types.specs.declared.refusal.Refusal.{Refusal}
 use Rattle.ob_seq.specs.Answer.{first_refusal, outcome_of, reply_of, settlement, settlements_from, settlements_of}
 use Rattle.ob_seq.specs.Answer.{unless_refused}
 use Rattle.ob_seq.specs.Effect.{progressed_row, rows_after, taken_row, with_front}
-use Rattle.ob_seq.specs.Line.{is_in_line}
-use Rattle.ob_seq.specs.Row.{Row}
-use Rattle.ob_seq.specs.Settings.{Settings}
-use Rattle.ob_seq.specs.Settles.{settled_after, settled_by}
+use Rattle.ob_seq.specs.Rows.{is_in_line, Row, Settings}
+use Rattle.ob_seq.specs.Pending.{settled_after, settled_by}
 use Rattle.ob_seq.proofs.Rows.Along.{settlement_same, settlements_behind}
 use Rattle.ob_history.specs.Accepted.{accepted_commands}
 use Rattle.ob_history.specs.Call.{IsCovered, history_after, is_full, next_record, with_record}

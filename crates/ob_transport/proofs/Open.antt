@@ -15,12 +15,10 @@ use Rattle.ob_types.specs.declared.promise.Cause.{Cause}
 use Rattle.ob_types.specs.declared.refusal.Refusal.{Refusal}
 use Rattle.ob_types.specs.declared.refusal.Refusal.TheVariants.{Oversize, TooMuch}
 use Rattle.ob_types.specs.Limits.{greatest_pending_size, greatest_region}
-use Rattle.ob_seq.specs.Settings.{Settings}
+use Rattle.ob_seq.specs.Rows.{Settings, front, is_in_line, Row, is_voided, new_row, unread_part, without_skipped}
 use Rattle.ob_seq.specs.Answer.{are_accepted, first_refusal, is_too_much, refusal_of}
-use Rattle.ob_seq.specs.Closed.{is_close, is_closed}
+use Rattle.ob_seq.specs.State.{is_close, is_closed}
 use Rattle.ob_seq.specs.Effect.{closed_row, effect, rows_after}
-use Rattle.ob_seq.specs.Line.{front, is_in_line}
-use Rattle.ob_seq.specs.Row.{Row, is_voided, new_row, unread_part, without_skipped}
 use Rattle.ob_seq.proofs.Rows.Accepting.{kept_along_accepted, open_and_fit}
 use Rattle.ob_seq.proofs.Rows.EachRow.{Shrink, effect_shrinks}
 use Rattle.std.proofs.lemmas.List.Folds.{list_any-append}

@@ -11,12 +11,10 @@ use Rattle.ob_types.specs.declared.message.Message.{Message}
 use Rattle.ob_types.specs.declared.message.Message.TheVariants.{Block, Region, Other}
 use Rattle.ob_types.specs.declared.refusal.Refusal.TheVariants.{Closed, TooFar, TooManyBytes}
 use Rattle.ob_seq.specs.Answer.{are_accepted, first_refusal, refusal_of, refusal_of_progress}
-use Rattle.ob_seq.specs.ByteRun.{block_bytes, blocks_in_front, byte_run}
-use Rattle.ob_seq.specs.Effect.{progressed_row, rows_after, with_front}
-use Rattle.ob_seq.specs.Line.{front, is_in_line, line}
+use Rattle.ob_seq.specs.Effect.{block_bytes, blocks_in_front, byte_run, progressed_row, rows_after, with_front}
+use Rattle.ob_seq.specs.Effect.{bytes_in}
+use Rattle.ob_seq.specs.Rows.{front, is_in_line, line, Row, unread_part}
 use Rattle.ob_seq.specs.Looks.{progress_of}
-use Rattle.ob_seq.specs.Pieces.{bytes_in}
-use Rattle.ob_seq.specs.Row.{Row, unread_part}
 use Rattle.ob_seq.proofs.Inside.Gathered.{gathered_first, length_of_concat}
 use Rattle.ob_history.specs.Accepted.{accepted_commands}
 use Rattle.ob_history.specs.Call.{history_after, is_full}

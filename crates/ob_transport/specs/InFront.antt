@@ -1,11 +1,9 @@
 -- What a transport finds in the buffer of a history.
 use Rattle.std.specs.Prelude.{ℕ, List, Option}
 use Rattle.ob_types.specs.declared.message.Message.{Message}
-use Rattle.ob_seq.specs.Row.{Row}
-use Rattle.ob_seq.specs.Line.{front}
-use Rattle.ob_seq.specs.Looks.{current_after, progress_of}
+use Rattle.ob_seq.specs.Rows.{Row, front}
+use Rattle.ob_seq.specs.Looks.{current_after, progress_of, gathered_after}
 use Rattle.ob_seq.specs.Effect.{rows_after}
-use Rattle.ob_seq.specs.Gathering.{gathered_after}
 use Rattle.ob_history.specs.Accepted.{accepted_commands}
 use Rattle.ob_history.specs.History.{History}
 use Rattle.ob_transport.specs.SentBy.{unread_bytes}

@@ -2,9 +2,8 @@
 use Rattle.std.specs.Prelude.{List, [], ◌∷◌}
 use Rattle.ob_types.specs.declared.command.Command.{Command}
 use Rattle.ob_types.specs.declared.estimate.Estimate.{Estimate}
-use Rattle.ob_seq.specs.Row.{Row}
+use Rattle.ob_seq.specs.Rows.{Row, Settings}
 use Rattle.ob_seq.specs.Effect.{effect}
-use Rattle.ob_seq.specs.Settings.{Settings}
 use Rattle.ob_history.specs.Accepted.{accepted_commands}
 use Rattle.ob_history.specs.declared.record.Record.{Record}
 

@@ -5,11 +5,9 @@ use Rattle.ob_types.specs.declared.command.Command.{Command}
 use Rattle.ob_types.specs.declared.command.Command.TheVariants.{Remove, RemoveWith, RemoveBytes}
 use Rattle.ob_types.specs.declared.message.Message.{Message}
 use Rattle.ob_types.specs.declared.message.Message.TheVariants.{Block, Region, Other}
-use Rattle.ob_seq.specs.Settings.{Settings}
-use Rattle.ob_seq.specs.Line.{front}
-use Rattle.ob_seq.specs.Looks.{current_after, progress_of}
+use Rattle.ob_seq.specs.Rows.{Settings, front}
+use Rattle.ob_seq.specs.Looks.{current_after, progress_of, gathered_after}
 use Rattle.ob_seq.specs.Effect.{rows_after}
-use Rattle.ob_seq.specs.Gathering.{gathered_after}
 use Rattle.ob_transport.specs.Asking.{Asked, OfBytes, OfUnits}
 use Rattle.ob_transport.specs.Outcome.{Clears, SendsBytes, SendsUnits}
 use Rattle.ob_transport.specs.InFront.{current_in, gathered_in, progress_in}

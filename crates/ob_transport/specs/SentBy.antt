@@ -6,9 +6,8 @@ use Rattle.ob_types.specs.declared.command.Command.TheVariants.{Write, Flush, Re
 use Rattle.ob_types.specs.declared.command.Command.TheVariants.{Cancel, FailFlushed, Close, UserBit, SetMarks}
 use Rattle.ob_types.specs.declared.message.Message.{Message}
 use Rattle.ob_types.specs.declared.message.Message.TheVariants.{Block, Region, Other}
-use Rattle.ob_seq.specs.Row.{Row, unread_part}
-use Rattle.ob_seq.specs.Line.{front}
-use Rattle.ob_seq.specs.ByteRun.{block_bytes, byte_run}
+use Rattle.ob_seq.specs.Rows.{Row, unread_part, front}
+use Rattle.ob_seq.specs.Effect.{block_bytes, byte_run}
 
 -- the bytes and the units of regions that a command sends
 pub record Sent : Type 0 where

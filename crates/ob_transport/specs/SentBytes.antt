@@ -2,8 +2,7 @@
 use Rattle.std.specs.Prelude.{ℕ, List}
 use Rattle.std.specs.List.{flat_map}
 use Rattle.ob_types.specs.declared.command.Command.{Command}
-use Rattle.ob_seq.specs.Row.{Row}
-use Rattle.ob_seq.specs.Settings.{Settings}
+use Rattle.ob_seq.specs.Rows.{Row, Settings}
 use Rattle.ob_history.specs.declared.record.Record.{Record}
 use Rattle.ob_transport.specs.SentBy.{sent_by}
 use Rattle.ob_transport.specs.Occasion.{occasions_in}

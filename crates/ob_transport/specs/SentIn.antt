@@ -1,7 +1,7 @@
 -- What one record of a history sends.
 use Rattle.std.specs.Prelude.{List, take, if◌then◌else◌}
 use Rattle.ob_seq.specs.Effect.{rows_after}
-use Rattle.ob_seq.specs.Settings.{Settings}
+use Rattle.ob_seq.specs.Rows.{Settings}
 use Rattle.ob_history.specs.Accepted.{accepted_commands, is_accepted}
 use Rattle.ob_history.specs.declared.record.Record.{Record}
 use Rattle.ob_transport.specs.SentBy.{Sent, nothing, sent_by}

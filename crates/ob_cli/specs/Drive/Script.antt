@@ -5,7 +5,7 @@ use Rattle.std.specs.List.{range_with_len}
 use Rattle.ob_types.specs.declared.command.Command.{Command}
 use Rattle.ob_types.specs.declared.command.Command.TheVariants as command
 use Rattle.ob_types.specs.declared.message.Message.TheVariants as message
-use Rattle.ob_seq.specs.Pieces.{greatest}
+use Rattle.ob_seq.specs.Effect.{greatest}
 use Rattle.ob_transport.specs.declared.script.SinkStep.{SinkStep}
 use Rattle.ob_cli.specs.Drive.Table.{drive_table}
 use Rattle.ob_cli.specs.Reading.Grammar.{Grammar}

@@ -4,8 +4,8 @@ use Rattle.std.specs.List.{range_with_len}
 use Rattle.ob_types.specs.declared.message.Message.TheVariants as message
 use Rattle.ob_types.specs.declared.command.Command.{Command}
 use Rattle.ob_types.specs.declared.command.Command.TheVariants as command
-use Rattle.ob_seq.specs.Gathering.{gathered_after}
-use Rattle.ob_seq.specs.Writes.{writes_in}
+use Rattle.ob_seq.specs.Looks.{gathered_after}
+use Rattle.ob_seq.specs.State.{writes_in}
 use Rattle.ob_history.specs.Accepted.{accepted_commands}
 use Rattle.ob_history.specs.Call.{history_after}
 use Rattle.ob_history.specs.History.{History}

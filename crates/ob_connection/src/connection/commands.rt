@@ -1,4 +1,4 @@
-//! One call for each command.
+//! One call for each command. What a command does and what it costs, `Buffer` of `ob_seq` says in full.
 
 ghost use Rattle.std.specs.Prelude.{◌≡◌, false, is_err, IfErr, IfOk, IsErrOf, OnErr, OnOk, true};
 ghost use Rattle.ob_types.specs.declared.command.Command.TheVariants.{Write, Flush, Remove, RemoveWith, RemoveBytes};
@@ -6,13 +6,11 @@ ghost use Rattle.ob_types.specs.declared.command.Command.TheVariants.{Progress, 
 ghost use Rattle.ob_types.specs.declared.command.Command.TheVariants.{SetMarks};
 ghost use Rattle.ob_types.specs.declared.promise.Outcome.TheVariants.{Success, Failed};
 ghost use Rattle.ob_seq.specs.State.{closed_after};
-ghost use Rattle.ob_connection.specs.GivingUp.{GivesUp};
-ghost use Rattle.ob_connection.specs.Obeying.{IsNext, IsQuiet, Obeys};
-ghost use Rattle.ob_connection.specs.Standing.{Gives};
-ghost use Rattle.ob_connection.specs.Replies.{answer_of_write, written_reply, flushed_reply, removed_reply, taken_reply, cancelled_reply};
-ghost use Rattle.ob_connection.specs.Replies.{bit_reply, done_reply};
-ghost use Rattle.ob_connection.specs.Keeping.{KeepsRoom, TakesNoRoom, room_in};
-ghost use Rattle.ob_seq.specs.Ring.{room_for_one_more, spares};
+ghost use Rattle.ob_connection.specs.Obeying.{GivesUp, IsNext, IsQuiet, Obeys, answer_of_write, written_reply};
+ghost use Rattle.ob_connection.specs.Obeying.{flushed_reply, removed_reply, taken_reply, cancelled_reply, bit_reply};
+ghost use Rattle.ob_connection.specs.Obeying.{done_reply};
+ghost use Rattle.ob_connection.specs.Connected.{Gives, KeepsRoom, TakesNoRoom, room_in};
+ghost use Rattle.ob_seq.specs.Unsent.{room_for_one_more, spares};
 
 use crate::connection::Connection;
 use crate::refused::Refused;
@@ -37,12 +35,8 @@ impl Connection {
         self.inner.write(message)
     }
 
-    /// Lets the transport have all that was written so far (Netty's `addFlush`), fixes the promises of those messages,
-    /// and returns how many they are. A message whose promise was cancelled is voided: it becomes an empty block that
-    /// counts nothing, and stays in line. It takes the same few steps whatever is pending, unless a promise was
-    /// cancelled since the last flush: then it goes once over the messages that it reaches. It does not allocate.
-    ///
-    /// `Closed` comes if the connection is closed.
+    /// Lets the transport have all that was written so far, as `Buffer::flush` (Netty's `addFlush`), and returns how many
+    /// messages it reached. It does not allocate. `Closed` is its only refusal.
     pub fn flush(&mut self) -> Result<Flushed, Refusal>
         ensures obeys { Obeys self.old Flush flushed_reply result self.new }
         ensures frugal { ¬ IsErrOf result Refusal.NoMemory }
@@ -51,11 +45,8 @@ impl Connection {
         self.inner.flush()
     }
 
-    /// Takes the first flushed message away, as sent (Netty's `remove()`): unless it was voided its promise succeeds, and
-    /// the pending bytes fall with notice. With nothing flushed nothing changes. It takes the same few steps whatever
-    /// is pending, and never runs out of memory.
-    ///
-    /// `Closed` comes if the connection is closed.
+    /// Takes the first flushed message away, as sent, as `Buffer::remove` (Netty's `remove()`). It never runs out of
+    /// memory. `Closed` is its only refusal.
     pub fn remove(&mut self) -> Result<Removed, Refusal>
         ensures obeys { Obeys self.old Remove removed_reply result self.new }
         ensures frugal { ¬ IsErrOf result Refusal.NoMemory }
@@ -64,10 +55,8 @@ impl Connection {
         self.inner.remove(Outcome::Success)
     }
 
-    /// Takes the first flushed message away as `remove` does, but as failed for this cause (Netty's
-    /// `remove(Throwable)`), and costs the same. It never runs out of memory.
-    ///
-    /// `Closed` comes if the connection is closed.
+    /// Takes the first flushed message away, as failed for this cause, as `Buffer::remove_with` (Netty's
+    /// `remove(Throwable)`). It never runs out of memory. `Closed` is its only refusal.
     pub fn remove_with(&mut self, cause: Cause) -> Result<Removed, Refusal>
         ensures obeys { Obeys self.old (RemoveWith cause) removed_reply result self.new }
         ensures frugal { ¬ IsErrOf result Refusal.NoMemory }
@@ -76,13 +65,8 @@ impl Connection {
         self.inner.remove(Outcome::Failed(cause))
     }
 
-    /// Takes *n* bytes off the flushed blocks in front, as sent (Netty's `removeBytes`), and returns which messages it
-    /// took away.
-    ///
-    /// Each message that is gone whole is taken away as by `remove`, empty and voided ones along with the others; what
-    /// is left of the bytes is skipped in the next message, and added to its progress, which stops at
-    /// 9223372036854775807. So 0 bytes take away the empty messages in front. Bytes that are skipped stay pending until
-    /// their message is gone. It goes over the messages that it takes away, and one more, and never runs out of memory.
+    /// Takes *n* bytes off the flushed blocks in front, as sent, as `Buffer::remove_bytes` (Netty's `removeBytes`), and
+    /// returns which messages are gone by that. It never runs out of memory.
     ///
     /// `Closed` comes if the connection is closed, and then `TooManyBytes` if the flushed blocks before the first other
     /// message hold fewer bytes; both leave everything as it was.
@@ -95,11 +79,8 @@ impl Connection {
         self.inner.take_sent(n)
     }
 
-    /// Adds *n* bytes to the progress of the first flushed message (Netty's `progress`). It takes the same few
-    /// steps whatever is pending, and does not allocate.
-    ///
-    /// `Closed` comes if the connection is closed, then `NothingFlushed` if no message is flushed, and then `TooFar` if the
-    /// progress would pass 9223372036854775807.
+    /// Adds *n* bytes to the progress of the first flushed message, as `Buffer::progress` (Netty's `progress`), and is
+    /// refused as that is. It does not allocate.
     pub fn progress(&mut self, n: u64) -> Result<(), Refusal>
         ensures obeys { Obeys self.old (Progress n) done_reply result self.new }
         ensures frugal { ¬ IsErrOf result Refusal.NoMemory }
@@ -108,9 +89,8 @@ impl Connection {
         self.inner.progress(n)
     }
 
-    /// Takes a promise back (Netty's `Future.cancel`), and returns whether that came in time: a promise that a flush
-    /// has fixed, or that is settled, stays as it is. The pending bytes stay too: they fall at the flush. It takes the
-    /// same few steps whatever is pending, and does not allocate.
+    /// Takes a promise back, as `Buffer::cancel` (Netty's `Future.cancel`), and returns whether that came in time. It takes
+    /// the same few steps whatever is pending, and does not allocate.
     ///
     /// `Closed` comes if the connection is closed, and then `UnknownPromise` if no write was accepted under the id.
     pub fn cancel(&mut self, id: u64) -> Result<bool, Refusal>
@@ -121,12 +101,8 @@ impl Connection {
         self.inner.cancel(id)
     }
 
-    /// Takes all flushed messages away, oldest first, as failed for this cause (Netty's `failFlushed`), and returns
-    /// which they were, voided ones too. The promise of each that was not voided fails. If `notify` is not set the
-    /// pending bytes fall without notice: the word stays as it was, below the low mark too. It goes over the messages
-    /// that it takes away, and never runs out of memory.
-    ///
-    /// `Closed` comes if the connection is closed.
+    /// Takes all flushed messages away, as failed for this cause, as `Buffer::fail_flushed` (Netty's `failFlushed`), and
+    /// returns which they were, voided ones too. It never runs out of memory. `Closed` is its only refusal.
     pub fn fail_flushed(&mut self, cause: Cause, notify: bool) -> Result<Taken, Refusal>
         ensures obeys { Obeys self.old (FailFlushed cause notify) taken_reply result self.new }
         ensures next { IsNext self.old (Failed cause) result self.new }
@@ -137,10 +113,8 @@ impl Connection {
         self.inner.fail_flushed(cause, notify)
     }
 
-    /// Closes the connection for good: takes all messages away that no flush has reached, oldest first and without
-    /// notice, fails their promises for this cause unless they were cancelled, and returns which messages they were
-    /// (Netty's `close`). The word stays as it was. After it each command is refused as `Closed`, and looks still show
-    /// what there is. It goes over the messages that it takes away, and never runs out of memory.
+    /// Closes the connection for good, as `Buffer::close` (Netty's `close`), and returns which messages it took away, of
+    /// which no flush had reached any. It never runs out of memory.
     ///
     /// `Closed` comes if the connection is closed already, and then `FlushedLeft` if a flushed message is left, voided ones
     /// too; both leave everything as it was.
@@ -173,9 +147,8 @@ impl Connection {
         Ok(self.inner.give_up(cause))
     }
 
-    /// Sets the user bit of this index, or clears it if `writable` is set (Netty's `setUserDefinedWritability`), and
-    /// returns how that changed writability. The connection is writable while no user bit and no mark is set. It takes
-    /// the same few steps whatever is pending, and does not allocate.
+    /// Sets the user bit of this index, or clears it if `writable` is set, as `Buffer::user_bit` (Netty's
+    /// `setUserDefinedWritability`), and returns how that changed writability. It does not allocate.
     ///
     /// `Closed` comes if the connection is closed, and then `BadIndex` if the index is not 1 to 31.
     pub fn user_bit(&mut self, index: u32, writable: bool) -> Result<Option<Change>, Refusal>
@@ -186,12 +159,8 @@ impl Connection {
         self.inner.user_bit(index, writable)
     }
 
-    /// Sets the marks that are in force from now on (Netty's `setWriteBufferWaterMark` on an open channel, for which
-    /// Netty states no rule). It moves no bit, settles nothing and changes no writability, even if what is pending is
-    /// above the new high mark or below the new low mark: only the next rise or fall goes by the new marks, and each
-    /// look from now on. It takes the same few steps whatever is pending, and does not allocate.
-    ///
-    /// `Closed` comes if the connection is closed.
+    /// Sets the marks that are in force from now on, as `Buffer::set_marks`: it moves no bit, so it changes no writability.
+    /// It does not allocate. `Closed` is its only refusal.
     pub fn set_marks(&mut self, marks: WaterMark) -> Result<(), Refusal>
         ensures obeys { Obeys self.old (SetMarks marks) done_reply result self.new }
         ensures frugal { ¬ IsErrOf result Refusal.NoMemory }

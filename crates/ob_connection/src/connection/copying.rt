@@ -4,12 +4,10 @@ ghost use Rattle.std.specs.Prelude.{◌≡◌, ◌<◌, ℕ, List, length, Some,
 ghost use Rattle.ob_types.specs.Limits.{greatest_pending_size};
 ghost use Rattle.ob_types.specs.declared.command.Command.TheVariants.{Write};
 ghost use Rattle.ob_types.specs.declared.message.Message.TheVariants.{Block};
-ghost use Rattle.ob_seq.specs.Ring.{room_for_one_more};
-ghost use Rattle.ob_connection.specs.Keeping.{room_in};
+ghost use Rattle.ob_seq.specs.Unsent.{room_for_one_more};
+ghost use Rattle.ob_connection.specs.Connected.{room_in};
 ghost use Rattle.ob_connection.specs.Looks.{Refuses};
-ghost use Rattle.ob_connection.specs.Obeying.{Obeys};
-ghost use Rattle.ob_connection.specs.Parts.{joined};
-ghost use Rattle.ob_connection.specs.Replies.{written_reply};
+ghost use Rattle.ob_connection.specs.Obeying.{Obeys, joined, written_reply};
 
 use crate::chunk::length_of;
 use crate::connection::Connection;

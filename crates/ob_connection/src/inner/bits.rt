@@ -3,8 +3,8 @@
 ghost use Rattle.std.specs.Prelude.{IsErrOf};
 ghost use Rattle.ob_types.specs.declared.command.Command.TheVariants.{Progress, UserBit, SetMarks};
 ghost use Rattle.ob_connection.specs.Becoming.{Moves};
-ghost use Rattle.ob_connection.specs.Replies.{bit_reply, done_reply};
-ghost use Rattle.ob_connection.specs.Keeping.{KeepsRoom};
+ghost use Rattle.ob_connection.specs.Obeying.{bit_reply, done_reply};
+ghost use Rattle.ob_connection.specs.Connected.{KeepsRoom};
 
 use crate::inner::Inner;
 use ob_types::{Change, Refusal, WaterMark};
@@ -16,17 +16,7 @@ impl Inner {
         ensures frugal { ¬ IsErrOf result Refusal.NoMemory }
         ensures room { KeepsRoom self.old self.new }
     {
-        if self.contents.is_closed() {
-            return Err(Refusal::Closed);
-        }
-        if self.contents.line_count() == 0 {
-            return Err(Refusal::NothingFlushed);
-        }
-        if !self.contents.has_progress_left(n) {
-            return Err(Refusal::TooFar);
-        }
-        self.contents.tell_front(n);
-        Ok(())
+        self.contents.progress(n)
     }
 
     /// The step of `Connection::user_bit`.
@@ -35,15 +25,7 @@ impl Inner {
         ensures frugal { ¬ IsErrOf result Refusal.NoMemory }
         ensures room { KeepsRoom self.old self.new }
     {
-        if self.contents.is_closed() {
-            return Err(Refusal::Closed);
-        }
-        if index == 0 || index > 31 {
-            return Err(Refusal::BadIndex);
-        }
-        let before = self.contents.word();
-        self.contents.set_user_bit(index, writable);
-        Ok(self.change_since(before))
+        self.contents.user_bit(index, writable)
     }
 
     /// The step of `Connection::set_marks`.
@@ -52,10 +34,6 @@ impl Inner {
         ensures frugal { ¬ IsErrOf result Refusal.NoMemory }
         ensures room { KeepsRoom self.old self.new }
     {
-        if self.contents.is_closed() {
-            return Err(Refusal::Closed);
-        }
-        self.contents.set_marks(marks);
-        Ok(())
+        self.contents.set_marks(marks)
     }
 }

@@ -1,8 +1,8 @@
 ghost use Rattle.std.specs.Prelude.{IsErrOf};
 ghost use Rattle.ob_types.specs.declared.command.Command.TheVariants.{Cancel};
 ghost use Rattle.ob_connection.specs.Becoming.{Moves};
-ghost use Rattle.ob_connection.specs.Replies.{cancelled_reply};
-ghost use Rattle.ob_connection.specs.Keeping.{KeepsRoom};
+ghost use Rattle.ob_connection.specs.Obeying.{cancelled_reply};
+ghost use Rattle.ob_connection.specs.Connected.{KeepsRoom};
 
 use crate::inner::Inner;
 use ob_types::Refusal;
@@ -14,20 +14,6 @@ impl Inner {
         ensures frugal { ¬ IsErrOf result Refusal.NoMemory }
         ensures room { KeepsRoom self.old self.new }
     {
-        if self.contents.is_closed() {
-            return Err(Refusal::Closed);
-        }
-        if id >= self.accepted_writes() {
-            return Err(Refusal::UnknownPromise);
-        }
-        if id < self.gone {
-            return Ok(false);
-        }
-        let place = (id - self.gone) as usize;
-        let waits = self.contents.state_at(place).is_waiting();
-        if waits {
-            self.contents.take_back(place);
-        }
-        Ok(waits)
+        self.contents.cancel(id, self.gone)
     }
 }

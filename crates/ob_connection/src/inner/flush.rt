@@ -1,8 +1,8 @@
 ghost use Rattle.std.specs.Prelude.{IsErrOf};
 ghost use Rattle.ob_types.specs.declared.command.Command.TheVariants.{Flush};
 ghost use Rattle.ob_connection.specs.Becoming.{Moves};
-ghost use Rattle.ob_connection.specs.Replies.{flushed_reply};
-ghost use Rattle.ob_connection.specs.Keeping.{KeepsRoom};
+ghost use Rattle.ob_connection.specs.Obeying.{flushed_reply};
+ghost use Rattle.ob_connection.specs.Connected.{KeepsRoom};
 
 use crate::inner::Inner;
 use crate::replies::Flushed;
@@ -15,15 +15,8 @@ impl Inner {
         ensures frugal { ¬ IsErrOf result Refusal.NoMemory }
         ensures room { KeepsRoom self.old self.new }
     {
-        if self.contents.is_closed() {
-            return Err(Refusal::Closed);
-        }
-        let before = self.contents.word();
         let count = self.contents.unflushed_count() as u64;
-        self.contents.flush_all();
-        Ok(Flushed {
-            count,
-            change: self.change_since(before),
-        })
+        let change = self.contents.flush()?;
+        Ok(Flushed { count, change })
     }
 }

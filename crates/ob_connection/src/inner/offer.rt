@@ -3,9 +3,8 @@
 ghost use Rattle.std.specs.Io.Slices.{io_slice_bytes};
 ghost use Rattle.std.specs.List.{concat};
 ghost use Rattle.std.specs.Prelude.{◌≡◌, ◌≤◌, length, take, map, min};
-ghost use Rattle.ob_connection.specs.Calls.{calls_with, had_no_room, most_pieces};
+ghost use Rattle.ob_connection.specs.Calls.{calls_with, had_no_room, most_pieces, with_more};
 ghost use Rattle.ob_connection.specs.Offering.{answer_of, bytes_taken, Offers};
-ghost use Rattle.ob_connection.specs.Telling.{with_more};
 
 use crate::inner::Inner;
 use crate::socket::{Socket, SocketFault};

@@ -1,8 +1,8 @@
 ghost use Rattle.std.specs.Prelude.{IsErrOf};
-ghost use Rattle.ob_seq.specs.Steps.Remove.{removal_step};
+ghost use Rattle.ob_seq.specs.Steps.Commands.{removal_step};
 ghost use Rattle.ob_connection.specs.Becoming.{Steps};
-ghost use Rattle.ob_connection.specs.Replies.{removed_reply};
-ghost use Rattle.ob_connection.specs.Keeping.{TakesNoRoom};
+ghost use Rattle.ob_connection.specs.Obeying.{removed_reply};
+ghost use Rattle.ob_connection.specs.Connected.{TakesNoRoom};
 
 use crate::inner::Inner;
 use crate::replies::Removed;
@@ -15,26 +15,20 @@ impl Inner {
         ensures frugal { ¬ IsErrOf result Refusal.NoMemory }
         ensures room { TakesNoRoom self.old self.new }
     {
-        if self.contents.is_closed() {
-            return Err(Refusal::Closed);
-        }
-        if self.contents.line_count() == 0 {
+        let Some(front) = self.contents.remove()? else {
             return Ok(Removed {
                 any: false,
                 settled: None,
                 change: None,
             });
-        }
-        let before = self.contents.word();
+        };
         let id = self.gone;
-        let settles = self.contents.take_front(true);
         self.gone += 1;
-        let change = self.change_since(before);
         self.give_back();
         Ok(Removed {
             any: true,
-            settled: settles.then_some((id, outcome)),
-            change,
+            settled: front.settles.then_some((id, outcome)),
+            change: front.change,
         })
     }
 }

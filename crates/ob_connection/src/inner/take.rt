@@ -5,14 +5,12 @@ ghost use Rattle.ob_types.specs.declared.command.Command.TheVariants.{RemoveByte
 ghost use Rattle.ob_types.specs.Change.{change_between};
 ghost use Rattle.ob_types.specs.declared.promise.Outcome.{Outcome};
 ghost use Rattle.ob_types.specs.declared.promise.Outcome.TheVariants.{Success, Failed};
-ghost use Rattle.ob_seq.specs.Steps.Held.{times};
-ghost use Rattle.ob_seq.specs.Steps.Remove.{front_taken};
-ghost use Rattle.ob_seq.specs.Steps.RemoveBytes.{bytes_removed, first_length};
+ghost use Rattle.ob_seq.specs.Steps.Step.{times};
+ghost use Rattle.ob_seq.specs.Steps.Commands.{front_taken, bytes_removed, first_length};
 ghost use Rattle.ob_seq.specs.Unsent.{pending_entries};
 ghost use Rattle.ob_connection.specs.Becoming.{Becomes, FailsAll, HasNoLine, Moves};
-ghost use Rattle.ob_connection.specs.Obeying.{IsNext, IsQuiet};
-ghost use Rattle.ob_connection.specs.Replies.{taken_reply};
-ghost use Rattle.ob_connection.specs.Keeping.{KeepsRoom, TakesNoRoom, room_in};
+ghost use Rattle.ob_connection.specs.Obeying.{IsNext, IsQuiet, taken_reply};
+ghost use Rattle.ob_connection.specs.Connected.{KeepsRoom, TakesNoRoom, room_in};
 
 use crate::inner::Inner;
 use crate::replies::Taken;

@@ -1,12 +1,11 @@
 ghost use Rattle.std.specs.Prelude.{◌≡◌, ◌<◌, ℕ, List, length, IfErr, IfOk, IsErrOf, Some, OnOk, true};
 ghost use Rattle.ob_types.specs.Limits.{greatest_pending_size};
-ghost use Rattle.ob_connection.specs.Parts.{joined};
+ghost use Rattle.ob_connection.specs.Obeying.{joined, answer_of_write, written_reply};
 ghost use Rattle.ob_types.specs.declared.command.Command.TheVariants.{Write};
 ghost use Rattle.ob_types.specs.declared.message.Message.TheVariants.{Block};
 ghost use Rattle.ob_connection.specs.Becoming.{Admits, IsFirstRefusal, Moves};
-ghost use Rattle.ob_connection.specs.Replies.{answer_of_write, written_reply};
-ghost use Rattle.ob_connection.specs.Keeping.{room_in};
-ghost use Rattle.ob_seq.specs.Ring.{room_for_one_more, spares};
+ghost use Rattle.ob_connection.specs.Connected.{room_in};
+ghost use Rattle.ob_seq.specs.Unsent.{room_for_one_more, spares};
 ghost use Rattle.ob_types.specs.declared.refusal.Refusal.TheVariants.{NoMemory};
 
 use crate::inner::Inner;

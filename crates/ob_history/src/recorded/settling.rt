@@ -4,7 +4,7 @@ ghost use Rattle.std.specs.Prelude.{◌≡◌, false, true, IfSome, IsNone, Some
 ghost use Rattle.ob_types.specs.declared.promise.Outcome.{Outcome};
 ghost use Rattle.ob_types.specs.declared.promise.PromiseState.TheVariants.{Settled};
 ghost use Rattle.ob_seq.specs.Looks.{promise_after};
-ghost use Rattle.ob_seq.specs.Settles.{settled_by};
+ghost use Rattle.ob_seq.specs.Pending.{settled_by};
 ghost use Rattle.ob_history.specs.Words.{accepted_commands, settles};
 
 use crate::record::Record;

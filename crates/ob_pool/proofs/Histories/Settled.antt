@@ -14,9 +14,9 @@ use Rattle.ob_types.specs.declared.promise.PromiseId.{PromiseId}
 use Rattle.ob_types.specs.declared.promise.PromiseState.{PromiseState}
 use Rattle.ob_types.specs.declared.promise.PromiseState.TheVariants.{Settled}
 use Rattle.ob_seq.specs.Looks.{promise_after}
-use Rattle.ob_seq.specs.Settings.{Settings}
-use Rattle.ob_seq.specs.Settles.{settled_by, times_settled}
-use Rattle.ob_seq.specs.Writes.{writes_in}
+use Rattle.ob_seq.specs.Rows.{Settings}
+use Rattle.ob_seq.specs.Pending.{settled_by, times_settled}
+use Rattle.ob_seq.specs.State.{writes_in}
 use Rattle.ob_history.specs.Accepted.{accepted_commands}
 use Rattle.ob_history.specs.History.{History, IsBounded, most_records}
 use Rattle.ob_history.specs.Legal.{IsLegal}

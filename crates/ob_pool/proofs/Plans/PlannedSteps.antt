@@ -9,7 +9,7 @@ use Rattle.ob_types.specs.declared.command.Command.{Command}
 use Rattle.ob_types.specs.declared.command.Command.TheVariants.{Write, Flush, Remove, RemoveWith, RemoveBytes, Progress}
 use Rattle.ob_types.specs.declared.command.Command.TheVariants.{Cancel, FailFlushed, Close, UserBit, SetMarks}
 use Rattle.ob_types.specs.declared.estimate.Estimate.{Estimate}
-use Rattle.ob_seq.specs.Row.{Row}
+use Rattle.ob_seq.specs.Rows.{Row}
 use Rattle.ob_transport.specs.SentBy.{nothing, sent_by}
 use Rattle.ob_pool.specs.Report.Counts.{is_failing}
 use Rattle.ob_pool.specs.Planning.Plan.{bad_step, is_planned}

@@ -6,7 +6,7 @@ use Rattle.ob_types.specs.Write.{is_write}
 use Rattle.ob_types.specs.declared.command.Command.{Command}
 use Rattle.ob_types.specs.declared.promise.Outcome.{Outcome}
 use Rattle.ob_types.specs.declared.promise.Outcome.TheVariants.{Success, Failed, Cancelled}
-use Rattle.ob_seq.specs.Settles.{times_settled}
+use Rattle.ob_seq.specs.Pending.{times_settled}
 use Rattle.ob_history.specs.Accepted.{accepted_commands, is_accepted}
 use Rattle.ob_history.specs.Settlements.{settlements_in}
 use Rattle.ob_history.specs.declared.record.Record.{Record}

@@ -1,6 +1,6 @@
 -- What a transport keeps of its calls. No public clause cites this module.
 use Rattle.std.specs.Prelude.{◌≡◌, ◌+◌, ℕ, Bool, List, [], ◌∷◌, ◌++◌, Ok, count_by, length, map}
-use Rattle.ob_seq.specs.Settings.{Settings}
+use Rattle.ob_seq.specs.Rows.{Settings}
 use Rattle.ob_types.specs.declared.command.Command.{Command}
 use Rattle.ob_history.specs.Call.{call_answer}
 use Rattle.ob_history.specs.History.{History}

@@ -3,8 +3,8 @@ use Rattle.ob_seq.proofs.Words.{◌≡◌, ℕ, List, [], ◌∷◌, length, map
 use Rattle.ob_seq.proofs.Words.{entry_of, Pending, PendingEntry, first_progress, pending_total, Command, Leaves, Option, Message}
 use Rattle.ob_seq.proofs.Words.{slice_get, unread_part, blocks_left, first_blocks, with_bytes}
 use Rattle.std.specs.Prelude.{option_map}
-use Rattle.ob_seq.specs.Gathering.{gathered_after}
-use Rattle.ob_seq.specs.Looks.{before_unwritable, before_writable, current_after, look_after, progress_of}
+use Rattle.ob_seq.specs.Looks.{gathered_after, before_unwritable, before_writable, current_after, look_after}
+use Rattle.ob_seq.specs.Looks.{progress_of}
 use Rattle.ob_seq.specs.declared.look.Look.{Look}
 use Rattle.ob_seq.proofs.Simulating.BytesRemoved.{run_is}
 use Rattle.ob_seq.proofs.Simulating.Written.{pending_total_stands}

@@ -2,10 +2,9 @@
 use Rattle.ob_seq.proofs.Words.{[], ◌≡◌, ℕ, zero, suc, ◌+◌, ◌∷◌, ◌++◌, List, length, refl, sym, ap, ◌∙◌, arith, length-append, length-map}
 use Rattle.ob_seq.proofs.Words.{Outcome, Unsent, whole, waiting_count, fixed_state, waiting_state, Pending, times, next_flushed}
 use Rattle.ob_seq.proofs.Words.{Settled, map, PromiseState, slice_set, cond, Bool, false, true, Fixed, Waiting, get_or, ◌<◌, ◌≤◌, front_taken, unflushed_id, front_id}
-use Rattle.ob_seq.proofs.Words.{Entry, PendingEntry, unreached_entry, pending_entries, is_waiting, drop, append_assoc, ltb, nat_tests}
-use Rattle.ob_seq.specs.Steps.RemoveBytes.{front_skipped}
-use Rattle.ob_seq.specs.Steps.Flush.{is_next_cancelled}
-use Rattle.ob_seq.specs.Steps.Held.{is_first_voided, promise_set, state_at}
+use Rattle.ob_seq.proofs.Words.{Entry, PendingEntry, pending_entry, unreached_entry, pending_entries, is_waiting, drop, append_assoc, ltb, nat_tests}
+use Rattle.ob_seq.specs.Steps.Commands.{front_skipped, is_next_cancelled}
+use Rattle.ob_seq.specs.Steps.Step.{is_first_voided, promise_set, state_at}
 use Rattle.std.proofs.Math.ListN.{get_or-append}
 use Rattle.std.proofs.lemmas.List.{drop_at}
 use Rattle.std.proofs.lemmas.List.{length-set}
@@ -118,3 +117,25 @@ pub set_waiting : (id : ℕ) (state : PromiseState) (old new : Unsent) →
 set_waiting id state old new is =
     same_waiting old new
     (ap (λ (held : Pending). length held.promises) is ∙ length-set (whole [] old).promises id state)
+
+-- what is gone waits no more
+by_waiting : (now waits : Bool) → now ≡ waits → (now ≡ true → ⊥) → waits ≡ false
+by_waiting now true same never = absurd (never same)
+by_waiting now false same never = refl
+
+pub gone_waits_not : (gone : List Outcome) (unsent : Unsent) (id : ℕ) → id < length gone →
+    is_waiting (state_at (whole gone unsent) id) ≡ false
+gone_waits_not gone unsent id early =
+    by_waiting (is_waiting (state_at (whole gone unsent) id)) (is_waiting (state_at (whole gone unsent) id)) refl (λ waits.
+    let behind = waits_behind gone unsent id waits (ltb id (length gone + length unsent.line)) refl in
+    omega (arith, behind))
+
+-- the promise of the front is that of the first message that waits
+pub front_id_there : (gone : List Outcome) (unsent : Unsent) → front_id (whole gone unsent) ≡ length gone
+front_id_there gone unsent =
+    omega (
+      arith,
+      promises_there gone unsent,
+      length-map unsent.line pending_entry,
+      length-map unsent.unflushed unreached_entry,
+    )

@@ -4,7 +4,7 @@ use Rattle.ob_seq.proofs.Words.{map-append, entry_of, Row, nat_tests, skipped_ro
 use Rattle.ob_seq.proofs.Words.{settlements_from, Pending, first_changed, front_changed}
 use Rattle.std.proofs.Math.Seq.{drop-nil}
 use Rattle.std.proofs.lemmas.List.{drop-drop}
-use Rattle.ob_seq.specs.Steps.RemoveBytes.{front_skipped, skipped_entry}
+use Rattle.ob_seq.specs.Steps.Commands.{front_skipped, skipped_entry}
 use Rattle.ob_seq.proofs.Rows.Along.{moments_behind, settlements_behind}
 use Rattle.ob_seq.proofs.Inside.Held.{Held, promise_of, opening}
 use Rattle.ob_seq.proofs.Rows.Order.{IsGone, IsStanding, IsFresh, skipped_stands, with_front_gone, with_front_standing}

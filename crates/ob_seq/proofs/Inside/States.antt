@@ -13,9 +13,8 @@ use Rattle.std.proofs.lemmas.List.{get_or-take, get_or-drop, take-set-le, drop-s
 use Rattle.ob_seq.proofs.Inside.Entries.{total_of, both_runs, first_not_back, rest_not_back}
 use Rattle.ob_seq.proofs.Inside.Times.{times_first}
 use Rattle.std.proofs.Math.ListN.{get_or-append}
-use Rattle.ob_seq.specs.Steps.Flush.{is_next_cancelled}
-use Rattle.ob_seq.specs.Steps.Held.{state_at}
-use Rattle.ob_seq.specs.Steps.Write.{written}
+use Rattle.ob_seq.specs.Steps.Commands.{is_next_cancelled, written}
+use Rattle.ob_seq.specs.Steps.Step.{state_at}
 
 -- what a buffer holds, by its parts
 abbrev pub pending_from : Settings → Marks → List PendingEntry → List PendingEntry → List PromiseState → ℕ → Bool → Pending

@@ -3,7 +3,7 @@ use Rattle.ob_seq.proofs.Words.{◌≡◌, ◌-◌, Bool, List, [], ◌∷◌, �
 use Rattle.ob_seq.proofs.Words.{append_assoc, arith, slice_set, nat_tests, map-append, length-map, sum_by-append}
 use Rattle.ob_seq.proofs.Words.{sum_by-cons, set-append_seam, Settled, Outcome, PromiseState, Row, is_voided}
 use Rattle.ob_seq.proofs.Words.{counted_size, total, taken_row, Moment, moment_of, Pending, first_size, front_taken}
-use Rattle.ob_seq.specs.Steps.Held.{is_first_voided}
+use Rattle.ob_seq.specs.Steps.Step.{is_first_voided}
 use Rattle.ob_seq.proofs.Inside.Held.{Held, promise_of, front_id_is, pending_total_is}
 use Rattle.ob_seq.proofs.Word.Marks.{Past, word_from, word_from_more}
 use Rattle.ob_seq.proofs.Rows.Order.{IsStanding, IsGone, each_append}

@@ -3,10 +3,9 @@ use Rattle.ob_seq.proofs.Words.{◌≡◌, Bool, true, false, ◌&&◌, List, []
 use Rattle.ob_seq.proofs.Words.{append_assoc, append-nil, arith, Option, Some, None, is_ok, fold, Command, Estimate}
 use Rattle.ob_seq.proofs.Words.{ℕ, Refusal, Closed, Reply, Settings, is_accepted, are_accepted, accepted_among}
 use Rattle.ob_seq.proofs.Words.{first_refusal, refusal_of, reply_of, unless_refused, is_closed, rows_after, settled_along}
-use Rattle.ob_seq.specs.Accepted.{accepted_among_within}
-use Rattle.ob_seq.specs.Answer.{are_accepted_within, buffer_limit, commands_after_within, first_refusal_within}
-use Rattle.ob_seq.specs.Answer.{is_accepted_within, refusal_within}
-use Rattle.ob_seq.specs.Settles.{settled_along_within}
+use Rattle.ob_seq.specs.Answer.{accepted_among_within, are_accepted_within, buffer_limit, commands_after_within}
+use Rattle.ob_seq.specs.Answer.{first_refusal_within, is_accepted_within, refusal_within}
+use Rattle.ob_seq.specs.Pending.{settled_along_within}
 use Rattle.std.proofs.lemmas.List.Sums.{fold-append}
 
 -- there is none, or there is one

@@ -10,7 +10,7 @@ use Rattle.std.specs.List.{All}
 use Rattle.std.proofs.Common.{length-drop}
 use Rattle.std.proofs.lemmas.List.Elements.{All-from_recursion, length_all_zip}
 use Rattle.ob_types.specs.Limits.{greatest_total, most_writes}
-use Rattle.ob_seq.specs.Fitting.{FitsItsPlace}
+use Rattle.ob_seq.specs.Rows.{FitsItsPlace}
 use Rattle.ob_seq.proofs.Rows.Accepting.{kept_along_within, not_refused, open_and_fit, open_and_fit_within}
 use Rattle.ob_seq.specs.Answer.{are_accepted_within, first_refusal_within, refusal_within}
 use Rattle.ob_seq.proofs.Rows.EachRow.{Ends, IsKnown, each_as, each_turns, effect_turns, row_for_each_write}

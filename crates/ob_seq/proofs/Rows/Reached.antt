@@ -5,7 +5,7 @@ use Rattle.ob_seq.proofs.Words.{length-map, get_or-append_seam, set-append_seam,
 use Rattle.ob_seq.proofs.Words.{entry_of, Row, is_cancelled, counted_size, total, reached_row, Moment, moment_of}
 use Rattle.ob_seq.proofs.Words.{moments_along, outcome_of, settlement, settlements_from, Pending, pending_total}
 use Rattle.ob_seq.proofs.Words.{first_size, reached_entry, unflushed_id, next_flushed, times, word_after_fall}
-use Rattle.ob_seq.specs.Steps.Flush.{is_next_cancelled}
+use Rattle.ob_seq.specs.Steps.Commands.{is_next_cancelled}
 use Rattle.ob_seq.proofs.Inside.Held.{opening, Held, promise_of, unflushed_id_is, pending_total_is}
 use Rattle.ob_seq.proofs.Word.Marks.{Past, word_from, word_from_more, word_step}
 use Rattle.ob_seq.proofs.Rows.Order.{IsFresh, IsStanding, each_append, reached_stands}

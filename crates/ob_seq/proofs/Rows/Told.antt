@@ -4,13 +4,12 @@ use Rattle.ob_seq.proofs.Words.{ap, get_or, append-nil, length, cond, eqb, filte
 use Rattle.ob_seq.proofs.Words.{inr, ◌↔◌, Option, Some, None, fold, Command, Outcome, PromiseId, PromiseState, Settled}
 use Rattle.ob_seq.proofs.Words.{outcome_of, settlement, settlements_from, rows_after, promise_after, Row, Settings}
 use Rattle.ob_seq.proofs.Words.{accepted_among, settled_along}
-use Rattle.ob_seq.specs.Accepted.{accepted_among_within}
-use Rattle.ob_seq.specs.Answer.{are_accepted_within, buffer_limit, commands_after_within, first_refusal_within}
-use Rattle.ob_seq.specs.Settles.{settled_along_within}
+use Rattle.ob_seq.specs.Answer.{accepted_among_within, are_accepted_within, buffer_limit, commands_after_within}
+use Rattle.ob_seq.specs.Answer.{first_refusal_within}
+use Rattle.ob_seq.specs.Pending.{settled_along_within, times_settled}
 use Rattle.std.specs.List.{Contains}
 use Rattle.std.proofs.lemmas.List.Elements.{All-contains_itself, All-filter, All-head}
 use Rattle.std.proofs.lemmas.List.Sums.{length-filter}
-use Rattle.ob_seq.specs.Settles.{times_settled}
 use Rattle.ob_seq.proofs.Rows.Accepting.{all_among_within, none_or_some}
 use Rattle.ob_seq.proofs.Rows.EachRow.{StaysSettled, effect_stays, outcome_at, outcome_in}
 use Rattle.ob_seq.proofs.Rows.History.{rows_after_more}

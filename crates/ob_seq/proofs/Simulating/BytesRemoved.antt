@@ -8,7 +8,7 @@ use Rattle.ob_seq.proofs.Words.{Pending, Leaves, bytes_reply, cut_of, front_id, 
 use Rattle.ob_seq.proofs.Words.{Command}
 use Rattle.std.proofs.lemmas.List.{take_at}
 use Rattle.std.proofs.lemmas.Simd.{map-map}
-use Rattle.ob_seq.specs.Steps.RemoveBytes.{bytes_removed}
+use Rattle.ob_seq.specs.Steps.Commands.{bytes_removed}
 use Rattle.ob_seq.proofs.Rows.Fronts.{Carries, rows_of}
 use Rattle.ob_seq.proofs.Inside.Held.{Held, held_of, line_count}
 use Rattle.ob_seq.proofs.Rows.Order.{IsGone, IsStanding, each_append, layout_of}

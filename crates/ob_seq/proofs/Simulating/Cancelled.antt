@@ -6,8 +6,8 @@ use Rattle.ob_seq.proofs.Words.{Row, is_unflushed, is_in_line, rows_after, cance
 use Rattle.ob_seq.proofs.Words.{Option, outcome_of, settlement, settlements_from, entry_of, Pending, promise_set}
 use Rattle.std.proofs.lemmas.List.{set-get_or}
 use Rattle.std.proofs.lemmas.Option.{slice_get-get_or}
-use Rattle.ob_seq.specs.Steps.Cancel.{cancel_step}
-use Rattle.ob_seq.specs.Steps.Held.{state_at}
+use Rattle.ob_seq.specs.Steps.Commands.{cancel_step}
+use Rattle.ob_seq.specs.Steps.Step.{state_at}
 use Rattle.ob_seq.proofs.Rows.Along.{moment_of_same, moments_behind, settlement_same, settlements_behind}
 use Rattle.ob_seq.proofs.Rows.EachRow.{taken_back}
 use Rattle.ob_seq.proofs.Inside.Held.{promise_of}

@@ -6,7 +6,7 @@ use Rattle.ob_seq.proofs.Words.{counted_size, total, failed, closed_row, Moment,
 use Rattle.ob_seq.proofs.Words.{refusal_of, settlement, settlements_from, entry_of, Pending, Leaves, closed_pending}
 use Rattle.ob_seq.proofs.Words.{Option, closing_reply, failures, unflushed_id}
 use Rattle.std.proofs.lemmas.List.{drop_at, nil_from_length, take_at}
-use Rattle.ob_seq.specs.Steps.Close.{closing_step}
+use Rattle.ob_seq.specs.Steps.Commands.{closing_step}
 use Rattle.ob_seq.proofs.Inside.Failures.{failure}
 use Rattle.ob_seq.proofs.Rows.Fronts.{Carries, carried, rows_of, some_front}
 use Rattle.ob_seq.proofs.Simulating.Simulation.{Simulates}

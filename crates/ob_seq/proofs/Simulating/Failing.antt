@@ -2,7 +2,7 @@
 use Rattle.ob_seq.proofs.Words.{◌≡◌, Bool, false, List, [], length, map, refl, sym, ap, ◌∙◌, append-nil, length-map}
 use Rattle.ob_seq.proofs.Words.{Command, FailFlushed, Cause, Failed, Count, line, failed_row, entry_of, Pending}
 use Rattle.ob_seq.proofs.Words.{ℕ, Option, Leaves, entry_settlements, failing_step, front_id, front_taken}
-use Rattle.ob_seq.specs.Steps.FailFlushed.{failing_reply, line_failed}
+use Rattle.ob_seq.specs.Steps.Commands.{failing_reply, line_failed}
 use Rattle.ob_seq.proofs.Rows.Fronts.{Carries, rows_of}
 use Rattle.ob_seq.proofs.Inside.Held.{held_of, line_count}
 use Rattle.ob_seq.proofs.Rows.Order.{layout_of, failed_parts}

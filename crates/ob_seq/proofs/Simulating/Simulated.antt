@@ -11,12 +11,9 @@ use Rattle.std.specs.Prelude.{Result, Ok, Err, IsErrOf}
 use Rattle.ob_types.specs.Limits.{inline_settlements}
 use Rattle.ob_types.specs.declared.refusal.Refusal.TheVariants.{NoMemory}
 use Rattle.ob_seq.specs.Answer.{commands_with, refusal_of_progress, answer_within, are_accepted_within, buffer_limit}
-use Rattle.ob_seq.specs.Pending.{Follows, Obeys}
-use Rattle.ob_seq.specs.Settles.{Settles}
+use Rattle.ob_seq.specs.Pending.{Follows, Obeys, Settles}
 use Rattle.ob_seq.specs.Steps.Step.{Step, Makes, answer_by, held_by}
-use Rattle.ob_seq.specs.Steps.RemoveBytes.{bytes_step}
-use Rattle.ob_seq.specs.Steps.Progress.{progressed_entry}
-use Rattle.ob_seq.specs.Steps.OfCommand.{step_within}
+use Rattle.ob_seq.specs.Steps.Commands.{bytes_step, progressed_entry, step_within}
 use Rattle.ob_seq.proofs.Inside.Blocks.{few_entries}
 use Rattle.ob_seq.proofs.Simulating.BytesRemoved.{bytes_removed_left, run_is}
 use Rattle.ob_seq.proofs.Simulating.Cancelled.{cancel_simulates}

@@ -4,7 +4,7 @@ use Rattle.ob_seq.proofs.Words.{nat_tests, map-append, length-map, filter-append
 use Rattle.ob_seq.proofs.Words.{Message, Command, Write, entry_of, Row, new_row, without_skipped, is_unflushed}
 use Rattle.ob_seq.proofs.Words.{is_in_line, unflushed, total, rows_after, moment_of, moments_of, Pending, Leaves}
 use Rattle.ob_seq.proofs.Words.{pending_total, word_after_rise, Option}
-use Rattle.ob_seq.specs.Steps.Write.{write_step_within}
+use Rattle.ob_seq.specs.Steps.Commands.{write_step_within}
 use Rattle.ob_seq.proofs.Simulating.Simulation.{Does, Simulates, simulates_by}
 use Rattle.ob_seq.proofs.Rows.Along.{moments_past, settlements_past}
 use Rattle.ob_seq.proofs.Inside.Held.{promise_of, sum_of_rows, word_at_end, word_by_past}

@@ -6,7 +6,7 @@ use Rattle.ob_seq.proofs.Words.{bit_at_or, same_from_bits, pow-lt, Command, User
 use Rattle.ob_seq.proofs.Words.{mark_after, user_bit, word_after, reply_of, Pending, Leaves}
 use Rattle.std.specs.Int.{bit_not, w32}
 use Rattle.std.proofs.lemmas.Nat.Bits.{bit_at_and, bit_at_not, bit_at-pow_same, bit_at-pow_other}
-use Rattle.ob_seq.specs.Steps.UserBit.{bit_changed, with_user_bit}
+use Rattle.ob_seq.specs.Steps.Commands.{bit_changed, with_user_bit}
 use Rattle.ob_seq.proofs.Rows.Acceptance.{open_history}
 use Rattle.ob_seq.proofs.Rows.Along.{moments_of_same, settlements_of_same}
 use Rattle.ob_seq.proofs.Word.Digits.{digit_of, user_bits_even, word_digits, word_of, word_of_digits}

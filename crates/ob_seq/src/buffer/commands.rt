@@ -4,11 +4,10 @@ ghost use Rattle.std.specs.Prelude.{IsErrOf};
 ghost use Rattle.ob_types.specs.declared.command.Command.TheVariants.{Write, Flush, Remove, RemoveWith, RemoveBytes};
 ghost use Rattle.ob_types.specs.declared.command.Command.TheVariants.{Progress, Cancel, FailFlushed, Close, UserBit};
 ghost use Rattle.ob_types.specs.declared.command.Command.TheVariants.{SetMarks};
-ghost use Rattle.ob_seq.specs.Pending.{Obeys};
-ghost use Rattle.ob_seq.specs.Settles.{SparesMemory};
+ghost use Rattle.ob_seq.specs.Pending.{Obeys, SparesMemory};
 
 use crate::buffer::Buffer;
-use ob_types::{Cause, Message, PromiseId, Refusal, Reply, WaterMark};
+use ob_types::{Cause, Message, Outcome, PromiseId, Refusal, Reply, WaterMark};
 
 impl Buffer {
     /// Adds a message behind all others (Netty's `addMessage`), and returns its promise. It takes the same few steps
@@ -46,7 +45,7 @@ impl Buffer {
         ensures obeys { Obeys self.old Remove result self.new }
         ensures frugal { ¬ IsErrOf result Refusal.NoMemory }
     {
-        self.contents.remove()
+        self.contents.remove(Outcome::Success)
     }
 
     /// Takes the first flushed message away as `remove` does, but as failed for this cause (Netty's
@@ -57,7 +56,7 @@ impl Buffer {
         ensures obeys { Obeys self.old (RemoveWith cause) result self.new }
         ensures frugal { ¬ IsErrOf result Refusal.NoMemory }
     {
-        self.contents.remove_with(cause)
+        self.contents.remove(Outcome::Failed(cause))
     }
 
     /// Takes *n* bytes off the flushed blocks in front, as sent (Netty's `removeBytes`), and returns how many messages
@@ -93,7 +92,7 @@ impl Buffer {
 
     /// Takes a promise back (Netty's `Future.cancel`), and returns whether that came in time: a promise that a
     /// flush has fixed, or that is settled, stays as it is. The pending bytes stay too: they fall at the flush. It
-    /// takes the same few steps whatever is pending, at most 20 more if the message is gone, and does not allocate.
+    /// takes the same few steps whatever is pending, and does not allocate.
     ///
     /// `Closed` comes if the buffer is closed, and then `UnknownPromise` if no write was accepted under the id.
     pub fn cancel(&mut self, id: PromiseId) -> Result<Reply, Refusal>

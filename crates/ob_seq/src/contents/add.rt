@@ -2,10 +2,9 @@ ghost use Rattle.std.specs.Prelude.{◌≡◌, ◌+◌, ◌<◌, ◌≤◌, max,
 ghost use Rattle.std.specs.VecDeque.{deque_capacity, deque_len};
 ghost use Rattle.ob_types.specs.Limits.{greatest_total};
 ghost use Rattle.ob_types.specs.declared.promise.Outcome.{Outcome};
-ghost use Rattle.ob_seq.specs.Ring.{grown_room, room_for_one_more, spares};
-ghost use Rattle.ob_seq.specs.Steps.Held.{pending_total};
-ghost use Rattle.ob_seq.specs.Steps.Write.{has_bytes_left, written};
-ghost use Rattle.ob_seq.specs.Unsent.{whole};
+ghost use Rattle.ob_seq.specs.Unsent.{grown_room, room_for_one_more, spares, whole};
+ghost use Rattle.ob_seq.specs.Steps.Step.{pending_total};
+ghost use Rattle.ob_seq.specs.Steps.Commands.{has_bytes_left, written};
 
 use crate::contents::{Contents, word};
 use crate::entry::Entry;

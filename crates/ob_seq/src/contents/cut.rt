@@ -1,6 +1,6 @@
 ghost use Rattle.std.specs.Prelude.{◌≡◌, ◌≤◌, length, drop, IfSome};
-ghost use Rattle.ob_seq.specs.Entry.{blocks_left};
-ghost use Rattle.ob_seq.specs.Steps.RemoveBytes.{cut_of, first_length};
+ghost use Rattle.ob_seq.specs.Looks.{blocks_left};
+ghost use Rattle.ob_seq.specs.Steps.Commands.{cut_of, first_length};
 ghost use Rattle.ob_seq.specs.Unsent.{pending_entries};
 
 use crate::contents::Contents;

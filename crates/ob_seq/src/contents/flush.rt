@@ -1,18 +1,36 @@
-ghost use Rattle.std.specs.Prelude.{◌≡◌, ◌<◌, List, length, true};
+ghost use Rattle.std.specs.Prelude.{◌≡◌, ◌<◌, List, length, true, IsErrOf, OnErr};
 ghost use Rattle.ob_types.specs.declared.promise.Outcome.{Outcome};
-ghost use Rattle.ob_seq.specs.Steps.Flush.{next_flushed, reached_entry};
-ghost use Rattle.ob_seq.specs.Steps.Held.{times};
-ghost use Rattle.ob_seq.specs.Unsent.{whole, pending_entry};
+ghost use Rattle.ob_seq.specs.Steps.Commands.{flush_step, next_flushed, reached_entry};
+ghost use Rattle.ob_seq.specs.Steps.Step.{times};
+ghost use Rattle.ob_seq.specs.Steps.Within.{MakesWithin, counted_reply};
+ghost use Rattle.ob_seq.specs.Unsent.{whole, pending_entry, waiting_count};
 
 use crate::contents::{Contents, word};
 use crate::entry::Entry;
 use bytes::Bytes;
-use ob_types::Message;
+use ob_types::{Change, Message, Refusal};
 use std::mem;
 
 impl Contents {
+    /// Puts all unflushed entries into line, and returns how that changed writability.
+    #[inline(always)]
+    pub fn flush(&mut self) -> Result<Option<Change>, Refusal>
+        ensures makes { MakesWithin flush_step (counted_reply (length self.old.unflushed)) self.old result self.new }
+        ensures as_many { waiting_count self.new ≡ waiting_count self.old }
+        ensures frugal { ¬ IsErrOf result Refusal.NoMemory }
+        ensures refused { OnErr result (self.new ≡ self.old) }
+        ensures room { self.new.room ≡ self.old.room }
+    {
+        if self.closed {
+            return Err(Refusal::Closed);
+        }
+        let before = self.word;
+        self.flush_all();
+        Ok(Change::between(before, self.word))
+    }
+
     /// Puts all unflushed entries into line. It goes over them if a promise was taken back since the last flush.
-    pub fn flush_all(&mut self)
+    fn flush_all(&mut self)
         ensures after { (gone : List Outcome) →
             whole gone self.new ≡ times (length self.old.unflushed) next_flushed (whole gone self.old) }
         ensures room { self.new.room ≡ self.old.room }

@@ -1,10 +1,9 @@
 ghost use Rattle.std.specs.Prelude.{◌≡◌, ◌+◌, ◌<◌, ◌≤◌, List, length, nat_le};
 ghost use Rattle.ob_types.specs.Limits.{greatest_progress};
 ghost use Rattle.ob_types.specs.declared.promise.Outcome.{Outcome};
-ghost use Rattle.ob_seq.specs.ByteRun.{block_bytes};
-ghost use Rattle.ob_seq.specs.Steps.Held.{first_progress, front_changed};
-ghost use Rattle.ob_seq.specs.Steps.Progress.{progressed_entry};
-ghost use Rattle.ob_seq.specs.Steps.RemoveBytes.{first_length, front_skipped, skipped_entry};
+ghost use Rattle.ob_seq.specs.Effect.{block_bytes};
+ghost use Rattle.ob_seq.specs.Steps.Step.{first_progress, front_changed};
+ghost use Rattle.ob_seq.specs.Steps.Commands.{progressed_entry, first_length, front_skipped, skipped_entry};
 ghost use Rattle.ob_seq.specs.Unsent.{pending_entries, pending_entry, whole};
 
 use crate::contents::Contents;
@@ -26,7 +25,7 @@ impl Contents {
     }
 
     /// Whether *n* more bytes of progress of the front do not pass the limit.
-    pub fn has_progress_left(&self, n: u64) -> bool
+    pub(super) fn has_progress_left(&self, n: u64) -> bool
         ensures { result ≡ nat_le (first_progress (pending_entries self.now.line) + n) greatest_progress }
     {
         self.current_progress()
@@ -35,7 +34,7 @@ impl Contents {
     }
 
     /// Adds *n* bytes to the progress of the front.
-    pub fn tell_front(&mut self, n: u64)
+    pub(super) fn tell_front(&mut self, n: u64)
         requires some { 0 < length self.old.line }
         requires fits { first_progress (pending_entries self.old.line) + n ≤ greatest_progress }
         ensures after { (gone : List Outcome) →

@@ -1,6 +1,5 @@
 ghost use Rattle.std.specs.Prelude.{◌≡◌, ◌++◌, ◌∷◌, [], nat_le, nat_lt, ◌||◌, ◌&&◌, IfOk, IfErr, IsOk, OnOk};
-ghost use Rattle.ob_seq.specs.Entry.{blocks_left};
-ghost use Rattle.ob_seq.specs.Gathering.{first_blocks, with_bytes};
+ghost use Rattle.ob_seq.specs.Looks.{blocks_left, first_blocks, with_bytes};
 ghost use Rattle.ob_seq.specs.Unsent.{pending_entries};
 
 use crate::contents::Contents;

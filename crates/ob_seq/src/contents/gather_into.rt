@@ -1,7 +1,6 @@
 ghost use Rattle.std.specs.Io.Slices.{io_slice_bytes};
 ghost use Rattle.std.specs.Prelude.{◌≡◌, ◌≤◌, length, map, take, drop};
-ghost use Rattle.ob_seq.specs.Entry.{blocks_left};
-ghost use Rattle.ob_seq.specs.Gathering.{first_blocks, with_bytes};
+ghost use Rattle.ob_seq.specs.Looks.{blocks_left, first_blocks, with_bytes};
 ghost use Rattle.ob_seq.specs.Unsent.{pending_entries};
 
 use crate::contents::Contents;

@@ -1,4 +1,4 @@
-ghost use Rattle.ob_seq.specs.Ring.{GivesBack, Shrinks};
+ghost use Rattle.ob_seq.specs.Unsent.{GivesBack, Shrinks};
 
 use crate::contents::Contents;
 

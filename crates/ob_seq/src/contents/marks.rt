@@ -2,7 +2,7 @@
 
 ghost use Rattle.std.specs.Prelude.{◌≡◌, []};
 ghost use Rattle.ob_seq.specs.Looks.{before_unwritable, before_writable};
-ghost use Rattle.ob_seq.specs.Steps.Held.{pending_total};
+ghost use Rattle.ob_seq.specs.Steps.Step.{pending_total};
 ghost use Rattle.ob_seq.specs.Unsent.{whole};
 
 use crate::contents::Contents;

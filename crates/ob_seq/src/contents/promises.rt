@@ -1,12 +1,15 @@
-ghost use Rattle.std.specs.Prelude.{◌≡◌, ◌+◌, ◌<◌, ◌≤◌, List, length};
+ghost use Rattle.std.specs.Prelude.{◌≡◌, ◌+◌, ◌<◌, ◌≤◌, List, length, IsErrOf, OnErr};
 ghost use Rattle.ob_types.specs.declared.promise.Outcome.{Outcome};
 ghost use Rattle.ob_types.specs.declared.promise.Outcome.TheVariants.{Cancelled};
 ghost use Rattle.ob_types.specs.declared.promise.PromiseState.TheVariants.{Settled};
-ghost use Rattle.ob_seq.specs.Steps.Held.{promise_set, state_at};
+ghost use Rattle.ob_seq.specs.Answer.{told_by};
+ghost use Rattle.ob_seq.specs.Steps.Commands.{cancel_step};
+ghost use Rattle.ob_seq.specs.Steps.Step.{promise_set, state_at, Makes};
+ghost use Rattle.ob_seq.specs.Steps.Within.{cancelled_reply};
 ghost use Rattle.ob_seq.specs.Unsent.{whole, waiting_count};
 
 use crate::contents::Contents;
-use ob_types::{Outcome, PromiseState};
+use ob_types::{Outcome, PromiseState, Refusal};
 
 impl Contents {
     /// The state of the promise of the entry at this place.
@@ -24,8 +27,36 @@ impl Contents {
         }
     }
 
+    /// Takes the promise with this id back, and returns whether that came in time, if `first` messages are gone.
+    #[inline(always)]
+    pub fn cancel(&mut self, id: u64, first: u64) -> Result<bool, Refusal>
+        ensures makes { (gone : List Outcome) → length gone ≡ first → Makes (whole gone self.old)
+            (cancel_step id (whole gone self.old)) (told_by (cancelled_reply id (whole gone self.old).promises) result)
+            (whole gone self.new) }
+        ensures as_many { waiting_count self.new ≡ waiting_count self.old }
+        ensures frugal { ¬ IsErrOf result Refusal.NoMemory }
+        ensures refused { OnErr result (self.new ≡ self.old) }
+        ensures room { self.new.room ≡ self.old.room }
+    {
+        if self.closed {
+            return Err(Refusal::Closed);
+        }
+        if id < first {
+            return Ok(false);
+        }
+        let place = id - first;
+        if place >= self.entries.len() as u64 {
+            return Err(Refusal::UnknownPromise);
+        }
+        let waits = self.state_at(place as usize).is_waiting();
+        if waits {
+            self.take_back(place as usize);
+        }
+        Ok(waits)
+    }
+
     /// Takes the promise of the entry at this place back, which no flush has reached.
-    pub fn take_back(&mut self, place: usize)
+    fn take_back(&mut self, place: usize)
         requires behind { length self.old.line ≤ place }
         requires some { place < waiting_count self.old }
         ensures after { (gone : List Outcome) →

@@ -4,7 +4,7 @@ ghost use Rattle.std.specs.Prelude.{◌≡◌, ◌<◌, ◌≤◌, ◌++◌, not
 ghost use Rattle.std.specs.Option.{option_copied};
 ghost use Rattle.std.specs.VecDeque.{deque_len};
 ghost use Rattle.ob_types.specs.Waiting.{is_waiting};
-ghost use Rattle.ob_seq.specs.Entry.{messages_to_send};
+ghost use Rattle.ob_seq.specs.Looks.{messages_to_send};
 ghost use Rattle.ob_seq.specs.Unsent.{pending_entries, waiting_state, waiting_count};
 
 use crate::contents::Contents;

@@ -2,7 +2,7 @@ ghost use Rattle.std.specs.Prelude.{◌≡◌, ◌++◌, List, length, map};
 ghost use Rattle.ob_types.specs.declared.promise.Cause.{Cause};
 ghost use Rattle.ob_types.specs.declared.promise.Outcome.{Outcome};
 ghost use Rattle.ob_types.specs.declared.promise.Outcome.TheVariants.{Failed};
-ghost use Rattle.ob_seq.specs.Steps.Close.{closed_pending};
+ghost use Rattle.ob_seq.specs.Steps.Commands.{closed_pending};
 ghost use Rattle.ob_seq.specs.Unsent.{ended, whole, waiting_count};
 
 use crate::contents::Contents;

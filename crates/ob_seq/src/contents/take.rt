@@ -1,13 +1,50 @@
-ghost use Rattle.std.specs.Prelude.{◌≡◌, ◌<◌, ◌++◌, ◌∷◌, [], Bool, not, List, length, if◌then◌else◌};
+ghost use Rattle.std.specs.Prelude.{◌≡◌, ◌<◌, ◌+◌, ◌++◌, ◌∷◌, [], not, List, length, if◌then◌else◌, IsErrOf, OnErr};
 ghost use Rattle.ob_types.specs.declared.promise.Outcome.{Outcome};
 ghost use Rattle.ob_types.specs.declared.promise.Outcome.TheVariants.{Cancelled};
-ghost use Rattle.ob_seq.specs.Steps.Held.{is_first_voided};
-ghost use Rattle.ob_seq.specs.Steps.Remove.{front_taken};
-ghost use Rattle.ob_seq.specs.Unsent.{pending_entries, whole};
+ghost use Rattle.ob_seq.specs.Answer.{told_by};
+ghost use Rattle.ob_seq.specs.Steps.Step.{is_first_voided, Makes};
+ghost use Rattle.ob_seq.specs.Steps.Commands.{front_taken, removal_step};
+ghost use Rattle.ob_seq.specs.Steps.Within.{front_endings, front_reply};
+ghost use Rattle.ob_seq.specs.Unsent.{pending_entries, waiting_count, whole};
 
 use crate::contents::{Contents, word};
+use ob_types::{Change, Refusal};
+
+/// The front that a removal took away.
+#[derive(Clone, Copy, Debug)]
+pub struct Front {
+    /// Whether its promise is settled by that: it is unless the message was voided, and else it ended as cancelled.
+    pub settles: bool,
+    /// How that changed writability.
+    pub change: Option<Change>,
+}
 
 impl Contents {
+    /// Takes the front away with notice, if there is one, whatever the outcome is that it leaves with.
+    #[inline(always)]
+    pub fn remove(&mut self) -> Result<Option<Front>, Refusal>
+        ensures makes { (gone : List Outcome) (outcome : Outcome) → Makes (whole gone self.old)
+            (removal_step outcome (whole gone self.old)) (told_by (front_reply (length gone) outcome) result)
+            (whole (gone ++ front_endings outcome result) self.new) }
+        ensures fewer { waiting_count self.old ≡ waiting_count self.new + length (front_endings Cancelled result) }
+        ensures frugal { ¬ IsErrOf result Refusal.NoMemory }
+        ensures refused { OnErr result (self.new ≡ self.old) }
+        ensures room { self.new.room ≡ self.old.room }
+    {
+        if self.closed {
+            return Err(Refusal::Closed);
+        }
+        if self.flushed == 0 {
+            return Ok(None);
+        }
+        let before = self.word;
+        let settles = self.take_front(true);
+        Ok(Some(Front {
+            settles,
+            change: Change::between(before, self.word),
+        }))
+    }
+
     /// Takes the front away, and returns whether its promise is settled by that: it is unless the entry was voided, and
     /// else it ended as cancelled. Without notice the word stays.
     pub fn take_front(&mut self, notice: bool) -> bool

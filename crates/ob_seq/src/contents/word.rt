@@ -1,7 +1,7 @@
 ghost use Rattle.std.specs.Prelude.{◌≡◌, ◌≤◌, ◌==◌, if◌then◌else◌};
 ghost use Rattle.std.specs.Int.{bit_at};
-ghost use Rattle.ob_seq.specs.Steps.UserBit.{with_user_bit};
-ghost use Rattle.ob_seq.specs.Steps.Word.{word_after_rise, word_after_fall};
+ghost use Rattle.ob_seq.specs.Steps.Commands.{with_user_bit};
+ghost use Rattle.ob_seq.specs.Steps.Step.{word_after_rise, word_after_fall};
 
 use ob_types::WaterMark;
 

@@ -2,9 +2,8 @@ ghost use Rattle.std.specs.Prelude.{◌≡◌, ◌+◌, ◌≤◌, ◌++◌, len
 ghost use Rattle.ob_types.specs.Limits.{inline_settlements, most_writes};
 ghost use Rattle.ob_types.specs.declared.promise.Outcome.TheVariants.{Failed};
 ghost use Rattle.ob_seq.specs.Unsent.{ended, waiting_count};
-ghost use Rattle.ob_seq.specs.Steps.Step.{Makes, SparesFew};
-ghost use Rattle.ob_seq.specs.Steps.Close.{closed_pending, closing_step, failures};
-ghost use Rattle.ob_seq.specs.Steps.Held.{unflushed_id};
+ghost use Rattle.ob_seq.specs.Steps.Step.{Makes, SparesFew, unflushed_id};
+ghost use Rattle.ob_seq.specs.Steps.Commands.{closed_pending, closing_step, failures};
 
 use crate::contents::Contents;
 use crate::outcomes::Outcomes;

@@ -1,6 +1,6 @@
 ghost use Rattle.std.specs.Prelude.{IsErrOf};
 ghost use Rattle.ob_seq.specs.Steps.Step.{Makes};
-ghost use Rattle.ob_seq.specs.Steps.Flush.{flush_step};
+ghost use Rattle.ob_seq.specs.Steps.Commands.{flush_step};
 
 use crate::whole::Whole;
 use ob_types::{Answer, Refusal, Reply};
@@ -11,12 +11,12 @@ impl Whole {
         ensures makes { Makes self.old (flush_step self.old) result self.new }
         ensures frugal { ¬ IsErrOf result Refusal.NoMemory }
     {
-        if self.is_closed() {
-            return Err(Refusal::Closed);
-        }
-        let before = self.word();
-        let reached = self.unflushed_count();
-        self.contents.flush_all();
-        Ok(self.reply(Answer::Count(reached as u32), self.no_settlements(), before))
+        let answer = Answer::Count(self.unflushed_count() as u32);
+        let change = self.contents.flush()?;
+        Ok(Reply {
+            answer,
+            settled: self.no_settlements(),
+            change,
+        })
     }
 }

@@ -2,13 +2,8 @@ ghost use Rattle.std.specs.Prelude.{◌≡◌, ◌<◌, ◌≤◌, not, count_by
 ghost use Rattle.ob_types.specs.Waiting.{is_waiting};
 ghost use Rattle.ob_types.specs.declared.promise.Cause.{Cause};
 ghost use Rattle.ob_types.specs.declared.promise.Outcome.{Outcome};
-ghost use Rattle.ob_seq.specs.Steps.RemoveBytes.{bytes_step};
-ghost use Rattle.ob_seq.specs.Steps.Cancel.{cancel_step};
-ghost use Rattle.ob_seq.specs.Steps.Close.{closing_step};
-ghost use Rattle.ob_seq.specs.Steps.Remove.{removal_step};
-ghost use Rattle.ob_seq.specs.Steps.Step.{settled_by_step, settled_open};
-ghost use Rattle.ob_seq.specs.Steps.OfCommand.{step_of};
-ghost use Rattle.ob_seq.specs.Steps.Held.{is_first_voided, unflushed_id};
+ghost use Rattle.ob_seq.specs.Steps.Commands.{bytes_step, cancel_step, closing_step, removal_step, step_of};
+ghost use Rattle.ob_seq.specs.Steps.Step.{settled_by_step, settled_open, is_first_voided, unflushed_id};
 
 use crate::whole::Whole;
 use ob_types::{Command, PromiseId};

@@ -1,7 +1,6 @@
 //! Calls that take several messages away.
 
-ghost use Rattle.ob_seq.specs.Steps.FailFlushed.{failing_step};
-ghost use Rattle.ob_seq.specs.Steps.RemoveBytes.{bytes_step};
+ghost use Rattle.ob_seq.specs.Steps.Commands.{failing_step, bytes_step};
 ghost use Rattle.ob_seq.specs.Steps.Step.{Makes, SparesFew};
 
 use crate::whole::Whole;

@@ -2,10 +2,9 @@
 
 ghost use Rattle.std.specs.Prelude.{◌≡◌, ◌<◌, ◌≤◌, length, take, option_to_list, option_map, slice_index_or, IsOk, IfOk};
 ghost use Rattle.ob_types.specs.Limits.{inline_settlements, most_writes};
-ghost use Rattle.ob_seq.specs.Entry.{PendingEntry};
-ghost use Rattle.ob_seq.specs.Steps.RemoveBytes.{entry_settlements};
-ghost use Rattle.ob_seq.specs.Steps.Held.{front_id, times};
-ghost use Rattle.ob_seq.specs.Steps.Remove.{front_settlement, front_taken};
+ghost use Rattle.ob_seq.specs.Looks.{PendingEntry};
+ghost use Rattle.ob_seq.specs.Steps.Commands.{entry_settlements, front_settlement, front_taken};
+ghost use Rattle.ob_seq.specs.Steps.Step.{front_id, times};
 
 use crate::whole::Whole;
 use ob_types::{Outcome, PromiseId, Settlements};

@@ -1,8 +1,7 @@
 ghost use Rattle.std.specs.Prelude.{◌≡◌, ◌+◌, ◌<◌, ◌≤◌, length, OnOk, OnErr};
 ghost use Rattle.ob_types.specs.Limits.{greatest_total, most_writes};
-ghost use Rattle.ob_seq.specs.Steps.Step.{Makes};
-ghost use Rattle.ob_seq.specs.Steps.Write.{has_room, write_step, written};
-ghost use Rattle.ob_seq.specs.Steps.Held.{pending_total};
+ghost use Rattle.ob_seq.specs.Steps.Step.{Makes, pending_total};
+ghost use Rattle.ob_seq.specs.Steps.Commands.{has_room, write_step, written};
 
 use crate::whole::Whole;
 use ob_types::{Answer, Message, PromiseId, Refusal, Reply, pending_size};

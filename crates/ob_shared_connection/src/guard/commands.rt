@@ -2,8 +2,8 @@
 ghost use Rattle.std.specs.Prelude.{◌≡◌, true, false, ⊤};
 ghost use Rattle.ob_types.specs.declared.command.Command.TheVariants as command;
 ghost use Rattle.ob_types.specs.declared.promise.Outcome.TheVariants.{Success, Failed};
-ghost use Rattle.ob_connection.specs.Replies.{flushed_reply, removed_reply, taken_reply, cancelled_reply};
-ghost use Rattle.ob_connection.specs.Replies.{bit_reply, done_reply};
+ghost use Rattle.ob_connection.specs.Obeying.{flushed_reply, removed_reply, taken_reply, cancelled_reply, bit_reply};
+ghost use Rattle.ob_connection.specs.Obeying.{done_reply};
 ghost use Rattle.ob_shared_connection.specs.Calls.{GivingUp, IsCall, Makes, ObeyingFreely, Taking};
 ghost use Rattle.ob_shared_connection.specs.Calls.{TakingQuietly, Writes, giving_up};
 

@@ -2,7 +2,7 @@
 ghost use Rattle.std.specs.Prelude.{⊤};
 ghost use Rattle.ob_types.specs.declared.command.Command.TheVariants as command;
 ghost use Rattle.ob_types.specs.declared.promise.Outcome.TheVariants.{Failed};
-ghost use Rattle.ob_connection.specs.Replies.{flushed_reply, cancelled_reply, bit_reply, done_reply};
+ghost use Rattle.ob_connection.specs.Obeying.{flushed_reply, cancelled_reply, bit_reply, done_reply};
 ghost use Rattle.ob_shared_connection.specs.Calls.{Makes, ObeyingFreely, TakingQuietly, UnderLock, Writes};
 
 use crate::commands;

@@ -3,7 +3,7 @@ ghost use Rattle.std.specs.Prelude.{◌≡◌, ⊤, IfErr, IfOk, IfSome, None, O
 ghost use Rattle.ob_types.specs.declared.command.Command.TheVariants as command;
 ghost use Rattle.ob_types.specs.declared.promise.Outcome.TheVariants.{Failed};
 ghost use Rattle.ob_connection.specs.Looks.{Shows};
-ghost use Rattle.ob_connection.specs.Replies.{cancelled_reply, flushed_reply};
+ghost use Rattle.ob_connection.specs.Obeying.{cancelled_reply, flushed_reply};
 ghost use Rattle.ob_shared_connection.specs.Calls.{Makes, ObeyingFreely, TakingQuietly, UnderLock, Writes};
 ghost use Rattle.ob_shared_connection.specs.Looking.{IsLook};
 ghost use Rattle.ob_shared_connection.specs.Values.{appointed};

@@ -3,7 +3,7 @@
 ghost use Rattle.std.specs.Prelude.{◌≡◌, ◌<◌, IfOk, IfSome, IsOk, None};
 ghost use Rattle.ob_types.specs.declared.command.Command.TheVariants as command;
 ghost use Rattle.ob_types.specs.declared.promise.Outcome.TheVariants.{Success};
-ghost use Rattle.ob_seq.specs.Pieces.{bytes_in};
+ghost use Rattle.ob_seq.specs.Effect.{bytes_in};
 ghost use Rattle.ob_shared_connection.specs.Calls.{GivingUp, IsCall, Makes, Taking, UnderLock, giving_up};
 ghost use Rattle.ob_shared_connection.specs.Looking.{Gathers, IsLook};
 ghost use Rattle.ob_shared_connection.specs.Staying.{AreInFront};

@@ -1,7 +1,7 @@
 use Rattle.std.proofs.Common.{◌∙◌, ap, sym, subst, refl, Some}
 use Rattle.std.specs.Prelude.{Option}
 use Rattle.ob_types.specs.declared.command.Command.TheVariants as command
-use Rattle.ob_connection.specs.Replies.{cancelled_reply}
+use Rattle.ob_connection.specs.Obeying.{cancelled_reply}
 use Rattle.ob_shared_connection.specs.Calls.{Makes, ObeyingFreely}
 use Rattle.ob_shared_connection.specs.Values.{HandleValue}
 use Rattle.ob_c.specs.Replies.{cancelled_in_c}

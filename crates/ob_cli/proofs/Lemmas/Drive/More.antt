@@ -1,7 +1,7 @@
 -- The lines of a history, record by record.
 use Rattle.std.proofs.Common.{◌≡◌, ◌∙◌, ◌++◌, List, [], ◌∷◌, ap, refl}
 use Rattle.std.proofs.lemmas.List.{append_assoc}
-use Rattle.ob_seq.specs.Settings.{Settings}
+use Rattle.ob_seq.specs.Rows.{Settings}
 use Rattle.ob_history.specs.declared.record.Record.{Record}
 use Rattle.ob_cli.specs.Drive.More.{line_behind, lines_from, lines_of}
 

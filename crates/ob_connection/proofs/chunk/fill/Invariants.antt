@@ -1,5 +1,5 @@
 use Rattle.ob_connection.proofs.Words.{◌≡◌, ◌+◌, ◌++◌, length, take}
-use Rattle.ob_connection.specs.Parts.{joined}
+use Rattle.ob_connection.specs.Obeying.{joined}
 use Rattle.ob_connection.proofs.chunk.fill.Given as goal
 
 abbrev pub invariant-loop-part : goal.invariant-loop-part

@@ -4,10 +4,9 @@ use Rattle.ob_types.specs.Limits.{most_writes}
 use Rattle.ob_types.specs.declared.command.Command.TheVariants.{Write}
 use Rattle.ob_types.specs.declared.estimate.Estimate.{Estimate}
 use Rattle.ob_seq.specs.Answer.{buffer_limit, is_full, refusal_within, reply_of, unless_refused}
-use Rattle.ob_seq.specs.Closed.{is_closed}
+use Rattle.ob_seq.specs.State.{is_closed, writes_in}
 use Rattle.ob_seq.specs.Effect.{rows_after}
-use Rattle.ob_seq.specs.Row.{Row}
-use Rattle.ob_seq.specs.Writes.{writes_in}
+use Rattle.ob_seq.specs.Rows.{Row}
 use Rattle.ob_seq.proofs.Rows.EachRow.{row_for_each_write}
 use Rattle.ob_connection.proofs.laws.the_limit_is_out_of_reach.Goals as goal
 

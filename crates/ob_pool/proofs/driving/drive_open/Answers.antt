@@ -5,7 +5,7 @@ use Rattle.std.proofs.lemmas.List.Elements.{All-contains, Contains-push}
 use Rattle.std.proofs.lemmas.Result.{IfErr-weaker, IfOk-at_ok, IfOk-weaker}
 use Rattle.ob_types.specs.WaterMark.{Marks}
 use Rattle.ob_core.specs.Beginning.{Grant}
-use Rattle.ob_seq.specs.Settings.{Settings}
+use Rattle.ob_seq.specs.Rows.{Settings}
 use Rattle.ob_history.specs.Beginning.{IsBeginning}
 use Rattle.ob_history.specs.Legal.{IsLegal}
 use Rattle.ob_history.specs.Own.{records_of}

@@ -3,9 +3,8 @@ use Rattle.std.specs.Prelude.{Some}
 use Rattle.std.proofs.lemmas.Result.{err_from_is_err_and}
 use Rattle.ob_types.specs.declared.message.Message.{Message}
 use Rattle.ob_seq.specs.Effect.{rows_after}
-use Rattle.ob_seq.specs.Gathering.{gathered_after}
-use Rattle.ob_seq.specs.Line.{front}
-use Rattle.ob_seq.specs.Looks.{current_after, progress_of}
+use Rattle.ob_seq.specs.Looks.{gathered_after, current_after, progress_of}
+use Rattle.ob_seq.specs.Rows.{front}
 use Rattle.ob_transport.proofs.Offers.{has_bytes}
 use Rattle.ob_transport.proofs.next.next_of.Goals as goal
 

@@ -1,6 +1,6 @@
 use Rattle.ob_connection.proofs.Words.{ap, ◌∙◌, Unsent}
 use Rattle.ob_seq.specs.Effect.{rows_after}
-use Rattle.ob_seq.specs.Entry.{messages_to_send}
+use Rattle.ob_seq.specs.Looks.{messages_to_send}
 use Rattle.ob_seq.specs.Unsent.{pending_entries}
 use Rattle.ob_seq.proofs.Inside.Sending.{to_send_is}
 use Rattle.ob_connection.proofs.connection.Connection.flushed.Goals as goal

@@ -1,7 +1,7 @@
 use Rattle.ob_connection.proofs.Words.{[], ◌≡◌, ℕ, sym, ap, ◌∙◌, whole, length, Unsent}
 use Rattle.std.proofs.lemmas.List.{length-map}
 use Rattle.ob_seq.specs.Looks.{before_unwritable, before_writable}
-use Rattle.ob_seq.specs.Steps.Held.{first_progress, pending_total}
+use Rattle.ob_seq.specs.Steps.Step.{first_progress, pending_total}
 use Rattle.ob_seq.specs.Unsent.{pending_entries, pending_entry}
 use Rattle.ob_seq.specs.declared.look.Look.{Look}
 use Rattle.ob_seq.proofs.Inside.Looked.{seen_is}

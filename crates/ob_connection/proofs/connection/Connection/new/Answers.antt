@@ -1,8 +1,8 @@
 use Rattle.ob_connection.proofs.Words.{[], refl, Connected}
 use Rattle.ob_seq.proofs.Opening.{leaves_at_start}
-use Rattle.ob_seq.specs.Settings.{Settings}
+use Rattle.ob_seq.specs.Rows.{Settings}
 use Rattle.ob_seq.specs.Unsent.{nothing_unsent}
-use Rattle.ob_connection.specs.Standing.{StandsFor}
+use Rattle.ob_connection.specs.Connected.{StandsFor}
 use Rattle.ob_connection.proofs.connection.Connection.new.Goals as goal
 
 -- a connection at its opening

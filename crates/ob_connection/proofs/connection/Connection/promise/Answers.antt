@@ -7,7 +7,7 @@ use Rattle.std.proofs.lemmas.Option.{slice_get-get_or, slice_get-map}
 use Rattle.ob_types.specs.declared.promise.PromiseState.TheVariants.{Waiting, Fixed, Settled}
 use Rattle.ob_seq.specs.Effect.{rows_after}
 use Rattle.ob_seq.specs.Looks.{promise_after}
-use Rattle.ob_seq.specs.Steps.Held.{state_at}
+use Rattle.ob_seq.specs.Steps.Step.{state_at}
 use Rattle.ob_seq.proofs.Inside.Held.{promise_of}
 use Rattle.ob_connection.specs.Looks.{status_of}
 use Rattle.ob_connection.specs.declared.status.Status.{Status}

@@ -3,12 +3,10 @@ use Rattle.std.specs.List.{concat}
 use Rattle.std.specs.Prelude.{min, IfOk, IsErr, IsErrAnd, Result, Ok, Err}
 use Rattle.ob_connection.specs.declared.connection.sending.SendFault.{SendFault}
 use Rattle.ob_connection.specs.declared.connection.sending.Sent.{Sent}
-use Rattle.ob_connection.specs.Obeying.{promises_after}
-use Rattle.ob_connection.specs.Calls.{most_pieces}
+use Rattle.ob_connection.specs.Obeying.{promises_after, taken_reply}
+use Rattle.ob_connection.specs.Calls.{most_pieces, with_more}
 use Rattle.ob_connection.specs.Offering.{offered}
-use Rattle.ob_connection.specs.Replies.{taken_reply}
 use Rattle.ob_connection.specs.Sending.{bytes_or_fault}
-use Rattle.ob_connection.specs.Telling.{with_more}
 use Rattle.ob_connection.proofs.Sending.{asks_by, not_refused, offered_are_gathered, offered_within}
 use Rattle.ob_connection.proofs.connection.Connection.send_once.Goals as goal
 

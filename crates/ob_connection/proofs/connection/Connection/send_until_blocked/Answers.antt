@@ -2,10 +2,9 @@ use Rattle.ob_connection.proofs.Words.{List, ℕ, take, sym, ap, ◌∙◌, subs
 use Rattle.std.specs.List.{concat}
 use Rattle.ob_types.specs.declared.command.Command.TheVariants.{RemoveBytes}
 use Rattle.ob_types.specs.declared.promise.Outcome.TheVariants.{Success}
-use Rattle.ob_connection.specs.Obeying.{IsNext}
+use Rattle.ob_connection.specs.Obeying.{IsNext, taken_reply}
 use Rattle.ob_connection.specs.Offering.{IsLeft, run_of}
-use Rattle.ob_connection.specs.Replies.{taken_reply}
-use Rattle.ob_connection.specs.Telling.{with_more}
+use Rattle.ob_connection.specs.Calls.{with_more}
 use Rattle.ob_connection.specs.declared.replies.Taken.{Taken}
 use Rattle.ob_connection.proofs.Obeyed.{obeys, stays}
 use Rattle.ob_connection.specs.Sending.{IsDue}

@@ -1,5 +1,5 @@
 use Rattle.ob_connection.proofs.Words.{[], sym, ap, ◌∙◌, inl, inr, Connected, arith, whole}
-use Rattle.ob_seq.specs.Steps.Write.{has_bytes_left}
+use Rattle.ob_seq.specs.Steps.Commands.{has_bytes_left}
 use Rattle.std.proofs.lemmas.Result.{err_from_is_err_and}
 use Rattle.ob_connection.proofs.Admitting.{admits_it, admits_no_large, admits_no_more, admits_none}
 use Rattle.ob_connection.proofs.inner.Inner.admits.Goals.{then-id-via-then-id, then-id-via-else-id+then-not-has_bytes_left}

@@ -4,9 +4,9 @@ use Rattle.ob_connection.specs.declared.replies.Taken.{Taken}
 use Rattle.std.proofs.Common.{length-append}
 use Rattle.std.proofs.lemmas.List.{length-map}
 use Rattle.ob_types.specs.declared.promise.Outcome.TheVariants.{Failed}
-use Rattle.ob_seq.specs.Steps.Close.{closing_step}
+use Rattle.ob_seq.specs.Steps.Commands.{closing_step}
 use Rattle.ob_seq.specs.Unsent.{ended, pending_entry}
-use Rattle.ob_connection.specs.Replies.{taken_reply}
+use Rattle.ob_connection.specs.Obeying.{taken_reply}
 use Rattle.ob_connection.proofs.Kept.{nothing_told, same_change}
 use Rattle.ob_connection.proofs.Making.{closed, refused, steps_roomed, taken}
 use Rattle.ob_connection.proofs.Settling.{close_replied, flushed_left, none_left}

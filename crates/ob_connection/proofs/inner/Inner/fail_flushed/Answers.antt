@@ -2,15 +2,13 @@ use Rattle.ob_connection.proofs.Words.{Bool, ◌≡◌, ◌+◌, refl, sym, ap, 
 use Rattle.ob_connection.proofs.Words.{Becomes, Connected, connected_of}
 use Rattle.std.proofs.lemmas.List.{length-drop, length-map, take_all}
 use Rattle.ob_types.specs.declared.promise.Outcome.TheVariants.{Failed}
-use Rattle.ob_seq.specs.Steps.FailFlushed.{failing_step}
-use Rattle.ob_seq.specs.Steps.Held.{front_id, times}
-use Rattle.ob_seq.specs.Steps.Remove.{front_taken}
-use Rattle.ob_seq.specs.Steps.RemoveBytes.{entry_settlements}
+use Rattle.ob_seq.specs.Steps.Commands.{failing_step, front_taken, entry_settlements}
+use Rattle.ob_seq.specs.Steps.Step.{front_id, times}
 use Rattle.ob_seq.specs.Unsent.{pending_entries, pending_entry}
 use Rattle.ob_seq.proofs.Inside.Times.{line_of_times}
 use Rattle.ob_seq.proofs.Rows.Acceptance.{same_reply}
 use Rattle.ob_connection.specs.declared.replies.Taken.{Taken}
-use Rattle.ob_connection.specs.Replies.{taken_reply}
+use Rattle.ob_connection.specs.Obeying.{taken_reply}
 use Rattle.ob_connection.proofs.Kept.{closed_of_times, nothing_told, same_change, some_past, word_of_times}
 use Rattle.ob_connection.proofs.Making.{closed, taken}
 use Rattle.ob_connection.proofs.Settling.{line_replied}

@@ -1,59 +1,49 @@
-use Rattle.ob_connection.proofs.Words.{[], ◌<◌, ◌+◌, ◌∷◌, ◌++◌, None, true, false, refl, sym, ap, ◌∙◌, arith, length, if◌then◌else◌}
-use Rattle.ob_connection.proofs.Words.{Pending, held}
-use Rattle.ob_connection.specs.declared.replies.Removed.{Removed}
-use Rattle.std.proofs.Common.{length-append}
-use Rattle.std.proofs.lemmas.List.{length-map}
+use Rattle.ob_connection.proofs.Words.{◌≡◌, ℕ, Bool, true, false, List, [], ◌∷◌, ◌++◌, ◌+◌, None, Ok, Err, refl, sym, ap, ◌∙◌, subst}
+use Rattle.ob_connection.proofs.Words.{append-nil, length-append, Makes, Outcome, held, whole, if◌then◌else◌}
+use Rattle.std.specs.Bool.{then_some}
+use Rattle.std.proofs.lemmas.Result.{err_from_is_err_and}
 use Rattle.ob_types.specs.declared.promise.Outcome.TheVariants.{Cancelled}
-use Rattle.ob_seq.specs.Steps.Held.{is_first_voided}
-use Rattle.ob_seq.specs.Steps.Remove.{removal_step}
-use Rattle.ob_seq.specs.Unsent.{pending_entries, pending_entry}
-use Rattle.ob_seq.proofs.Inside.Rooms.{taken_waiting}
-use Rattle.ob_seq.proofs.Rows.Acceptance.{same_reply}
-use Rattle.ob_connection.specs.Replies.{removed_reply, settled_if}
-use Rattle.ob_connection.proofs.Kept.{front_id_there, front_is_removed, front_replied, nothing_removed, nothing_replied}
-use Rattle.ob_connection.proofs.Kept.{same_change, settled_front}
-use Rattle.ob_connection.proofs.Making.{closed, steps_roomed, taken, unchanged}
+use Rattle.ob_types.specs.declared.promise.PromiseId.{PromiseId}
+use Rattle.ob_types.specs.declared.reply.Answer.TheVariants.{Yes}
+use Rattle.ob_seq.specs.Steps.Commands.{removal_step}
+use Rattle.ob_connection.specs.Obeying.{removed_reply, settled_if}
+use Rattle.ob_connection.specs.declared.replies.Removed.{Removed}
+use Rattle.ob_connection.proofs.Making.{made, made_within, steps_roomed}
 use Rattle.ob_connection.proofs.inner.Inner.remove.Goals as goal
 
-pub returns-then-is_closed-clause-steps : goal.returns-then-is_closed-clause-steps
-returns-then-is_closed-clause-steps c =
-    closed (removal_step c.args.outcome) removed_reply c.self.view_is (sym c.is_closed.ensures ∙ c.if-is_closed.true)
+pub returns-in_err-front-clause-steps : goal.returns-in_err-front-clause-steps
+returns-in_err-front-clause-steps c =
+    let err = err_from_is_err_and c.from_residual.result c.from_residual.ensures.1 in
+    rw (err.1, err.2) (made_within (removal_step c.args.outcome) removed_reply c.self.view_is c.remove.new.self
+    (Err c.in_err-front.field-0.0)
+    (λ past. rw (append-nil past.outcomes) at (c.in_err-front.ensures.makes past.outcomes c.args.outcome))
+    c.in_err-front.ensures.refused)
 
-pub returns-then-line_count-eq0-clause-steps : goal.returns-then-line_count-eq0-clause-steps
-returns-then-line_count-eq0-clause-steps c =
-    let unclosed = sym c.is_closed.ensures ∙ c.if-is_closed.false in
-    let none = length-map c.self.inside.contents.line pending_entry ∙ sym c.line_count.ensures ∙ c.if-line_count-eq0.true in
-    unchanged (removal_step c.args.outcome) removed_reply c.self.view_is unclosed (record { any = false; settled = None; change = None })
-    (λ past. refl) (λ past. nothing_replied c.args.outcome (held past) none)
-    (λ past. nothing_removed c.args.outcome (held past) none)
+pub returns-in_default-clause-steps : goal.returns-in_default-clause-steps
+returns-in_default-clause-steps c =
+    made_within (removal_step c.args.outcome) removed_reply c.self.view_is c.remove.new.self
+    (Ok (record { any = false; settled = None; change = None }))
+    (λ past. rw (c.in_default.is, append-nil past.outcomes) at (c.in_ok-front.ensures.makes past.outcomes c.args.outcome)) tt
 
-pub invariant_of-self : goal.invariant_of-self
-invariant_of-self c =
-    let fewer = taken_waiting true c.args.outcome
-    (if c.take_front-settles.result then c.args.outcome else Cancelled) c.self.inside.contents
-    c.take_front-settles.new.self (c.take_front-settles.ensures.taken [] c.args.outcome) in
-    omega (arith, fewer, c.self.invariant)
+settled : (settles : Bool) (id : ℕ) (outcome : Outcome) →
+    (let all : List (PromiseId × Outcome) = if settles then (record { 0 = id }, outcome) ∷ [] else [] in all)
+    ≡ settled_if (then_some settles (id, outcome))
+settled true id outcome = refl
+settled false id outcome = refl
 
 pub returns-clause-steps : goal.returns-clause-steps
 returns-clause-steps c =
-    let old = c.self.inside.contents in
-    let some : 0 < length (pending_entries old.line) = omega (arith, length-map old.line pending_entry, c.line_count.ensures, c.if-line_count-eq0.false) in
-    let front = settled_front (is_first_voided (pending_entries old.line)) c.take_front-settles.result c.self.inside.gone
-    c.args.outcome c.take_front-settles.ensures.settles in
-    let removed : Removed = record { any = true; settled = c.then_some.result; change = c.change_since-change.result } in
-    steps_roomed (record { unsent = c.take_front-settles.new.self; gone = c.self.inside.gone + 1 }) c.give_back.ensures.same
-    (taken (removal_step c.args.outcome) removed_reply c.self.view_is (sym c.is_closed.ensures ∙ c.if-is_closed.false)
-    removed (λ past. refl)
-    (λ past. same_reply refl (ap settled_if c.then_some.ensures ∙ front
-    ∙ ap (λ id. if is_first_voided (pending_entries old.line) then [] else (record { 0 = id }, c.args.outcome) ∷ [])
-    (sym (front_id_there past))) (c.change_since-change.ensures ∙ same_change c.word-before.ensures
-    (ap (λ (one : Pending). one.word) (c.take_front-settles.ensures.taken past.outcomes c.args.outcome)))
-    ∙ front_replied c.args.outcome (held past) some)
-    (λ past. (
-      record {
-        outcomes = past.outcomes ++ (if c.take_front-settles.result then c.args.outcome else Cancelled) ∷ [];
-        count = length-append past.outcomes _ ∙ ap (λ n. n + 1) past.count;
-      },
-      c.take_front-settles.ensures.taken past.outcomes c.args.outcome
-          ∙ front_is_removed c.args.outcome (held past) some,
-    )))
+    let front = c.in-Some.front in
+    let outcome = c.args.outcome in
+    let removed : Removed = record { any = true; settled = c.then_some.result; change = front.change } in
+    steps_roomed (record { unsent = c.remove.new.self; gone = c.self.inside.gone + 1 }) c.give_back.ensures.same
+    (made (removal_step outcome) removed_reply c.self.view_is (Ok removed) (λ past.
+    let ends = (if front.settles then outcome else Cancelled) ∷ [] in (
+      record { outcomes = past.outcomes ++ ends; count = length-append past.outcomes ends ∙ ap (λ n. n + 1) past.count },
+      subst (λ (all : List (PromiseId × Outcome)). Makes (held past) (removal_step outcome (held past))
+          (Ok (record { answer = Yes true; settled = all; change = front.change })) (whole (past.outcomes ++ ends) c.remove.new.self))
+          (ap (λ (id : ℕ). let all : List (PromiseId × Outcome) =
+          if front.settles then (record { 0 = id }, outcome) ∷ [] else [] in all) past.count
+          ∙ settled front.settles c.self.inside.gone outcome ∙ ap settled_if (sym c.then_some.ensures))
+          (rw c.in-Some.is at (c.in_ok-front.ensures.makes past.outcomes outcome)),
+    )) tt)

@@ -2,12 +2,12 @@ use Rattle.ob_connection.proofs.Words.{◌≡◌, ◌≤◌, ◌+◌, take, sym,
 use Rattle.ob_connection.proofs.Words.{Becomes, Connected, connected_of, change_between}
 use Rattle.std.specs.List.{concat}
 use Rattle.ob_types.specs.declared.promise.Outcome.TheVariants.{Success}
-use Rattle.ob_seq.specs.Pieces.{bytes_in}
-use Rattle.ob_seq.specs.Steps.RemoveBytes.{bytes_step, whole_cut}
+use Rattle.ob_seq.specs.Effect.{bytes_in}
+use Rattle.ob_seq.specs.Steps.Commands.{bytes_step, whole_cut}
 use Rattle.ob_connection.specs.Becoming.{removed}
 use Rattle.ob_connection.specs.Offering.{IsLeft, run_of}
-use Rattle.ob_connection.specs.Replies.{taken_reply}
-use Rattle.ob_connection.specs.Telling.{with_more}
+use Rattle.ob_connection.specs.Obeying.{taken_reply}
+use Rattle.ob_connection.specs.Calls.{with_more}
 use Rattle.ob_connection.proofs.Answered.{asks_all, asks_more, asks_within}
 use Rattle.ob_connection.proofs.Kept.{same_change}
 use Rattle.ob_connection.proofs.Making.{taken}

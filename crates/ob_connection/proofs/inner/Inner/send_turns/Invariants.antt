@@ -1,13 +1,13 @@
 use Rattle.ob_connection.proofs.Words.{◌≡◌, ◌≤◌, ◌+◌, take, Becomes}
 use Rattle.std.specs.List.{concat}
 use Rattle.std.specs.Prelude.{max}
-use Rattle.ob_seq.specs.Pieces.{bytes_in}
-use Rattle.ob_seq.specs.Steps.RemoveBytes.{whole_cut}
+use Rattle.ob_seq.specs.Effect.{bytes_in}
+use Rattle.ob_seq.specs.Steps.Commands.{whole_cut}
 use Rattle.ob_connection.specs.Becoming.{removed}
-use Rattle.ob_connection.specs.Keeping.{TakesNoRoom}
+use Rattle.ob_connection.specs.Connected.{TakesNoRoom}
 use Rattle.ob_connection.specs.Offering.{EndsAt, IsLeft, run_of}
-use Rattle.ob_connection.specs.Telling.{with_more}
-use Rattle.ob_connection.specs.Turns.{AsksInTurns}
+use Rattle.ob_connection.specs.Calls.{with_more}
+use Rattle.ob_connection.specs.Sending.{AsksInTurns}
 use Rattle.ob_connection.proofs.inner.Inner.send_turns.Given as goal
 
 abbrev pub invariant-loop : goal.invariant-loop

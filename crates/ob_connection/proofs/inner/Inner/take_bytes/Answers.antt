@@ -1,6 +1,6 @@
 use Rattle.ob_connection.proofs.Words.{◌≡◌, ◌≤◌, ◌+◌, ℕ, sym, ap, ◌∙◌, subst, held, Connected}
-use Rattle.ob_seq.specs.Pieces.{bytes_in}
-use Rattle.ob_seq.specs.Steps.RemoveBytes.{bytes_removed, whole_cut}
+use Rattle.ob_seq.specs.Effect.{bytes_in}
+use Rattle.ob_seq.specs.Steps.Commands.{bytes_removed, whole_cut}
 use Rattle.ob_seq.specs.declared.contents.cut.Cut.{Cut}
 use Rattle.ob_connection.specs.Offering.{run_of}
 use Rattle.ob_connection.proofs.Turns.{cut_found, no_cut_left}

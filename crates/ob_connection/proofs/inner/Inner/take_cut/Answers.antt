@@ -1,9 +1,8 @@
 use Rattle.ob_connection.proofs.Words.{[], sym, ap, ◌∙◌, subst, arith, length, true, Pending, held}
 use Rattle.ob_connection.proofs.Words.{whole, Becomes, connected_of}
 use Rattle.ob_types.specs.declared.promise.Outcome.TheVariants.{Success}
-use Rattle.ob_seq.specs.Steps.Held.{times}
-use Rattle.ob_seq.specs.Steps.Remove.{front_taken}
-use Rattle.ob_seq.specs.Steps.RemoveBytes.{front_skipped}
+use Rattle.ob_seq.specs.Steps.Step.{times}
+use Rattle.ob_seq.specs.Steps.Commands.{front_taken, front_skipped}
 use Rattle.ob_seq.proofs.Inside.Rooms.{same_waiting, skipped_promises}
 use Rattle.ob_seq.proofs.Inside.Times.{line_of_times}
 use Rattle.ob_connection.proofs.Kept.{some_past}

@@ -2,8 +2,8 @@ use Rattle.ob_connection.proofs.Words.{◌≡◌, ℕ, refl, ap, ◌∙◌, arit
 use Rattle.std.proofs.Common.{add-one}
 use Rattle.std.proofs.lemmas.List.{length-drop, length-map}
 use Rattle.ob_types.specs.declared.promise.Outcome.TheVariants.{Success}
-use Rattle.ob_seq.specs.Steps.Held.{times}
-use Rattle.ob_seq.specs.Steps.Remove.{front_taken}
+use Rattle.ob_seq.specs.Steps.Step.{times}
+use Rattle.ob_seq.specs.Steps.Commands.{front_taken}
 use Rattle.ob_seq.specs.Unsent.{pending_entry}
 use Rattle.ob_seq.proofs.Inside.Times.{line_of_times}
 use Rattle.ob_connection.proofs.Kept.{some_past}

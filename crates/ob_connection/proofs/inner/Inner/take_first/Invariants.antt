@@ -1,7 +1,7 @@
 use Rattle.ob_connection.proofs.Words.{◌≡◌, ◌+◌, Outcome, Becomes}
-use Rattle.ob_seq.specs.Steps.Held.{times}
-use Rattle.ob_seq.specs.Steps.Remove.{front_taken}
-use Rattle.ob_connection.specs.Keeping.{KeepsRoom}
+use Rattle.ob_seq.specs.Steps.Step.{times}
+use Rattle.ob_seq.specs.Steps.Commands.{front_taken}
+use Rattle.ob_connection.specs.Connected.{KeepsRoom}
 use Rattle.ob_connection.proofs.inner.Inner.take_first.Given as goal
 
 abbrev pub invariant-loop : goal.invariant-loop

@@ -1,7 +1,7 @@
 use Rattle.ob_connection.proofs.Words.{[], ◌∷◌, ◌++◌, ◌+◌, subst, ap, ◌∙◌, arith, if◌then◌else◌, Becomes}
 use Rattle.std.proofs.Common.{length-append}
 use Rattle.ob_types.specs.declared.promise.Outcome.TheVariants.{Cancelled, Success}
-use Rattle.ob_seq.specs.Steps.Remove.{front_taken}
+use Rattle.ob_seq.specs.Steps.Commands.{front_taken}
 use Rattle.ob_seq.proofs.Inside.Rooms.{taken_waiting}
 use Rattle.ob_connection.proofs.inner.Inner.take_front.Goals as goal
 

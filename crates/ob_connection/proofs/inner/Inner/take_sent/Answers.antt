@@ -1,10 +1,10 @@
 use Rattle.ob_connection.proofs.Words.{◌≡◌, ◌+◌, sym, ap, ◌∙◌, subst, Past, Pending, held}
 use Rattle.ob_connection.proofs.Words.{Becomes, Connected, connected_of, change_between}
 use Rattle.ob_types.specs.declared.promise.Outcome.TheVariants.{Success}
-use Rattle.ob_seq.specs.Entry.{blocks_left}
-use Rattle.ob_seq.specs.Steps.RemoveBytes.{bytes_removed, bytes_reply, bytes_step, whole_cut}
+use Rattle.ob_seq.specs.Looks.{blocks_left}
+use Rattle.ob_seq.specs.Steps.Commands.{bytes_removed, bytes_reply, bytes_step, whole_cut}
 use Rattle.ob_seq.specs.declared.contents.cut.Cut.{Cut}
-use Rattle.ob_connection.specs.Replies.{taken_reply}
+use Rattle.ob_connection.specs.Obeying.{taken_reply}
 use Rattle.ob_connection.proofs.Kept.{same_change}
 use Rattle.ob_connection.proofs.Making.{closed, refused, taken}
 use Rattle.ob_connection.proofs.Settling.{a_cut, line_replied, no_cut}

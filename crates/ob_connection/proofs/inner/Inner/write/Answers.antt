@@ -4,9 +4,9 @@ use Rattle.ob_types.specs.PendingSize.{pending_size_of}
 use Rattle.ob_types.specs.declared.command.Command.TheVariants.{Write}
 use Rattle.ob_types.specs.declared.estimate.Estimate.{Estimate}
 use Rattle.ob_types.specs.declared.reply.Answer.TheVariants.{Id}
-use Rattle.ob_seq.specs.Steps.Write.{write_step_within, written}
+use Rattle.ob_seq.specs.Steps.Commands.{write_step_within, written}
 use Rattle.ob_seq.proofs.Rows.Acceptance.{same_reply}
-use Rattle.ob_connection.specs.Replies.{written_reply}
+use Rattle.ob_connection.specs.Obeying.{written_reply}
 use Rattle.ob_connection.proofs.Admitting.{accepted_past, counted_there, light_there, size_wants_none, unclosed_there}
 use Rattle.ob_connection.proofs.Kept.{added_waiting, ids_are, same_change}
 use Rattle.ob_connection.proofs.Making.{first_refused, taken, wanting}

@@ -3,7 +3,7 @@ use Rattle.std.proofs.lemmas.Bool.{ne_eqb}
 use Rattle.std.specs.Vec.{vec_len}
 use Rattle.ob_types.specs.declared.command.Command.{Command}
 use Rattle.ob_types.specs.declared.refusal.Refusal.{Refusal}
-use Rattle.ob_seq.specs.Settles.{settled_after, settled_by}
+use Rattle.ob_seq.specs.Pending.{settled_after, settled_by}
 use Rattle.ob_history.specs.Accepted.{accepted_commands}
 use Rattle.ob_history.specs.Call.{call_answer, history_after, is_full, next_record}
 use Rattle.ob_history.specs.History.{History}

@@ -1,6 +1,6 @@
 use Rattle.std.proofs.Common.{List, refl, ap, sym, subst, length, arith}
 use Rattle.std.proofs.lemmas.Result.{IfOk-weaker}
-use Rattle.ob_seq.specs.Settings.{Settings}
+use Rattle.ob_seq.specs.Rows.{Settings}
 use Rattle.ob_history.specs.History.{History}
 use Rattle.ob_history.specs.Legal.{IsLegal}
 use Rattle.ob_history.specs.declared.receipt.Receipt.{Receipt}

@@ -1,6 +1,6 @@
 use Rattle.ob_seq.proofs.Words.{◌≡◌, ℕ, List, ap, ◌∙◌, blocks_left, first_blocks, with_bytes, Command, Pending, StandsFor}
 use Rattle.std.proofs.lemmas.Result.{IfOk-weaker}
-use Rattle.ob_seq.specs.Gathering.{gathered_after}
+use Rattle.ob_seq.specs.Looks.{gathered_after}
 use Rattle.ob_seq.proofs.Inside.Looked.{gathered_is}
 use Rattle.ob_seq.proofs.buffer.Buffer.gather.Goals as goal
 

@@ -1,5 +1,5 @@
 use Rattle.ob_seq.proofs.Words.{◌≡◌, ◌<◌, ◌≤◌, true, ap, ◌∙◌, arith, nat_tests, Pending}
-use Rattle.ob_seq.specs.UserBit.{is_user_index}
+use Rattle.ob_seq.specs.Word.{is_user_index}
 use Rattle.ob_seq.proofs.Word.WordDigits.{user_bit_shows}
 use Rattle.ob_seq.proofs.buffer.Buffer.user_defined_writability.Goals as goal
 

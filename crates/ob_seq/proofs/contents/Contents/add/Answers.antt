@@ -1,7 +1,7 @@
 use Rattle.ob_seq.proofs.Words.{◌≡◌, ◌≤◌, ◌+◌, ◌∷◌, [], ℕ, false, length, refl, ap, ◌∙◌, arith, Settings, Entry, take, drop}
 use Rattle.ob_seq.proofs.Words.{whole, Unsent, pending_total, unsent_of, word_after_rise}
 use Rattle.std.proofs.lemmas.List.{take-append-le, drop-append-le}
-use Rattle.ob_seq.specs.Steps.Write.{written}
+use Rattle.ob_seq.specs.Steps.Commands.{written}
 use Rattle.ob_seq.proofs.Inside.Fields.{total_is}
 use Rattle.ob_seq.proofs.Inside.States.{written_is}
 use Rattle.ob_seq.proofs.contents.Contents.add.Goals as goal

@@ -1,7 +1,7 @@
 use Rattle.ob_seq.proofs.Words.{◌≡◌, ◌<◌, ◌≤◌, ℕ, List, true, length, get_or, refl, ap, ◌∙◌, ◌+◌, leb, arith, Settings, whole, Unsent}
 use Rattle.ob_seq.proofs.Words.{Fixed, Waiting, Settled, Cancelled, PromiseState, Outcome, Entry, fixed_state, waiting_state}
 use Rattle.ob_seq.proofs.Words.{Inside, IsSound, unsent_of, waiting_count}
-use Rattle.ob_seq.specs.Steps.Held.{state_at}
+use Rattle.ob_seq.specs.Steps.Step.{state_at}
 use Rattle.ob_seq.proofs.Inside.Fields.{entry_count}
 use Rattle.ob_seq.proofs.Inside.States.{kept_cancelled, kept_state, kept_waits}
 use Rattle.ob_seq.proofs.contents.Contents.state_at.Goals as goal

@@ -1,6 +1,6 @@
 use Rattle.ob_seq.proofs.Words.{◌≡◌, ◌<◌, ◌≤◌, ◌-◌, ◌+◌, ℕ, List, true, false, length, get_or, drop, refl, sym, ap, ◌∙◌, append-nil, arith, take_all}
 use Rattle.ob_seq.proofs.Words.{Pending, PromiseState, Waiting, unflushed_id}
-use Rattle.ob_seq.specs.Steps.Held.{state_at}
+use Rattle.ob_seq.specs.Steps.Step.{state_at}
 use Rattle.std.proofs.lemmas.List.{get_or-drop, length-drop}
 use Rattle.ob_seq.proofs.Inside.EntrySettlements.{settled_more, settled_room}
 use Rattle.ob_seq.proofs.Inside.Failures.{failures_settle}

@@ -1,5 +1,5 @@
 use Rattle.ob_seq.proofs.Words.{◌<◌, ap, ◌∙◌, length, length-map, arith, pending_entry, Pending}
-use Rattle.ob_seq.specs.Steps.Held.{is_first_voided}
+use Rattle.ob_seq.specs.Steps.Step.{is_first_voided}
 use Rattle.ob_seq.proofs.Inside.Rooms.{back_first}
 use Rattle.ob_seq.proofs.whole.Whole.is_front_voided.Goals as goal
 

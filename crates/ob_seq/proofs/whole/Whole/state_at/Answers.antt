@@ -2,7 +2,7 @@ use Rattle.ob_seq.proofs.Words.{◌<◌, length, length-map, map, sym, ap, ◌�
 use Rattle.ob_seq.proofs.Words.{Settled, Success, Waiting, states_of}
 use Rattle.std.proofs.Math.ListN.{get_or-append}
 use Rattle.std.proofs.lemmas.List.{get_or-map}
-use Rattle.ob_seq.specs.Steps.Held.{state_at}
+use Rattle.ob_seq.specs.Steps.Step.{state_at}
 use Rattle.ob_seq.proofs.whole.Whole.state_at.Goals as goal
 
 pub returns-then-id-gone : goal.returns-then-id-gone

@@ -4,7 +4,7 @@ use Rattle.std.proofs.lemmas.List.{drop_all, take_all}
 use Rattle.ob_history.specs.Beginning.{IsBeginning}
 use Rattle.ob_history.specs.History.{History}
 use Rattle.ob_history.specs.Settlements.{settlements_in}
-use Rattle.ob_seq.specs.Settles.{times_settled}
+use Rattle.ob_seq.specs.Pending.{times_settled}
 use Rattle.ob_shared.specs.Finished.{StandsIn, first_short}
 use Rattle.ob_shared.specs.Foreign.{IsForeign}
 use Rattle.ob_shared.specs.GivenBack.{after_meeting}

@@ -1,5 +1,5 @@
 use Rattle.std.proofs.Common.{◌≤◌, List, ℕ, length, take, ap, ◌∙◌, subst, Ok}
-use Rattle.ob_connection.specs.Telling.{with_more}
+use Rattle.ob_connection.specs.Calls.{with_more}
 use Rattle.ob_connection.proofs.Offered.{joined}
 use Rattle.ob_shared_connection.specs.Sending.{Asked, Told}
 use Rattle.ob_shared_connection.proofs.transport.sending.ask_by.Goals as goal

@@ -1,0 +1,58 @@
+-- What a call does to what waits, whatever outcomes the messages had that are gone, and what its result says, as the
+-- reply of the model. Each reply goes by the promises as they were before the call. Of public clauses those of
+-- `Contents` cite it, and of the replies those of connections.
+use Rattle.std.specs.Prelude.{◌∷◌, ℕ, Bool, true, false, List, [], if◌then◌else◌, Option, Some, None, Result, Ok, Err, ⊤}
+use Rattle.ob_types.specs.declared.promise.Outcome.{Outcome}
+use Rattle.ob_types.specs.declared.promise.Outcome.TheVariants.{Cancelled}
+use Rattle.ob_types.specs.declared.promise.PromiseState.{PromiseState}
+use Rattle.ob_types.specs.declared.refusal.Refusal.{Refusal}
+use Rattle.ob_types.specs.declared.reply.Answer.TheVariants.{Count, Yes, Done}
+use Rattle.ob_types.specs.declared.reply.Change.{Change}
+use Rattle.ob_types.specs.declared.reply.Reply.{Reply}
+use Rattle.ob_seq.specs.Answer.{told_by}
+use Rattle.ob_seq.specs.Pending.{Pending}
+use Rattle.ob_seq.specs.Steps.Step.{Step, Makes}
+use Rattle.ob_seq.specs.Unsent.{Unsent, whole}
+use Rattle.ob_seq.specs.declared.contents.take.Front.{Front}
+
+-- a call makes this step, and its result says this; it lets no message go
+abbrev pub MakesWithin : {A : Type 0} → (Pending → Step) → (List PromiseState → A → Reply) → Unsent → Result A Refusal →
+    Unsent → Type 0
+MakesWithin step tell old result new =
+    (gone : List Outcome) → let now = whole gone old in
+    Makes now (step now) (told_by (tell now.promises) result) (whole gone new)
+
+-- a call that has nothing to say
+abbrev pub done_reply : List PromiseState → ⊤ → Reply
+done_reply promises done = record { answer = Done; settled = []; change = None }
+
+-- a change of a user bit: the change of writability
+abbrev pub bit_reply : List PromiseState → Option Change → Reply
+bit_reply promises change = record { answer = Done; settled = []; change = change }
+
+-- a call that settles nothing and counts this many messages: the change of writability
+abbrev pub counted_reply : ℕ → List PromiseState → Option Change → Reply
+counted_reply count promises change = record { answer = Count count; settled = []; change = change }
+
+-- a cancellation of this promise: whether it came in time
+abbrev pub cancelled_reply : ℕ → List PromiseState → Bool → Reply
+cancelled_reply id promises in_time = record {
+  answer = Yes in_time;
+  settled = if in_time then (record { 0 = id }, Cancelled) ∷ [] else [];
+  change = None;
+}
+
+-- a removal of the front with this outcome, whose id is this: whether there was one, and whether its promise is settled
+abbrev pub front_reply : ℕ → Outcome → Option Front → Reply
+front_reply id outcome None = record { answer = Yes false; settled = []; change = None }
+front_reply id outcome (Some front) = record {
+  answer = Yes true;
+  settled = if front.settles then (record { 0 = id }, outcome) ∷ [] else [];
+  change = front.change;
+}
+
+-- how the messages ended that such a removal let go: one that was voided ended as cancelled
+abbrev pub front_endings : Outcome → Result (Option Front) Refusal → List Outcome
+front_endings outcome (Err refusal) = []
+front_endings outcome (Ok None) = []
+front_endings outcome (Ok (Some front)) = (if front.settles then outcome else Cancelled) ∷ []
