@@ -204,7 +204,7 @@ fn push_gathered(text: &mut String, blocks: &[Bytes]) -> Result<(), NoAnswer> {
     Ok(())
 }
 
-/// Asks all lines of a story, and tells how many were answered. The first that is answered otherwise ends the test.
+/// Asks all lines of a story, and tells how many were answered. The first mismatch ends the test.
 fn play<R: Wait + Abort>(rt: &R, alloc: Global, story: Story) -> Result<u32, NoAnswer> {
     let mut handles = Handles::of(alloc, story)?;
     let mut text = String::new(alloc);
