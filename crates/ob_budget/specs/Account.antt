@@ -4,9 +4,9 @@ use Rattle.ob_budget.specs.Bounds.{BoundsValue}
 use Rattle.ob_budget.specs.Word.{is_pressed, total_of, begins}
 use Rattle.ob_budget.specs.declared.account.Account.{Account}
 
--- how many seats there are
+-- how many seats there are: 2^62, so that a server that gives one to each connection never runs out
 abbrev pub most_seats : ℕ
-most_seats = 4294967296
+most_seats = 4611686018427387904
 
 -- a word whose total is above the high mark is pressed, and one whose total is below the low mark is not
 pub record MarksStand (bounds : BoundsValue) (word : ℕ) : Type 0 where

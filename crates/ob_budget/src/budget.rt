@@ -36,7 +36,7 @@ impl Model for Budget {
 }
 
 impl Budget {
-    /// A budget of which nothing is held, and the seat that is for all 2^32 seats. An `AllocError` comes only if the
+    /// A budget of which nothing is held, and the seat that is for all 2^62 seats. An `AllocError` comes only if the
     /// allocator refuses; no later call allocates.
     pub fn open(alloc: Global, bounds: Bounds) -> Result<(Budget, Seat), AllocError>
         ensures bounds { IfOk result (λ ok. ok.0.bounds ≡ bounds) }

@@ -7,7 +7,8 @@ ghost use Rattle.ob_budget.specs.Values.{SeatValue};
 mod cut;
 mod finish;
 mod looks;
-mod moves;
+mod lower;
+mod raise;
 mod steps;
 
 use crate::account::Account;
@@ -15,7 +16,10 @@ use atomic_table::Seat as TableSeat;
 use std::marker::Model;
 
 /// How many seats the first one is for.
-const MOST_SEATS: u64 = 1 << 32;
+const MOST_SEATS: u64 = 1 << 62;
+
+/// How many exchanges a call loses before it gives up.
+const TRIES: u32 = 65536;
 
 /// A seat at a budget: it holds an amount of bytes, which it is raised and lowered by. It may go to another thread.
 ///

@@ -33,7 +33,8 @@ impl Seat {
         requires { self.old.budget ≡ budget.now }
         ensures one_seat { self.old.account.seats ≤ 1 → IsErrAnd result (λ _. self.new ≡ self.old) }
         ensures split { 1 < self.old.account.seats → IsOk result }
-        ensures budget { IfOk result (λ seat. (self.new.budget ≡ self.old.budget) × (seat.budget ≡ self.old.budget)) }
+        ensures budget { self.new.budget ≡ self.old.budget }
+        ensures its_budget { IfOk result (λ seat. seat.budget ≡ self.old.budget) }
         ensures kept { IfOk result (λ _. self.new.account ≡ kept_account 1 self.old.account) }
         ensures given { IfOk result (λ seat. seat.account ≡ given_account 1 self.old.account) }
     {
@@ -49,7 +50,8 @@ impl Seat {
         requires { self.old.budget ≡ budget.now }
         ensures one_seat { self.old.account.seats ≤ 1 → IsErrAnd result (λ _. self.new ≡ self.old) }
         ensures halved { 1 < self.old.account.seats → IsOk result }
-        ensures budget { IfOk result (λ seat. (self.new.budget ≡ self.old.budget) × (seat.budget ≡ self.old.budget)) }
+        ensures budget { self.new.budget ≡ self.old.budget }
+        ensures its_budget { IfOk result (λ seat. seat.budget ≡ self.old.budget) }
         ensures kept { IfOk result (λ _. self.new.account ≡ kept_account (self.old.account.seats / 2) self.old.account) }
         ensures given { IfOk result (λ seat. seat.account ≡ given_account (self.old.account.seats / 2) self.old.account) }
     {
@@ -64,6 +66,7 @@ impl Seat {
     pub fn join(&mut self, budget: &Budget, other: Seat)
         requires budget { self.old.budget ≡ budget.now }
         requires other { other.budget ≡ budget.now }
+        ensures budget { self.new.budget ≡ self.old.budget }
         ensures joined { IsJoined self.old other self.new }
         ensures held { self.new.account.held ≡ self.old.account.held + other.account.held }
         ensures fits { self.old.account.held + other.account.held ≤ self.old.budget.bounds.room }

@@ -12,7 +12,7 @@ impl Seat {
     /// Ends the budget, if the seat is for all seats: then the total is what it holds, and pressure was told to begin as
     /// often as to end, and once more if it stands.
     ///
-    /// `SeatsOut` comes exactly if the seat is for fewer than all 2^32, and hands back both as they were.
+    /// `SeatsOut` comes exactly if the seat is for fewer than all 2^62, and hands back both as they were.
     pub fn finish(self, budget: Budget) -> Result<Look, SeatsOut>
         requires { self.budget ≡ budget }
         ensures seats_out { self.account.seats < most_seats →

@@ -11,12 +11,13 @@ impl Seat {
     /// The bytes that all seats hold, and whether pressure stands, read in one load. What the seat holds stays.
     pub fn look(&mut self, budget: &Budget) -> Look
         requires { self.old.budget ≡ budget.now }
+        ensures budget { self.new.budget ≡ self.old.budget }
         ensures looked { HasLooked self.old self.new }
         ensures total { result.total ≡ total_of self.new.account.last }
         ensures is_pressed { result.is_pressed ≡ is_pressed self.new.account.last }
     {
         self.read(budget);
-        look_of(self.last)
+        self.last_look()
     }
 
     /// What the seat's own last step has seen, with no step more.

@@ -1,15 +1,12 @@
-ghost use Rattle.std.specs.Prelude.{◌≡◌, ◌≤◌, ◌+◌, ◌-◌, IfOk, IfErr, IsTrue, ◌↔◌};
-ghost use Rattle.ob_budget.specs.Calls.{IsRaised, IsMoved, IsRefused, WasBusy, most_tries};
-ghost use Rattle.ob_budget.specs.Word.{total_of, lowered};
+ghost use Rattle.std.specs.Prelude.{◌≡◌, ◌≤◌, ◌+◌, IfOk, IfErr, IsTrue, ◌↔◌};
+ghost use Rattle.ob_budget.specs.Calls.{IsRaised, IsRefused};
+ghost use Rattle.ob_budget.specs.Word.{total_of};
 
-use super::Seat;
+use super::{Seat, TRIES};
 use crate::budget::Budget;
-use crate::fault::{Busy, RaiseFault};
+use crate::fault::RaiseFault;
 use crate::pressure::Pressure;
-use crate::word::{change_between, lowered, raised, total_of};
-
-/// How many exchanges a call loses before it gives up.
-const TRIES: u32 = 65536;
+use crate::word::{change_between, raised, total_of};
 
 impl Seat {
     /// Whether what the seat knows last leaves the room for this amount.
@@ -27,6 +24,7 @@ impl Seat {
     /// it held. A seat alone makes one exchange, and no load.
     pub fn raise(&mut self, budget: &Budget, amount: u64) -> Result<Option<Pressure>, RaiseFault>
         requires { self.old.budget ≡ budget.now }
+        ensures budget { self.new.budget ≡ self.old.budget }
         ensures held { IfOk result (λ _. self.new.account.held ≡ self.old.account.held + amount) }
         ensures raised { IfOk result (λ told. IsRaised amount self.old told self.new) }
         ensures refused { IfErr result (λ fault. IsRefused amount fault self.old self.new) }
@@ -46,28 +44,5 @@ impl Seat {
             }
         }
         Err(RaiseFault::Busy)
-    }
-
-    /// Lowers what the seat holds by this amount of bytes, in one step.
-    ///
-    /// It is `Ended` if this step ended pressure, and else none. `Busy` comes if other seats came in between 65,536 times,
-    /// and the seat holds what it held. A seat alone makes one exchange, and no load.
-    pub fn lower(&mut self, budget: &Budget, amount: u64) -> Result<Option<Pressure>, Busy>
-        requires budget { self.old.budget ≡ budget.now }
-        requires held { amount ≤ self.old.account.held }
-        ensures held { IfOk result (λ _. self.new.account.held ≡ self.old.account.held - amount) }
-        ensures lowered { IfOk result (λ told.
-            IsMoved (λ found. lowered self.old.budget.bounds found amount) self.old told self.new) }
-        ensures refused { IfErr result (λ _. WasBusy self.old self.new) }
-    {
-        self.is_sound();
-        'tries: for _ in 0..TRIES {
-            let last = self.last;
-            let next = lowered(budget.bounds, last, amount);
-            if self.exchange(budget, next) {
-                return Ok(change_between(last, next));
-            }
-        }
-        Err(Busy)
     }
 }
