@@ -5,9 +5,12 @@ ghost use Rattle.ob_covered.specs.Budgeted.{BudgetedValue, IsWithin, IsPending};
 ghost use Rattle.ob_covered.specs.Cover.{CoverValue, Tells, HoldsAtMost};
 
 mod commands;
+mod giving_up;
+mod sending;
 mod write;
 
 use crate::cover::Cover;
+use crate::fault::Told;
 use ob_budget::Pressure;
 use ob_connection::Connection;
 use ob_types::{Estimate, WaterMark};
@@ -71,5 +74,22 @@ impl Budgeted {
         self.connection.stands_for_some_commands();
         let pending = u64::from(self.connection.look().total);
         self.cover.keep(pending)
+    }
+
+    /// Lets the connection go, with all that is pending of it, and gives back all that its seat holds, unless other seats
+    /// come in between 65,536 times. The cover is for the next connection.
+    pub fn retire(self) -> Told<Cover>
+        ensures told { Tells self.cover result.pressure result.answer }
+        ensures given { HoldsAtMost 0 self.cover result.answer }
+    {
+        let Budgeted {
+            connection: _,
+            mut cover,
+        } = self;
+        let pressure = cover.keep(0);
+        Told {
+            answer: cover,
+            pressure,
+        }
     }
 }
