@@ -1,5 +1,5 @@
 -- What a cover lacks, and what it holds after raises that were refused.
-use Rattle.std.proofs.Common.{◌≡◌, ℕ, ◌+◌, ◌-◌, ◌≤◌, ◌<◌, Option, sym, refl, ap, ◌∙◌, subst, arith}
+use Rattle.std.proofs.Common.{◌≡◌, ℕ, ◌-◌, ◌<◌, Option, refl, ◌∙◌, subst}
 use Rattle.std.specs.Prelude.{Result, Ok, Err, IfErr}
 use Rattle.ob_budget.specs.Account.{HoldsAlike}
 use Rattle.ob_budget.specs.Calls.{IsRefused}

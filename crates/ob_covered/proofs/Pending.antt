@@ -23,7 +23,7 @@ use Rattle.ob_connection.specs.declared.connection.sending.SendFault.{SendFault}
 use Rattle.ob_connection.specs.declared.connection.sending.Sent.{Sent}
 use Rattle.ob_connection.specs.declared.replies.SentTurns.{SentTurns}
 use Rattle.ob_connection.specs.declared.replies.Taken.{Taken}
-use Rattle.ob_connection.specs.Standing.{StandsFor, StandsForSome}
+use Rattle.ob_connection.specs.Standing.{StandsForSome}
 use Rattle.ob_connection.specs.declared.look.Look.{Look}
 use Rattle.ob_covered.specs.Budgeted.{BudgetedValue, pending, IsPending, IsWithin, IsThrifty}
 use Rattle.ob_covered.specs.Cover.{CoverValue, HoldsAtMost}

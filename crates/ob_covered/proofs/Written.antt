@@ -1,15 +1,13 @@
 -- What is pending of a connection after a write that the budget let through.
-use Rattle.std.proofs.Common.{◌≡◌, ℕ, ◌+◌, ◌≤◌, Bool, true, false, List, [], ◌∷◌, ◌++◌, if◌then◌else◌, sym, refl, ap, ◌∙◌, subst, arith}
+use Rattle.std.proofs.Common.{◌≡◌, ℕ, ◌+◌, ◌≤◌, Bool, true, false, [], ◌∷◌, ◌++◌, if◌then◌else◌, sym, ap, ◌∙◌, subst, arith}
 use Rattle.std.specs.Prelude.{Result, Ok, Err, IfErr, OnOk}
 use Rattle.std.proofs.lemmas.List.Sums.{fold-append, sum_by_push}
 use Rattle.ob_types.specs.PendingSize.{counted_bytes, is_oversize, pending_size_of}
 use Rattle.ob_types.specs.declared.command.Command.TheVariants.{Write}
 use Rattle.ob_types.specs.declared.estimate.Estimate.{Estimate}
 use Rattle.ob_types.specs.declared.message.Message.{Message}
-use Rattle.ob_types.specs.declared.promise.PromiseState.{PromiseState}
 use Rattle.ob_types.specs.declared.refusal.Refusal.{Refusal}
 use Rattle.ob_types.specs.declared.refusal.Refusal.TheVariants.{Oversize}
-use Rattle.ob_types.specs.declared.reply.Reply.{Reply}
 use Rattle.ob_seq.specs.Effect.{effect, rows_after}
 use Rattle.ob_seq.specs.Row.{new_row}
 use Rattle.ob_seq.specs.Total.{counted_size}
@@ -21,7 +19,6 @@ use Rattle.ob_connection.specs.Standing.{StandsForSome}
 use Rattle.ob_connection.specs.declared.look.Look.{Look}
 use Rattle.ob_connection.specs.declared.replies.Written.{Written}
 use Rattle.ob_covered.specs.Budgeted.{pending, IsPending, IsWithin, IsNotPut, accepted}
-use Rattle.ob_covered.specs.declared.fault.NotWritten.{NotWritten}
 use Rattle.ob_covered.specs.declared.fault.WriteFault.{WriteFault}
 use Rattle.ob_covered.specs.declared.fault.WriteFault.TheVariants.{Refused, OverBudget}
 use Rattle.ob_covered.proofs.Pending.{shown, covered}
@@ -57,14 +54,14 @@ not_put old new message (Refused refusal) not = not.refused
 not_put old new message (OverBudget fault) not = absurd not
 
 -- so a seat that holds the message beside what was pending covers the connection, whether it was written or not
-pub put_within : (old new : Connected) (message : Message) (result : Result Written NotWritten) (before held less : ℕ)
-    → IsWithin old less → less ≤ held
+pub put_within : {E : Type 0} (why : E → WriteFault) (old new : Connected) (message : Message) (result : Result Written E)
+    (before held less : ℕ) → IsWithin old less → less ≤ held
     → OnOk result ((before : ℕ) → IsPending old before
     → IsPending new (before + counted_bytes old.unsent.settings.estimate message))
-    → IfErr result (λ not. IsNotPut old message not.why new) → IsPending old before
+    → IfErr result (λ not. IsNotPut old message (why not) new) → IsPending old before
     → before + counted_bytes old.unsent.settings.estimate message ≤ held → IsWithin new held
-put_within old new message (Ok written) before held less within more grown refused is fits =
+put_within why old new message (Ok written) before held less within more grown refused is fits =
     covered new (before + counted_bytes old.unsent.settings.estimate message) held (grown before is) fits
-put_within old new message (Err not) before held less within more grown refused is fits =
-    subst (λ c. IsWithin c held) (sym (not_put old new message not.why refused))
+put_within why old new message (Err not) before held less within more grown refused is fits =
+    subst (λ c. IsWithin c held) (sym (not_put old new message (why not) refused))
     (λ commands stands. omega (arith, within commands stands, more))

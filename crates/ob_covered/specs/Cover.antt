@@ -1,5 +1,5 @@
 -- How a seat covers the bytes of one connection.
-use Rattle.std.specs.Prelude.{◌≡◌, ◌≤◌, ◌<◌, ◌+◌, ◌-◌, ◌*◌, ℕ, Option, Some, None}
+use Rattle.std.specs.Prelude.{◌≡◌, ◌≤◌, ◌<◌, ◌+◌, ◌-◌, ℕ, Option, Some, None}
 use Rattle.ob_budget.specs.Account.{HoldsAlike}
 use Rattle.ob_budget.specs.Calls.{IsRefused, most_tries}
 use Rattle.ob_budget.specs.Values.{SeatValue}

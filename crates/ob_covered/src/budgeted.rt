@@ -5,6 +5,7 @@ ghost use Rattle.ob_covered.specs.Budgeted.{BudgetedValue, IsWithin, IsPending};
 ghost use Rattle.ob_covered.specs.Cover.{CoverValue, Tells, HoldsAtMost};
 
 mod commands;
+mod copying;
 mod giving_up;
 mod sending;
 mod write;

@@ -1,4 +1,4 @@
-use Rattle.std.proofs.Common.{◌≡◌, ap, sym, subst, ◌∙◌, arith}
+use Rattle.std.proofs.Common.{ap, sym, subst, ◌∙◌, arith}
 use Rattle.ob_covered.specs.Budgeted.{IsPending}
 use Rattle.ob_covered.proofs.Pending.{shown}
 use Rattle.ob_covered.proofs.budgeted.Budgeted.rest.Goals as goal

@@ -1,4 +1,4 @@
-use Rattle.std.proofs.Common.{◌-◌, ◌<◌, ◌≡◌, ap, sym, subst, arith}
+use Rattle.std.proofs.Common.{◌-◌, ◌<◌, ap, subst, arith}
 use Rattle.std.specs.Prelude.{IfErr}
 use Rattle.ob_covered.specs.Cover.{IsShort}
 use Rattle.ob_covered.specs.Inside.{cover_of}
