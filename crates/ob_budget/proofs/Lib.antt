@@ -1,0 +1,6 @@
+pub mod Sums
+pub mod Words
+pub mod Moves
+pub mod Seats
+pub mod Tries
+pub mod Ends

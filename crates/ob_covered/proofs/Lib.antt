@@ -1,0 +1,3 @@
+pub mod Pending
+pub mod Covers
+pub mod Written

@@ -1,0 +1,64 @@
+-- What is pending of a connection after a write that the budget let through.
+use Rattle.std.proofs.Common.{◌≡◌, ℕ, ◌+◌, ◌≤◌, Bool, true, false, [], ◌∷◌, ◌++◌, if◌then◌else◌, sym, ap, ◌∙◌, subst, arith}
+use Rattle.std.specs.Prelude.{Result, Ok, Err, IfErr, OnOk}
+use Rattle.std.proofs.lemmas.List.Sums.{fold-append, sum_by_push}
+use Rattle.ob_types.specs.PendingSize.{counted_bytes, is_oversize, pending_size_of}
+use Rattle.ob_types.specs.declared.command.Command.TheVariants.{Write}
+use Rattle.ob_types.specs.declared.estimate.Estimate.{Estimate}
+use Rattle.ob_types.specs.declared.message.Message.{Message}
+use Rattle.ob_types.specs.declared.refusal.Refusal.{Refusal}
+use Rattle.ob_types.specs.declared.refusal.Refusal.TheVariants.{Oversize}
+use Rattle.ob_seq.specs.Effect.{effect, rows_after}
+use Rattle.ob_seq.specs.Rows.{new_row, counted_size}
+use Rattle.ob_connection.specs.Connected.{Connected, StandsForSome}
+use Rattle.ob_connection.specs.Looks.{Shows}
+use Rattle.ob_connection.specs.Obeying.{Obeys, written_reply}
+use Rattle.ob_connection.specs.declared.look.Look.{Look}
+use Rattle.ob_connection.specs.declared.replies.Written.{Written}
+use Rattle.ob_covered.specs.Budgeted.{pending, IsPending, IsWithin, IsNotPut, accepted}
+use Rattle.ob_covered.specs.declared.fault.WriteFault.{WriteFault}
+use Rattle.ob_covered.specs.declared.fault.WriteFault.TheVariants.{Refused, OverBudget}
+use Rattle.ob_covered.proofs.Pending.{shown, covered}
+
+-- an accepted write adds what its message counts
+pub grows : (old new : Connected) (message : Message) (written : Written) (look : Look) → StandsForSome old
+    → Obeys old (Write message) written_reply (accepted written) new → Shows new look → (before : ℕ)
+    → IsPending old before → IsPending new (before + counted_bytes old.unsent.settings.estimate message)
+grows old new message written look some obeys shows before is commands stands =
+    let estimate = old.unsent.settings.estimate in
+    let rows = rows_after estimate some.0 in
+    let row = new_row estimate message in
+    let more : rows_after estimate (some.0 ++ Write message ∷ []) ≡ rows ++ row ∷ [] =
+    fold-append (effect estimate) [] some.0 (Write message ∷ []) in
+    let longer : pending old.unsent.settings (some.0 ++ Write message ∷ []) ≡ pending old.unsent.settings some.0 + counted_bytes estimate message =
+    rw more (sum_by_push counted_size rows row) in
+    let seen : look.total ≡ pending old.unsent.settings (some.0 ++ Write message ∷ []) =
+    shown new look shows (some.0 ++ Write message ∷ []) (obeys.stands some.0 some.1)
+    ∙ ap (λ s. pending s (some.0 ++ Write message ∷ [])) obeys.settings in
+    omega (arith, is some.0 some.1, longer, seen, shown new look shows commands stands)
+
+-- the size of a message that is not too large is what it counts
+size_if : (over : Bool) (counted size : ℕ) (fault : Refusal) → Ok size ≡ (if over then Err fault else Ok counted) → size ≡ counted
+size_if true counted size fault is = absurd (cc)
+size_if false counted size fault is = cc
+
+pub size_is : (estimate : Estimate) (message : Message) (size : ℕ) → Ok size ≡ pending_size_of estimate message
+    → size ≡ counted_bytes estimate message
+size_is estimate message size is = size_if (is_oversize estimate message) (counted_bytes estimate message) size Oversize is
+
+not_put : (old new : Connected) (message : Message) (why : WriteFault) → IsNotPut old message why new → new ≡ old
+not_put old new message (Refused refusal) not = not.refused
+not_put old new message (OverBudget fault) not = absurd not
+
+-- so a seat that holds the message beside what was pending covers the connection, whether it was written or not
+pub put_within : {E : Type 0} (why : E → WriteFault) (old new : Connected) (message : Message) (result : Result Written E)
+    (before held less : ℕ) → IsWithin old less → less ≤ held
+    → OnOk result ((before : ℕ) → IsPending old before
+    → IsPending new (before + counted_bytes old.unsent.settings.estimate message))
+    → IfErr result (λ not. IsNotPut old message (why not) new) → IsPending old before
+    → before + counted_bytes old.unsent.settings.estimate message ≤ held → IsWithin new held
+put_within why old new message (Ok written) before held less within more grown refused is fits =
+    covered new (before + counted_bytes old.unsent.settings.estimate message) held (grown before is) fits
+put_within why old new message (Err not) before held less within more grown refused is fits =
+    subst (λ c. IsWithin c held) (sym (not_put old new message (why not) refused))
+    (λ commands stands. omega (arith, within commands stands, more))

@@ -1,0 +1,67 @@
+-- A connection with a seat of its own at a budget.
+use Rattle.std.specs.Prelude.{◌≡◌, ◌≤◌, ◌+◌, ◌*◌, ℕ, List, Result, Ok, Err}
+use Rattle.ob_types.specs.PendingSize.{counted_bytes}
+use Rattle.ob_types.specs.declared.command.Command.{Command}
+use Rattle.ob_types.specs.declared.command.Command.TheVariants.{Write}
+use Rattle.ob_types.specs.declared.message.Message.{Message}
+use Rattle.ob_types.specs.declared.refusal.Refusal.{Refusal}
+use Rattle.ob_seq.specs.Effect.{rows_after}
+use Rattle.ob_seq.specs.Rows.{Settings, total}
+use Rattle.ob_connection.specs.Connected.{Connected, StandsFor, Gives}
+use Rattle.ob_connection.specs.Obeying.{Obeys, written_reply}
+use Rattle.ob_connection.specs.declared.replies.Written.{Written}
+use Rattle.ob_budget.specs.declared.fault.RaiseFault.{RaiseFault}
+use Rattle.ob_covered.specs.Cover.{CoverValue, IsShort, HoldsAtMost}
+use Rattle.ob_covered.specs.declared.fault.WriteFault.{WriteFault}
+use Rattle.ob_covered.specs.declared.fault.WriteFault.TheVariants.{Refused, OverBudget}
+
+-- a connection, and the seat that covers what is pending of it
+pub record BudgetedValue : Type 0 where
+  pub connection : Connected
+  pub cover : CoverValue
+
+-- the bytes that are pending after a history
+abbrev pub pending : Settings → List Command → ℕ
+pending settings commands = total (rows_after settings.estimate commands)
+
+-- whatever history the connection stands for, this many bytes are pending after it
+abbrev pub IsPending : Connected → ℕ → Type 0
+IsPending connection bytes = Gives connection (λ settings commands. pending settings commands) bytes
+
+-- whatever history the connection stands for, at most this many bytes are pending after it
+abbrev pub IsWithin : Connected → ℕ → Type 0
+IsWithin connection bytes =
+    (commands : List Command) → StandsFor connection commands → pending connection.unsent.settings commands ≤ bytes
+
+-- what is pending, and what its seat may hold beside it after a call
+pub record IsThrifty (old new : BudgetedValue) : Type 0 where
+  pub now : ℕ
+  pub is_pending : IsPending new.connection now
+  pub spare : HoldsAtMost (now + 2 * new.cover.quantum) old.cover new.cover
+
+-- the seat does not hold the message beside what is pending, and a raise by what it lacks was refused
+pub record IsOverBudget (old : BudgetedValue) (message : Message) (fault : RaiseFault)
+    (new : BudgetedValue) : Type 0 where
+  pub same : new.connection ≡ old.connection
+  pub now : ℕ
+  pub is_pending : IsPending old.connection now
+  pub short : IsShort (now + counted_bytes old.connection.unsent.settings.estimate message) fault old.cover new.cover
+
+-- the result of a write that the connection accepted
+abbrev pub accepted : Written → Result Written Refusal
+accepted written = Ok written
+
+-- and of one that it refused
+abbrev pub refused : Refusal → Result Written Refusal
+refused refusal = Err refusal
+
+-- a write that the connection refused
+abbrev pub IsNotPut : Connected → Message → WriteFault → Connected → Type 0
+IsNotPut old message (Refused refusal) new = Obeys old (Write message) written_reply (refused refusal) new
+IsNotPut old message (OverBudget fault) new = ⊥
+
+-- a write is refused as the connection refuses it, or since the budget does
+abbrev pub IsNotWritten : BudgetedValue → Message → WriteFault → BudgetedValue → Type 0
+IsNotWritten old message (Refused refusal) new =
+    Obeys old.connection (Write message) written_reply (refused refusal) new.connection
+IsNotWritten old message (OverBudget fault) new = IsOverBudget old message fault new

@@ -1,0 +1,3 @@
+pub mod Cover
+pub mod Budgeted
+pub mod Inside

@@ -1,0 +1,67 @@
+//! Messages that are written as bytes.
+
+ghost use Rattle.std.specs.Prelude.{◌≡◌, ◌+◌, ℕ, IfOk, IfErr, OnOk};
+ghost use Rattle.ob_types.specs.PendingSize.{counted_bytes};
+ghost use Rattle.ob_types.specs.declared.command.Command.TheVariants.{Write};
+ghost use Rattle.ob_types.specs.declared.message.Message.TheVariants.{Block};
+ghost use Rattle.ob_seq.specs.Unsent.{room_for_one_more};
+ghost use Rattle.ob_connection.specs.Connected.{room_in};
+ghost use Rattle.ob_connection.specs.Obeying.{Obeys, written_reply};
+ghost use Rattle.ob_covered.specs.Budgeted.{IsNotPut, IsNotWritten, IsPending, accepted};
+ghost use Rattle.ob_covered.specs.Cover.{Tells};
+
+use super::Budgeted;
+use crate::fault::{Told, WriteFault};
+use ob_connection::{Connection, Written};
+
+/// Writes a copy to a connection that the budget let through.
+fn put_copy(connection: &mut Connection, bytes: &[u8]) -> Result<Written, WriteFault>
+    ensures written { IfOk result (λ written.
+        Obeys connection.old (Write (Block bytes.now)) written_reply (accepted written) connection.new) }
+    ensures grown { OnOk result ((before : ℕ) → IsPending connection.old before →
+        IsPending connection.new (before + counted_bytes connection.old.unsent.settings.estimate (Block bytes.now))) }
+    ensures room { OnOk result (room_in connection.new ≡ room_for_one_more connection.old.unsent) }
+    ensures refused { IfErr result (λ why. IsNotPut connection.old (Block bytes.now) why connection.new) }
+{
+    connection.stands_for_some_commands();
+    match connection.write_copy(bytes) {
+        Ok(written) => {
+            let _look = connection.look();
+            Ok(written)
+        }
+        Err(refusal) => Err(WriteFault::Refused(refusal)),
+    }
+}
+
+impl Budgeted {
+    /// As `Connection::write_copy`, but `OverBudget` comes after `Closed`, `Oversize` and `TooMuch`, and before anything is
+    /// copied, if the seat does not hold the copy beside what is pending, and the budget refused what it lacks.
+    pub fn write_copy(&mut self, bytes: &[u8]) -> Told<Result<Written, WriteFault>>
+        ensures written { IfOk result.answer (λ written.
+            Obeys self.old.connection (Write (Block bytes.now)) written_reply (accepted written) self.new.connection) }
+        ensures room { OnOk result.answer (room_in self.new.connection ≡ room_for_one_more self.old.connection.unsent) }
+        ensures refused { IfErr result.answer (λ why. IsNotWritten self.old (Block bytes.now) why self.new) }
+        ensures told { Tells self.old.cover result.pressure self.new.cover }
+    {
+        self.connection.stands_for_some_commands();
+        if let Some(refusal) = self.connection.refusal_of_block(bytes) {
+            return Told {
+                answer: Err(WriteFault::Refused(refusal)),
+                pressure: None,
+            };
+        }
+        let estimate = self.connection.estimate();
+        let size = bytes.len() as u64 + u64::from(estimate.overhead);
+        let pending = self.connection.look().total;
+        match self.cover.take(u64::from(pending) + size) {
+            Ok(pressure) => {
+                let answer = put_copy(&mut self.connection, bytes);
+                Told { answer, pressure }
+            }
+            Err(fault) => Told {
+                answer: Err(WriteFault::OverBudget(fault)),
+                pressure: None,
+            },
+        }
+    }
+}

@@ -1,0 +1,146 @@
+//! Covered connections, at a budget of 1000 bytes with marks of 200 and 800. A block of four bytes counts 100.
+ghost use Rattle.std.specs.Prelude.{◌≡◌, IfOk};
+ghost use Rattle.std.specs.Arc.{arc_value};
+
+use bytes::Bytes;
+use ob_budget::{Bounds, Budget, Pressure, RaiseFault};
+use ob_covered::{Budgeted, Cover, NotWritten, WriteFault};
+use ob_types::{Cause, Estimate, Message, Refusal, WaterMark};
+use std::alloc::Global;
+use std::sync::Arc;
+use std::test::Fail;
+
+/// A budget, and two covers with this quantum.
+fn opened(alloc: Global, quantum: u64) -> Result<(Arc<Budget>, Cover, Cover), Fail> {
+    let (budget, mut seat) = Budget::open(alloc, Bounds::new(1000, 200, 800)?)?;
+    let other = seat.split(&budget)?;
+    let Ok(budget) = Arc::new(alloc, budget) else {
+        return Err(Fail::new("out of memory"));
+    };
+    let first = Cover::new(Arc::try_clone(&budget)?, seat, quantum);
+    let second = Cover::new(Arc::try_clone(&budget)?, other, quantum);
+    Ok((budget, first, second))
+}
+
+/// A connection under this cover.
+fn under(alloc: Global, cover: Cover) -> Result<Budgeted, Fail> {
+    let estimate = Estimate {
+        overhead: 96,
+        unknown: 8,
+    };
+    Ok(Budgeted::new(alloc, WaterMark::new(5000, 9000)?, estimate, cover))
+}
+
+/// Writes a block of four bytes, and says which turn of pressure that made, or why it was refused.
+fn write(connection: &mut Budgeted) -> Result<Option<Pressure>, WriteFault> {
+    let told = connection.write(Message::Block(Bytes::from_static(b"four")));
+    match told.answer {
+        Ok(_written) => Ok(told.pressure),
+        Err(NotWritten { why, message: _ }) => Err(why),
+    }
+}
+
+/// The bytes that all hold.
+fn total(budget: &Budget) -> u64 {
+    budget.glance().look().total
+}
+
+const FULL: Result<Option<Pressure>, WriteFault> = Err(WriteFault::OverBudget(RaiseFault::Full));
+
+#[test]
+fn pressure_comes_and_goes_and_the_room_ends(rt: HostRuntime) -> Result<(), Fail> {
+    let (budget, cover, _other) = opened(rt.alloc(), 0)?;
+    let mut connection = under(rt.alloc(), cover)?;
+    for count in 1..=10u64 {
+        let told = write(&mut connection)?;
+        assert_eq!(rt; told.is_some(), count == 9, "write {count}");
+        assert_eq!(rt;
+            (total(&budget), connection.held()),
+            (count * 100, count * 100)
+        );
+    }
+    assert_eq!(rt; write(&mut connection), FULL);
+    assert_eq!(rt; connection.connection().look().total, 1000);
+    assert!(rt; connection.flush().answer.is_ok());
+    let told = connection.take_sent(28);
+    assert_eq!(rt; (told.answer.is_ok(), told.pressure), (true, None));
+    assert_eq!(rt; total(&budget), 300);
+    let told = connection.take_sent(8);
+    assert_eq!(rt;
+        (told.answer.is_ok(), told.pressure),
+        (true, Some(Pressure::Ended))
+    );
+    assert_eq!(rt; total(&budget), 100);
+    assert_eq!(rt; write(&mut connection), Ok(None));
+    Ok(())
+}
+
+#[test]
+fn a_quantum_serves_several_writes(rt: HostRuntime) -> Result<(), Fail> {
+    let (budget, cover, _other) = opened(rt.alloc(), 250)?;
+    let mut connection = under(rt.alloc(), cover)?;
+    let mut totals = [0u64; 5];
+    for seen in totals.iter_mut() {
+        let _told = write(&mut connection)?;
+        *seen = total(&budget);
+    }
+    assert_eq!(rt; totals, [250, 250, 500, 500, 500]);
+    // 500 are pending, and 500 held: nothing is spare
+    assert!(rt; connection.flush().answer.is_ok());
+    assert!(rt; connection.take_sent(20).answer.is_ok());
+    // nothing is pending, and two quanta are held
+    assert_eq!(rt; total(&budget), 500);
+    let _told = connection.rest();
+    assert_eq!(rt; total(&budget), 0);
+    Ok(())
+}
+
+#[test]
+fn what_one_gives_up_another_may_write(rt: HostRuntime) -> Result<(), Fail> {
+    let (budget, cover, other) = opened(rt.alloc(), 0)?;
+    let mut first = under(rt.alloc(), cover)?;
+    let mut second = under(rt.alloc(), other)?;
+    for _ in 0..10u32 {
+        let _told = write(&mut first)?;
+    }
+    assert_eq!(rt; write(&mut second), FULL);
+    let told = first.give_up(Cause(7));
+    assert_eq!(rt;
+        (told.answer.is_ok(), told.pressure),
+        (true, Some(Pressure::Ended))
+    );
+    assert_eq!(rt;
+        write(&mut first),
+        Err(WriteFault::Refused(Refusal::Closed))
+    );
+    assert_eq!(rt; write(&mut second), Ok(None));
+    let told = second.retire();
+    assert_eq!(rt; (told.answer.held(), told.pressure), (0, None));
+    assert_eq!(rt; total(&budget), 0);
+    Ok(())
+}
+
+#[test]
+fn commands_return_what_those_of_a_connection_do(rt: HostRuntime) -> Result<(), Fail> {
+    let (budget, cover, _other) = opened(rt.alloc(), 0)?;
+    let mut connection = under(rt.alloc(), cover)?;
+    for _ in 0..4u32 {
+        let _told = write(&mut connection)?;
+    }
+    assert_eq!(rt; connection.cancel(1).answer, Ok(true));
+    let Ok(flushed) = connection.flush().answer else {
+        return Err(Fail::new("it is open"));
+    };
+    // the voided message counts nothing any more
+    assert_eq!(rt; (flushed.count, total(&budget)), (4, 300));
+    assert_eq!(rt; connection.progress(2).answer, Ok(()));
+    assert_eq!(rt; connection.user_bit(1, false).answer.is_ok(), true);
+    assert_eq!(rt; connection.set_marks(WaterMark::new(1, 2)?).answer, Ok(()));
+    assert!(rt; connection.remove().answer.is_ok());
+    assert!(rt; connection.remove_with(Cause(3)).answer.is_ok());
+    assert_eq!(rt; total(&budget), 200);
+    assert!(rt; connection.fail_flushed(Cause(4), true).answer.is_ok());
+    assert!(rt; connection.close(Cause(5)).answer.is_ok());
+    assert_eq!(rt; total(&budget), 0);
+    Ok(())
+}
