@@ -1,11 +1,11 @@
 //! `drive`: writers in threads, a transport beside them, and a report that counts the history.
 
-use crate::{Fault, TASK};
-use crate::outbound::{Bytes, Command, Estimate, Marks, Message, Outcome, Refusal};
 use crate::hand_off::HandOff;
 use crate::history::{Record, Recorded};
+use crate::outbound::{Bytes, Command, Estimate, Marks, Message, Outcome, Refusal};
 use crate::script::{GREATEST_U32, LineFault, Words, lines};
 use crate::trace::Trace;
+use crate::{Fault, TASK};
 use std::io::Write;
 use std::sync::atomic::{AtomicUsize, Ordering::SeqCst};
 use std::sync::{Mutex, MutexGuard};
@@ -94,7 +94,12 @@ pub fn run<W: Write>(
 }
 
 /// Each plan in a thread of its own, and the transport in this one: the receipts of each, those of the transport last.
-fn carry_out(plans: Vec<Vec<Command>>, shared: &Shared, turns: u64, sink: &mut Sink) -> Result<Vec<Vec<Record>>, Fault> {
+fn carry_out(
+    plans: Vec<Vec<Command>>,
+    shared: &Shared,
+    turns: u64,
+    sink: &mut Sink,
+) -> Result<Vec<Vec<Record>>, Fault> {
     let writers = plans.len() as u32;
     thread::scope(|scope| {
         let start = |(writer, plan)| scope.spawn(move || write_plan(plan, writer, shared));
@@ -156,7 +161,9 @@ impl Script {
                 let marks = Command::SetMarks(words.marks(2)?);
                 self.plan(writer()?).push(marks);
             }
-            b"take" => takes(1).and_then(|()| Ok(self.steps.push(SinkStep::Take(words.number(1, 0, GREATEST_U32)?))))?,
+            b"take" => {
+                takes(1).and_then(|()| Ok(self.steps.push(SinkStep::Take(words.number(1, 0, GREATEST_U32)?))))?
+            }
             b"fail" => takes(1).and_then(|()| Ok(self.steps.push(SinkStep::Fail(words.number_u32(1)?))))?,
             b"then" => takes(1).and_then(|()| once(&mut self.after, words.number(1, 0, GREATEST_U32)?))?,
             b"turns" => takes(1).and_then(|()| once(&mut self.turns, words.number(1, 1, MOST_TURNS)?))?,
@@ -325,9 +332,9 @@ impl Sink {
 fn all_stand(receipts: &[Vec<Record>], records: &[Record]) -> bool {
     receipts.iter().enumerate().all(|(caller, own)| {
         own.is_sorted_by(|one, next| one.place < next.place)
-            && own.iter().all(|receipt| {
-                receipt.caller == caller as u32 && records.get(receipt.place as usize) == Some(receipt)
-            })
+            && own
+                .iter()
+                .all(|receipt| receipt.caller == caller as u32 && records.get(receipt.place as usize) == Some(receipt))
     })
 }
 

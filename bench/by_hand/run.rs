@@ -1,8 +1,8 @@
 //! `run`: the commands of a script, each with its trace.
 
 use crate::Fault;
-use crate::outbound::{Answer, Bytes, Command, Message, Outcome, Reply};
 use crate::history::Recorded;
+use crate::outbound::{Answer, Bytes, Command, Message, Outcome, Reply};
 use crate::script::{LineFault, Words, lines};
 use crate::trace::Trace;
 use std::io::{self, Write};
@@ -55,9 +55,8 @@ fn read(line: &[u8]) -> Result<Line, LineFault> {
         b"u" => takes(2).and_then(|()| call(Command::UserBit(words.number(1, 0, 255)? as u32, words.flag(2)?))),
         b"m" => takes(2).and_then(|()| call(Command::SetMarks(words.marks(1)?))),
         b"?" => takes(0).map(|()| Line::Look),
-        b"g" => takes(2).and_then(|()| {
-            Ok(Line::Gather(words.number(1, 1, 1024)? as usize, words.number(2, 1, 2147483647)?))
-        }),
+        b"g" => takes(2)
+            .and_then(|()| Ok(Line::Gather(words.number(1, 1, 1024)? as usize, words.number(2, 1, 2147483647)?))),
         _ => Err(LineFault::FirstWord),
     }
 }

@@ -104,7 +104,10 @@ static void end(struct client *client)
 
 static void join(struct client *client)
 {
-    joined = realloc(joined, (joined_count + 1) * sizeof(struct client *));
+    struct client **longer = realloc(joined, (joined_count + 1) * sizeof(struct client *));
+    if (!longer)
+        abort();
+    joined = longer;
     joined[joined_count++] = client;
     client->joined = true;
 }

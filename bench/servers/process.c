@@ -45,10 +45,11 @@ long process_rss(int process)
     long kib = 0;
     snprintf(name, sizeof name, "/proc/%d/status", process);
     FILE *file = fopen(name, "r");
-    if (!file)
-        die(name);
-    while (fgets(line, sizeof line, file) && sscanf(line, "VmRSS: %ld", &kib) != 1)
-        ;
-    fclose(file);
-    return kib;
+    if (file) {
+        while (fgets(line, sizeof line, file) && sscanf(line, "VmRSS: %ld", &kib) != 1)
+            ;
+        fclose(file);
+        return kib;
+    }
+    die(name);
 }

@@ -133,7 +133,10 @@ static void was_written(uv_write_t *request, int status)
 
 static void join(struct client *client)
 {
-    joined = realloc(joined, (joined_count + 1) * sizeof(struct client *));
+    struct client **longer = realloc(joined, (joined_count + 1) * sizeof(struct client *));
+    if (!longer)
+        abort();
+    joined = longer;
     joined[joined_count++] = client;
     client->joined = true;
 }

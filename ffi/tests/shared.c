@@ -279,8 +279,11 @@ static uint8_t *read_all(size_t *length)
             return bytes;
         *length += (size_t)count;
         expect("no more than was written", *length <= WRITERS * messages * (MOST + HEAD));
-        if (*length == room)
-            bytes = realloc(bytes, room *= 2);
+        if (*length == room) {
+            uint8_t *longer = realloc(bytes, room *= 2);
+            expect("room", longer != NULL);
+            bytes = longer;
+        }
     }
 }
 

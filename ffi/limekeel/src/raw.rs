@@ -174,7 +174,10 @@ impl Handle {
 
     /// Writes the bytes of an owner, and keeps it until the message is gone. If it is refused, the owner comes back.
     #[inline]
-    pub(crate) fn write_owned<T: AsRef<[u8]> + Send + 'static>(&mut self, owner: T) -> Result<sys::Written, (Refusal, T)> {
+    pub(crate) fn write_owned<T: AsRef<[u8]> + Send + 'static>(
+        &mut self,
+        owner: T,
+    ) -> Result<sys::Written, (Refusal, T)> {
         if let Err(refusal) = self.lent.make_room() {
             return Err((refusal, owner));
         }
@@ -243,9 +246,8 @@ impl Handle {
     fn gather(&self, places: &mut [Place], max_bytes: u32) -> (usize, Front) {
         // SAFETY: the handle is this value's own, as in a look; the pointer and the length are those of one slice. A place
         // is laid out as a `Piece`, and the archive only writes there.
-        let told = unsafe {
-            sys::limekeel_gather_pieces(&self.inner, places.as_mut_ptr().cast(), places.len(), max_bytes)
-        };
+        let told =
+            unsafe { sys::limekeel_gather_pieces(&self.inner, places.as_mut_ptr().cast(), places.len(), max_bytes) };
         (told.count, Front::of(told.front))
     }
 

@@ -101,7 +101,11 @@ impl Connection {
     /// assert_eq!((sent.bytes, sent.taken.promises), (12, 0..3));
     /// # Ok::<(), limekeel::Refusal>(())
     /// ```
-    pub fn send_until_blocked<W: Write + ?Sized>(&mut self, writer: &mut W, max_turns: u32) -> Result<SentTurns, Refusal> {
+    pub fn send_until_blocked<W: Write + ?Sized>(
+        &mut self,
+        writer: &mut W,
+        max_turns: u32,
+    ) -> Result<SentTurns, Refusal> {
         self.send_until_blocked_with(max_turns, |pieces| writer.write_vectored(pieces))
     }
 
@@ -132,10 +136,7 @@ impl Connection {
     }
 
     /// How many bytes a writer took, and whether it would block.
-    fn write_once(
-        &self,
-        mut write: impl FnMut(&[IoSlice<'_>]) -> io::Result<usize>,
-    ) -> io::Result<(usize, bool)> {
+    fn write_once(&self, mut write: impl FnMut(&[IoSlice<'_>]) -> io::Result<usize>) -> io::Result<(usize, bool)> {
         // not filled beforehand: most often few are
         let mut places = [const { Place::uninit() }; PIECES];
         let pieces = self.handle.offered(&mut places);

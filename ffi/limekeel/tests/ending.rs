@@ -47,7 +47,6 @@ fn shrinking_changes_nothing_that_shows() {
     assert_eq!((connection.look(), connection.front(), connection.current()), before);
     let pieces = connection.pieces::<4>(u32::MAX);
     assert_eq!(pieces.iter().map(|piece| &piece[..]).collect::<Vec<_>>(), [b"some", b"some"]);
-    drop(pieces);
     let _ = connection.take_sent(8).expect("they wait");
     connection.shrink_to_fit();
     assert_eq!(connection.write(b"more").expect("it is accepted").id, 1000);

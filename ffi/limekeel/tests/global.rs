@@ -53,7 +53,10 @@ fn each_block_is_counted_and_comes_back() {
     let _ = connection.flush().expect("it is open");
     let mut sent = Vec::with_capacity(200_000);
     while connection.send_to(&mut sent).expect("it takes all").more {}
-    assert_eq!(sent, [[1; 1000], [2; 1000]].map(Vec::from).iter().rev().cycle().take(200).flatten().copied().collect::<Vec<u8>>());
+    assert_eq!(
+        sent,
+        [[1; 1000], [2; 1000]].map(Vec::from).iter().rev().cycle().take(200).flatten().copied().collect::<Vec<u8>>()
+    );
     drop((sent, block));
     connection.shrink_to_fit();
     assert_eq!(LIVE.get() - before, opened);

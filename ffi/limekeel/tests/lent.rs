@@ -261,7 +261,11 @@ fn sendings_end_as_they_say() {
         let _ = connection.flush().expect("it is open");
         let mut writer = Steps(steps.iter().copied().collect(), Vec::new());
         let sent = connection.send_until_blocked(&mut writer, turns).expect("it is open");
-        assert_eq!((&*ending_of(&sent.ending), sent.bytes, sent.taken.promises.clone()), (ending, bytes, 0..end), "{steps:?}");
+        assert_eq!(
+            (&*ending_of(&sent.ending), sent.bytes, sent.taken.promises.clone()),
+            (ending, bytes, 0..end),
+            "{steps:?}"
+        );
         assert_eq!((sent.taken.count, sent.taken.outcome), (end, Outcome::Success));
         let settled: Vec<u64> = sent.taken.settled().map(|(id, _)| id).collect();
         assert_eq!(settled, (0..end).filter(|id| *id != 3).collect::<Vec<_>>());
@@ -282,7 +286,10 @@ fn a_sending_of_several_turns_tells_its_change_once() {
     // five times 97 bytes are pending, and below 300 with the second that goes
     let mut writer = Steps([Ok(1), Ok(1), Ok(1), Ok(2)].into(), Vec::new());
     let sent = connection.send_until_blocked(&mut writer, 9).expect("it is open");
-    assert_eq!((sent.taken.change, sent.taken.promises, ending_of(&sent.ending)), (Some(Change::Writable), 0..5, "Drained".into()));
+    assert_eq!(
+        (sent.taken.change, sent.taken.promises, ending_of(&sent.ending)),
+        (Some(Change::Writable), 0..5, "Drained".into())
+    );
     let _ = connection.close(1).expect("nothing is flushed");
     assert_eq!(connection.send_until_blocked(&mut writer, 9).err(), Some(Refusal::Closed));
 }
@@ -346,8 +353,12 @@ fn by_chance(seed: u64) {
                 });
                 let taken = taken.expect("it takes").taken;
                 assert_eq!(taken.promises.start, gone);
-                let watched: Vec<u64> =
-                    waits.drain(..taken.count as usize).zip(gone..).filter(|((_, watched), _)| *watched).map(|(_, id)| id).collect();
+                let watched: Vec<u64> = waits
+                    .drain(..taken.count as usize)
+                    .zip(gone..)
+                    .filter(|((_, watched), _)| *watched)
+                    .map(|(_, id)| id)
+                    .collect();
                 assert_eq!(names(&dropped), watched);
                 gone = taken.promises.end;
             }

@@ -91,7 +91,6 @@ fn a_thousand_messages_come_over_a_socket_in_two_calls() {
     let _ = connection.flush().expect("it is open");
     let pieces = connection.pieces::<70>(u32::MAX);
     assert!(pieces.iter().map(|piece| &piece[..]).eq(messages[..70].iter().map(|message| &message[..])));
-    drop(pieces);
     for (count, bytes) in [(1024, 2560), (6, 15)] {
         let sent = connection.send_to(&mut socket).expect("it takes");
         assert_eq!((sent.taken.count, sent.bytes), (count, bytes));

@@ -117,7 +117,11 @@ fn scripts_by_chance_are_answered_as_by_the_program() {
                     let (marks, estimate, text) = script(&mut dice);
                     let trace = Player::new(marks, estimate).trace(&text);
                     let wanted = traced(tool, marks, estimate, &text);
-                    assert_eq!(trace, String::from_utf8_lossy(&wanted), "script {number}, {marks:?} {estimate:?}\n{text}");
+                    assert_eq!(
+                        trace,
+                        String::from_utf8_lossy(&wanted),
+                        "script {number}, {marks:?} {estimate:?}\n{text}"
+                    );
                 }
             });
         }

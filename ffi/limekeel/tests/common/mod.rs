@@ -78,9 +78,13 @@ impl Player {
                 let settled = if in_time { vec![(numbers[0], Outcome::Cancelled)] } else { Vec::new() };
                 (if in_time { "yes" } else { "no" }.to_owned(), None, settled)
             }),
-            "fl" => connection.fail_flushed(numbers[0] as u32, numbers[1] == 1).map(|reply| gone(reply, &mut self.shadow)),
+            "fl" => {
+                connection.fail_flushed(numbers[0] as u32, numbers[1] == 1).map(|reply| gone(reply, &mut self.shadow))
+            }
             "cl" => connection.close(numbers[0] as u32).map(|reply| gone(reply, &mut self.shadow)),
-            "u" => connection.user_bit(numbers[0] as u32, numbers[1] == 1).map(|change| ("ok".to_owned(), change, Vec::new())),
+            "u" => connection
+                .user_bit(numbers[0] as u32, numbers[1] == 1)
+                .map(|change| ("ok".to_owned(), change, Vec::new())),
             "m" => {
                 let marks = Marks { low: numbers[0] as u32, high: numbers[1] as u32 };
                 connection.set_marks(marks).map(|()| ("ok".to_owned(), None, Vec::new()))
@@ -97,7 +101,8 @@ impl Player {
     }
 
     fn told(&self, answer: Answer) -> String {
-        let (text, change, settled) = answer.unwrap_or_else(|refusal| (format!("!{}", refusal.number()), None, Vec::new()));
+        let (text, change, settled) =
+            answer.unwrap_or_else(|refusal| (format!("!{}", refusal.number()), None, Vec::new()));
         let mut line = text + &self.pending();
         match change {
             Some(Change::Unwritable) => line += " -",
