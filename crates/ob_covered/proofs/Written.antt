@@ -16,6 +16,7 @@ use Rattle.ob_connection.specs.Obeying.{Obeys, written_reply}
 use Rattle.ob_connection.specs.declared.look.Look.{Look}
 use Rattle.ob_connection.specs.declared.replies.Written.{Written}
 use Rattle.ob_covered.specs.Budgeted.{pending, IsPending, IsWithin, IsNotPut, accepted}
+use Rattle.ob_covered.specs.Cover.{CoverValue, TakesSparingly}
 use Rattle.ob_covered.specs.declared.fault.WriteFault.{WriteFault}
 use Rattle.ob_covered.specs.declared.fault.WriteFault.TheVariants.{Refused, OverBudget}
 use Rattle.ob_covered.proofs.Pending.{shown, covered}
@@ -62,3 +63,11 @@ put_within why old new message (Ok written) before held less within more grown r
 put_within why old new message (Err not) before held less within more grown refused is fits =
     subst (λ c. IsWithin c held) (sym (not_put old new message (why not) refused))
     (λ commands stands. omega (arith, within commands stands, more))
+
+-- what a look has shown is what is pending, so a cover that took sparingly for the one did for the other
+pub spares : (old : Connected) (now seen size needed : ℕ) (before after : CoverValue) → StandsForSome old
+    → IsPending old now → IsPending old seen → needed ≡ seen + size → TakesSparingly needed before after
+    → TakesSparingly (now + size) before after
+spares old now seen size needed before after some is shows needs sparing =
+    let same : now ≡ seen = is some.0 some.1 ∙ sym (shows some.0 some.1) in
+    subst (λ n. TakesSparingly n before after) (needs ∙ ap (λ n. n + size) (sym same)) sparing

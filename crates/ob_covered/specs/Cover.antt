@@ -40,6 +40,11 @@ pub record IsShort (needed : ℕ) (fault : RaiseFault) (old new : CoverValue) : 
   pub refused : IsRefused (needed - old.seat.account.held) fault before new.seat
   pub alike : HoldsAlike old.seat.account new.seat.account
 
+-- to hold this many bytes a cover takes no more than it lacks and a quantum, and nothing if it holds them already
+pub record TakesSparingly (needed : ℕ) (old new : CoverValue) : Type 0 where
+  pub enough : needed ≤ old.seat.account.held → new ≡ old
+  pub lacking : old.seat.account.held < needed → new.seat.account.held ≤ needed + old.quantum
+
 -- unless the call lost too many exchanges to others, the seat holds at most this
 abbrev pub HoldsAtMost : ℕ → CoverValue → CoverValue → Type 0
 HoldsAtMost most old new =

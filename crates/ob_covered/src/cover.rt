@@ -1,6 +1,6 @@
 ghost use Rattle.std.specs.Prelude.{◌≡◌, ◌≤◌, ◌+◌, ◌*◌, IfOk, IfErr, OnErr, None, Option};
 ghost use Rattle.std.specs.Arc.{arc_value};
-ghost use Rattle.ob_covered.specs.Cover.{CoverValue, Tells, IsShort, HoldsAtMost};
+ghost use Rattle.ob_covered.specs.Cover.{CoverValue, Tells, IsShort, HoldsAtMost, TakesSparingly};
 ghost use Rattle.ob_covered.specs.Inside.{cover_of, IsCover};
 
 use ob_budget::{Budget, Pressure, RaiseFault, Seat};
@@ -46,11 +46,13 @@ impl Cover {
         self.seat.held()
     }
 
-    /// Lets the seat hold this many bytes at least, and returns the turn of pressure that this made. The fault is that of
-    /// a raise by what it lacked; then it holds what it held.
+    /// Lets the seat hold this many bytes at least, and returns the turn of pressure that this made. It takes what it lacks,
+    /// or the quantum, and nothing if it holds as many. The fault is that of a raise by what it lacked; then it holds what
+    /// it held.
     pub fn take(&mut self, needed: u64) -> Result<Option<Pressure>, RaiseFault>
         ensures covered { IfOk result (λ _. needed ≤ self.new.seat.account.held) }
         ensures no_less { self.old.seat.account.held ≤ self.new.seat.account.held }
+        ensures sparing { TakesSparingly needed self.old self.new }
         ensures told { IfOk result (λ told. Tells self.old told self.new) }
         ensures untold { OnErr result (Tells self.old None self.new) }
         ensures short { IfErr result (λ fault. IsShort needed fault self.old self.new) }

@@ -8,7 +8,7 @@ ghost use Rattle.ob_seq.specs.Unsent.{room_for_one_more};
 ghost use Rattle.ob_connection.specs.Connected.{room_in};
 ghost use Rattle.ob_connection.specs.Obeying.{Obeys, written_reply};
 ghost use Rattle.ob_covered.specs.Budgeted.{IsNotPut, IsNotWritten, IsPending, accepted};
-ghost use Rattle.ob_covered.specs.Cover.{Tells};
+ghost use Rattle.ob_covered.specs.Cover.{Tells, TakesSparingly};
 
 use super::Budgeted;
 use crate::fault::{Told, WriteFault};
@@ -42,6 +42,8 @@ impl Budgeted {
         ensures room { OnOk result.answer (room_in self.new.connection ≡ room_for_one_more self.old.connection.unsent) }
         ensures refused { IfErr result.answer (λ why. IsNotWritten self.old (Block bytes.now) why self.new) }
         ensures told { Tells self.old.cover result.pressure self.new.cover }
+        ensures sparing { (now : ℕ) → IsPending self.old.connection now → TakesSparingly
+            (now + counted_bytes self.old.connection.unsent.settings.estimate (Block bytes.now)) self.old.cover self.new.cover }
     {
         self.connection.stands_for_some_commands();
         if let Some(refusal) = self.connection.refusal_of_block(bytes) {

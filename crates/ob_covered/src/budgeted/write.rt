@@ -6,7 +6,7 @@ ghost use Rattle.ob_seq.specs.State.{closed_after};
 ghost use Rattle.ob_connection.specs.Connected.{room_in, Gives};
 ghost use Rattle.ob_connection.specs.Obeying.{Obeys, written_reply};
 ghost use Rattle.ob_covered.specs.Budgeted.{IsNotPut, IsNotWritten, IsPending, accepted};
-ghost use Rattle.ob_covered.specs.Cover.{Tells};
+ghost use Rattle.ob_covered.specs.Cover.{Tells, TakesSparingly};
 
 use super::Budgeted;
 use crate::fault::{NotWritten, Told, WriteFault};
@@ -48,6 +48,8 @@ impl Budgeted {
         ensures refused { IfErr result.answer (λ not. IsNotWritten self.old message not.why self.new) }
         ensures returned { IfErr result.answer (λ not. not.message ≡ message) }
         ensures told { Tells self.old.cover result.pressure self.new.cover }
+        ensures sparing { (now : ℕ) → IsPending self.old.connection now → TakesSparingly
+            (now + counted_bytes self.old.connection.unsent.settings.estimate message) self.old.cover self.new.cover }
     {
         self.connection.stands_for_some_commands();
         if self.connection.is_closed() {
