@@ -115,10 +115,12 @@ impl Line {
 
 /// Where threads sleep until something came.
 ///
-/// No ring is lost. Who waits says so before it looks, and notes before it looks how often was rung. Who lets something come
-/// changes that first and then reads whether one waits. Both look under one lock (the archive's, or a mutex) or by atomics in one
-/// order: so either who waits sees what came, or who lets it come, or one that did so just before, sees that one waits, and then
-/// the number differs. Each who is woken says again that it waits before it looks again.
+/// No ring is lost. Who waits notes how often was rung, then says that it waits, and then looks. Who lets something come changes
+/// that first and then reads whether one waits. Both look under one lock (the archive's, or a mutex) or by atomics in one order:
+/// so either who waits sees what came, or who lets it come, or one that did so just before, sees that one waits, and then the
+/// number differs. The note comes first: a ring that is late, for what is gone by now, may take back what the waiter says, and
+/// counts before or after. If the waiter noted that count, it would sleep with nobody knowing of it. Each who is woken does all of
+/// this again.
 #[derive(Debug, Default)]
 pub(crate) struct Bell {
     /// Whether one may wait that is not woken yet.
@@ -134,8 +136,8 @@ impl Bell {
             return Some(came);
         }
         loop {
-            self.awaited.swap(true, Ordering::SeqCst);
             let seen = *lock(&self.rung);
+            self.awaited.swap(true, Ordering::SeqCst);
             if let Some(came) = look() {
                 return Some(came);
             }
@@ -180,7 +182,7 @@ pub(crate) fn end_of(limit: Duration) -> Option<Instant> {
 
 #[cfg(test)]
 mod tests {
-    use super::{Line, lock};
+    use super::{Bell, Line, lock};
     use std::sync::Mutex;
     use std::sync::atomic::{AtomicBool, Ordering};
     use std::thread;
@@ -239,5 +241,31 @@ mod tests {
             taken.store(false, Ordering::SeqCst);
         });
         assert_eq!(*lock(&order), (0..THREADS).collect::<Vec<_>>());
+    }
+
+    /// One rings for what another wait has taken already, just as this one begins. Were that ring to take back what the waiter says
+    /// and be noted as seen, the next would find nobody to wake.
+    #[test]
+    fn a_late_ring_takes_no_wake_from_who_begins_to_wait() {
+        let (bell, came) = (Bell::default(), AtomicBool::new(false));
+        let start = Instant::now();
+        thread::scope(|scope| {
+            let mut rung = lock(&bell.rung);
+            let waiter = scope.spawn(|| {
+                bell.wait(start.checked_add(Duration::from_secs(20)), || came.load(Ordering::SeqCst).then_some(()))
+            });
+            // it cannot note the number yet
+            thread::sleep(Duration::from_millis(100));
+            if bell.awaited.swap(false, Ordering::SeqCst) {
+                *rung += 1;
+            }
+            drop(rung);
+            // by now it sleeps
+            thread::sleep(Duration::from_millis(100));
+            came.store(true, Ordering::SeqCst);
+            bell.ring();
+            assert_eq!(waiter.join().expect("it ends"), Some(()));
+        });
+        assert!(start.elapsed() < Duration::from_secs(10), "it slept until its time was over");
     }
 }
