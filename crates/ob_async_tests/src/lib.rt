@@ -1,0 +1,5 @@
+//! The tests of `ob_async`.
+#![tactic(auto)]
+
+#[cfg(test)]
+mod tests;
