@@ -1,6 +1,0 @@
-use Rattle.std.proofs.Common.{rules}
-use Rattle.ob_history.proofs.booked.AsBooked.record.Goals as goal
-
--- Named for the must-fail edits that fail here: `search` finds it unasked (CONTRIBUTING.md).
-pub returns-clause-is_recording : goal.returns-clause-is_recording
-returns-clause-is_recording c = search rules
