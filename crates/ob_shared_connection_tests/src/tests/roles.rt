@@ -107,3 +107,29 @@ fn a_transport_that_polls_is_told_of_once(rt: HostRuntime) -> Result<(), Fail> {
     assert!(rt; found == (false, false, true, false));
     Ok(())
 }
+
+#[test]
+fn a_guard_that_is_left_tells_whom_to_wake(rt: HostRuntime) -> Result<(), Fail> {
+    let mut transport = opened(rt.alloc())?.into_transport();
+    let writer = transport.another()?;
+    let Some((polled, none)) = transport.try_wait_for_work() else {
+        panic!(rt; "the lock is free")
+    };
+    let first = told(none);
+    let Ok(mut guard) = writer.try_lock() else {
+        panic!(rt; "the lock is free")
+    };
+    let _written = guard.write(four())?;
+    let _flushed = guard.flush()?;
+    let (_writer, wakes) = guard.leave();
+    let second = told(wakes);
+    let Ok(mut guard) = transport.try_lock() else {
+        panic!(rt; "it was left")
+    };
+    let taken = guard.take_sent(4)?;
+    let (_transport, wakes) = guard.leave_transport();
+    let third = told(wakes);
+    assert!(rt; polled == Moment::NotYet && taken.count == 1);
+    assert!(rt; (first.2, second.2, third.2) == (false, true, false));
+    Ok(())
+}
