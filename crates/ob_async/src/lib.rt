@@ -7,5 +7,5 @@ mod outbound;
 mod task_connection;
 
 pub use moment::Moment;
-pub use outbound::{HasWork, IsWritable, Outbound};
+pub use outbound::{HasWork, IsWritable, Outbound, OwnedHasWork, OwnedIsWritable};
 pub use task_connection::TaskConnection;

@@ -1,6 +1,10 @@
 ghost use Rattle.std.specs.Prelude.{◌≡◌, ◌≤◌};
 ghost use Rattle.ob_types.specs.Limits.{greatest_overhead, greatest_unknown};
-ghost use Rattle.ob_async.specs.Sources.{room_source, room_source_of, work_source, work_source_of};
+ghost use Rattle.std.specs.Arc.{arc_value};
+ghost use Rattle.futures.specs.Task.{Covers, Keeps};
+ghost use Rattle.futures.specs.Poll.{OnPending};
+ghost use Rattle.ob_async.specs.Sources.{owned_room_source, owned_work_source, room_source, room_source_of, work_source};
+ghost use Rattle.ob_async.specs.Sources.{work_source_of};
 
 use crate::moment::Moment;
 use crate::task_connection::TaskConnection;
@@ -10,7 +14,7 @@ use futures::task::{Context, Poll, Source};
 use futures::util::wait_list::Ticket;
 use ob_types::{Estimate, WaterMark};
 use std::alloc::{AllocError, Global};
-use std::sync::{Mutex, MutexGuard};
+use std::sync::{Arc, Mutex, MutexGuard};
 
 /// A connection that tasks share, of one thread or of many: in an `Rc` or an `Arc`.
 ///
@@ -35,6 +39,18 @@ pub struct IsWritable<'a> {
 #[derive(Drop)]
 pub struct HasWork<'a> {
     outbound: &'a Outbound,
+}
+
+/// The future of `writable_owned`. If it is dropped while it waits it leaves the queue.
+pub struct OwnedIsWritable {
+    outbound: Arc<Outbound>,
+    ticket: Option<Ticket>,
+}
+
+/// The future of `has_work_owned`.
+#[derive(Drop)]
+pub struct OwnedHasWork {
+    outbound: Arc<Outbound>,
 }
 
 impl Outbound {
@@ -74,6 +90,57 @@ impl Outbound {
     {
         HasWork { outbound: self }
     }
+
+    /// `writable`, with a future that borrows nothing: a task can keep it.
+    pub fn writable_owned(this: Arc<Outbound>) -> OwnedIsWritable
+        ensures { owned_room_source result ≡ room_source (arc_value this) }
+    {
+        OwnedIsWritable {
+            outbound: this,
+            ticket: None,
+        }
+    }
+
+    /// `has_work`, with a future that borrows nothing.
+    pub fn has_work_owned(this: Arc<Outbound>) -> OwnedHasWork
+        ensures { owned_work_source result ≡ work_source (arc_value this) }
+    {
+        OwnedHasWork { outbound: this }
+    }
+
+    fn poll_writable(
+        &self,
+        cx: &mut Context<'_>,
+        ticket: &mut Option<Ticket>,
+    ) -> Poll<Result<Moment, AllocError>>
+        ensures registered { OnPending result (Covers cx.new (λ source. source ≡ room_source self.now)) }
+        ensures kept { Keeps cx.old cx.new }
+    {
+        let Some(mut connection) = lock(&self.connection) else {
+            return cx.yield_now();
+        };
+        connection.poll_writable(cx, &self.room, ticket)
+    }
+
+    fn poll_work(&self, cx: &mut Context<'_>) -> Poll<Moment>
+        ensures registered { OnPending result (Covers cx.new (λ source. source ≡ work_source self.now)) }
+        ensures kept { Keeps cx.old cx.new }
+    {
+        let Some(mut connection) = lock(&self.connection) else {
+            return cx.yield_now();
+        };
+        connection.poll_work(cx, &self.work)
+    }
+
+    fn leave(&self, ticket: Option<Ticket>) {
+        let Some(ticket) = ticket else {
+            return;
+        };
+        match lock_or_give_up(&self.connection) {
+            Ok(mut connection) => connection.leave(ticket),
+            Err(gave_up) => ticket.abandon(gave_up),
+        }
+    }
 }
 
 impl Future for IsWritable<'_> {
@@ -83,23 +150,32 @@ impl Future for IsWritable<'_> {
     ghost needs = { λ future source. source ≡ room_source_of future };
 
     fn poll(&mut self, cx: &mut Context<'_>) -> Poll<Result<Moment, AllocError>> {
-        let Some(mut connection) = lock(&self.outbound.connection) else {
-            return cx.yield_now();
-        };
-        connection.poll_writable(cx, &self.outbound.room, &mut self.ticket)
+        self.outbound.poll_writable(cx, &mut self.ticket)
     }
 }
 
 impl Drop for IsWritable<'_> {
     fn drop(self) {
         let Self { outbound, ticket } = self;
-        let Some(ticket) = ticket else {
-            return;
-        };
-        match lock_or_give_up(&outbound.connection) {
-            Ok(mut connection) => connection.leave(ticket),
-            Err(gave_up) => ticket.abandon(gave_up),
-        }
+        outbound.leave(ticket);
+    }
+}
+
+impl Future for OwnedIsWritable {
+    /// The error is that the allocator refused a place in the queue.
+    type Output = Result<Moment, AllocError>;
+
+    ghost needs = { λ future source. source ≡ owned_room_source future };
+
+    fn poll(&mut self, cx: &mut Context<'_>) -> Poll<Result<Moment, AllocError>> {
+        self.outbound.poll_writable(cx, &mut self.ticket)
+    }
+}
+
+impl Drop for OwnedIsWritable {
+    fn drop(self) {
+        let Self { outbound, ticket } = self;
+        outbound.leave(ticket);
     }
 }
 
@@ -109,9 +185,16 @@ impl Future for HasWork<'_> {
     ghost needs = { λ future source. source ≡ work_source_of future };
 
     fn poll(&mut self, cx: &mut Context<'_>) -> Poll<Moment> {
-        let Some(mut connection) = lock(&self.outbound.connection) else {
-            return cx.yield_now();
-        };
-        connection.poll_work(cx, &self.outbound.work)
+        self.outbound.poll_work(cx)
+    }
+}
+
+impl Future for OwnedHasWork {
+    type Output = Moment;
+
+    ghost needs = { λ future source. source ≡ owned_work_source future };
+
+    fn poll(&mut self, cx: &mut Context<'_>) -> Poll<Moment> {
+        self.outbound.poll_work(cx)
     }
 }

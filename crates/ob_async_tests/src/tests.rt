@@ -8,7 +8,7 @@ use ob_async::{Moment, Outbound};
 use ob_types::{Cause, Estimate, Message, WaterMark};
 use std::alloc::{AllocGlobal, Global};
 use std::random::RandomSource;
-use std::sync::Wait;
+use std::sync::{Arc, Wait};
 use std::test::Fail;
 use std::thread;
 
@@ -130,24 +130,32 @@ fn a_second_sender_wakes_the_first(rt: HostRuntime) -> Result<(), Fail> {
 const TURNS: u32 = 20_000;
 
 /// Writes messages that fill the connection, each once there is room, and returns whether all went well.
-fn writes_all<R: Wait + RandomSource + AllocGlobal>(rt: &R, outbound: &Outbound) -> bool {
+fn writes_all<R: Wait + RandomSource + AllocGlobal>(rt: &R, outbound: &Arc<Outbound>) -> bool {
     (0..TURNS).all(|_turn| {
-        matches!(block_on(rt, outbound.writable()), Ok(Ok(Moment::Ready)))
-            && write(outbound, &[7; 400])
-            && flush(outbound)
+        let Ok(waiting) = Arc::try_clone(outbound) else {
+            return false;
+        };
+        let room = block_on(rt, Outbound::writable_owned(waiting));
+        matches!(room, Ok(Ok(Moment::Ready))) && write(outbound, &[7; 400]) && flush(outbound)
     })
 }
 
 /// Takes as many away, each once it is there, and returns whether all went well.
-fn sends_all<R: Wait + RandomSource + AllocGlobal>(rt: &R, outbound: &Outbound) -> bool {
+fn sends_all<R: Wait + RandomSource + AllocGlobal>(rt: &R, outbound: &Arc<Outbound>) -> bool {
     (0..TURNS).all(|_turn| {
-        matches!(block_on(rt, outbound.has_work()), Ok(Moment::Ready)) && take_sent(outbound, 400)
+        let Ok(waiting) = Arc::try_clone(outbound) else {
+            return false;
+        };
+        let work = block_on(rt, Outbound::has_work_owned(waiting));
+        matches!(work, Ok(Moment::Ready)) && take_sent(outbound, 400)
     })
 }
 
 #[test]
 fn no_turn_is_missed_by_threads_that_cross(rt: HostRuntime) -> Result<(), Fail> {
-    let outbound = opened(rt.alloc())?;
+    let Ok(outbound) = Arc::new(rt.alloc(), opened(rt.alloc())?) else {
+        return Err(Fail::new("out of memory"));
+    };
     let (outbound, rt) = (&outbound, &rt);
     let (written, sent) = thread::join(
         rt,
