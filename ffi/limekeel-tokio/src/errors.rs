@@ -3,57 +3,49 @@ use std::error::Error;
 use std::fmt;
 use std::io::{self, ErrorKind};
 
-/// Nothing can be written or sent any more: the connection was finished, its stream is broken, or its pump was dropped.
-#[derive(Clone, Copy, Debug, PartialEq, Eq, Hash)]
-pub struct Gone;
-
-impl fmt::Display for Gone {
-    fn fmt(&self, f: &mut fmt::Formatter<'_>) -> fmt::Result {
-        f.write_str("nothing is sent any more")
-    }
-}
-
-impl Error for Gone {}
-
-impl From<Gone> for io::Error {
-    fn from(gone: Gone) -> io::Error {
-        io::Error::new(ErrorKind::BrokenPipe, gone)
-    }
-}
-
-/// Why a write that waits did not write. Nothing changed.
+/// Why a message was not written, or not sent. A write that failed changed nothing.
 #[derive(Clone, Copy, Debug, PartialEq, Eq, Hash)]
 pub enum WriteError {
-    /// Nothing can be written any more.
+    /// Nothing is sent any more: the connection was finished, its stream is broken, or its pump was dropped.
     Gone,
-    /// This message was refused: [`Refusal::NoMemory`], [`Refusal::Oversize`] above 2 GiB, [`Refusal::TooMuch`] if 4 GiB
+    /// This message was refused: [`Refusal::NoMemory`]; [`Refusal::Oversize`] above 2 GiB; [`Refusal::TooMuch`] if 4 GiB
     /// would be pending.
     Refused(Refusal),
 }
 
-impl WriteError {
-    /// That of a refusal of the connection below.
-    pub(crate) fn of(refusal: Refusal) -> WriteError {
-        if refusal == Refusal::Closed { WriteError::Gone } else { WriteError::Refused(refusal) }
-    }
+/// Why a write that does not wait did not write, with the message. Nothing changed.
+#[derive(Clone, Copy, Debug, PartialEq, Eq)]
+pub enum TryWriteError<M> {
+    /// The connection is not writable, or others wait for their turn.
+    Full(M),
+    /// Nothing is sent any more, as at [`WriteError::Gone`].
+    Gone(M),
+    /// This message was refused, as at [`WriteError::Refused`].
+    Refused(Refusal, M),
 }
 
 impl fmt::Display for WriteError {
     fn fmt(&self, f: &mut fmt::Formatter<'_>) -> fmt::Result {
         match self {
-            WriteError::Gone => fmt::Display::fmt(&Gone, f),
-            WriteError::Refused(refusal) => fmt::Display::fmt(refusal, f),
+            WriteError::Gone => f.write_str("nothing is sent any more"),
+            WriteError::Refused(refusal) => refusal.fmt(f),
+        }
+    }
+}
+
+impl<M> fmt::Display for TryWriteError<M> {
+    fn fmt(&self, f: &mut fmt::Formatter<'_>) -> fmt::Result {
+        match self {
+            TryWriteError::Full(_) => f.write_str("the connection is not writable now"),
+            TryWriteError::Gone(_) => WriteError::Gone.fmt(f),
+            TryWriteError::Refused(refusal, _) => refusal.fmt(f),
         }
     }
 }
 
 impl Error for WriteError {}
 
-impl From<Gone> for WriteError {
-    fn from(Gone: Gone) -> WriteError {
-        WriteError::Gone
-    }
-}
+impl<M: fmt::Debug> Error for TryWriteError<M> {}
 
 impl From<WriteError> for io::Error {
     fn from(error: WriteError) -> io::Error {
@@ -66,44 +58,19 @@ impl From<WriteError> for io::Error {
     }
 }
 
-/// Why a write that does not wait did not write, with the message. Nothing changed.
-#[derive(Clone, Copy, PartialEq, Eq)]
-pub enum TryWriteError<M> {
-    /// It is not writable, or others wait for their turn.
-    Full(M),
-    /// Nothing can be written any more.
-    Gone(M),
-    /// This message was refused, as at [`WriteError::Refused`].
-    Refused(Refusal, M),
-}
-
-impl<M> TryWriteError<M> {
-    /// The message that was not written.
-    pub fn into_message(self) -> M {
-        match self {
-            TryWriteError::Full(message) | TryWriteError::Gone(message) | TryWriteError::Refused(_, message) => message,
-        }
+/// That of a refusal of the connection below.
+impl From<Refusal> for WriteError {
+    fn from(refusal: Refusal) -> WriteError {
+        if refusal == Refusal::Closed { WriteError::Gone } else { WriteError::Refused(refusal) }
     }
 }
 
-impl<M> fmt::Display for TryWriteError<M> {
-    fn fmt(&self, f: &mut fmt::Formatter<'_>) -> fmt::Result {
-        match self {
-            TryWriteError::Full(_) => f.write_str("the connection is not writable"),
-            TryWriteError::Gone(_) => fmt::Display::fmt(&Gone, f),
-            TryWriteError::Refused(refusal, _) => fmt::Display::fmt(refusal, f),
+impl<M> From<TryWriteError<M>> for WriteError {
+    fn from(error: TryWriteError<M>) -> WriteError {
+        match error {
+            TryWriteError::Refused(refusal, _) => WriteError::Refused(refusal),
+            // who waits is never told that it is full
+            TryWriteError::Full(_) | TryWriteError::Gone(_) => WriteError::Gone,
         }
     }
 }
-
-impl<M> fmt::Debug for TryWriteError<M> {
-    fn fmt(&self, f: &mut fmt::Formatter<'_>) -> fmt::Result {
-        match self {
-            TryWriteError::Full(_) => f.write_str("Full"),
-            TryWriteError::Gone(_) => f.write_str("Gone"),
-            TryWriteError::Refused(refusal, _) => f.debug_tuple("Refused").field(refusal).finish_non_exhaustive(),
-        }
-    }
-}
-
-impl<M> Error for TryWriteError<M> {}

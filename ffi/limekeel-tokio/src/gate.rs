@@ -1,42 +1,53 @@
 //! Who may write next, and who is woken.
 //!
 //! All of it is under one mutex, which is had for the calls of the connection that go with it, and over no `await`. So
-//! that a writer finds the connection writable and writes is one step, and the pending bytes pass the high mark by one
-//! message at most. No waker is called or dropped under it: a waker may hold the last reference to a task, and drop with
-//! that what locks it again.
+//! that a writer finds room and writes is one step. No waker is called or dropped under it: a waker may hold the last
+//! reference to a task, and drop with that what locks it again.
+//!
+//! Who has to wait to write stands in a queue. As long as the connection is writable and the pending bytes, with the room
+//! that is kept, are not above the high mark, the first in the queue leaves it, with room kept for its message, and is
+//! woken. Nobody else writes while somebody stands in the queue. So the pending bytes with the room that is kept pass the
+//! high mark by one message at most.
 //!
 //! No wake-up is lost:
 //!
-//! - A writer looks and takes its place in the queue in one step. The pump takes messages away first, and looks at the
-//!   queue in a step after that. If that step is before the writer's, the writer sees what was taken away; else the pump
-//!   sees the writer.
+//! - A writer looks and joins the queue in one step. The pump takes messages away first, and looks at the queue in a step
+//!   after that. If that step is before the writer's, the writer sees what was taken away; else the pump sees the writer.
+//! - Whoever gives room back that was kept, or joins the queue, looks at the queue in the same step.
 //! - A writer notes that the pump has work, and takes its waker, in one step. The pump looks for that note and leaves its
 //!   waker in one step.
-//! - Whoever is woken as first of the queue passes the turn on, when it writes, when it is dropped and if it is refused.
+//! - Who waits for a promise looks and leaves its waker in one step, and the pump settles and wakes in one step.
 
-use crate::errors::Gone;
+use crate::errors::WriteError;
 use crate::message::Message;
-use limekeel::{Outcome, Refused, SharedConnection};
+use limekeel::{Estimate, Marks, Outcome, Refused, SharedConnection};
 use std::collections::BTreeMap;
 use std::mem::take;
-use std::sync::{Mutex, PoisonError};
+use std::sync::{Arc, Mutex, PoisonError};
 use std::task::{Context, Poll, Waker};
+
+/// A promise that no message has: it is settled when the pump has ended.
+pub(crate) const END: u64 = u64::MAX;
 
 /// What the writers and the pump of a connection have in common.
 #[derive(Debug)]
-pub(crate) struct Shared {
-    gate: Mutex<Gate>,
-}
+pub(crate) struct Shared(Mutex<Gate>);
 
 #[derive(Debug)]
 pub(crate) struct Gate {
     /// The only handle that writes. So what it glances at misses no write.
-    connection: SharedConnection,
-    /// Who waits to write, in order of arrival. One that was woken and has not come yet has no waker.
-    queue: BTreeMap<u64, Option<Waker>>,
-    /// Who waits for a promise, by that and a number of its own.
+    pub(crate) connection: SharedConnection,
+    /// The high mark, and what a message counts beside its bytes.
+    high: u64,
+    overhead: u64,
+    /// Who waits to write, in order of arrival.
+    queue: BTreeMap<u64, Writer>,
+    /// For whom room is kept, by arrival, how much, and how much for all.
+    kept: BTreeMap<u64, u64>,
+    all_kept: u64,
+    /// Who waits for promises.
     awaited: BTreeMap<(u64, u64), Waker>,
-    next_key: u64,
+    arrivals: u64,
     /// How many messages were written, and how many of them are sent.
     written: u64,
     sent: u64,
@@ -47,24 +58,30 @@ pub(crate) struct Gate {
     /// The pump, if it sleeps for want of work.
     pump: Option<Waker>,
     /// How many can write.
-    outbounds: usize,
+    pub(crate) outbounds: usize,
     finishing: bool,
     /// What became of the pump.
     end: Option<Outcome>,
 }
 
+/// One that waits to write.
+#[derive(Debug)]
+struct Writer {
+    /// How much its message counts.
+    size: u64,
+    waker: Waker,
+}
+
 /// What is to be done as soon as the mutex is free again.
 #[derive(Default)]
 pub(crate) struct Later {
-    pump: Option<Waker>,
-    first: Option<Waker>,
-    all: Vec<Waker>,
+    woken: Vec<Waker>,
     /// Only to be dropped.
     old: Option<Waker>,
 }
 
 /// What the pump does next.
-#[derive(Clone, Copy, PartialEq, Eq)]
+#[derive(Clone, Copy, Debug, PartialEq, Eq)]
 pub(crate) enum Step {
     Flush,
     Send,
@@ -72,20 +89,18 @@ pub(crate) enum Step {
     Shut,
 }
 
-impl Later {
-    fn wake(self) {
-        self.pump.into_iter().chain(self.first).chain(self.all).for_each(Waker::wake);
-    }
-}
-
 impl Shared {
     /// Of a connection that one can write to.
-    pub(crate) fn new(connection: SharedConnection) -> Shared {
-        let gate = Gate {
+    pub(crate) fn new(connection: SharedConnection, marks: Marks, estimate: Estimate) -> Shared {
+        Shared(Mutex::new(Gate {
             connection,
+            high: marks.high.into(),
+            overhead: estimate.overhead.into(),
             queue: BTreeMap::new(),
+            kept: BTreeMap::new(),
+            all_kept: 0,
             awaited: BTreeMap::new(),
-            next_key: 0,
+            arrivals: 0,
             written: 0,
             sent: 0,
             unflushed: false,
@@ -94,184 +109,100 @@ impl Shared {
             outbounds: 1,
             finishing: false,
             end: None,
-        };
-        Shared { gate: Mutex::new(gate) }
+        }))
     }
 
     /// Does something under the mutex, and then wakes.
     pub(crate) fn with<T>(&self, call: impl FnOnce(&mut Gate, &mut Later) -> T) -> T {
         let mut later = Later::default();
         // nothing that panics leaves it half changed
-        let answer = call(&mut self.gate.lock().unwrap_or_else(PoisonError::into_inner), &mut later);
-        later.wake();
+        let answer = call(&mut self.0.lock().unwrap_or_else(PoisonError::into_inner), &mut later);
+        later.woken.into_iter().for_each(Waker::wake);
         answer
-    }
-
-    /// Does something that writes once it is this one's turn, which comes in order of arrival. `place` is where it waits.
-    pub(crate) fn poll_turn<T>(
-        &self,
-        place: &mut Option<u64>,
-        cx: &mut Context<'_>,
-        call: impl FnOnce(&mut Gate, &mut Later) -> T,
-    ) -> Poll<Result<T, Gone>> {
-        self.with(|gate, later| {
-            if gate.is_over() {
-                gate.leaves(place, later);
-                return Poll::Ready(Err(Gone));
-            }
-            if !(gate.is_turn_of(*place) && gate.is_writable()) {
-                gate.waits(place, cx, later);
-                return Poll::Pending;
-            }
-            gate.leaves(place, later);
-            let answer = call(gate, later);
-            gate.passes_on(later);
-            Poll::Ready(Ok(answer))
-        })
-    }
-
-    /// Takes one who waits to write out of the queue.
-    pub(crate) fn leave(&self, place: &mut Option<u64>) {
-        if place.is_some() {
-            self.with(|gate, later| {
-                gate.leaves(place, later);
-                gate.passes_on(later);
-            });
-        }
     }
 }
 
 impl Gate {
-    pub(crate) fn connection(&self) -> &SharedConnection {
-        &self.connection
-    }
-
     /// Whether nothing can be written any more.
     pub(crate) fn is_over(&self) -> bool {
         self.finishing || self.end.is_some()
     }
 
-    /// Whether one that has no place may write.
-    pub(crate) fn is_free(&self) -> bool {
-        self.is_turn_of(None) && self.is_writable()
+    /// Whether one may write that arrives now.
+    pub(crate) fn may_write(&self) -> bool {
+        self.queue.is_empty() && self.has_room()
     }
 
-    fn is_turn_of(&self, place: Option<u64>) -> bool {
-        self.queue.first_key_value().is_none_or(|(first, _)| Some(*first) == place)
-    }
-
-    fn is_writable(&self) -> bool {
-        // a glance may miss what the pump took away, and a look does not
-        self.connection.glance().word == 0 || self.connection.look().word == 0
-    }
-
-    fn next_key(&mut self) -> u64 {
-        self.next_key += 1;
-        self.next_key
-    }
-
-    fn waits(&mut self, place: &mut Option<u64>, cx: &mut Context<'_>, later: &mut Later) {
-        let key = *place.get_or_insert_with(|| self.next_key());
-        let waker = self.queue.entry(key).or_default();
-        if !waker.as_ref().is_some_and(|waker| waker.will_wake(cx.waker())) {
-            later.old = waker.replace(cx.waker().clone());
-        }
-        // it waits for nothing that nobody sends
-        self.flushes(later);
-    }
-
-    fn leaves(&mut self, place: &mut Option<u64>, later: &mut Later) {
-        if let Some(key) = place.take() {
-            later.old = self.queue.remove(&key).flatten();
+    fn has_room(&self) -> bool {
+        let fits = |word: u32, total: u32| word == 0 && u64::from(total) + self.all_kept <= self.high;
+        let (seen, connection) = (self.connection.glance(), &self.connection);
+        // a glance misses no write, but perhaps what the pump took away, which a look does not
+        fits(seen.word, seen.total) || {
+            let look = connection.look();
+            fits(look.word, look.total)
         }
     }
 
-    /// Wakes the first who waits to write, if it may.
-    fn passes_on(&mut self, later: &mut Later) {
-        if !self.queue.is_empty() && self.is_writable() {
-            later.first = self.queue.first_entry().and_then(|mut first| first.get_mut().take());
+    /// Keeps room for those who wait to write, in order of arrival, while there is some.
+    fn admits(&mut self, later: &mut Later) {
+        while !self.queue.is_empty() && self.has_room() {
+            let Some((arrived, writer)) = self.queue.pop_first() else { break };
+            self.kept.insert(arrived, writer.size);
+            self.all_kept += writer.size;
+            later.woken.push(writer.waker);
         }
     }
 
     /// Writes a message, and returns its promise.
-    pub(crate) fn writes<M: Message>(&mut self, message: M) -> Result<u64, Refused<M>> {
+    pub(crate) fn write<M: Message>(&mut self, message: M, flush: bool, later: &mut Later) -> Result<u64, Refused<M>> {
         let id = message.write_to(&self.connection)?.id;
         self.written = id + 1;
         self.unflushed = true;
+        if flush {
+            self.flush(later);
+        }
         Ok(id)
     }
 
     /// Has the pump flush what was written.
-    pub(crate) fn flushes(&mut self, later: &mut Later) {
+    pub(crate) fn flush(&mut self, later: &mut Later) {
         if take(&mut self.unflushed) {
             self.wanted = true;
-            later.pump = self.pump.take();
+            later.woken.extend(self.pump.take());
         }
     }
 
-    /// What became of a promise.
+    /// What became of a promise, if that is known.
     pub(crate) fn outcome(&self, id: u64) -> Option<Outcome> {
         if id < self.sent { Some(Outcome::Success) } else { self.end }
     }
 
-    /// The last promise that was given and is not settled.
+    /// The last promise that was given, if it is not settled.
     pub(crate) fn last(&self) -> Option<u64> {
         self.written.checked_sub(1).filter(|last| *last >= self.sent)
     }
 
-    /// The outcome of a promise, or a place where one waits for that.
-    pub(crate) fn poll_outcome(
-        &mut self,
-        id: u64,
-        place: &mut Option<u64>,
-        cx: &mut Context<'_>,
-        later: &mut Later,
-    ) -> Poll<Outcome> {
-        if let Some(outcome) = self.outcome(id) {
-            self.forgets(id, place, later);
-            return Poll::Ready(outcome);
-        }
-        let key = *place.get_or_insert_with(|| self.next_key());
-        if !self.awaited.get(&(id, key)).is_some_and(|waker| waker.will_wake(cx.waker())) {
-            later.old = self.awaited.insert((id, key), cx.waker().clone());
-        }
-        self.flushes(later);
-        Poll::Pending
-    }
-
-    /// Takes one who waits for a promise away.
-    pub(crate) fn forgets(&mut self, id: u64, place: &mut Option<u64>, later: &mut Later) {
-        if let Some(key) = place.take() {
-            later.old = self.awaited.remove(&(id, key));
-        }
-    }
-
-    /// One more that can write.
-    pub(crate) fn joins(&mut self) {
-        self.outbounds += 1;
-    }
-
-    /// One fewer. After the last all that was written is sent.
-    pub(crate) fn parts(&mut self, later: &mut Later) {
+    /// One that can write fewer. After the last all that was written is sent.
+    pub(crate) fn part(&mut self, later: &mut Later) {
         self.outbounds -= 1;
         if self.outbounds == 0 {
-            self.flushes(later);
-            later.pump = later.pump.take().or(self.pump.take());
+            self.flush(later);
+            later.woken.extend(self.pump.take());
         }
     }
 
     /// Lets nobody write any more. All that was written is sent.
-    pub(crate) fn finishes(&mut self, later: &mut Later) {
+    pub(crate) fn finish(&mut self, later: &mut Later) {
         self.finishing = true;
-        self.flushes(later);
-        later.pump = later.pump.take().or(self.pump.take());
-        later.all.extend(self.queue.values_mut().filter_map(Option::take));
+        self.flush(later);
+        later.woken.extend(self.pump.take());
+        later.woken.extend(take(&mut self.queue).into_values().map(|writer| writer.waker));
     }
 
     /// What the pump does next, after so many messages were sent, if flushed messages are left or not.
     pub(crate) fn next_step(&mut self, sent: u64, more: bool, waker: &Waker, later: &mut Later) -> Step {
-        self.settles(sent, later);
-        self.passes_on(later);
+        self.settle(sent, later);
+        self.admits(later);
         later.old = self.pump.take();
         if take(&mut self.wanted) {
             Step::Flush
@@ -285,25 +216,137 @@ impl Gate {
         }
     }
 
-    /// So many messages were sent.
-    fn settles(&mut self, sent: u64, later: &mut Later) {
+    fn settle(&mut self, sent: u64, later: &mut Later) {
         self.sent = sent;
         while let Some(entry) = self.awaited.first_entry().filter(|entry| entry.key().0 < sent) {
-            later.all.push(entry.remove());
+            later.woken.push(entry.remove());
         }
     }
 
-    /// The pump has ended, after so many messages were sent.
-    pub(crate) fn ends(&mut self, sent: u64, outcome: Outcome, later: &mut Later) {
-        self.settles(sent, later);
+    /// The pump has ended, after so many messages were sent. It returns how many were written and are not.
+    pub(crate) fn end(&mut self, sent: u64, outcome: Outcome, later: &mut Later) -> u64 {
+        self.settle(sent, later);
         self.end = Some(outcome);
         later.old = self.pump.take();
-        later.all.extend(self.queue.values_mut().filter_map(Option::take));
-        later.all.extend(take(&mut self.awaited).into_values());
+        later.woken.extend(take(&mut self.queue).into_values().map(|writer| writer.waker));
+        later.woken.extend(take(&mut self.awaited).into_values());
+        self.written - sent
     }
 
-    /// How many messages were written and are not sent.
-    pub(crate) fn left(&self) -> u64 {
-        self.written - self.sent
+    /// When one arrives now.
+    fn arrives(&mut self) -> u64 {
+        self.arrivals += 1;
+        self.arrivals
+    }
+}
+
+/// A place in the queue of those who wait to write. It is left when this is dropped.
+#[derive(Debug)]
+pub(crate) struct Turn {
+    pub(crate) shared: Arc<Shared>,
+    /// When it arrived, if it waits.
+    arrived: Option<u64>,
+}
+
+impl Turn {
+    pub(crate) fn new(shared: &Arc<Shared>) -> Turn {
+        Turn { shared: Arc::clone(shared), arrived: None }
+    }
+
+    /// Does something that writes so many bytes, as soon as there is room for them and it is this one's turn.
+    pub(crate) fn poll<T>(
+        &mut self,
+        cx: &mut Context<'_>,
+        bytes: usize,
+        call: impl FnOnce(&mut Gate, &mut Later) -> T,
+    ) -> Poll<Result<T, WriteError>> {
+        let Turn { shared, arrived } = self;
+        shared.with(|gate, later| {
+            if gate.is_over() {
+                leaves(arrived, gate, later);
+                return Poll::Ready(Err(WriteError::Gone));
+            }
+            let size = bytes as u64 + gate.overhead;
+            let is_admitted = match arrived {
+                None => gate.may_write(),
+                Some(at) => gate.kept.get(at).is_some_and(|kept| size <= *kept),
+            };
+            if !is_admitted {
+                waits(arrived, size, cx, gate, later);
+                return Poll::Pending;
+            }
+            leaves(arrived, gate, later);
+            let answer = call(gate, later);
+            // it may have written less, or nothing
+            gate.admits(later);
+            Poll::Ready(Ok(answer))
+        })
+    }
+}
+
+/// Joins the queue, or stays there, and has all flushed: nobody waits for what is not sent.
+fn waits(arrived: &mut Option<u64>, size: u64, cx: &mut Context<'_>, gate: &mut Gate, later: &mut Later) {
+    let at = *arrived.get_or_insert_with(|| gate.arrives());
+    // a message that has grown waits anew, before those that came later
+    gate.all_kept -= gate.kept.remove(&at).unwrap_or(0);
+    let old = gate.queue.insert(at, Writer { size, waker: cx.waker().clone() });
+    later.old = old.map(|writer| writer.waker);
+    gate.flush(later);
+    gate.admits(later);
+}
+
+fn leaves(arrived: &mut Option<u64>, gate: &mut Gate, later: &mut Later) {
+    if let Some(at) = arrived.take() {
+        later.old = gate.queue.remove(&at).map(|writer| writer.waker);
+        gate.all_kept -= gate.kept.remove(&at).unwrap_or(0);
+    }
+}
+
+impl Drop for Turn {
+    fn drop(&mut self) {
+        let Turn { shared, arrived } = self;
+        if arrived.is_some() {
+            shared.with(|gate, later| {
+                leaves(arrived, gate, later);
+                gate.admits(later);
+            });
+        }
+    }
+}
+
+/// One who waits for what becomes of a promise, or may come to wait.
+#[derive(Debug)]
+pub(crate) struct Awaited {
+    pub(crate) shared: Arc<Shared>,
+    pub(crate) id: u64,
+    arrived: Option<u64>,
+}
+
+impl Awaited {
+    pub(crate) fn new(shared: &Arc<Shared>, id: u64) -> Awaited {
+        Awaited { shared: Arc::clone(shared), id, arrived: None }
+    }
+
+    pub(crate) fn poll(&mut self, cx: &mut Context<'_>) -> Poll<Outcome> {
+        let Awaited { shared, id, arrived } = self;
+        shared.with(|gate, later| {
+            if let Some(outcome) = gate.outcome(*id) {
+                // whoever settled it took the waker
+                *arrived = None;
+                return Poll::Ready(outcome);
+            }
+            let at = *arrived.get_or_insert_with(|| gate.arrives());
+            later.old = gate.awaited.insert((*id, at), cx.waker().clone());
+            gate.flush(later);
+            Poll::Pending
+        })
+    }
+}
+
+impl Drop for Awaited {
+    fn drop(&mut self) {
+        if let Some(at) = self.arrived {
+            self.shared.with(|gate, later| later.old = gate.awaited.remove(&(self.id, at)));
+        }
     }
 }

@@ -9,16 +9,14 @@ mod outbound;
 mod pump;
 mod receipt;
 mod sink;
-mod writer;
 
-pub use errors::{Gone, TryWriteError, WriteError};
+pub use errors::{TryWriteError, WriteError};
 pub use limekeel::{Block, Estimate, Marks, Outcome, Refusal};
 pub use message::{Message, Static};
 pub use outbound::Outbound;
 pub use pump::{Ended, Pump};
 pub use receipt::Receipt;
 pub use sink::OutboundSink;
-pub use writer::OutboundWriter;
 
 use gate::Shared;
 use limekeel::SharedConnection;
@@ -55,7 +53,7 @@ pub fn split_with<S: AsyncWrite + Unpin>(
         return Err(Refusal::BadMarks);
     }
     let (connection, transport) = SharedConnection::open(marks, estimate)?;
-    let shared = Arc::new(Shared::new(connection));
+    let shared = Arc::new(Shared::new(connection, marks, estimate));
     let pump = Pump::new(stream, transport, Arc::clone(&shared));
-    Ok((Outbound::new(shared), pump))
+    Ok((Outbound::new(&shared), pump))
 }

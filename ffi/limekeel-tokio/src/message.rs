@@ -10,15 +10,21 @@ use limekeel::{Block, Refused, SharedConnection, Written};
 /// | `Bytes`, `Vec<u8>`, `String` | stay where they are, and are dropped once they are sent or given up |
 /// | `&Block` | are shared, by as many connections and messages as you like |
 /// | [`Static`] | stay where they are, and nothing is kept for them |
-pub trait Message: Writes {}
+pub trait Message: Writes + AsRef<[u8]> {}
 
-impl<M: Writes> Message for M {}
+impl<M: Writes + AsRef<[u8]>> Message for M {}
 
 /// Bytes that are there for good.
 #[derive(Clone, Copy, Debug, PartialEq, Eq)]
 pub struct Static(pub &'static [u8]);
 
-pub(crate) mod hidden {
+impl AsRef<[u8]> for Static {
+    fn as_ref(&self) -> &[u8] {
+        self.0
+    }
+}
+
+mod hidden {
     use super::{Refused, SharedConnection, Written};
 
     /// What no user implements.
@@ -28,50 +34,34 @@ pub(crate) mod hidden {
     }
 }
 
-impl Writes for Bytes {
-    fn write_to(self, connection: &SharedConnection) -> Result<Written, Refused<Bytes>> {
-        connection.write_owned(self)
-    }
+/// Types whose values move into the connection.
+macro_rules! owners {
+    ($($owner:ty),*) => {
+        $(impl Writes for $owner {
+            fn write_to(self, connection: &SharedConnection) -> Result<Written, Refused<Self>> {
+                connection.write_owned(self)
+            }
+        })*
+    };
 }
 
-impl Writes for Vec<u8> {
-    fn write_to(self, connection: &SharedConnection) -> Result<Written, Refused<Vec<u8>>> {
-        connection.write_owned(self)
-    }
+/// Types of which the caller keeps what there is.
+macro_rules! lenders {
+    ($(($($of:tt)*) $lender:ty: $message:ident, $connection:ident => $write:expr;)*) => {
+        $(impl<$($of)*> Writes for $lender {
+            fn write_to(self, $connection: &SharedConnection) -> Result<Written, Refused<Self>> {
+                let $message = self;
+                $write.map_err(|refusal| Refused { refusal, owner: self })
+            }
+        })*
+    };
 }
 
-impl Writes for String {
-    fn write_to(self, connection: &SharedConnection) -> Result<Written, Refused<String>> {
-        connection.write_owned(self)
-    }
-}
-
-impl Writes for &[u8] {
-    fn write_to(self, connection: &SharedConnection) -> Result<Written, Refused<Self>> {
-        connection.write(self).map_err(|refusal| Refused { refusal, owner: self })
-    }
-}
-
-impl<const N: usize> Writes for &[u8; N] {
-    fn write_to(self, connection: &SharedConnection) -> Result<Written, Refused<Self>> {
-        connection.write(self).map_err(|refusal| Refused { refusal, owner: self })
-    }
-}
-
-impl Writes for &str {
-    fn write_to(self, connection: &SharedConnection) -> Result<Written, Refused<Self>> {
-        connection.write(self.as_bytes()).map_err(|refusal| Refused { refusal, owner: self })
-    }
-}
-
-impl Writes for &Block {
-    fn write_to(self, connection: &SharedConnection) -> Result<Written, Refused<Self>> {
-        connection.write_block(self).map_err(|refusal| Refused { refusal, owner: self })
-    }
-}
-
-impl Writes for Static {
-    fn write_to(self, connection: &SharedConnection) -> Result<Written, Refused<Static>> {
-        connection.write_static(self.0).map_err(|refusal| Refused { refusal, owner: self })
-    }
+owners!(Bytes, Vec<u8>, String);
+lenders! {
+    () &[u8]: bytes, connection => connection.write(bytes);
+    (const N: usize) &[u8; N]: bytes, connection => connection.write(bytes);
+    () &str: text, connection => connection.write(text.as_bytes());
+    () &Block: block, connection => connection.write_block(block);
+    () Static: bytes, connection => connection.write_static(bytes.0);
 }

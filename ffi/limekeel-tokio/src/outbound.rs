@@ -1,10 +1,9 @@
-use crate::errors::{Gone, TryWriteError, WriteError};
-use crate::gate::{Gate, Later, Shared};
+use crate::errors::{TryWriteError, WriteError};
+use crate::gate::{Awaited, END, Gate, Later, Shared, Turn};
 use crate::message::Message;
 use crate::receipt::Receipt;
 use crate::sink::OutboundSink;
-use crate::writer::OutboundWriter;
-use limekeel::{Outcome, Refusal, Refused};
+use limekeel::{Outcome, Refusal};
 use std::future::poll_fn;
 use std::sync::Arc;
 use std::task::{Context, Poll};
@@ -18,26 +17,21 @@ use std::task::{Context, Poll};
 /// When the last is dropped, all that was written is sent, the stream is shut down, and the [`crate::Pump`] ends.
 #[derive(Debug)]
 pub struct Outbound {
-    shared: Arc<Shared>,
     /// Where `poll_ready` waits.
-    place: Option<u64>,
-}
-
-/// A place in the queue, which is left when the future is dropped that waits in it.
-struct Turn<'a> {
-    shared: &'a Shared,
-    place: Option<u64>,
-}
-
-impl Drop for Turn<'_> {
-    fn drop(&mut self) {
-        self.shared.leave(&mut self.place);
-    }
+    turn: Turn,
 }
 
 impl Outbound {
-    pub(crate) fn new(shared: Arc<Shared>) -> Outbound {
-        Outbound { shared, place: None }
+    pub(crate) fn new(shared: &Arc<Shared>) -> Outbound {
+        Outbound { turn: Turn::new(shared) }
+    }
+
+    fn with<T>(&self, call: impl FnOnce(&mut Gate, &mut Later) -> T) -> T {
+        self.turn.shared.with(call)
+    }
+
+    fn receipt(&self, id: u64) -> Receipt {
+        Receipt(Awaited::new(&self.turn.shared, id))
     }
 
     /// Waits until it is this one's turn and the connection is writable; then writes a message and flushes.
@@ -64,16 +58,17 @@ impl Outbound {
     }
 
     async fn writes<M: Message>(&self, message: M, flush: bool) -> Result<Receipt, WriteError> {
-        let mut turn = Turn { shared: &self.shared, place: None };
-        let mut message = Some(message);
+        let mut message = match self.tries(message, flush) {
+            Err(TryWriteError::Full(message)) => Some(message),
+            written => return written.map_err(WriteError::from),
+        };
+        let bytes = message.as_ref().map_or(0, |message| message.as_ref().len());
+        let mut turn = Turn::new(&self.turn.shared);
         let written = poll_fn(|cx| {
-            turn.shared.poll_turn(&mut turn.place, cx, |gate, later| {
-                let message = message.take().expect("it has one turn");
-                written(gate, later, message, flush)
-            })
+            turn.poll(cx, bytes, |gate, later| gate.write(message.take().expect("it has one turn"), flush, later))
         });
-        let id = written.await?.map_err(|refused| WriteError::of(refused.refusal))?;
-        Ok(Receipt::new(&self.shared, id))
+        let id = written.await?.map_err(|refused| refused.refusal)?;
+        Ok(self.receipt(id))
     }
 
     /// Writes a message and flushes, if the connection is writable and nobody waits for a turn.
@@ -86,7 +81,7 @@ impl Outbound {
         self.tries(message, true)
     }
 
-    /// The same without a flush.
+    /// The same without a flush, as of [`Outbound::feed`].
     ///
     /// # Errors
     ///
@@ -96,24 +91,24 @@ impl Outbound {
     }
 
     fn tries<M: Message>(&self, message: M, flush: bool) -> Result<Receipt, TryWriteError<M>> {
-        let id = self.shared.with(|gate, later| {
+        let id = self.with(|gate, later| {
             if gate.is_over() {
                 return Err(TryWriteError::Gone(message));
             }
-            if !gate.is_free() {
+            if !gate.may_write() {
                 return Err(TryWriteError::Full(message));
             }
-            written(gate, later, message, flush).map_err(|Refused { refusal, owner }| match refusal {
-                Refusal::Closed => TryWriteError::Gone(owner),
-                refusal => TryWriteError::Refused(refusal, owner),
+            gate.write(message, flush, later).map_err(|refused| match refused.refusal {
+                Refusal::Closed => TryWriteError::Gone(refused.owner),
+                refusal => TryWriteError::Refused(refusal, refused.owner),
             })
         })?;
-        Ok(Receipt::new(&self.shared, id))
+        Ok(self.receipt(id))
     }
 
     /// Has all sent that was written so far, by whomever.
     pub fn flush(&self) {
-        self.shared.with(Gate::flushes);
+        self.with(Gate::flush);
     }
 
     /// Ready when the connection is writable and it is this one's turn, in order of arrival. It keeps no room: if another
@@ -121,54 +116,55 @@ impl Outbound {
     ///
     /// # Errors
     ///
-    /// [`Gone`], as of [`Outbound::write`].
-    pub fn poll_ready(&mut self, cx: &mut Context<'_>) -> Poll<Result<(), Gone>> {
-        self.shared.poll_turn(&mut self.place, cx, |_, _| ())
+    /// [`WriteError::Gone`], as of [`Outbound::write`].
+    pub fn poll_ready(&mut self, cx: &mut Context<'_>) -> Poll<Result<(), WriteError>> {
+        self.turn.poll(cx, 0, |_, _| ())
     }
 
-    /// As [`Outbound::poll_ready`], and then does something that writes.
-    pub(crate) fn poll_turn<T>(
+    /// Writes a message of so many bytes and does not flush, when it is this one's turn.
+    pub(crate) fn poll_feed<M: Message>(
         &mut self,
         cx: &mut Context<'_>,
-        call: impl FnOnce(&mut Gate, &mut Later) -> T,
-    ) -> Poll<Result<T, Gone>> {
-        self.shared.poll_turn(&mut self.place, cx, call)
+        bytes: usize,
+        message: impl FnOnce() -> M,
+    ) -> Poll<Result<(), WriteError>> {
+        let written = self.turn.poll(cx, bytes, |gate, later| gate.write(message(), false, later))?;
+        written.map(|written| written.map(drop).map_err(|refused| refused.refusal.into()))
     }
 
     /// Whether a [`Outbound::try_write`] would be accepted now, but for its message.
     #[must_use]
     pub fn is_writable(&self) -> bool {
-        self.shared.with(|gate, _| !gate.is_over() && gate.is_free())
+        self.with(|gate, _| !gate.is_over() && gate.may_write())
     }
 
     /// Whether nothing can be written any more.
     #[must_use]
     pub fn is_gone(&self) -> bool {
-        self.shared.with(|gate, _| gate.is_over())
+        self.with(|gate, _| gate.is_over())
     }
 
     /// How many bytes were written and are not sent, with those that each message counts beside its own.
     #[must_use]
     pub fn pending(&self) -> u32 {
-        self.shared.with(|gate, _| gate.connection().look().total)
+        self.with(|gate, _| gate.connection.look().total)
     }
 
     /// Flushes, and waits until all is sent that was written so far, by whomever: the stream took it.
     ///
     /// # Errors
     ///
-    /// [`Gone`] if a message of those was given up.
-    pub async fn drained(&self) -> Result<(), Gone> {
+    /// [`WriteError::Gone`] if a message of those was given up.
+    pub async fn drained(&self) -> Result<(), WriteError> {
         match self.last() {
             Some(last) => sent(last.await),
             None => Ok(()),
         }
     }
 
-    /// The receipt of the last message that is not settled.
+    /// The receipt of the last message, if that is not settled.
     pub(crate) fn last(&self) -> Option<Receipt> {
-        let last = self.shared.with(|gate, _| gate.last())?;
-        Some(Receipt::new(&self.shared, last))
+        self.with(|gate, _| gate.last()).map(|last| self.receipt(last))
     }
 
     /// Lets nobody write any more, not even those who wait, and waits until all is sent that was written, and the stream is
@@ -176,55 +172,33 @@ impl Outbound {
     ///
     /// # Errors
     ///
-    /// [`Gone`] if the pump ended otherwise.
-    pub async fn finish(&self) -> Result<(), Gone> {
-        self.shared.with(Gate::finishes);
-        // no message has this number, so this is settled at the end
-        sent(Receipt::new(&self.shared, u64::MAX).await)
+    /// [`WriteError::Gone`] if the pump ended otherwise.
+    pub async fn finish(&self) -> Result<(), WriteError> {
+        self.with(Gate::finish);
+        sent(self.receipt(END).await)
     }
 
-    /// A [`futures_sink::Sink`] of messages over this one.
+    /// A [`futures_sink::Sink`] and a [`tokio::io::AsyncWrite`] over this one.
     #[must_use]
-    pub fn into_sink<M: Message>(self) -> OutboundSink<M> {
+    pub fn into_sink(self) -> OutboundSink {
         OutboundSink::new(self)
-    }
-
-    /// A [`tokio::io::AsyncWrite`] over this one.
-    #[must_use]
-    pub fn into_writer(self) -> OutboundWriter {
-        OutboundWriter::new(self)
     }
 }
 
 impl Clone for Outbound {
     fn clone(&self) -> Outbound {
-        self.shared.with(|gate, _| gate.joins());
-        Outbound::new(Arc::clone(&self.shared))
+        self.with(|gate, _| gate.outbounds += 1);
+        Outbound::new(&self.turn.shared)
     }
 }
 
 impl Drop for Outbound {
     fn drop(&mut self) {
-        self.shared.leave(&mut self.place);
-        self.shared.with(Gate::parts);
+        self.with(Gate::part);
     }
-}
-
-/// Writes a message, and has it flushed or not.
-pub(crate) fn written<M: Message>(
-    gate: &mut Gate,
-    later: &mut Later,
-    message: M,
-    flush: bool,
-) -> Result<u64, Refused<M>> {
-    let id = gate.writes(message)?;
-    if flush {
-        gate.flushes(later);
-    }
-    Ok(id)
 }
 
 /// Whether what became of a promise is what its writer wished.
-pub(crate) fn sent(outcome: Outcome) -> Result<(), Gone> {
-    if outcome == Outcome::Success { Ok(()) } else { Err(Gone) }
+pub(crate) fn sent(outcome: Outcome) -> Result<(), WriteError> {
+    if outcome == Outcome::Success { Ok(()) } else { Err(WriteError::Gone) }
 }

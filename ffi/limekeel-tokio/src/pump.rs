@@ -1,7 +1,6 @@
 use crate::gate::{Shared, Step};
 use crate::{BROKEN, DROPPED};
 use limekeel::{Outcome, Sent, Transport};
-use std::fmt;
 use std::future::Future;
 use std::io::{self, ErrorKind, IoSlice};
 use std::pin::Pin;
@@ -21,6 +20,7 @@ const TURNS: usize = 32;
 ///
 /// If it is dropped before its end, as by `abort` of its task or a limit of time, what waits to be sent is given up, and
 /// whoever waits is told.
+#[derive(Debug)]
 #[must_use = "nothing is sent unless it is polled"]
 pub struct Pump<S> {
     /// None once it has ended.
@@ -137,10 +137,12 @@ impl<S: AsyncWrite + Unpin> Pump<S> {
 }
 
 impl<S> Pump<S> {
-    fn ends(&mut self, outcome: Outcome) {
-        self.shared.with(|gate, later| gate.ends(self.sent, outcome, later));
+    /// Gives up what is left, and returns how many messages that were.
+    fn ends(&mut self, outcome: Outcome) -> u64 {
+        let lost = self.shared.with(|gate, later| gate.end(self.sent, outcome, later));
         // it is not closed before this
-        let _ = self.transport.give_up(if let Outcome::Failed(cause) = outcome { cause } else { DROPPED });
+        let _ = self.transport.give_up(BROKEN);
+        lost
     }
 }
 
@@ -194,26 +196,16 @@ impl<S: AsyncWrite + Unpin> Future for Pump<S> {
     fn poll(self: Pin<&mut Self>, cx: &mut Context<'_>) -> Poll<Ended<S>> {
         let pump = self.get_mut();
         let error = ready!(pump.poll_all(cx)).err();
-        pump.ends(if error.is_none() { Outcome::Success } else { Outcome::Failed(BROKEN) });
+        let lost = pump.ends(if error.is_none() { Outcome::Success } else { Outcome::Failed(BROKEN) });
         let stream = pump.stream.take().expect("it has not ended");
-        let lost = pump.shared.with(|gate, _| gate.left());
         Poll::Ready(Ended { stream, sent: pump.sent, lost, error })
     }
 }
-
-// nothing of it is pinned, its stream neither
-impl<S> Unpin for Pump<S> {}
 
 impl<S> Drop for Pump<S> {
     fn drop(&mut self) {
         if self.stream.is_some() {
             self.ends(Outcome::Failed(DROPPED));
         }
-    }
-}
-
-impl<S> fmt::Debug for Pump<S> {
-    fn fmt(&self, f: &mut fmt::Formatter<'_>) -> fmt::Result {
-        f.debug_struct("Pump").field("sent", &self.sent).finish_non_exhaustive()
     }
 }

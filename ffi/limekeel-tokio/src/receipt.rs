@@ -1,8 +1,7 @@
-use crate::gate::Shared;
+use crate::gate::Awaited;
 use limekeel::Outcome;
 use std::future::Future;
 use std::pin::Pin;
-use std::sync::Arc;
 use std::task::{Context, Poll};
 
 /// The promise of one message: a future of what became of it.
@@ -23,45 +22,27 @@ use std::task::{Context, Poll};
 /// # Ok(())
 /// # }
 /// ```
-#[must_use = "it does nothing unless it is awaited; the message goes without it too"]
 #[derive(Debug)]
-pub struct Receipt {
-    shared: Arc<Shared>,
-    id: u64,
-    place: Option<u64>,
-}
+pub struct Receipt(pub(crate) Awaited);
 
 impl Receipt {
-    pub(crate) fn new(shared: &Arc<Shared>, id: u64) -> Receipt {
-        Receipt { shared: Arc::clone(shared), id, place: None }
-    }
-
     /// The number of the message among all of its connection, from 0, in the order in which they are sent.
     #[must_use]
     pub fn id(&self) -> u64 {
-        self.id
+        self.0.id
     }
 
     /// What became of it, if that is known.
     #[must_use]
     pub fn outcome(&self) -> Option<Outcome> {
-        self.shared.with(|gate, _| gate.outcome(self.id))
+        self.0.shared.with(|gate, _| gate.outcome(self.id()))
     }
 }
 
 impl Future for Receipt {
     type Output = Outcome;
 
-    fn poll(self: Pin<&mut Self>, cx: &mut Context<'_>) -> Poll<Outcome> {
-        let Receipt { shared, id, place } = self.get_mut();
-        shared.with(|gate, later| gate.poll_outcome(*id, place, cx, later))
-    }
-}
-
-impl Drop for Receipt {
-    fn drop(&mut self) {
-        if self.place.is_some() {
-            self.shared.with(|gate, later| gate.forgets(self.id, &mut self.place, later));
-        }
+    fn poll(mut self: Pin<&mut Self>, cx: &mut Context<'_>) -> Poll<Outcome> {
+        self.0.poll(cx)
     }
 }

@@ -135,7 +135,7 @@ impl Writer {
             }
         });
         if let Some(written) = written.await {
-            let _ = written?;
+            drop(written?);
             self.knows(at);
         }
         Ok(())
@@ -144,14 +144,14 @@ impl Writer {
     async fn write_by_a_sink(&self, at: u8, bytes: Vec<u8>) -> Result<(), WriteError> {
         let mut sink = self.outbound.clone().into_sink();
         poll_fn(|cx| Pin::new(&mut sink).poll_ready(cx)).await?;
-        Pin::new(&mut sink).start_send(bytes)?;
-        poll_fn(|cx| Pin::new(&mut sink).poll_close(cx)).await?;
+        Pin::new(&mut sink).start_send(Bytes::from(bytes))?;
+        poll_fn(|cx| Sink::poll_close(Pin::new(&mut sink), cx)).await?;
         self.knows(at);
         Ok(())
     }
 
     async fn write_by_a_writer(&self, at: u8, bytes: Vec<u8>) -> Result<(), WriteError> {
-        let mut writer = self.outbound.clone().into_writer();
+        let mut writer = self.outbound.clone().into_sink();
         if writer.write_all(&bytes).await.is_err() {
             return Err(WriteError::Gone);
         }
