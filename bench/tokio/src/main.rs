@@ -16,7 +16,7 @@ const SIZES: [usize; 3] = [64, 1024, 16384];
 const WRITERS: [usize; 2] = [1, 16];
 /// Each throughput is of so many bytes, and at most of so many messages.
 const BYTES: usize = 256 << 20;
-const MESSAGES: usize = 300_000;
+const MESSAGES: usize = 1_000_000;
 
 /// A connected pair: what the server writes to, and what a client reads from.
 fn pair() -> (tokio::net::TcpStream, TcpStream) {
@@ -159,6 +159,12 @@ fn main() {
                     }
                 }
             }
+        }
+        ["one", name, writers, size] => {
+            let way = WAYS.into_iter().find(|way| format!("{way:?}") == name).expect("a way");
+            let (writers, size) = (writers.parse().expect("a number"), size.parse().expect("a number"));
+            let speed = runtime().block_on(throughput(way, size, writers));
+            println!("throughput {way:?} {writers} {size} {speed:.0}");
         }
         ["latency"] => {
             for way in WAYS {

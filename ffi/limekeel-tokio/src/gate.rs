@@ -20,7 +20,7 @@
 
 use crate::errors::WriteError;
 use crate::message::Message;
-use limekeel::{Estimate, Marks, Outcome, Refused, SharedConnection};
+use limekeel::{Change, Estimate, Marks, Outcome, Refused, SharedConnection, Written};
 use std::collections::BTreeMap;
 use std::mem::take;
 use std::sync::{Arc, Mutex, PoisonError};
@@ -35,8 +35,10 @@ pub(crate) struct Shared(Mutex<Gate>);
 
 #[derive(Debug)]
 pub(crate) struct Gate {
-    /// The only handle that writes. So what it glances at misses no write.
     pub(crate) connection: SharedConnection,
+    /// Whether a write was told to be the last, and no look has shown since that others may follow. This is the only handle
+    /// that writes, so while this is false the connection is writable, and no more bytes are pending than the high mark.
+    is_stopped: bool,
     /// The high mark, and what a message counts beside its bytes.
     high: u64,
     overhead: u64,
@@ -94,6 +96,7 @@ impl Shared {
     pub(crate) fn new(connection: SharedConnection, marks: Marks, estimate: Estimate) -> Shared {
         Shared(Mutex::new(Gate {
             connection,
+            is_stopped: false,
             high: marks.high.into(),
             overhead: estimate.overhead.into(),
             queue: BTreeMap::new(),
@@ -129,18 +132,18 @@ impl Gate {
     }
 
     /// Whether one may write that arrives now.
-    pub(crate) fn may_write(&self) -> bool {
+    pub(crate) fn may_write(&mut self) -> bool {
         self.queue.is_empty() && self.has_room()
     }
 
-    fn has_room(&self) -> bool {
-        let fits = |word: u32, total: u32| word == 0 && u64::from(total) + self.all_kept <= self.high;
-        let (seen, connection) = (self.connection.glance(), &self.connection);
-        // a glance misses no write, but perhaps what the pump took away, which a look does not
-        fits(seen.word, seen.total) || {
-            let look = connection.look();
-            fits(look.word, look.total)
+    /// Whether the connection is writable, and the pending bytes with the room that is kept are not above the high mark.
+    fn has_room(&mut self) -> bool {
+        if self.is_stopped || self.all_kept > 0 {
+            let look = self.connection.look();
+            self.is_stopped = look.word != 0;
+            return !self.is_stopped && u64::from(look.total) + self.all_kept <= self.high;
         }
+        true
     }
 
     /// Keeps room for those who wait to write, in order of arrival, while there is some.
@@ -155,10 +158,12 @@ impl Gate {
 
     /// Writes a message, and returns its promise.
     pub(crate) fn write<M: Message>(&mut self, message: M, flush: bool, later: &mut Later) -> Result<u64, Refused<M>> {
-        let id = message.write_to(&self.connection)?.id;
+        let Written { id, change } = message.write_to(&self.connection)?;
+        self.is_stopped |= change == Some(Change::Unwritable);
         self.written = id + 1;
         self.unflushed = true;
-        if flush {
+        // who waits for room does not wait for what nobody sends
+        if flush || !self.queue.is_empty() {
             self.flush(later);
         }
         Ok(id)
@@ -253,11 +258,11 @@ impl Turn {
         Turn { shared: Arc::clone(shared), arrived: None }
     }
 
-    /// Does something that writes so many bytes, as soon as there is room for them and it is this one's turn.
+    /// Does something that writes a message of so many bytes, or none, as soon as there is room and it is this one's turn.
     pub(crate) fn poll<T>(
         &mut self,
         cx: &mut Context<'_>,
-        bytes: usize,
+        bytes: Option<usize>,
         call: impl FnOnce(&mut Gate, &mut Later) -> T,
     ) -> Poll<Result<T, WriteError>> {
         let Turn { shared, arrived } = self;
@@ -266,7 +271,7 @@ impl Turn {
                 leaves(arrived, gate, later);
                 return Poll::Ready(Err(WriteError::Gone));
             }
-            let size = bytes as u64 + gate.overhead;
+            let size = bytes.map_or(0, |bytes| bytes as u64 + gate.overhead);
             let is_admitted = match arrived {
                 None => gate.may_write(),
                 Some(at) => gate.kept.get(at).is_some_and(|kept| size <= *kept),
@@ -284,7 +289,7 @@ impl Turn {
     }
 }
 
-/// Joins the queue, or stays there, and has all flushed: nobody waits for what is not sent.
+/// Joins the queue, or stays there, and has all flushed.
 fn waits(arrived: &mut Option<u64>, size: u64, cx: &mut Context<'_>, gate: &mut Gate, later: &mut Later) {
     let at = *arrived.get_or_insert_with(|| gate.arrives());
     // a message that has grown waits anew, before those that came later

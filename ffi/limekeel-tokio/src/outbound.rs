@@ -62,7 +62,7 @@ impl Outbound {
             Err(TryWriteError::Full(message)) => Some(message),
             written => return written.map_err(WriteError::from),
         };
-        let bytes = message.as_ref().map_or(0, |message| message.as_ref().len());
+        let bytes = message.as_ref().map(|message| message.as_ref().len());
         let mut turn = Turn::new(&self.turn.shared);
         let written = poll_fn(|cx| {
             turn.poll(cx, bytes, |gate, later| gate.write(message.take().expect("it has one turn"), flush, later))
@@ -118,7 +118,7 @@ impl Outbound {
     ///
     /// [`WriteError::Gone`], as of [`Outbound::write`].
     pub fn poll_ready(&mut self, cx: &mut Context<'_>) -> Poll<Result<(), WriteError>> {
-        self.turn.poll(cx, 0, |_, _| ())
+        self.turn.poll(cx, None, |_, _| ())
     }
 
     /// Writes a message of so many bytes and does not flush, when it is this one's turn.
@@ -128,7 +128,7 @@ impl Outbound {
         bytes: usize,
         message: impl FnOnce() -> M,
     ) -> Poll<Result<(), WriteError>> {
-        let written = self.turn.poll(cx, bytes, |gate, later| gate.write(message(), false, later))?;
+        let written = self.turn.poll(cx, Some(bytes), |gate, later| gate.write(message(), false, later))?;
         written.map(|written| written.map(drop).map_err(|refused| refused.refusal.into()))
     }
 

@@ -17,7 +17,8 @@ use std::sync::{Arc, Mutex};
 use std::task::Poll;
 use tokio::io::AsyncWriteExt;
 
-const MARKS: Marks = Marks { low: 250, high: 500 };
+/// One message fills it, or two do, or some.
+const MARKS: [Marks; 3] = [Marks { low: 1, high: 90 }, Marks { low: 90, high: 150 }, Marks { low: 250, high: 500 }];
 /// What a message counts beside its bytes.
 const OVERHEAD: u32 = 96;
 /// The most bytes of a message.
@@ -63,12 +64,13 @@ struct Writer {
     executor: Executor,
     book: Book,
     name: u8,
+    high: u32,
 }
 
 impl Writer {
     fn knows(&self, at: u8) {
         let pending = self.outbound.pending();
-        assert!(pending <= MARKS.high + OVERHEAD + MOST as u32 + 3, "{pending} bytes are pending");
+        assert!(pending <= self.high + OVERHEAD + MOST as u32 + 3, "{pending} bytes are pending");
         self.book.lock().unwrap().written.entry(self.name).or_default().push(at);
     }
 
@@ -217,12 +219,19 @@ fn play(seed: u64) -> (u64, u64) {
     });
     stream.with(|within| within.blocks = if within.blocks == 1 { 0 } else { within.blocks });
     let book = Book::default();
-    let (outbound, pump) = split(stream.clone(), MARKS).unwrap();
+    let marks = MARKS[executor.below(MARKS.len())];
+    let (outbound, pump) = split(stream.clone(), marks).unwrap();
     let pump = executor.spawn(pumps(pump, Arc::clone(&book)));
     let writers = 2 + executor.below(2);
     let mut tasks = Vec::new();
     for name in 0..writers as u8 {
-        let writer = Writer { outbound: outbound.clone(), executor: executor.clone(), book: Arc::clone(&book), name };
+        let writer = Writer {
+            outbound: outbound.clone(),
+            executor: executor.clone(),
+            book: Arc::clone(&book),
+            name,
+            high: marks.high,
+        };
         let finishes = fate == Fate::Finishes && name == 0;
         tasks.push(executor.spawn(writer.writes(1 + executor.below(12) as u8, finishes)));
     }

@@ -277,3 +277,46 @@ impl AsyncWrite for Memory {
         })
     }
 }
+
+/// A waker that counts how often it is woken.
+#[derive(Default)]
+pub struct Counter(AtomicUsize);
+
+impl Wake for Counter {
+    fn wake(self: Arc<Self>) {
+        self.0.fetch_add(1, Ordering::SeqCst);
+    }
+}
+
+impl Counter {
+    pub fn count(&self) -> usize {
+        self.0.load(Ordering::SeqCst)
+    }
+}
+
+/// A future that is polled by hand, and how often it was woken.
+pub struct ByHand<F> {
+    pub future: Pin<Box<F>>,
+    pub woken: Arc<Counter>,
+}
+
+impl<F: Future> ByHand<F> {
+    pub fn new(future: F) -> ByHand<F> {
+        ByHand { future: Box::pin(future), woken: Arc::default() }
+    }
+
+    pub fn poll(&mut self) -> Poll<F::Output> {
+        let waker = Waker::from(Arc::clone(&self.woken));
+        self.future.as_mut().poll(&mut Context::from_waker(&waker))
+    }
+
+    /// Polls it, which is to wait.
+    pub fn waits(mut self) -> ByHand<F> {
+        assert!(self.poll().is_pending());
+        self
+    }
+
+    pub fn woken(&self) -> usize {
+        self.woken.count()
+    }
+}
