@@ -48,19 +48,25 @@ struct Inside {
     /// A task that is polled is locked, and gone once it has ended.
     tasks: Mutex<Vec<Arc<Mutex<Option<Task>>>>>,
     woken: Mutex<BTreeSet<usize>>,
+    /// How often each task was polled.
+    turns: Mutex<Vec<u64>>,
     depth: AtomicUsize,
     polls: AtomicU64,
 }
 
+/// That of one poll of a task. Once the task was polled again it wakes nobody, as a waker of another task.
 struct Alarm {
     task: usize,
+    turn: u64,
     inside: Weak<Inside>,
 }
 
 impl Wake for Alarm {
     fn wake(self: Arc<Self>) {
         if let Some(inside) = self.inside.upgrade() {
-            inside.woken.lock().unwrap().insert(self.task);
+            if inside.turns.lock().unwrap()[self.task] == self.turn {
+                inside.woken.lock().unwrap().insert(self.task);
+            }
             Executor(inside).interferes();
         }
     }
@@ -69,8 +75,9 @@ impl Wake for Alarm {
 impl Executor {
     pub fn new(seed: u64) -> Executor {
         let depth = AtomicUsize::new(0);
-        let (tasks, woken, polls) = (Mutex::default(), Mutex::default(), AtomicU64::new(0));
-        Executor(Arc::new(Inside { dice: Mutex::new(Dice(seed)), tasks, woken, depth, polls }))
+        let (tasks, woken, turns) = (Mutex::default(), Mutex::default(), Mutex::default());
+        let polls = AtomicU64::new(0);
+        Executor(Arc::new(Inside { dice: Mutex::new(Dice(seed)), tasks, woken, turns, depth, polls }))
     }
 
     pub fn below(&self, end: usize) -> usize {
@@ -88,8 +95,15 @@ impl Executor {
     pub fn spawn(&self, future: impl Future<Output = ()> + Send + 'static) -> usize {
         let mut tasks = self.0.tasks.lock().unwrap();
         tasks.push(Arc::new(Mutex::new(Some(Box::pin(future)))));
+        self.0.turns.lock().unwrap().push(0);
         self.0.woken.lock().unwrap().insert(tasks.len() - 1);
         tasks.len() - 1
+    }
+
+    fn next_turn(&self, at: usize) -> u64 {
+        let mut turns = self.0.turns.lock().unwrap();
+        turns[at] += 1;
+        turns[at]
     }
 
     fn task(&self, at: usize) -> Arc<Mutex<Option<Task>>> {
@@ -132,7 +146,8 @@ impl Executor {
         self.0.woken.lock().unwrap().remove(&at);
         self.0.polls.fetch_add(1, Ordering::SeqCst);
         self.0.depth.fetch_add(1, Ordering::SeqCst);
-        let waker = Waker::from(Arc::new(Alarm { task: at, inside: Arc::downgrade(&self.0) }));
+        let turn = self.next_turn(at);
+        let waker = Waker::from(Arc::new(Alarm { task: at, turn, inside: Arc::downgrade(&self.0) }));
         let task = self.task(at);
         let mut future = task.try_lock().expect("it is not polled");
         let ended = future.as_mut().expect("it is left").as_mut().poll(&mut Context::from_waker(&waker)).is_ready();
