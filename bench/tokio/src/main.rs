@@ -1,6 +1,8 @@
-//! Tasks that write to one client over loopback, by several ways. It prints a line for each measurement.
+//! Tasks that write to one client over loopback, by several ways. It prints one measurement.
 //!
-//!     limekeel-tokio-bench throughput | latency | memory WAY
+//!     limekeel-tokio-bench throughput WAY WRITERS SIZE
+//!     limekeel-tokio-bench latency WAY
+//!     limekeel-tokio-bench memory WAY
 
 mod ways;
 
@@ -12,11 +14,9 @@ use std::thread::{self, JoinHandle};
 use std::time::{Duration, Instant};
 use ways::{Handle, WAYS, Way, open};
 
-const SIZES: [usize; 3] = [64, 1024, 16384];
-const WRITERS: [usize; 2] = [1, 16];
-/// Each throughput is of so many bytes, and at most of so many messages.
-const BYTES: usize = 256 << 20;
-const MESSAGES: usize = 1_000_000;
+/// A throughput is of this many bytes, or of this many messages if that is less.
+const BYTES: usize = 1 << 30;
+const MESSAGES: usize = 500_000;
 
 /// A connected pair: what the server writes to, and what a client reads from.
 fn pair() -> (tokio::net::TcpStream, TcpStream) {
@@ -47,7 +47,7 @@ async fn writes(handle: Handle, message: Bytes, count: usize) {
     }
 }
 
-/// How many messages a second so many tasks write to one client.
+/// How many messages a second this many tasks write to one client.
 async fn throughput(way: Way, size: usize, writers: usize) -> f64 {
     let (server, client) = pair();
     let (_reading, writing) = server.into_split();
@@ -56,8 +56,7 @@ async fn throughput(way: Way, size: usize, writers: usize) -> f64 {
     let message = Bytes::from(vec![7; size]);
     let start = Instant::now();
     let handle = open(way, writing, size);
-    let tasks: Vec<_> =
-        (0..writers).map(|_| tokio::spawn(writes(handle.clone(), message.clone(), count))).collect();
+    let tasks: Vec<_> = (0..writers).map(|_| tokio::spawn(writes(handle.clone(), message.clone(), count))).collect();
     drop(handle);
     for task in tasks {
         task.await.expect("it wrote all");
@@ -67,8 +66,8 @@ async fn throughput(way: Way, size: usize, writers: usize) -> f64 {
     (count * writers) as f64 / start.elapsed().as_secs_f64()
 }
 
-/// The times in microseconds from before a write to the reading of its message: half are below the first, and 99 of 100 below
-/// the second. Each of some tasks writes a message of 64 bytes every millisecond.
+/// The times in microseconds from before a write to the reading of its message: half are below the first, and 99 of
+/// 100 below the second. Each of some tasks writes a message of 64 bytes every millisecond.
 async fn latency(way: Way) -> (f64, f64) {
     const TASKS: usize = 32;
     const EACH: usize = 1000;
@@ -116,8 +115,8 @@ fn resident() -> usize {
     line.split_whitespace().nth(1).and_then(|text| text.parse().ok()).expect("a number")
 }
 
-/// The kilobytes that each client takes that reads nothing, while 16 tasks write messages of 16 KiB to it. Each way was told to
-/// let 64 KiB wait, in messages of 64 bytes.
+/// The kilobytes that each client takes that reads nothing, while 16 tasks write messages of 16 KiB to it. Each way
+/// was told to let 64 KiB wait, in messages of 64 bytes.
 async fn memory(way: Way) -> f64 {
     const CLIENTS: usize = 64;
     let before = resident();
@@ -149,35 +148,21 @@ fn runtime() -> tokio::runtime::Runtime {
 fn main() {
     let words: Vec<String> = env::args().skip(1).collect();
     let words: Vec<&str> = words.iter().map(String::as_str).collect();
+    let way = |name| WAYS.into_iter().find(|way| format!("{way:?}") == name).expect("a way");
     match words[..] {
-        ["throughput"] => {
-            for writers in WRITERS {
-                for size in SIZES {
-                    for way in WAYS {
-                        let speed = runtime().block_on(throughput(way, size, writers));
-                        println!("throughput {way:?} {writers} {size} {speed:.0}");
-                    }
-                }
-            }
-        }
-        ["one", name, writers, size] => {
-            let way = WAYS.into_iter().find(|way| format!("{way:?}") == name).expect("a way");
+        ["throughput", name, writers, size] => {
             let (writers, size) = (writers.parse().expect("a number"), size.parse().expect("a number"));
-            let speed = runtime().block_on(throughput(way, size, writers));
-            println!("throughput {way:?} {writers} {size} {speed:.0}");
+            println!("{:.0}", runtime().block_on(throughput(way(name), size, writers)));
         }
-        ["latency"] => {
-            for way in WAYS {
-                let (half, most) = runtime().block_on(latency(way));
-                println!("latency {way:?} {half:.1} {most:.1}");
-            }
+        ["latency", name] => {
+            let (half, most) = runtime().block_on(latency(way(name)));
+            println!("{half:.1} {most:.1}");
         }
         ["memory", name] => {
-            let way = WAYS.into_iter().find(|way| format!("{way:?}") == name).expect("a way");
-            println!("memory {way:?} {:.0}", runtime().block_on(memory(way)));
+            println!("{:.0}", runtime().block_on(memory(way(name))));
             // tasks that write to a client that is gone are not waited for
             std::process::exit(0);
         }
-        _ => panic!("throughput, latency or memory WAY"),
+        _ => panic!("throughput WAY WRITERS SIZE, latency WAY or memory WAY"),
     }
 }

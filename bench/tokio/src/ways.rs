@@ -40,7 +40,7 @@ impl Handle {
     }
 }
 
-/// A handle of a client, whose messages are of so many bytes. Each way lets about as many wait.
+/// A handle of a client, whose messages have this size. Each way lets about as many wait.
 pub fn open(way: Way, stream: OwnedWriteHalf, size: usize) -> Handle {
     let marks = Marks::default();
     let (sender, receiver) = channel((marks.high as usize / (size + 96)).max(1));

@@ -2,9 +2,9 @@
 //!
 //!     cargo run --example chat -- 127.0.0.1:7007
 //!
-//! Many tasks write to each client: the tasks of all others, and one that asks whether it is still there. Who says something
-//! waits until all can take it, up to a limit: then the slow one is thrown out. A client that says goodbye gets all that was
-//! said before, and the last frame of the server behind it.
+//! Many tasks write to each client: the tasks of all others, and one that asks whether it is still there. Who says
+//! something waits until all can take it, up to a limit: then the slow one is thrown out. A client that says goodbye
+//! gets all that was said before, and the last frame of the server behind it.
 
 use bytes::{BufMut, Bytes, BytesMut};
 use limekeel_tokio::{Marks, Outbound, split};

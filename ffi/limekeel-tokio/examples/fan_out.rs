@@ -1,5 +1,5 @@
-//! A feed: what comes in by one client goes out to all others. A client that reads too slowly misses messages and holds up
-//! nobody, and one that reads nothing at all takes no more memory than its high mark and one message.
+//! A feed: what comes in by one client goes out to all others. A client that reads too slowly misses messages and
+//! holds up nobody, and one that reads nothing at all takes no more memory than its high mark and one message.
 //!
 //!     cargo run --example fan_out -- 127.0.0.1:7007
 //!

@@ -1,6 +1,6 @@
-//! A server and clients in one process, over loopback, for a number of seconds: clients that read fast or slowly, stall, reset
-//! and half close, while many tasks write to each. Each byte is compared, no wait is endless, and the bound of the pending
-//! bytes is kept.
+//! A server and clients in one process, over loopback, for a number of seconds: clients that read fast or slowly,
+//! stall, reset and half close, while many tasks write to each. Each byte is compared, no wait is endless, and the
+//! bound of the pending bytes is kept.
 //!
 //!     cargo run --release --example soak -- 60
 
@@ -44,7 +44,7 @@ struct Seen {
     peak: AtomicU32,
 }
 
-/// Numbers by chance, the same for the same seed (SplitMix64).
+/// Random numbers, the same for the same seed (SplitMix64).
 struct Dice(u64);
 
 impl Dice {
@@ -63,7 +63,7 @@ fn message(writer: u8, at: u32, length: u16) -> Vec<u8> {
     [writer].into_iter().chain(at.to_le_bytes()).chain(length.to_le_bytes()).chain(rest).collect()
 }
 
-/// Reads and compares, until the end or until so many messages came. It returns how many came of each writer.
+/// Reads and compares, until the end or until `most` messages came. It returns how many came of each writer.
 async fn reads(client: &mut TcpStream, kind: Kind, most: u32) -> Vec<u32> {
     let mut came = vec![0; 256];
     let mut head = [0; 7];
@@ -86,7 +86,7 @@ async fn reads(client: &mut TcpStream, kind: Kind, most: u32) -> Vec<u32> {
     came
 }
 
-/// Writes messages until so many are written or nothing is sent any more. It returns how many were.
+/// Writes messages until `count` are written or nothing is sent any more. It returns how many were.
 async fn writes(outbound: Outbound, writer: u8, count: u32, bound: u32, seed: u64, seen: Arc<Seen>) -> u32 {
     let mut dice = Dice(seed);
     for at in 0..count {

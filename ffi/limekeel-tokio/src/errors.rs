@@ -8,8 +8,8 @@ use std::io::{self, ErrorKind};
 pub enum WriteError {
     /// Nothing is sent any more: the connection was finished, its stream is broken, or its pump was dropped.
     Gone,
-    /// This message was refused: [`Refusal::NoMemory`]; [`Refusal::Oversize`] above 2 GiB; [`Refusal::TooMuch`] if 4 GiB
-    /// would be pending.
+    /// This message was refused: [`Refusal::NoMemory`]; [`Refusal::Oversize`] above 2 GiB; [`Refusal::TooMuch`] if 4
+    /// GiB would be pending.
     Refused(Refusal),
 }
 

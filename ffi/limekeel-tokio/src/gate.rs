@@ -4,18 +4,19 @@
 //! that a writer finds room and writes is one step. No waker is called or dropped under it: a waker may hold the last
 //! reference to a task, and drop with that what locks it again.
 //!
-//! Who has to wait to write stands in a queue. As long as the connection is writable and the pending bytes, with the room
-//! that is kept, are not above the high mark, the first in the queue leaves it, with room kept for its message, and is
-//! woken. Nobody else writes while somebody stands in the queue. So the pending bytes with the room that is kept pass the
-//! high mark by one message at most.
+//! Who has to wait to write stands in a queue. As long as the connection is writable and the pending bytes, with the
+//! room that is kept, are not above the high mark, the first in the queue leaves it, with room kept for its message,
+//! and is woken. Nobody else writes while somebody stands in the queue. So the pending bytes with the room that is
+//! kept pass the high mark by one message at most.
 //!
 //! No wake-up is lost:
 //!
-//! - A writer looks and joins the queue in one step. The pump takes messages away first, and looks at the queue in a step
-//!   after that. If that step is before the writer's, the writer sees what was taken away; else the pump sees the writer.
+//! - A writer looks and joins the queue in one step. The pump takes messages away first, and looks at the queue in a
+//!   step after that. If that step is before the writer's, the writer sees what was taken away; else the pump sees the
+//!   writer.
 //! - Whoever gives room back that was kept, or joins the queue, looks at the queue in the same step.
-//! - A writer notes that the pump has work, and takes its waker, in one step. The pump looks for that note and leaves its
-//!   waker in one step.
+//! - A writer notes that the pump has work, and takes its waker, in one step. The pump looks for that note and leaves
+//!   its waker in one step.
 //! - Who waits for a promise looks and leaves its waker in one step, and the pump settles and wakes in one step.
 
 use crate::errors::WriteError;
@@ -36,8 +37,9 @@ pub(crate) struct Shared(Mutex<Gate>);
 #[derive(Debug)]
 pub(crate) struct Gate {
     pub(crate) connection: SharedConnection,
-    /// Whether a write was told to be the last, and no look has shown since that others may follow. This is the only handle
-    /// that writes, so while this is false the connection is writable, and no more bytes are pending than the high mark.
+    /// Whether a write was told to be the last, and no look has shown since that others may follow. This is the only
+    /// handle that writes, so while this is false the connection is writable, and no more bytes are pending than the
+    /// high mark.
     is_stopped: bool,
     /// The high mark, and what a message counts beside its bytes.
     high: u64,
@@ -57,7 +59,7 @@ pub(crate) struct Gate {
     unflushed: bool,
     /// Whether the pump is to flush.
     wanted: bool,
-    /// The pump, if it sleeps for want of work.
+    /// The pump, if it sleeps since there is nothing to send.
     pump: Option<Waker>,
     /// How many can write.
     pub(crate) outbounds: usize,
@@ -136,7 +138,8 @@ impl Gate {
         self.queue.is_empty() && self.has_room()
     }
 
-    /// Whether the connection is writable, and the pending bytes with the room that is kept are not above the high mark.
+    /// Whether the connection is writable, and the pending bytes with the room that is kept are not above the high
+    /// mark.
     fn has_room(&mut self) -> bool {
         if self.is_stopped || self.all_kept > 0 {
             let look = self.connection.look();
@@ -204,7 +207,7 @@ impl Gate {
         later.woken.extend(take(&mut self.queue).into_values().map(|writer| writer.waker));
     }
 
-    /// What the pump does next, after so many messages were sent, if flushed messages are left or not.
+    /// What the pump does next, after `sent` messages in all, if flushed messages are left (`more`) or not.
     pub(crate) fn next_step(&mut self, sent: u64, more: bool, waker: &Waker, later: &mut Later) -> Step {
         self.settle(sent, later);
         self.admits(later);
@@ -228,7 +231,7 @@ impl Gate {
         }
     }
 
-    /// The pump has ended, after so many messages were sent. It returns how many were written and are not.
+    /// The pump has ended, after `sent` messages in all. It returns how many were written and are not sent.
     pub(crate) fn end(&mut self, sent: u64, outcome: Outcome, later: &mut Later) -> u64 {
         self.settle(sent, later);
         self.end = Some(outcome);
@@ -258,7 +261,8 @@ impl Turn {
         Turn { shared: Arc::clone(shared), arrived: None }
     }
 
-    /// Does something that writes a message of so many bytes, or none, as soon as there is room and it is this one's turn.
+    /// Does something that writes a message of this length, or none, as soon as there is room and it is this one's
+    /// turn.
     pub(crate) fn poll<T>(
         &mut self,
         cx: &mut Context<'_>,

@@ -1,4 +1,31 @@
-//! A connection that tasks share, in tokio.
+//! A connection that tasks share, in tokio: any number of tasks write messages to one client, and one future sends
+//! them.
+//!
+//! [`split`] makes two of a stream: an [`Outbound`], which tasks clone and write with, and a [`Pump`], which you
+//! spawn. What the client has not taken is counted in bytes. Above the high mark writers wait, below the low mark they
+//! go on, in the order of arrival; the pending bytes never pass the high mark by more than one message.
+//!
+//! ```
+//! # #[tokio::main]
+//! # async fn main() -> Result<(), Box<dyn std::error::Error>> {
+//! use limekeel_tokio::{Marks, TryWriteError, split};
+//!
+//! // a message counts 96 bytes beside its own
+//! let (outbound, pump) = split(tokio::io::sink(), Marks { low: 200, high: 400 })?;
+//! let _ = outbound.try_write(&[0; 304])?; // 400 bytes are pending
+//! let _ = outbound.try_write("news")?; // 500: above the high mark, by one message
+//! assert!(matches!(outbound.try_write("more"), Err(TryWriteError::Full("more"))));
+//! let pump = tokio::spawn(pump);
+//! let receipt = outbound.write("more").await?; // waits until the pump has sent
+//! println!("{:?}", receipt.await);
+//! outbound.finish().await?;
+//! assert_eq!(pump.await?.sent, 3);
+//! # Ok(())
+//! # }
+//! ```
+//!
+//! The page `README.md` of this crate says what is promised, and what of it is proved.
+
 #![forbid(unsafe_code)]
 #![deny(missing_docs)]
 
@@ -42,8 +69,8 @@ pub fn split<S: AsyncWrite + Unpin>(stream: S, marks: Marks) -> Result<(Outbound
 ///
 /// # Errors
 ///
-/// [`Refusal::BadMarks`] if the low mark is 0, under which who waits would wait for ever, or above the high mark, or the high
-/// mark is above 2147483647; [`Refusal::BadEstimate`] if the overhead is above 65535; [`Refusal::NoMemory`].
+/// [`Refusal::BadMarks`] if the low mark is 0, under which who waits would wait for ever, or above the high mark, or
+/// the high mark is above 2147483647; [`Refusal::BadEstimate`] if the overhead is above 65535; [`Refusal::NoMemory`].
 pub fn split_with<S: AsyncWrite + Unpin>(
     stream: S,
     marks: Marks,
@@ -57,3 +84,8 @@ pub fn split_with<S: AsyncWrite + Unpin>(
     let pump = Pump::new(stream, transport, Arc::clone(&shared));
     Ok((Outbound::new(&shared), pump))
 }
+
+/// The code of `README.md`, which a test compiles and runs.
+#[cfg(doctest)]
+#[doc = include_str!("../README.md")]
+pub struct Readme;

@@ -36,19 +36,20 @@ impl Outbound {
 
     /// Waits until it is this one's turn and the connection is writable; then writes a message and flushes.
     ///
-    /// It can be dropped while it waits, as by `select!` or a limit of time: then nothing was written, and the next one has
-    /// the turn.
+    /// It can be dropped while it waits, as by `select!` or a limit of time: then nothing was written, and the next
+    /// one has the turn.
     ///
     /// # Errors
     ///
-    /// [`WriteError::Gone`] if the connection was finished, its stream is broken, or its pump was dropped, also while this
-    /// waits. [`WriteError::Refused`] if the message is too large or memory was refused. The message is dropped then.
+    /// [`WriteError::Gone`] if the connection was finished, its stream is broken, or its pump was dropped, also while
+    /// this waits. [`WriteError::Refused`] if the message is too large or memory was refused. The message is dropped
+    /// then.
     pub async fn write<M: Message>(&self, message: M) -> Result<Receipt, WriteError> {
         self.writes(message, true).await
     }
 
-    /// The same without a flush: it is sent with the next message that is flushed, or when somebody waits for room or for a
-    /// promise. For several messages that go together.
+    /// The same without a flush: it is sent with the next message that is flushed, or when somebody waits for room or
+    /// for a promise. For several messages that go together.
     ///
     /// # Errors
     ///
@@ -111,8 +112,8 @@ impl Outbound {
         self.with(Gate::flush);
     }
 
-    /// Ready when the connection is writable and it is this one's turn, in order of arrival. It keeps no room: if another
-    /// writes first, a [`Outbound::try_write`] is `Full` all the same.
+    /// Ready when the connection is writable and it is this one's turn, in order of arrival. It keeps no room: if
+    /// another writes first, a [`Outbound::try_write`] is `Full` all the same.
     ///
     /// # Errors
     ///
@@ -121,7 +122,7 @@ impl Outbound {
         self.turn.poll(cx, None, |_, _| ())
     }
 
-    /// Writes a message of so many bytes and does not flush, when it is this one's turn.
+    /// Writes a message of this length and does not flush, when it is this one's turn.
     pub(crate) fn poll_feed<M: Message>(
         &mut self,
         cx: &mut Context<'_>,
@@ -167,8 +168,8 @@ impl Outbound {
         self.with(|gate, _| gate.last()).map(|last| self.receipt(last))
     }
 
-    /// Lets nobody write any more, not even those who wait, and waits until all is sent that was written, and the stream is
-    /// shut down. If it is dropped before that, all is sent all the same.
+    /// Lets nobody write any more, not even those who wait, and waits until all is sent that was written, and the
+    /// stream is shut down. If it is dropped before that, all is sent all the same.
     ///
     /// # Errors
     ///

@@ -13,13 +13,13 @@ const TURNS: usize = 32;
 
 /// The future that sends what is written with an [`crate::Outbound`], for the user to spawn. It ends with its stream.
 ///
-/// It sends many messages by one vectored write, if the stream has those. It ends when all was sent that can come: after
-/// [`crate::Outbound::finish`], or when the last [`crate::Outbound`] is dropped; then the stream is shut down. Or it ends
-/// when the stream is broken. A client that goes away is noticed when something is sent: who reads from it sees it before
-/// that, and drops the outbound, or the pump.
+/// It sends many messages by one vectored write, if the stream has those. It ends when all was sent that can come:
+/// after [`crate::Outbound::finish`], or when the last [`crate::Outbound`] is dropped; then the stream is shut down.
+/// Or it ends when the stream is broken. A client that goes away is noticed when something is sent: who reads from it
+/// sees it before that, and drops the outbound, or the pump.
 ///
-/// If it is dropped before its end, as by `abort` of its task or a limit of time, what waits to be sent is given up, and
-/// whoever waits is told.
+/// If it is dropped before its end, as by `abort` of its task or a limit of time, what waits to be sent is given up,
+/// and whoever waits is told.
 #[derive(Debug)]
 #[must_use = "nothing is sent unless it is polled"]
 pub struct Pump<S> {
@@ -47,8 +47,8 @@ pub struct Ended<S> {
     pub sent: u64,
     /// How many messages were written, and not sent or not wholly.
     pub lost: u64,
-    /// How the stream is broken, or failed to be shut down. [`ErrorKind::WriteZero`] if it took nothing of some bytes, and
-    /// [`ErrorKind::OutOfMemory`] if memory was refused for the list of what is sent next.
+    /// How the stream is broken, or failed to be shut down. [`ErrorKind::WriteZero`] if it took nothing of some bytes,
+    /// and [`ErrorKind::OutOfMemory`] if memory was refused for the list of what is sent next.
     pub error: Option<io::Error>,
 }
 

@@ -7,8 +7,8 @@ use std::task::{Context, Poll};
 /// The promise of one message: a future of what became of it.
 ///
 /// [`Outcome::Success`] comes when the stream took its last byte, and [`Outcome::Failed`] with [`crate::BROKEN`] or
-/// [`crate::DROPPED`] if it was given up. Who awaits it has all flushed that was written so far. It can be dropped at any
-/// time, which changes nothing for the message.
+/// [`crate::DROPPED`] if it was given up. Who awaits it has all flushed that was written so far. It can be dropped at
+/// any time, which changes nothing for the message.
 ///
 /// ```
 /// # #[tokio::main(flavor = "current_thread")]

@@ -14,12 +14,13 @@ const MOST: usize = 65536;
 
 /// A [`Sink`] of messages and an [`AsyncWrite`], over an [`Outbound`].
 ///
-/// It keeps one message itself, if others wrote between `poll_ready` and `start_send`: so the bound of the connection holds.
-/// Each write of an [`AsyncWrite`] becomes a message, of at most 65536 bytes, and copied; it fails with
-/// [`io::ErrorKind::BrokenPipe`] if nothing is sent any more, and with [`io::ErrorKind::OutOfMemory`] if memory was refused.
+/// It keeps one message itself, if others wrote between `poll_ready` and `start_send`: so the bound of the connection
+/// holds. Each write of an [`AsyncWrite`] becomes a message, of at most 65536 bytes, and copied; it fails with
+/// [`io::ErrorKind::BrokenPipe`] if nothing is sent any more, and with [`io::ErrorKind::OutOfMemory`] if memory was
+/// refused.
 ///
-/// A flush is done when the stream took all that was written so far. A close, or a shutdown, flushes, and lets go of the
-/// outbound: others write on, and if it was the last, the stream is shut down.
+/// A flush is done when the stream took all that was written so far. A close, or a shutdown, flushes, and lets go of
+/// the outbound: others write on, and if it was the last, the stream is shut down.
 ///
 /// ```
 /// # #[tokio::main(flavor = "current_thread")]

@@ -502,6 +502,34 @@ fn a_writer_takes_no_more_than_it_has_room_kept_for() {
     assert!(stream.with(|within| within.got.ends_with(b"next")));
 }
 
+#[test]
+fn one_that_is_refused_or_comes_back_with_less_lets_the_next_in() {
+    let (outbound, mut pump, _) = filled();
+    // nobody touches these pages
+    let mut refused = ByHand::new(outbound.write(vec![0; 2_200_000_000])).waits();
+    let mut next = ByHand::new(outbound.write(b"next")).waits();
+    assert!(pump.poll().is_pending());
+    assert_eq!((refused.woken(), next.woken()), (1, 0));
+    assert!(matches!(refused.poll(), Poll::Ready(Err(WriteError::Refused(Refusal::Oversize)))));
+    assert_eq!(next.woken(), 1);
+    assert!(next.poll().is_ready());
+    assert!(matches!(outbound.try_write(vec![0; 2_200_000_000]), Err(TryWriteError::Full(_))));
+
+    let stream = Memory::new(Within { vectored: true, ..Within::default() });
+    let (outbound, pump) = split(stream, Marks { low: 300, high: 350 }).unwrap();
+    let mut pump = ByHand::new(pump);
+    drop(outbound.try_write(&[0; 300]).unwrap());
+    let mut writer = outbound.clone().into_sink();
+    let cx = &mut Context::from_waker(Waker::noop());
+    let mut write = |bytes: &[u8]| AsyncWrite::poll_write(Pin::new(&mut writer), cx, bytes);
+    assert!(write(&[0; 500]).is_pending());
+    let next = ByHand::new(outbound.write(b"next")).waits();
+    assert!(pump.poll().is_pending());
+    assert_eq!(next.woken(), 0);
+    assert!(matches!(write(&[0; 4]), Poll::Ready(Ok(4))));
+    assert_eq!(next.woken(), 1);
+}
+
 /// A waker that asks the connection when it is woken and when it is dropped.
 struct Asks(Outbound);
 

@@ -1,4 +1,4 @@
-//! Small cases under many schedules by chance: each byte is compared, nobody sleeps who could go on, and the pending bytes
+//! Small cases in many random schedules: each byte is compared, nobody sleeps who could go on, and the pending bytes
 //! keep their bound.
 //!
 //! `LIMEKEEL_SCHEDULES` says how many, `LIMEKEEL_SEED` with which to begin.

@@ -48,7 +48,8 @@ fn message(writer: u8, at: u32, length: u16) -> Vec<u8> {
     [writer].into_iter().chain(at.to_le_bytes()).chain(length.to_le_bytes()).chain(rest).collect()
 }
 
-/// Writes so many messages, by this or that call, unless nothing is sent any more. It returns the most that was pending.
+/// Writes `count` messages, by this or that call, unless nothing is sent any more. It returns the most that was
+/// pending.
 async fn writes(outbound: Outbound, writer: u8, count: u32) -> Result<u32, WriteError> {
     let mut dice = Dice(writer.into());
     let mut peak = 0;

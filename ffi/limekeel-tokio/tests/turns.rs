@@ -1,5 +1,5 @@
-//! A million turns of writability over threads, and none is missed: each message fills the connection, so that each write waits
-//! for the one before it to be sent.
+//! A million turns of writability over threads, and none is missed: each message fills the connection, so that each
+//! write waits for the one before it to be sent.
 
 mod common;
 

@@ -10,7 +10,7 @@ use std::sync::{Arc, Mutex, Weak};
 use std::task::{Context, Poll, Wake, Waker};
 use tokio::io::AsyncWrite;
 
-/// Numbers by chance, the same for the same seed (SplitMix64).
+/// Random numbers, the same for the same seed (SplitMix64).
 pub struct Dice(pub u64);
 
 impl Dice {
@@ -37,9 +37,9 @@ type Task = Pin<Box<dyn Future<Output = ()> + Send>>;
 /// How many tasks are polled inside each other at most.
 const DEPTH: usize = 4;
 
-/// Polls tasks that were woken, in an order by chance: also another one in the midst of a poll, when that wakes a task or
-/// writes to its stream, as if it were on another thread. A task that waits is polled when it was woken, and now and then
-/// for nothing.
+/// Polls tasks that were woken, in a random order: also another one in the midst of a poll, when that wakes a task or
+/// writes to its stream, as if it were on another thread. A task that waits is polled when it was woken, and now and
+/// then for nothing.
 #[derive(Clone)]
 pub struct Executor(Arc<Inside>);
 
@@ -166,7 +166,7 @@ pub struct Within {
     pub dice: Option<Dice>,
     /// The most bytes that it takes at once.
     pub most: usize,
-    /// It has no room once in so many writes, if not 0, and breaks after so many bytes.
+    /// It has no room once in `blocks` writes, if that is not 0, and breaks after this many bytes.
     pub blocks: usize,
     pub breaks_after: Option<usize>,
     pub vectored: bool,
