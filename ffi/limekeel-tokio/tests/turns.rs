@@ -3,11 +3,12 @@
 
 mod common;
 
-use common::{Dice, Memory, Within};
+use common::{ByHand, Dice, Memory, Within};
 use limekeel_tokio::{Marks, Outbound, Outcome, WriteError, split};
 use std::future::Future;
-use std::sync::Arc;
-use std::sync::atomic::{AtomicBool, Ordering};
+use std::sync::atomic::{AtomicBool, AtomicU64, Ordering};
+use std::sync::{Arc, Mutex};
+use std::task::Poll;
 use std::thread;
 use std::time::Duration;
 use tokio::runtime::{Builder, Runtime};
@@ -141,4 +142,54 @@ fn a_stream_that_blocks_at_times_is_gone_on_with() {
     ended.store(true, Ordering::SeqCst);
     unblocks.join().unwrap();
     assert_eq!((sent, blocking.with(|within| within.got.len())), (20_000, 80_000));
+}
+
+#[test]
+fn nobody_passes_one_that_waits_on_any_thread() {
+    const ROUNDS: u64 = 5000;
+    let (outbound, pump) = split(tokio::io::sink(), FILLED_BY_ONE).unwrap();
+    // the round in which one waits, or 0, and who wrote meanwhile: the round before its call, and its promise
+    let (waits_in, passed, over) = (AtomicU64::new(0), Mutex::new(Vec::new()), AtomicBool::new(false));
+    let passes = || {
+        while !over.load(Ordering::SeqCst) {
+            let round = waits_in.load(Ordering::SeqCst);
+            if let Ok(receipt) = outbound.try_write(b"late") {
+                passed.lock().unwrap().push((round, receipt.id()));
+            }
+        }
+    };
+    let sends = || {
+        let mut pump = ByHand::new(pump);
+        while !over.load(Ordering::SeqCst) {
+            assert!(pump.poll().is_pending());
+        }
+    };
+    thread::scope(|scope| {
+        scope.spawn(passes);
+        scope.spawn(sends);
+        let mut waited = 0;
+        for round in 1..=ROUNDS {
+            let mut write = ByHand::new(outbound.write(b"soon"));
+            if write.poll().is_ready() {
+                continue;
+            }
+            waits_in.store(round, Ordering::SeqCst);
+            let id = loop {
+                if let Poll::Ready(written) = write.poll() {
+                    break written.unwrap().id();
+                }
+                thread::yield_now();
+            };
+            waits_in.store(0, Ordering::SeqCst);
+            waited += 1;
+            // one whose call came later has a later promise
+            let passed = std::mem::take(&mut *passed.lock().unwrap());
+            if passed.iter().any(|(at, late)| *at == round && *late < id) {
+                over.store(true, Ordering::SeqCst);
+                panic!("one was passed in round {round}");
+            }
+        }
+        over.store(true, Ordering::SeqCst);
+        assert!(waited > ROUNDS / 100, "{waited} had to wait");
+    });
 }
