@@ -21,7 +21,7 @@
 
 use crate::errors::WriteError;
 use crate::message::Message;
-use limekeel::{Change, Estimate, Marks, Outcome, Refused, SharedConnection, Written};
+use limekeel::{Change, Estimate, Glance, Look, Marks, Outcome, Refused, SharedConnection, Written};
 use std::collections::BTreeMap;
 use std::mem::take;
 use std::sync::{Arc, Mutex, PoisonError};
@@ -141,12 +141,16 @@ impl Gate {
     /// Whether the connection is writable, and the pending bytes with the room that is kept are not above the high
     /// mark.
     fn has_room(&mut self) -> bool {
-        if self.is_stopped || self.all_kept > 0 {
-            let look = self.connection.look();
-            self.is_stopped = look.word != 0;
-            return !self.is_stopped && u64::from(look.total) + self.all_kept <= self.high;
+        if !self.is_stopped && self.all_kept == 0 {
+            return true;
         }
-        true
+        // since all writes are by this handle, a glance misses at most what the pump took away
+        let Glance { mut word, mut total } = self.connection.glance();
+        if word != 0 || u64::from(total) + self.all_kept > self.high {
+            Look { word, total, .. } = self.connection.look();
+        }
+        self.is_stopped = word != 0;
+        !self.is_stopped && u64::from(total) + self.all_kept <= self.high
     }
 
     /// Keeps room for those who wait to write, in order of arrival, while there is some.
