@@ -9,11 +9,11 @@ use limekeel_tokio::{
     BROKEN, Block, DROPPED, Estimate, Marks, Outbound, Outcome, Pump, Refusal, Static, TryWriteError, WriteError,
     split, split_with,
 };
-use std::future::poll_fn;
+use std::future::{Future, poll_fn};
 use std::io::{self, ErrorKind, IoSlice};
 use std::pin::Pin;
-use std::sync::Arc;
 use std::sync::mpsc::channel;
+use std::sync::{Arc, Mutex};
 use std::task::{Context, Poll, Wake, Waker};
 use std::thread;
 use std::time::Duration;
@@ -503,6 +503,62 @@ fn a_writer_takes_no_more_than_it_has_room_kept_for() {
 }
 
 #[test]
+fn those_who_come_back_with_more_are_let_in_one_by_one() {
+    let stream = Memory::new(Within { vectored: true, ..Within::default() });
+    let (outbound, pump) = split(stream.clone(), Marks { low: 300, high: 350 }).unwrap();
+    let mut pump = ByHand::new(pump);
+    drop(outbound.try_write(&[0; 300]).unwrap());
+    let mut writers = [outbound.clone().into_sink(), outbound.clone().into_sink()];
+    let cx = &mut Context::from_waker(Waker::noop());
+    let mut write = |at: usize, bytes: &[u8]| AsyncWrite::poll_write(Pin::new(&mut writers[at]), cx, bytes);
+    assert!(write(0, b"four").is_pending() && write(1, b"four").is_pending());
+    assert!(pump.poll().is_pending());
+    // room for four bytes is kept for both
+    assert!(write(0, &[1; 5000]).is_pending() && write(1, &[1; 5000]).is_pending());
+    assert!(matches!(write(0, &[1; 5000]), Poll::Ready(Ok(5000))));
+    assert!(write(1, &[1; 5000]).is_pending());
+    assert!(pump.poll().is_pending());
+    assert!(matches!(write(1, &[1; 5000]), Poll::Ready(Ok(5000))));
+}
+
+/// A stream that takes a byte at a time, and in the midst of one write a message is written.
+struct Meddled(usize, Arc<Mutex<Option<Outbound>>>);
+
+impl AsyncWrite for Meddled {
+    fn poll_write(mut self: Pin<&mut Self>, _: &mut Context<'_>, _: &[u8]) -> Poll<io::Result<usize>> {
+        self.0 += 1;
+        if self.0 == 32 {
+            let outbound = self.1.lock().unwrap().take().unwrap();
+            drop(outbound.try_write(b"!").unwrap());
+        }
+        Poll::Ready(Ok(1))
+    }
+
+    fn poll_flush(self: Pin<&mut Self>, _: &mut Context<'_>) -> Poll<io::Result<()>> {
+        Poll::Ready(Ok(()))
+    }
+
+    fn poll_shutdown(self: Pin<&mut Self>, _: &mut Context<'_>) -> Poll<io::Result<()>> {
+        Poll::Ready(Ok(()))
+    }
+}
+
+#[test]
+fn what_is_written_in_the_midst_of_the_last_turn_is_sent() {
+    let meddler = Arc::default();
+    let (outbound, pump) = split(Meddled(0, Arc::clone(&meddler)), Marks::default()).unwrap();
+    *meddler.lock().unwrap() = Some(outbound.clone());
+    drop(outbound.try_write(&[7; 32]).unwrap());
+    let mut pump = ByHand::new(pump).waits();
+    // it comes again by itself, as long as there is something to send
+    while outbound.pending() > 0 {
+        let woken = pump.woken();
+        assert!(woken > 0, "it is woken");
+        pump = ByHand { future: pump.future, woken: Arc::default() }.waits();
+    }
+}
+
+#[test]
 fn one_that_is_refused_or_comes_back_with_less_lets_the_next_in() {
     let (outbound, mut pump, _) = filled();
     // nobody touches these pages
@@ -545,32 +601,37 @@ impl Drop for Asks {
     }
 }
 
+/// Polls a future once, with a waker that is dropped here and so kept by what is polled alone.
+fn polled_by_one_that_asks(future: Pin<&mut dyn Future<Output = ()>>, outbound: &Outbound) -> bool {
+    let waker = Waker::from(Arc::new(Asks(outbound.clone())));
+    future.poll(&mut Context::from_waker(&waker)).is_ready()
+}
+
 #[test]
 fn no_waker_is_called_or_dropped_under_the_lock() {
     let (done, told) = channel();
     thread::spawn(move || {
-        for turn in 0..2 {
-            let (outbound, mut pump, _) = filled();
-            let receipt = outbound.try_feed(b"");
-            assert!(receipt.is_err());
-            let mut write = Box::pin(outbound.write(b"news"));
-            let mut drained = Box::pin(outbound.drained());
+        for turn in 0..3 {
+            let (outbound, pump, stream) = filled();
+            let mut pump = Box::pin(async { drop(pump.future.await) });
+            let mut write = Box::pin(async { drop(outbound.write(b"news").await) });
+            let mut drained = Box::pin(async { assert!(outbound.drained().await.is_ok()) });
             // a new waker each time, so that the one before it is dropped
             for _ in 0..3 {
-                let waker = Waker::from(Arc::new(Asks(outbound.clone())));
-                let cx = &mut Context::from_waker(&waker);
-                assert!(write.as_mut().poll(cx).is_pending());
-                assert!(drained.as_mut().poll(cx).is_pending());
+                assert!(!polled_by_one_that_asks(write.as_mut(), &outbound));
+                assert!(!polled_by_one_that_asks(drained.as_mut(), &outbound));
             }
-            let waker = Waker::from(Arc::new(Asks(outbound.clone())));
-            if turn == 0 {
-                assert!(pump.poll().is_pending());
-                // it sleeps with this waker, which is then taken, or dropped for another
-                assert!(pump.future.as_mut().poll(&mut Context::from_waker(&waker)).is_pending());
-                assert!(pump.future.as_mut().poll(&mut Context::from_waker(&waker)).is_pending());
+            if turn < 2 {
+                // all who wait are woken, and then it sleeps, with another waker each time
+                for _ in 0..3 {
+                    assert!(!polled_by_one_that_asks(pump.as_mut(), &outbound));
+                }
+                assert_eq!(stream.with(|within| within.got.clone()), b"full");
             }
-            drop((waker, write, drained));
-            drop(pump);
+            if turn == 1 {
+                assert!(polled_by_one_that_asks(write.as_mut(), &outbound));
+            }
+            drop((write, drained, pump));
         }
         done.send(()).unwrap();
     });
