@@ -88,7 +88,7 @@ async fn serve(stream: TcpStream, peer: SocketAddr, clients: Clients) -> io::Res
     };
     clients.lock().unwrap_or_else(PoisonError::into_inner).remove(&peer);
     if said.is_ok() {
-        drop(outbound.write(frame(CLOSE, b"goodbye")).await?);
+        outbound.write(frame(CLOSE, b"goodbye")).await?;
         // nobody writes behind that
         outbound.finish().await?;
     }

@@ -16,10 +16,11 @@ async fn serve(stream: TcpStream) -> io::Result<()> {
     let pump = tokio::spawn(pump);
     let mut bytes = [0; 16384];
     loop {
-        match reading.read(&mut bytes).await? {
-            0 => break,
-            count => drop(outbound.write(&bytes[..count]).await?),
+        let count = reading.read(&mut bytes).await?;
+        if count == 0 {
+            break;
         }
+        outbound.write(&bytes[..count]).await?;
     }
     // all that was written is sent before the stream is shut down
     drop(outbound);

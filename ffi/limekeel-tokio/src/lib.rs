@@ -12,8 +12,8 @@
 //!
 //! // a message counts 96 bytes beside its own
 //! let (outbound, pump) = split(tokio::io::sink(), Marks { low: 200, high: 400 })?;
-//! let _ = outbound.try_write(&[0; 304])?; // 400 bytes are pending
-//! let _ = outbound.try_write("news")?; // 500: above the high mark, by one message
+//! outbound.try_write(&[0; 304])?; // 400 bytes are pending
+//! outbound.try_write("news")?; // 500: above the high mark, by one message
 //! assert!(matches!(outbound.try_write("more"), Err(TryWriteError::Full("more"))));
 //! let pump = tokio::spawn(pump);
 //! let receipt = outbound.write("more").await?; // waits until the pump has sent
