@@ -274,6 +274,25 @@ fn the_pump_is_woken_once_and_sends_all_by_one_write() {
 }
 
 #[test]
+fn empty_messages_and_more_than_one_write_can_take_are_sent() {
+    let stream = Memory::new(Within { vectored: true, ..Within::default() });
+    let (outbound, pump) = split(stream.clone(), Marks { low: 1000, high: 10_000_000 }).unwrap();
+    let mut pump = ByHand::new(pump);
+    let empty = outbound.try_write(b"").unwrap();
+    assert!(pump.poll().is_pending());
+    assert_eq!((empty.outcome(), stream.with(|within| within.writes)), (Some(Outcome::Success), 0));
+    for number in 0..5000_u32 {
+        outbound.try_write(b"").unwrap();
+        outbound.try_write(Bytes::from(number.to_le_bytes().to_vec())).unwrap();
+    }
+    let last = outbound.try_write(b"").unwrap();
+    assert!(pump.poll().is_pending());
+    assert_eq!((last.outcome(), outbound.pending()), (Some(Outcome::Success), 0));
+    let wanted: Vec<u8> = (0..5000_u32).flat_map(u32::to_le_bytes).collect();
+    assert!(stream.with(|within| within.got == wanted && within.writes < 10));
+}
+
+#[test]
 fn a_pump_that_waits_for_its_stream_is_woken_by_that_alone() {
     let (outbound, pump, stream) = opened();
     let mut pump = pump.waits();
