@@ -236,12 +236,21 @@ fn play(seed: u64) -> (u64, u64) {
         tasks.push(executor.spawn(writer.writes(1 + executor.below(12) as u8, finishes)));
     }
     drop(outbound);
+    run(&executor, fate, &stream, pump, &tasks);
+    assert_eq!(executor.left(), [], "nobody is woken any more, and these tasks sleep");
+    compare(fate, &stream, &book.lock().unwrap());
+    let waits = book.lock().unwrap().waits;
+    (executor.polls(), waits)
+}
+
+/// Polls tasks, and lets befall them what is to, until none is woken any more.
+fn run(executor: &Executor, fate: Fate, stream: &Memory, pump: usize, writers: &[usize]) {
     loop {
         if executor.one_in(3) {
             stream.unblock();
         }
         if fate == Fate::WritersAreDropped && executor.one_in(8) {
-            executor.abort(tasks[executor.below(writers)]);
+            executor.abort(writers[executor.below(writers.len())]);
         }
         if fate == Fate::PumpIsDropped && executor.one_in(30) {
             executor.abort(pump);
@@ -250,10 +259,6 @@ fn play(seed: u64) -> (u64, u64) {
             break;
         }
     }
-    assert_eq!(executor.left(), [], "nobody is woken any more, and these tasks sleep");
-    compare(fate, &stream, &book.lock().unwrap());
-    let waits = book.lock().unwrap().waits;
-    (executor.polls(), waits)
 }
 
 /// What came is what was written, as far as it was to come.

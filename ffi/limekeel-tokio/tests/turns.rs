@@ -144,20 +144,22 @@ fn a_stream_that_blocks_at_times_is_gone_on_with() {
     assert_eq!((sent, blocking.with(|within| within.got.len())), (20_000, 80_000));
 }
 
+/// Writes whenever it may, and notes in which round one waited before, and the promise.
+fn tries_to_pass(outbound: &Outbound, waits_in: &AtomicU64, passed: &Mutex<Vec<(u64, u64)>>, over: &AtomicBool) {
+    while !over.load(Ordering::SeqCst) {
+        let round = waits_in.load(Ordering::SeqCst);
+        if let Ok(receipt) = outbound.try_write(b"late") {
+            passed.lock().unwrap().push((round, receipt.id()));
+        }
+    }
+}
+
 #[test]
 fn nobody_passes_one_that_waits_on_any_thread() {
     const ROUNDS: u64 = 5000;
     let (outbound, pump) = split(tokio::io::sink(), FILLED_BY_ONE).unwrap();
     // the round in which one waits, or 0, and who wrote meanwhile: the round before its call, and its promise
-    let (waits_in, passed, over) = (AtomicU64::new(0), Mutex::new(Vec::new()), AtomicBool::new(false));
-    let passes = || {
-        while !over.load(Ordering::SeqCst) {
-            let round = waits_in.load(Ordering::SeqCst);
-            if let Ok(receipt) = outbound.try_write(b"late") {
-                passed.lock().unwrap().push((round, receipt.id()));
-            }
-        }
-    };
+    let (waits_in, passed, over) = (AtomicU64::new(0), Mutex::default(), AtomicBool::new(false));
     let sends = || {
         let mut pump = ByHand::new(pump);
         while !over.load(Ordering::SeqCst) {
@@ -165,7 +167,7 @@ fn nobody_passes_one_that_waits_on_any_thread() {
         }
     };
     thread::scope(|scope| {
-        scope.spawn(passes);
+        scope.spawn(|| tries_to_pass(&outbound, &waits_in, &passed, &over));
         scope.spawn(sends);
         let mut waited = 0;
         for round in 1..=ROUNDS {
