@@ -30,11 +30,14 @@ pub(crate) struct Common {
 pub(crate) struct Role {
     pub(crate) sender: Sender,
     pub(crate) sharer: Sharer,
+    /// How many messages it has taken away, which is the promise of the first that is left: no other takes one away, but a close,
+    /// and then none is left.
+    pub(crate) gone: u64,
 }
 
 impl Role {
     pub(crate) fn none() -> Role {
-        Role { sender: Sender::none(), sharer: Sharer::none() }
+        Role { sender: Sender::none(), sharer: Sharer::none(), gone: 0 }
     }
 }
 
@@ -46,6 +49,26 @@ struct Books {
     cancelled: Promises,
     /// What messages are lent.
     lent: Lent,
+}
+
+/// How often one that is to wait looks without the lock before it sleeps.
+const LOOKS: u32 = 20;
+/// How many of these looks do not give the processor away. Each comes after a pause twice as long as the one before it.
+const PAUSES: u32 = 7;
+
+/// Looks for some microseconds whether it has come what one is to wait for, and returns once it seems so. While others work it
+/// comes as soon as that most often, and a sleep costs more: also the thread that has to wake the sleeper.
+pub(crate) fn look_for_a_while(mut came: impl FnMut() -> bool) {
+    for turn in 0..LOOKS {
+        if came() {
+            return;
+        }
+        if turn < PAUSES {
+            (0..1 << turn).for_each(|_| std::hint::spin_loop());
+        } else {
+            std::thread::yield_now();
+        }
+    }
 }
 
 impl Common {
