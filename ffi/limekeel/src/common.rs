@@ -51,23 +51,19 @@ struct Books {
     lent: Lent,
 }
 
-/// How often one that is to wait looks without the lock before it sleeps.
-const LOOKS: u32 = 20;
-/// How many of these looks do not give the processor away. Each comes after a pause twice as long as the one before it.
-const PAUSES: u32 = 7;
+/// How often one that is to wait looks without the lock before it sleeps. A pause comes after each look, twice as long as the one
+/// before it: some microseconds in all.
+const LOOKS: u32 = 7;
 
-/// Looks for some microseconds whether it has come what one is to wait for, and returns once it seems so. While others work it
-/// comes as soon as that most often, and a sleep costs more: also the thread that has to wake the sleeper.
+/// Looks for a while whether it has come what one is to wait for, and returns once it seems so. While others work it comes as soon
+/// as that most often, and a sleep costs more: also the thread that has to wake the sleeper. The processor is not given away, since
+/// it comes back late if many want it.
 pub(crate) fn look_for_a_while(mut came: impl FnMut() -> bool) {
     for turn in 0..LOOKS {
         if came() {
             return;
         }
-        if turn < PAUSES {
-            (0..1 << turn).for_each(|_| std::hint::spin_loop());
-        } else {
-            std::thread::yield_now();
-        }
+        (0..1 << turn).for_each(|_| std::hint::spin_loop());
     }
 }
 
