@@ -64,7 +64,7 @@ extern "C" {
 
 /* A number of the structs, functions and numbers of this header. limekeel_open says LIMEKEEL_OTHER_VERSION to an archive of
  * another. Before 1.0 each version may have another. */
-#define LIMEKEEL_EDGE 3558090269u
+#define LIMEKEEL_EDGE 577456178u
 
 /* What may tell a change of writability is not to be dropped. */
 #if (defined(__cplusplus) && __cplusplus >= 201703L) || (defined(__STDC_VERSION__) && __STDC_VERSION__ >= 202311L)
@@ -185,6 +185,13 @@ struct limekeel_flushed {
     uint64_t count; /* how many messages the flush reached */
 };
 
+struct limekeel_written_and_flushed {
+    uint32_t status;
+    uint32_t change; /* by the write */
+    uint64_t id;     /* the promise of the message */
+    uint32_t flush_change; /* by the flush behind it, which leaves out what was taken back */
+    uint64_t count;        /* how many messages the flush reached */
+};
 struct limekeel_removed {
     uint32_t status;
     uint32_t change;
@@ -295,6 +302,8 @@ LIMEKEEL_LAYOUT(limekeel_block, 8, at, 0);
 LIMEKEEL_LAYOUT(limekeel_piece, 16, length, 8);
 LIMEKEEL_LAYOUT(limekeel_written, 16, id, 8);
 LIMEKEEL_LAYOUT(limekeel_flushed, 16, count, 8);
+LIMEKEEL_LAYOUT(limekeel_written_and_flushed, 32, count, 24);
+LIMEKEEL_LAYOUT(limekeel_written_and_flushed, 32, flush_change, 16);
 LIMEKEEL_LAYOUT(limekeel_removed, 32, id, 24);
 LIMEKEEL_LAYOUT(limekeel_removed, 32, settled, 9);
 LIMEKEEL_LAYOUT(limekeel_taken, 40, to, 32);
@@ -463,26 +472,41 @@ uint32_t limekeel_shared_another(struct limekeel_shared *shared, struct limekeel
 uint32_t limekeel_shared_free(struct limekeel_shared *shared);
 uint32_t limekeel_transport_free(struct limekeel_transport *transport);
 
-/* Writes a copy of these bytes, which is made before the lock is tried and let go if that is taken; or the bytes of a
- * block, which the message then shares. If the copy is refused that is LIMEKEEL_NO_MEMORY, whoever has the lock. Each copy
- * has memory of its own. */
+/* Writes a copy of these bytes; or the bytes of a block, which the message then shares. Up to 2048 bytes are copied under the
+ * lock, into memory that small messages share, and nothing is copied if the lock is taken. More are copied before the lock is
+ * tried, so that nobody waits for that, and the copy is let go if it is taken: if it is refused that is LIMEKEEL_NO_MEMORY,
+ * whoever has the lock. */
 LIMEKEEL_TOLD struct limekeel_written limekeel_shared_write_bytes(struct limekeel_shared *shared, const uint8_t *bytes,
                                                                   size_t length);
 LIMEKEEL_TOLD struct limekeel_written limekeel_shared_write_block(struct limekeel_shared *shared,
                                                                   const struct limekeel_block *block);
+
+/* The same, with the flush behind it under one lock: no call of another handle comes between the two. A write that is refused
+ * is not flushed. Act on both changes, that of the write first. */
+LIMEKEEL_TOLD struct limekeel_written_and_flushed limekeel_shared_write_and_flush_bytes(struct limekeel_shared *shared,
+                                                                                        const uint8_t *bytes,
+                                                                                        size_t length);
+LIMEKEEL_TOLD struct limekeel_written_and_flushed limekeel_shared_write_and_flush_block(struct limekeel_shared *shared,
+                                                                                        const struct limekeel_block *block);
 
 /* Writes bytes where they lie, as limekeel_write_lent: they have to stay there until a call by whatever handle takes the message
  * away, as its `from` and `to` tell, or the last handle is freed. */
 LIMEKEEL_TOLD struct limekeel_written limekeel_shared_write_lent_bytes(struct limekeel_shared *shared, const uint8_t *bytes,
                                                                        size_t length);
 
-/* As limekeel_flush, limekeel_cancel and limekeel_close, if the lock is free. */
+/* As limekeel_write_region, limekeel_write_other, limekeel_flush, limekeel_cancel, limekeel_close, limekeel_user_bit and
+ * limekeel_set_marks, if the lock is free. */
+LIMEKEEL_TOLD struct limekeel_written limekeel_shared_write_region(struct limekeel_shared *shared, uint64_t length);
+LIMEKEEL_TOLD struct limekeel_written limekeel_shared_write_other(struct limekeel_shared *shared, uint32_t value);
 LIMEKEEL_TOLD struct limekeel_flushed limekeel_shared_flush(struct limekeel_shared *shared);
 LIMEKEEL_TOLD struct limekeel_cancelled limekeel_shared_cancel(struct limekeel_shared *shared, uint64_t id);
 LIMEKEEL_TOLD struct limekeel_taken limekeel_shared_close(struct limekeel_shared *shared, uint32_t cause);
+LIMEKEEL_TOLD struct limekeel_changed limekeel_shared_user_bit(struct limekeel_shared *shared, uint32_t index, bool writable);
+LIMEKEEL_TOLD uint32_t limekeel_shared_set_marks(struct limekeel_shared *shared, uint32_t low, uint32_t high);
 
-/* What is pending now, as limekeel_look, if the lock is free. */
+/* What is pending now, as limekeel_look, and what has become of a promise, as limekeel_promise, if the lock is free. */
 struct limekeel_look_told limekeel_shared_look(struct limekeel_shared *shared);
+struct limekeel_promise_told limekeel_shared_promise(struct limekeel_shared *shared, uint64_t id);
 
 /* Whether writers may go on, and the pending bytes: never older than the last call of this handle, and perhaps older than
  * another's. It takes no lock, so it is never LIMEKEEL_BUSY. */
@@ -499,6 +523,15 @@ LIMEKEEL_TOLD struct limekeel_laid limekeel_transport_gather_pieces(struct limek
 /* Takes n bytes off the flushed blocks in front, as sent: what writev took of the pieces. It is refused for no other reason
  * than LIMEKEEL_BUSY if as many were gathered. */
 LIMEKEEL_TOLD struct limekeel_taken limekeel_transport_take_sent(struct limekeel_transport *transport, uint64_t n);
+
+/* As limekeel_current, limekeel_progress, limekeel_remove, limekeel_remove_with and limekeel_fail_flushed, if the lock is free:
+ * for a region or another message in front. */
+struct limekeel_current_told limekeel_transport_current(struct limekeel_transport *transport);
+LIMEKEEL_TOLD uint32_t limekeel_transport_progress(struct limekeel_transport *transport, uint64_t n);
+LIMEKEEL_TOLD struct limekeel_removed limekeel_transport_remove(struct limekeel_transport *transport);
+LIMEKEEL_TOLD struct limekeel_removed limekeel_transport_remove_with(struct limekeel_transport *transport, uint32_t cause);
+LIMEKEEL_TOLD struct limekeel_taken limekeel_transport_fail_flushed(struct limekeel_transport *transport, uint32_t cause,
+                                                                    bool notify);
 
 /* Gives the connection up, as limekeel_give_up, if the lock is free. */
 LIMEKEEL_TOLD struct limekeel_taken limekeel_transport_give_up(struct limekeel_transport *transport, uint32_t cause);
@@ -581,6 +614,13 @@ LIMEKEEL_TOLD static inline struct limekeel_written limekeel_shared_write(struct
                                                                           size_t length)
 {
     return limekeel_shared_write_bytes(shared, length > 0 ? (const uint8_t *)bytes : (const uint8_t *)"", length);
+}
+
+LIMEKEEL_TOLD static inline struct limekeel_written_and_flushed limekeel_shared_write_and_flush(struct limekeel_shared *shared,
+                                                                                                const void *bytes,
+                                                                                                size_t length)
+{
+    return limekeel_shared_write_and_flush_bytes(shared, length > 0 ? (const uint8_t *)bytes : (const uint8_t *)"", length);
 }
 
 LIMEKEEL_TOLD static inline struct limekeel_written limekeel_shared_write_lent(struct limekeel_shared *shared,

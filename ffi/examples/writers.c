@@ -73,6 +73,24 @@ static void flush(struct limekeel_shared *handle)
         ring(work);
 }
 
+static void write_one(struct limekeel_shared *handle, const uint8_t *bytes)
+{
+    struct limekeel_written written;
+    while ((written = limekeel_shared_write(handle, bytes, LENGTH)).status == LIMEKEEL_BUSY)
+        sched_yield();
+    expect("write", written.status == LIMEKEEL_OK);
+}
+
+/* The same with the flush behind it: one lock, and no message of the other writer between the two. */
+static void write_and_flush(struct limekeel_shared *handle, const uint8_t *bytes)
+{
+    struct limekeel_written_and_flushed done;
+    while ((done = limekeel_shared_write_and_flush(handle, bytes, LENGTH)).status == LIMEKEEL_BUSY)
+        sched_yield();
+    expect("write and flush", done.status == LIMEKEEL_OK);
+    ring(work);
+}
+
 static void *write_all(void *given)
 {
     struct writer *writer = given;
@@ -86,12 +104,10 @@ static void *write_all(void *given)
             flush(&writer->handle);
             hear(writer->room);
         }
-        struct limekeel_written written;
-        while ((written = limekeel_shared_write(&writer->handle, bytes, LENGTH)).status == LIMEKEEL_BUSY)
-            sched_yield();
-        expect("write", written.status == LIMEKEEL_OK);
         if (at % 8 == 7)
-            flush(&writer->handle);
+            write_and_flush(&writer->handle, bytes);
+        else
+            write_one(&writer->handle, bytes);
     }
     expect("free", limekeel_shared_free(&writer->handle) == LIMEKEEL_OK);
     return NULL;

@@ -36,6 +36,9 @@ static void expect(const char *what, bool holds)
 static _Thread_local struct limekeel_shared *meanwhile;
 static _Thread_local uint32_t told;
 static _Thread_local struct limekeel_look_told told_of_a_look;
+static _Thread_local struct limekeel_promise_told told_of_a_promise;
+static _Thread_local struct limekeel_written_and_flushed told_of_both;
+static _Thread_local uint32_t told_of_marks;
 static uint8_t nowhere;
 
 struct limekeel_memory limekeel_alloc(size_t size, size_t align)
@@ -46,6 +49,9 @@ struct limekeel_memory limekeel_alloc(size_t size, size_t align)
         meanwhile = NULL;
         told = limekeel_shared_flush(shared).status;
         told_of_a_look = limekeel_shared_look(shared);
+        told_of_a_promise = limekeel_shared_promise(shared, 0);
+        told_of_both = limekeel_shared_write_and_flush(shared, "lost", 4);
+        told_of_marks = limekeel_shared_set_marks(shared, 1, 2);
     }
     uint8_t *at = malloc(size > 0 ? size : 1);
     return (struct limekeel_memory){at != NULL, at != NULL ? at : &nowhere};
@@ -63,6 +69,8 @@ void limekeel_dealloc(uint8_t *at)
 {
     free(at);
 }
+
+static const uint8_t many[3000] = {1, 2, 3};
 
 /* The statuses of handles that own nothing, and of those that do. */
 static void statuses(void)
@@ -82,7 +90,21 @@ static void statuses(void)
     expect("close of none", limekeel_shared_close(&none, 1).status == LIMEKEEL_NOT_OPEN);
     expect("lent to none", limekeel_shared_write_lent(&none, "", 0).status == LIMEKEEL_NOT_OPEN);
     expect("look at none", limekeel_shared_look(&none).status == LIMEKEEL_NOT_OPEN);
+    expect("promise of none", limekeel_shared_promise(&none, 0).status == LIMEKEEL_NOT_OPEN);
     expect("glance at none", limekeel_shared_glance(&none).status == LIMEKEEL_NOT_OPEN);
+    expect("both to none", limekeel_shared_write_and_flush(&none, "", 0).status == LIMEKEEL_NOT_OPEN);
+    expect("many to none", limekeel_shared_write_and_flush(&none, many, sizeof many).status == LIMEKEEL_NOT_OPEN);
+    expect("many to none", limekeel_shared_write(&none, many, sizeof many).status == LIMEKEEL_NOT_OPEN);
+    expect("both of a block", limekeel_shared_write_and_flush_block(&none, &block).status == LIMEKEEL_NOT_OPEN);
+    expect("region to none", limekeel_shared_write_region(&none, 1).status == LIMEKEEL_NOT_OPEN);
+    expect("other to none", limekeel_shared_write_other(&none, 1).status == LIMEKEEL_NOT_OPEN);
+    expect("bit of none", limekeel_shared_user_bit(&none, 1, true).status == LIMEKEEL_NOT_OPEN);
+    expect("marks of none", limekeel_shared_set_marks(&none, 2, 1) == LIMEKEEL_NOT_OPEN);
+    expect("remove from none", limekeel_transport_remove(&alone).status == LIMEKEEL_NOT_OPEN);
+    expect("fail of none", limekeel_transport_remove_with(&alone, 1).status == LIMEKEEL_NOT_OPEN);
+    expect("progress of none", limekeel_transport_progress(&alone, 1) == LIMEKEEL_NOT_OPEN);
+    expect("current of none", limekeel_transport_current(&alone).status == LIMEKEEL_NOT_OPEN);
+    expect("fail all of none", limekeel_transport_fail_flushed(&alone, 1, true).status == LIMEKEEL_NOT_OPEN);
     struct limekeel_truth writable = limekeel_shared_is_writable(&none);
     expect("none is not writable", writable.status == LIMEKEEL_NOT_OPEN && !writable.holds);
     expect("gather of none", limekeel_transport_gather_pieces(&alone, &piece, 1, 9).status == LIMEKEEL_NOT_OPEN);
@@ -97,6 +119,7 @@ static void statuses(void)
     expect("another twice", limekeel_transport_another(&alone, &one) == LIMEKEEL_ALREADY_OPEN);
     expect("a third", limekeel_shared_another(&one, &two) == LIMEKEEL_OK);
     expect("no block", limekeel_shared_write_block(&one, &block).status == LIMEKEEL_NO_BLOCK);
+    expect("no block", limekeel_shared_write_and_flush_block(&one, &block).status == LIMEKEEL_NO_BLOCK);
     expect("write", limekeel_shared_write(&one, "first", 5).id == 0);
     expect("it changes writability", limekeel_shared_write(&two, "second", 6).change == LIMEKEEL_UNWRITABLE);
     expect("glance", limekeel_shared_glance(&one).total == 203 && limekeel_shared_glance(&one).word == 1);
@@ -113,6 +136,9 @@ static void statuses(void)
     expect("gather", limekeel_transport_gather_pieces(&alone, &piece, 1, 9).count == 1);
     expect("the lock is had meanwhile", told == LIMEKEEL_BUSY);
     expect("and for a look", told_of_a_look.status == LIMEKEEL_BUSY && told_of_a_look.total == 0 && told_of_a_look.size == 0);
+    expect("and for a promise", told_of_a_promise.status == LIMEKEEL_BUSY && told_of_a_promise.state == LIMEKEEL_UNKNOWN);
+    expect("and for both", told_of_both.status == LIMEKEEL_BUSY && told_of_both.id == 0 && told_of_both.count == 0);
+    expect("and for marks", told_of_marks == LIMEKEEL_BUSY);
     expect("the bytes", piece.length == 6 && memcmp(piece.at, "second", 6) == 0);
     expect("too many", limekeel_transport_take_sent(&alone, 7).status == LIMEKEEL_TOO_MANY_BYTES);
     expect("flushed is left", limekeel_shared_close(&one, 5).status == LIMEKEEL_FLUSHED_LEFT);
@@ -147,6 +173,86 @@ static void giving_up(void)
     expect("free", limekeel_shared_free(&one) == LIMEKEEL_OK && limekeel_transport_free(&alone) == LIMEKEEL_OK);
 }
 
+/* Each write with the flush behind it: few bytes, many, and a block. */
+static void both_at_once(void)
+{
+    struct limekeel_transport alone = LIMEKEEL_TRANSPORT;
+    struct limekeel_shared one = LIMEKEEL_SHARED;
+    struct limekeel_block block = LIMEKEEL_BLOCK;
+    struct limekeel_piece pieces[4];
+    expect("open", limekeel_shared_open(&alone, 3000, 3300, 96, 8) == LIMEKEEL_OK);
+    expect("another", limekeel_transport_another(&alone, &one) == LIMEKEEL_OK);
+    expect("write", limekeel_shared_write(&one, many, sizeof many).id == 0);
+    struct limekeel_written_and_flushed both = limekeel_shared_write_and_flush(&one, "few", 3);
+    expect("both are flushed", both.status == LIMEKEEL_OK && both.id == 1 && both.count == 2);
+    expect("nothing changed", both.change == LIMEKEEL_UNCHANGED && both.flush_change == LIMEKEEL_UNCHANGED);
+    expect("taken back", limekeel_shared_write(&one, "gone", 4).change == LIMEKEEL_UNCHANGED && limekeel_shared_cancel(&one, 2).in_time);
+    both = limekeel_shared_write_and_flush(&one, many, sizeof many);
+    expect("the write changes it", both.change == LIMEKEEL_UNWRITABLE && both.id == 3 && both.count == 2);
+    expect("a block", limekeel_block_new(&block, "block", 5) == LIMEKEEL_OK);
+    both = limekeel_shared_write_and_flush_block(&one, &block);
+    expect("of a block", both.status == LIMEKEEL_OK && both.id == 4 && both.count == 1 && both.change == LIMEKEEL_UNCHANGED);
+    expect("gather", limekeel_transport_gather_pieces(&alone, pieces, 4, UINT32_MAX).count == 4);
+    expect("many", pieces[0].length == sizeof many && memcmp(pieces[0].at, many, sizeof many) == 0);
+    expect("few", pieces[1].length == 3 && memcmp(pieces[1].at, "few", 3) == 0);
+    expect("many", pieces[2].length == sizeof many && memcmp(pieces[2].at, many, sizeof many) == 0);
+    expect("a block", pieces[3].length == 5 && memcmp(pieces[3].at, "block", 5) == 0);
+    expect("take", limekeel_transport_take_sent(&alone, 2 * sizeof many + 8).count == 5);
+    expect("write", limekeel_shared_write(&one, many, sizeof many).change == LIMEKEEL_UNCHANGED);
+    expect("taken back", limekeel_shared_cancel(&one, 5).in_time);
+    both = limekeel_shared_write_and_flush(&one, many, 300);
+    expect("the flush turns it back", both.change == LIMEKEEL_UNWRITABLE && both.flush_change == LIMEKEEL_WRITABLE && both.count == 2);
+    expect("give up", limekeel_transport_give_up(&alone, 1).count == 2);
+    both = limekeel_shared_write_and_flush(&one, "late", 4);
+    expect("closed", both.status == LIMEKEEL_CLOSED && both.id == 0 && both.count == 0);
+    expect("closed", limekeel_shared_write_and_flush(&one, many, sizeof many).status == LIMEKEEL_CLOSED);
+    expect("closed", limekeel_shared_write_and_flush_block(&one, &block).status == LIMEKEEL_CLOSED);
+    expect("free", limekeel_block_free(&block) == LIMEKEEL_OK);
+    expect("free", limekeel_transport_free(&alone) == LIMEKEEL_OK && limekeel_shared_free(&one) == LIMEKEEL_OK);
+}
+
+/* Regions and other messages, bits, marks and promises. */
+static void other_commands(void)
+{
+    struct limekeel_transport alone = LIMEKEEL_TRANSPORT;
+    struct limekeel_shared one = LIMEKEEL_SHARED;
+    expect("open", limekeel_shared_open(&alone, 100, 200, 96, 8) == LIMEKEEL_OK);
+    expect("another", limekeel_transport_another(&alone, &one) == LIMEKEEL_OK);
+    expect("nothing in front", limekeel_transport_current(&alone).kind == LIMEKEEL_CURRENT_NOTHING);
+    expect("no progress", limekeel_transport_progress(&alone, 1) == LIMEKEEL_NOTHING_FLUSHED);
+    expect("nothing to remove", !limekeel_transport_remove(&alone).any);
+    expect("a bit", limekeel_shared_user_bit(&one, 3, false).change == LIMEKEEL_UNWRITABLE);
+    expect("the word", limekeel_shared_glance(&one).word == 8);
+    expect("the bit again", limekeel_shared_user_bit(&one, 3, true).change == LIMEKEEL_WRITABLE);
+    expect("no bit", limekeel_shared_user_bit(&one, 32, true).status == LIMEKEEL_BAD_INDEX);
+    expect("bad marks", limekeel_shared_set_marks(&one, 2, 1) == LIMEKEEL_BAD_MARKS);
+    expect("marks", limekeel_shared_set_marks(&one, 400, 500) == LIMEKEEL_OK);
+    expect("a region", limekeel_shared_write_region(&one, 1000).id == 0);
+    expect("another", limekeel_shared_write_other(&one, 77).id == 1);
+    expect("too long", limekeel_shared_write_region(&one, UINT64_MAX).status == LIMEKEEL_OVERSIZE);
+    expect("they count", limekeel_shared_glance(&one).total == 2 * 96 + 8);
+    struct limekeel_promise_told promise = limekeel_shared_promise(&one, 1);
+    expect("it waits", promise.status == LIMEKEEL_OK && promise.state == LIMEKEEL_WAITING);
+    expect("none", limekeel_shared_promise(&one, 2).state == LIMEKEEL_UNKNOWN);
+    expect("and a third", limekeel_shared_write_and_flush(&one, "third", 5).change == LIMEKEEL_UNCHANGED);
+    expect("it is fixed", limekeel_shared_promise(&one, 1).state == LIMEKEEL_FIXED);
+    struct limekeel_current_told current = limekeel_transport_current(&alone);
+    expect("a region", current.kind == LIMEKEEL_CURRENT_REGION && current.number == 1000);
+    expect("progress", limekeel_transport_progress(&alone, 400) == LIMEKEEL_OK);
+    expect("what is left", limekeel_transport_current(&alone).number == 600);
+    struct limekeel_removed removed = limekeel_transport_remove(&alone);
+    expect("removed", removed.any && removed.settled && removed.id == 0 && removed.outcome == LIMEKEEL_SUCCESS);
+    current = limekeel_transport_current(&alone);
+    expect("another", current.kind == LIMEKEEL_CURRENT_OTHER && current.number == 77);
+    removed = limekeel_transport_remove_with(&alone, 9);
+    expect("failed", removed.any && removed.id == 1 && removed.outcome == LIMEKEEL_FAILED && removed.cause == 9);
+    expect("a block", limekeel_transport_current(&alone).kind == LIMEKEEL_CURRENT_BLOCK);
+    expect("gone", limekeel_shared_promise(&one, 0).state == LIMEKEEL_SETTLED_BEFORE);
+    struct limekeel_taken failed = limekeel_transport_fail_flushed(&alone, 4, false);
+    expect("failed", failed.count == 1 && failed.outcome == LIMEKEEL_FAILED && failed.cause == 4 && failed.to == 3);
+    expect("free", limekeel_transport_free(&alone) == LIMEKEEL_OK && limekeel_shared_free(&one) == LIMEKEEL_OK);
+}
+
 struct writer {
     struct limekeel_shared shared;
     uint8_t number;
@@ -174,7 +280,19 @@ static size_t message_of(uint8_t writer, uint64_t at, uint8_t *bytes)
     return length;
 }
 
-static struct limekeel_written written(struct writer *writer, const uint8_t *bytes, size_t length, bool as_block)
+/* Writes and flushes, and returns the promise. */
+static uint64_t written_and_flushed(struct writer *writer, const uint8_t *bytes, size_t length)
+{
+    struct limekeel_written_and_flushed answer;
+    while ((answer = limekeel_shared_write_and_flush(&writer->shared, bytes, length)).status == LIMEKEEL_BUSY) {
+        writer->busy++;
+        sched_yield();
+    }
+    expect("write and flush", answer.status == LIMEKEEL_OK && answer.count > 0);
+    return answer.id;
+}
+
+static uint64_t written(struct writer *writer, const uint8_t *bytes, size_t length, bool as_block)
 {
     struct limekeel_block block = LIMEKEEL_BLOCK;
     struct limekeel_written answer;
@@ -191,7 +309,7 @@ static struct limekeel_written written(struct writer *writer, const uint8_t *byt
     if (as_block)
         expect("its end", limekeel_block_free(&block) == LIMEKEEL_OK);
     expect("write", answer.status == LIMEKEEL_OK);
-    return answer;
+    return answer.id;
 }
 
 static void flushed(struct writer *writer)
@@ -221,8 +339,9 @@ static void *write_all(void *given)
     uint8_t bytes[MOST + HEAD];
     for (uint64_t at = 0; at < messages; at++) {
         size_t length = message_of(writer->number, at, bytes);
-        struct limekeel_written answer = written(writer, bytes, length, at % 3 == 0);
-        writer->cancelled[at] = at % 7 == 0 && cancelled(writer, answer.id);
+        uint64_t id = at % 5 == 1 ? written_and_flushed(writer, bytes, length) : written(writer, bytes, length, at % 3 == 0);
+        writer->cancelled[at] = at % 7 == 0 && cancelled(writer, id);
+        expect("what is flushed is not taken back", at % 5 != 1 || !writer->cancelled[at]);
         if (at % 4 == 0 || at + 1 == messages)
             flushed(writer);
         while (limekeel_shared_glance(&writer->shared).word != 0) {
@@ -316,6 +435,8 @@ int main(int count, char **words)
         messages = strtoull(words[1], NULL, 10);
     statuses();
     giving_up();
+    both_at_once();
+    other_commands();
     static struct writer writers[WRITERS];
     pthread_t threads[WRITERS], sender;
     expect("a pair", socketpair(AF_UNIX, SOCK_STREAM, 0, ends) == 0);

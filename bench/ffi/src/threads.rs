@@ -53,8 +53,7 @@ fn shared(writers: usize) -> usize {
             scope.spawn(move || {
                 for _ in 0..ALL / writers {
                     while !writer.is_writable() && writer.wait_writable() != Moment::Ready {}
-                    let _ = writer.write(black_box(&BYTES)).expect("it is open");
-                    let _ = writer.flush().expect("it is open");
+                    let _ = writer.write_and_flush(black_box(&BYTES)).expect("it is open");
                 }
             });
         }

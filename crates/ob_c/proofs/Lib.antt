@@ -11,3 +11,4 @@ pub mod Reaching
 pub mod Steps
 pub mod Taking
 pub mod Testing
+pub mod Trying

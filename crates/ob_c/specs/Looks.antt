@@ -1,5 +1,5 @@
 -- What an export promises of a look.
-use Rattle.std.specs.Prelude.{◌≡◌, ℕ, ◌-◌, Bool, true, false, List, length, Option, Some, None, option_map}
+use Rattle.std.specs.Prelude.{◌≡◌, ℕ, ◌-◌, Bool, true, false, List, length, Option, Some, None, option_map, Result, Ok, Err}
 use Rattle.ob_types.specs.WaterMark.{Marks}
 use Rattle.ob_types.specs.declared.command.Command.{Command}
 use Rattle.ob_types.specs.declared.estimate.Estimate.{Estimate}
@@ -54,6 +54,11 @@ look_in_c (Some look) = record {
   current_progress = look.current_progress;
 }
 
+-- a look of a shared connection, or why there is none
+abbrev pub look_or_status : Result LookReply ℕ → Look
+look_or_status (Err status) = no_look status
+look_or_status (Ok look) = look_in_c (Some look)
+
 -- whatever history the connection stands for, as many messages no flush has reached after it, and as many wait
 abbrev pub AreCounted : Connected → ℕ × ℕ → Type 0
 AreCounted connection counts =
@@ -95,6 +100,11 @@ promise_in_c (Some (Some (Settled outcome))) =
     record { status = done; state = 3; outcome = outcome_number outcome; cause = cause_number outcome }
 promise_in_c (Some (Some SettledBefore)) = record { status = done; state = 4; outcome = 0; cause = 0 }
 
+-- the same of a shared connection, or why there is nothing to see
+abbrev pub promise_or_status : Result (Option Status) ℕ → Promise
+promise_or_status (Err status) = record { status = status; state = 0; outcome = 0; cause = 0 }
+promise_or_status (Ok promise) = promise_in_c (Some promise)
+
 -- the promise of the front, if there is one
 abbrev pub front_in_c : Option (Option ℕ) → Front
 front_in_c None = record { status = not_open; any = false; id = 0 }
@@ -124,3 +134,13 @@ current_in_c (Some None) = record { status = done; kind = 0; number = 0 }
 current_in_c (Some (Some (Block bytes))) = record { status = done; kind = 1; number = length bytes }
 current_in_c (Some (Some (Region size))) = record { status = done; kind = 2; number = size }
 current_in_c (Some (Some (Other value))) = record { status = done; kind = 3; number = value }
+
+-- whatever history the connection stands for, C is told what is left to send of the front after it
+abbrev pub ShowsLeft : Connected → Current → Type 0
+ShowsLeft connection current =
+    (message : Option Message) × IsLeft connection message × (current ≡ current_in_c (Some message))
+
+-- the same of a shared connection, or why there is nothing to see
+abbrev pub current_or_status : Result Current ℕ → Current
+current_or_status (Err status) = record { status = status; kind = 0; number = 0 }
+current_or_status (Ok current) = current

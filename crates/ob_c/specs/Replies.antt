@@ -7,6 +7,7 @@ use Rattle.ob_connection.specs.declared.replies.Flushed.{Flushed as FlushedReply
 use Rattle.ob_connection.specs.declared.replies.Removed.{Removed as RemovedReply}
 use Rattle.ob_connection.specs.declared.replies.Taken.{Taken as TakenReply}
 use Rattle.ob_connection.specs.declared.replies.Written.{Written as WrittenReply}
+use Rattle.ob_shared_connection.specs.declared.written.WrittenAndFlushed.{WrittenAndFlushed as WrittenAndFlushedReply}
 use Rattle.ob_c.specs.Numbers.{done, change_number, outcome_number, cause_number}
 use Rattle.ob_c.specs.declared.replies.Cancelled.{Cancelled}
 use Rattle.ob_c.specs.declared.replies.Changed.{Changed}
@@ -14,6 +15,7 @@ use Rattle.ob_c.specs.declared.replies.Flushed.{Flushed}
 use Rattle.ob_c.specs.declared.replies.Removed.{Removed}
 use Rattle.ob_c.specs.declared.replies.Taken.{Taken}
 use Rattle.ob_c.specs.declared.replies.Written.{Written}
+use Rattle.ob_c.specs.declared.replies.WrittenAndFlushed.{WrittenAndFlushed}
 
 -- a write
 abbrev pub written_in_c : Result WrittenReply ℕ → Written
@@ -24,6 +26,17 @@ written_in_c (Ok reply) = record { status = done; change = change_number reply.c
 abbrev pub flushed_in_c : Result FlushedReply ℕ → Flushed
 flushed_in_c (Err status) = record { status = status; change = 0; count = 0 }
 flushed_in_c (Ok reply) = record { status = done; change = change_number reply.change; count = reply.count }
+
+-- a write, and the flush behind it
+abbrev pub written_and_flushed_in_c : Result WrittenAndFlushedReply ℕ → WrittenAndFlushed
+written_and_flushed_in_c (Err status) = record { status = status; change = 0; id = 0; flush_change = 0; count = 0 }
+written_and_flushed_in_c (Ok reply) = record {
+  status = done;
+  change = change_number reply.written.change;
+  id = reply.written.id;
+  flush_change = change_number reply.flushed.change;
+  count = reply.flushed.count;
+}
 
 -- a removal with this change of writability: whether there was a front, and the promise that it settled
 abbrev pub removed_with : ℕ → Bool → Option (ℕ × Outcome) → Removed

@@ -1,17 +1,16 @@
 -- What an export promises of a shared connection.
 use Rattle.std.specs.Prelude.{◌≡◌, ◌<◌, ◌⊎◌, ℕ, List, length, take, Option, Some, None, Result, Ok, Err}
 use Rattle.ob_types.specs.Refusal.{number_of}
+use Rattle.ob_types.specs.WaterMark.{Marks}
+use Rattle.ob_types.specs.declared.command.Command.TheVariants.{SetMarks}
 use Rattle.ob_types.specs.declared.message.Message.{Message}
 use Rattle.ob_types.specs.declared.message.Message.TheVariants.{Block as AsBlock}
 use Rattle.ob_types.specs.declared.refusal.Refusal.{Refusal}
 use Rattle.ob_seq.specs.Effect.{bytes_in}
 use Rattle.ob_seq.specs.Rows.{Settings}
-use Rattle.ob_connection.specs.Looks.{Shows}
-use Rattle.ob_connection.specs.Obeying.{answer_of_write}
-use Rattle.ob_connection.specs.declared.look.Look.{Look as LookReply}
-use Rattle.ob_connection.specs.declared.refused.Refused.{Refused}
-use Rattle.ob_connection.specs.declared.replies.Written.{Written as WrittenReply}
-use Rattle.ob_shared_connection.specs.Calls.{UnderLock, Writes}
+use Rattle.ob_connection.specs.Connected.{Connected}
+use Rattle.ob_connection.specs.Obeying.{done_reply}
+use Rattle.ob_shared_connection.specs.Calls.{Makes, ObeyingFreely, UnderLock}
 use Rattle.ob_shared_connection.specs.Glances.{IsGlance}
 use Rattle.ob_shared_connection.specs.Handles.{IsAnother, IsButForShare, IsFirst}
 use Rattle.ob_shared_connection.specs.Looking.{Gathers, IsLook}
@@ -19,13 +18,9 @@ use Rattle.ob_shared_connection.specs.Staying.{AreInFront}
 use Rattle.ob_shared_connection.specs.Values.{HandleValue, Held, sharing}
 use Rattle.ob_shared_connection.specs.declared.glance.Glance.{Glance as GlanceReply}
 use Rattle.ob_c.specs.Gathering.{AreAt}
-use Rattle.ob_c.specs.Looks.{look_in_c, no_look}
-use Rattle.ob_c.specs.Numbers.{accepted, already_open, busy, done, no_block, no_memory, not_open}
-use Rattle.ob_c.specs.Replies.{written_in_c}
+use Rattle.ob_c.specs.Numbers.{accepted, already_open, busy, done, no_block, no_memory, not_open, status_in_c}
 use Rattle.ob_c.specs.declared.pieces.Piece.{Piece}
-use Rattle.ob_c.specs.declared.replies.Written.{Written}
 use Rattle.ob_c.specs.declared.tries.Glance.{Glance}
-use Rattle.ob_c.specs.declared.views.Look.{Look}
 use Rattle.ob_c.specs.declared.sends.Laid.{Laid}
 
 -- a connection with these settings and nothing written is opened, as its first handle, unless there is one already, they
@@ -66,39 +61,52 @@ abbrev pub Tries : {A C : Type 0} → Option HandleValue → (Result A Refusal �
 Tries None does in_c told new = (told ≡ in_c (Err not_open)) × (new ≡ None)
 Tries {A = A} (Some old) does in_c told new = (tried : Option (Result A Refusal)) × IsTried tried old does in_c told new
 
--- there was no memory for the message, and the lock was not tried; or it was taken by another call; or it was had once,
--- and the message was written under it
-abbrev pub IsWriteTried : Option (Option (Result WrittenReply Refused)) → HandleValue → Message → Written
+-- there was no memory for what the call needs, and the lock was not tried; or else it was tried
+abbrev pub IsTriedWithMemory : {A C : Type 0} → Option (Option (Result A Refusal)) → HandleValue
+    → (Result A Refusal → Held → Held → Type 0) → (Result A ℕ → C) → C → Option HandleValue → Type 0
+IsTriedWithMemory None old does in_c told new = (told ≡ in_c (Err no_memory)) × (new ≡ Some old)
+IsTriedWithMemory (Some tried) old does in_c told new = IsTried tried old does in_c told new
+
+-- with no handle C is told so, and else the lock is tried, unless there is no memory for what the call needs
+abbrev pub TriesWithMemory : {A C : Type 0} → Option HandleValue → (Result A Refusal → Held → Held → Type 0)
+    → (Result A ℕ → C) → C → Option HandleValue → Type 0
+TriesWithMemory None does in_c told new = (told ≡ in_c (Err not_open)) × (new ≡ None)
+TriesWithMemory {A = A} (Some old) does in_c told new =
+    (tried : Option (Option (Result A Refusal))) × IsTriedWithMemory tried old does in_c told new
+
+-- the same with a message of the bytes of a block, if there are both a handle and a block
+abbrev pub TriesWithBlock : {A C : Type 0} → Option HandleValue → Option (List ℕ)
+    → (Message → Result A Refusal → Held → Held → Type 0) → (Result A ℕ → C) → C → Option HandleValue → Type 0
+TriesWithBlock None block does in_c told new = (told ≡ in_c (Err not_open)) × (new ≡ None)
+TriesWithBlock (Some old) None does in_c told new = (told ≡ in_c (Err no_block)) × (new ≡ Some old)
+TriesWithBlock (Some old) (Some bytes) does in_c told new = TriesWithMemory (Some old) (does (AsBlock bytes)) in_c told new
+
+-- the message of the bytes of a block, if there is one, and memory to share it
+abbrev pub MessageOf : Option (List ℕ) → Result Message ℕ → Type 0
+MessageOf None (Err status) = status ≡ no_block
+MessageOf None (Ok message) = ⊥
+MessageOf (Some bytes) (Err status) = status ≡ no_memory
+MessageOf (Some bytes) (Ok message) = message ≡ AsBlock bytes
+
+-- marks that are refused are told as such, and the lock is not tried; or else it is
+abbrev pub TriesToSetMarks : Option HandleValue → Result Marks Refusal → ℕ → Option HandleValue → Type 0
+TriesToSetMarks None marks told new = (told ≡ not_open) × (new ≡ None)
+TriesToSetMarks (Some old) (Err refusal) told new = (told ≡ number_of refusal) × (new ≡ Some old)
+TriesToSetMarks (Some old) (Ok marks) told new =
+    Tries (Some old) (Makes (ObeyingFreely done_reply) (SetMarks marks)) status_in_c told new
+
+-- the lock was taken by another call, and C is told that; or it was had once, and C is told what a look showed under it
+abbrev pub IsLookTried : {A C : Type 0} → Option A → HandleValue → (Connected → A → Type 0) → (Result A ℕ → C) → C
     → Option HandleValue → Type 0
-IsWriteTried None old message told new = (told ≡ written_in_c (Err no_memory)) × (new ≡ Some old)
-IsWriteTried (Some None) old message told new = (told ≡ written_in_c (Err busy)) × (new ≡ Some old)
-IsWriteTried (Some (Some result)) old message told new =
-    (told ≡ written_in_c (accepted (Some (answer_of_write result)))) × (after : HandleValue) × (new ≡ Some after)
-    × UnderLock old (Writes message result) after
-
--- with no handle C is told so, and else a write of these bytes is tried
-abbrev pub TriesToWrite : Option HandleValue → List ℕ → Written → Option HandleValue → Type 0
-TriesToWrite None bytes told new = (told ≡ written_in_c (Err not_open)) × (new ≡ None)
-TriesToWrite (Some old) bytes told new =
-    (tried : Option (Option (Result WrittenReply Refused))) × IsWriteTried tried old (AsBlock bytes) told new
-
--- the same of the bytes of a block, if there are both a handle and a block
-abbrev pub TriesToWriteBlock : Option HandleValue → Option (List ℕ) → Written → Option HandleValue → Type 0
-TriesToWriteBlock None block told new = (told ≡ written_in_c (Err not_open)) × (new ≡ None)
-TriesToWriteBlock (Some old) None told new = (told ≡ written_in_c (Err no_block)) × (new ≡ Some old)
-TriesToWriteBlock (Some old) (Some bytes) told new = TriesToWrite (Some old) bytes told new
-
--- the lock was taken by another call; or it was had once, and C is told what was pending under it
-abbrev pub IsLookTried : Option LookReply → HandleValue → Look → Option HandleValue → Type 0
-IsLookTried None old told new = (told ≡ no_look busy) × (new ≡ Some old)
-IsLookTried (Some look) old told new =
-    (told ≡ look_in_c (Some look)) × (after : HandleValue) × (new ≡ Some after)
-    × UnderLock old (IsLook Shows look) after
+IsLookTried None old shows in_c told new = (told ≡ in_c (Err busy)) × (new ≡ Some old)
+IsLookTried (Some answer) old shows in_c told new =
+    (told ≡ in_c (Ok answer)) × (after : HandleValue) × (new ≡ Some after) × UnderLock old (IsLook shows answer) after
 
 -- with no handle C is told so, and else a look is tried
-abbrev pub TriesToLook : Option HandleValue → Look → Option HandleValue → Type 0
-TriesToLook None told new = (told ≡ no_look not_open) × (new ≡ None)
-TriesToLook (Some old) told new = (tried : Option LookReply) × IsLookTried tried old told new
+abbrev pub TriesToLook : {A C : Type 0} → Option HandleValue → (Connected → A → Type 0) → (Result A ℕ → C) → C
+    → Option HandleValue → Type 0
+TriesToLook None shows in_c told new = (told ≡ in_c (Err not_open)) × (new ≡ None)
+TriesToLook {A = A} (Some old) shows in_c told new = (tried : Option A) × IsLookTried tried old shows in_c told new
 
 -- a glance
 abbrev pub glance_in_c : GlanceReply → Glance

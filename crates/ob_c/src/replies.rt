@@ -2,7 +2,7 @@
 
 ghost use Rattle.std.specs.Prelude.{◌≡◌};
 ghost use Rattle.ob_c.specs.Replies.{written_in_c, flushed_in_c, removed_in_c, taken_in_c, cancelled_in_c, changed_in_c};
-ghost use Rattle.ob_c.specs.Replies.{removed_with};
+ghost use Rattle.ob_c.specs.Replies.{removed_with, written_and_flushed_in_c};
 ghost use Rattle.ob_c.specs.Numbers.{change_number};
 
 use crate::numbers::{DONE, cause_number, change_number, outcome_number};
@@ -67,6 +67,48 @@ impl Flushed {
                 status: DONE,
                 change: change_number(reply.change),
                 count: reply.count,
+            },
+        }
+    }
+}
+
+/// What a write with the flush behind it returns.
+#[repr(C)]
+#[derive(Clone, Copy)]
+pub struct WrittenAndFlushed {
+    /// 0, or why nothing was written and flushed.
+    pub status: u32,
+    /// How the write changed writability.
+    pub change: u32,
+    /// The promise of the message.
+    pub id: u64,
+    /// How the flush behind it changed writability.
+    pub flush_change: u32,
+    /// How many messages the flush let the transport have.
+    pub count: u64,
+}
+
+impl WrittenAndFlushed {
+    /// What C gets for this answer.
+    pub(crate) fn of(
+        answer: Result<ob_shared_connection::WrittenAndFlushed, u32>,
+    ) -> WrittenAndFlushed
+        ensures { result ≡ written_and_flushed_in_c answer }
+    {
+        match answer {
+            Err(status) => WrittenAndFlushed {
+                status,
+                change: 0,
+                id: 0,
+                flush_change: 0,
+                count: 0,
+            },
+            Ok(reply) => WrittenAndFlushed {
+                status: DONE,
+                change: change_number(reply.written.change),
+                id: reply.written.id,
+                flush_change: change_number(reply.flushed.change),
+                count: reply.flushed.count,
             },
         }
     }

@@ -1,21 +1,27 @@
 //! The calls of the handle of a shared connection that sends. Each tries the lock once, and does nothing if another call
 //! has it.
 
-ghost use Rattle.std.specs.Prelude.{◌≡◌, ◌≤◌, length, min, take, drop};
+ghost use Rattle.std.specs.Prelude.{◌≡◌, ◌≤◌, false, length, min, take, drop};
 ghost use Rattle.ob_types.specs.declared.command.Command.TheVariants as command;
-ghost use Rattle.ob_types.specs.declared.promise.Outcome.TheVariants.{Success};
+ghost use Rattle.ob_types.specs.declared.promise.Outcome.TheVariants.{Failed, Success};
 ghost use Rattle.ob_connection.specs.Calls.{most_pieces};
-ghost use Rattle.ob_shared_connection.specs.Calls.{GivingUp, IsCall, Makes, Taking, giving_up};
+ghost use Rattle.ob_connection.specs.Obeying.{done_reply, removed_reply};
+ghost use Rattle.ob_shared_connection.specs.Calls.{GivingUp, IsCall, Makes, ObeyingFreely, Taking, TakingQuietly, giving_up};
 ghost use Rattle.ob_c.specs.Gathering.{AreAt};
-ghost use Rattle.ob_c.specs.Replies.{taken_in_c};
-ghost use Rattle.ob_c.specs.Sharing.{IsTakenIfInFront, Tries, TriesToGather};
+ghost use Rattle.ob_c.specs.Looks.{ShowsLeft, current_or_status};
+ghost use Rattle.ob_c.specs.Numbers.{status_in_c};
+ghost use Rattle.ob_c.specs.Replies.{removed_in_c, taken_in_c};
+ghost use Rattle.ob_c.specs.Sharing.{IsTakenIfInFront, Tries, TriesToGather, TriesToLook};
 
-use crate::numbers::{BUSY, DONE, NOT_OPEN, accepted};
+use crate::numbers::{BUSY, DONE, NOT_OPEN, accepted, status_of};
 use crate::pieces::Piece;
-use crate::replies::Taken;
+use crate::replies::{Removed, Taken};
 use crate::transport::Transport;
 use crate::tries::wake_nobody;
+use crate::views::Current;
 use bytes::Bytes;
+use ob_connection::Connection;
+use ob_shared_connection::{Ask, commands};
 use ob_types::Cause;
 
 /// As many blocks are gathered at once at most: as many as Linux takes in one `sendmsg`.
@@ -94,6 +100,56 @@ pub extern "C" fn limekeel_transport_take_sent(transport: &mut Transport, n: u64
     }
 }
 
+/// Takes the first flushed message away, as sent.
+#[unsafe(no_mangle)]
+pub extern "C" fn limekeel_transport_remove(transport: &mut Transport) -> Removed
+    ensures { Tries transport.old.value (Makes (ObeyingFreely removed_reply) command.Remove) removed_in_c result
+        transport.new.value }
+{
+    Removed::of(transport.obey(commands::Remove))
+}
+
+/// Takes the first flushed message away, as failed for this cause.
+#[unsafe(no_mangle)]
+pub extern "C" fn limekeel_transport_remove_with(transport: &mut Transport, cause: u32) -> Removed
+    ensures { Tries transport.old.value
+        (Makes (ObeyingFreely removed_reply) (command.RemoveWith (record { 0 = cause }))) removed_in_c result
+        transport.new.value }
+{
+    Removed::of(transport.obey(commands::RemoveWith(Cause(cause))))
+}
+
+/// Adds *n* bytes to the progress of the first flushed message.
+#[unsafe(no_mangle)]
+pub extern "C" fn limekeel_transport_progress(transport: &mut Transport, n: u64) -> u32
+    ensures { Tries transport.old.value (Makes (ObeyingFreely done_reply) (command.Progress n)) status_in_c result
+        transport.new.value }
+{
+    status_of(transport.obey(commands::Progress(n)))
+}
+
+/// Takes all flushed messages away, as failed for this cause, and returns which they were.
+#[unsafe(no_mangle)]
+pub extern "C" fn limekeel_transport_fail_flushed(
+    transport: &mut Transport,
+    cause: u32,
+    notify: bool,
+) -> Taken
+    ensures { Tries transport.old.value
+        (Makes (TakingQuietly (Failed (record { 0 = cause })) (notify ≡ false)) (command.FailFlushed (record { 0 = cause }) notify))
+        taken_in_c result transport.new.value }
+{
+    Taken::of(transport.obey(commands::FailFlushed(Cause(cause), notify)))
+}
+
+/// What is left to send of the first flushed message, as `limekeel_current`, under the lock.
+#[unsafe(no_mangle)]
+pub extern "C" fn limekeel_transport_current(transport: &mut Transport) -> Current
+    ensures { TriesToLook transport.old.value ShowsLeft current_or_status result transport.new.value }
+{
+    Current::tried(transport.ask(Left))
+}
+
 /// Gives the connection up: fails what is flushed for this cause without notice, closes for it, and returns which messages
 /// were pending. It is refused if the connection is closed, and does nothing if another call has the lock.
 #[unsafe(no_mangle)]
@@ -102,15 +158,20 @@ pub extern "C" fn limekeel_transport_give_up(transport: &mut Transport, cause: u
         (λ answer before after. IsCall (GivingUp (record { 0 = cause })) (giving_up (record { 0 = cause })) before answer after)
         taken_in_c result transport.new.value }
 {
-    if !transport.is_open() {
-        return Taken::of(Err(NOT_OPEN));
-    }
-    match transport.reach().try_give_up(Cause(cause)) {
-        None => Taken::of(Err(BUSY)),
-        Some((answer, wakes)) => {
-            wake_nobody(wakes);
-            Taken::of(accepted(Some(answer)))
-        }
+    Taken::of(transport.obey(commands::GiveUp(Cause(cause))))
+}
+
+/// A look at what is left to send of the first flushed message.
+#[derive(Drop)]
+pub(crate) struct Left;
+
+impl Ask for Left {
+    type Answer = Current;
+
+    ghost shows = { λ _. ShowsLeft };
+
+    fn ask(self, connection: &Connection) -> Current {
+        Current::of(connection.current(), connection.look().current_progress)
     }
 }
 

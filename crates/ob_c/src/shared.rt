@@ -1,13 +1,16 @@
 //! What C holds of a shared connection: a handle for each thread.
 
-ghost use Rattle.std.specs.Prelude.{◌≡◌, IsSome, is_some, Option, Some, None, option_map};
+ghost use Rattle.std.specs.Prelude.{◌≡◌, false, IsSome, is_some, Option, Some, None, option_map};
 ghost use Rattle.std.specs.Borrow.{sem};
 ghost use Rattle.ob_c.specs.Held.{held};
 ghost use Rattle.ob_shared_connection.specs.contracts.handle.Handle.{the_row as sharer_row};
 ghost use Rattle.ob_shared_connection.specs.Values.{HandleValue};
 
 use crate::loose::Loose;
-use ob_shared_connection::Handle;
+use crate::numbers::{BUSY, NOT_OPEN, accepted};
+use crate::tries::wake_nobody;
+use ob_shared_connection::{Act, Ask, Handle};
+use ob_types::Refusal;
 use std::alloc::Global;
 use std::marker::Model;
 use std::ptr::null_mut;
@@ -28,7 +31,10 @@ impl Model for Shared {
 unsafe impl Send for Shared {}
 
 impl Shared {
+    ghost use Rattle.ob_shared_connection.specs.Calls.{IsCall};
+    ghost use Rattle.ob_shared_connection.specs.Removals.{MayGive};
     ghost use Rattle.ob_c.specs.Reaching.{LendsShared};
+    ghost use Rattle.ob_c.specs.Sharing.{Tries, TriesToLook};
 
     /// Takes the handle out, if there is one.
     pub(crate) fn handle(&mut self, alloc: Global) -> Option<Box<Handle>>
@@ -62,6 +68,40 @@ impl Shared {
         ensures value { self.old.value ≡ Some result.now }
     {
         unsafe { &mut *(self.at as *mut Handle) }
+    }
+
+    /// Makes the call of an act that takes no flushed message away, if there is a handle and the lock is free.
+    pub(crate) fn obey<A: Act<Fault = Refusal> + Drop>(&mut self, act: A) -> Result<A::Answer, u32>
+        requires { MayGive false (A.commands act) }
+        ensures { Tries self.old.value (λ answer before after. IsCall (A.does act) (A.commands act) before answer after)
+            (λ told. told) result self.new.value }
+    {
+        if !self.is_open() {
+            return Err(NOT_OPEN);
+        }
+        match self.reach().try_act(act) {
+            Err(_act) => Err(BUSY),
+            Ok((answer, wakes)) => {
+                wake_nobody(wakes);
+                accepted(Some(answer))
+            }
+        }
+    }
+
+    /// Takes a look, if there is a handle and the lock is free.
+    pub(crate) fn ask<A: Ask + Drop>(&mut self, ask: A) -> Result<A::Answer, u32>
+        ensures { TriesToLook self.old.value (A.shows ask) (λ told. told) result self.new.value }
+    {
+        if !self.is_open() {
+            return Err(NOT_OPEN);
+        }
+        match self.reach().try_ask(ask) {
+            Err(_ask) => Err(BUSY),
+            Ok((answer, wakes)) => {
+                wake_nobody(wakes);
+                Ok(answer)
+            }
+        }
     }
 
     /// Takes the handle out as its pointer.

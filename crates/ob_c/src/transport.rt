@@ -7,6 +7,10 @@ ghost use Rattle.ob_shared_connection.specs.contracts.transport.Transport.{the_r
 ghost use Rattle.ob_shared_connection.specs.Values.{HandleValue};
 
 use crate::loose::Loose;
+use crate::numbers::{BUSY, NOT_OPEN, accepted};
+use crate::tries::wake_nobody;
+use ob_shared_connection::{Act, Ask};
+use ob_types::Refusal;
 use std::alloc::Global;
 use std::marker::Model;
 use std::ptr::null_mut;
@@ -27,7 +31,9 @@ impl Model for Transport {
 unsafe impl Send for Transport {}
 
 impl Transport {
+    ghost use Rattle.ob_shared_connection.specs.Calls.{IsCall};
     ghost use Rattle.ob_c.specs.Reaching.{LendsTransport};
+    ghost use Rattle.ob_c.specs.Sharing.{Tries, TriesToLook};
 
     /// Takes the handle out, if there is one.
     pub(crate) fn sender(&mut self, alloc: Global) -> Option<Box<ob_shared_connection::Transport>>
@@ -61,6 +67,39 @@ impl Transport {
         ensures value { self.old.value ≡ Some result.now }
     {
         unsafe { &mut *(self.at as *mut ob_shared_connection::Transport) }
+    }
+
+    /// Makes the call of an act, if there is a handle and the lock is free.
+    pub(crate) fn obey<A: Act<Fault = Refusal> + Drop>(&mut self, act: A) -> Result<A::Answer, u32>
+        ensures { Tries self.old.value (λ answer before after. IsCall (A.does act) (A.commands act) before answer after)
+            (λ told. told) result self.new.value }
+    {
+        if !self.is_open() {
+            return Err(NOT_OPEN);
+        }
+        match self.reach().try_act(act) {
+            Err(_act) => Err(BUSY),
+            Ok((answer, wakes)) => {
+                wake_nobody(wakes);
+                accepted(Some(answer))
+            }
+        }
+    }
+
+    /// Takes a look, if there is a handle and the lock is free.
+    pub(crate) fn ask<A: Ask + Drop>(&mut self, ask: A) -> Result<A::Answer, u32>
+        ensures { TriesToLook self.old.value (A.shows ask) (λ told. told) result self.new.value }
+    {
+        if !self.is_open() {
+            return Err(NOT_OPEN);
+        }
+        match self.reach().try_ask(ask) {
+            Err(_ask) => Err(BUSY),
+            Ok((answer, wakes)) => {
+                wake_nobody(wakes);
+                Ok(answer)
+            }
+        }
     }
 
     /// Takes the handle out as its pointer.

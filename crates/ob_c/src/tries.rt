@@ -1,26 +1,33 @@
 //! The calls of a handle of a shared connection. Each tries the lock once, and does nothing if another call has it.
 
-ghost use Rattle.std.specs.Prelude.{◌≡◌, ⊤, Option, Some, Result};
+ghost use Rattle.std.specs.Prelude.{◌≡◌, ⊤, IfErr, IfOk};
+ghost use Rattle.ob_types.specs.WaterMark.{water_mark_of};
 ghost use Rattle.ob_types.specs.declared.command.Command.TheVariants as command;
+ghost use Rattle.ob_types.specs.declared.message.Message.TheVariants.{Block as AsBlock, Region as AsRegion, Other as AsOther};
 ghost use Rattle.ob_types.specs.declared.promise.Outcome.TheVariants.{Failed};
-ghost use Rattle.ob_connection.specs.Obeying.{answer_of_write, cancelled_reply, flushed_reply};
-ghost use Rattle.ob_connection.specs.declared.refused.Refused.{Refused};
-ghost use Rattle.ob_connection.specs.declared.replies.Written.{Written as WrittenReply};
-ghost use Rattle.ob_shared_connection.specs.Calls.{Makes, ObeyingFreely, TakingQuietly};
-ghost use Rattle.ob_c.specs.Replies.{cancelled_in_c, flushed_in_c, taken_in_c};
-ghost use Rattle.ob_c.specs.Sharing.{GlancesFor, IsWriteTried, Tries, TriesToLook, TriesToWrite, TriesToWriteBlock};
+ghost use Rattle.ob_connection.specs.Looks.{Shows, Tells};
+ghost use Rattle.ob_connection.specs.Obeying.{bit_reply, cancelled_reply, flushed_reply};
+ghost use Rattle.ob_shared_connection.specs.Calls.{Makes, ObeyingFreely, Puts, PutsAndFlushes, TakingQuietly};
+ghost use Rattle.ob_c.specs.Looks.{look_or_status, promise_or_status};
+ghost use Rattle.ob_c.specs.Numbers.{no_memory};
+ghost use Rattle.ob_c.specs.Replies.{cancelled_in_c, changed_in_c, flushed_in_c, taken_in_c, written_and_flushed_in_c};
+ghost use Rattle.ob_c.specs.Replies.{written_in_c};
+ghost use Rattle.ob_c.specs.Sharing.{GlancesFor, MessageOf, Tries, TriesToLook, TriesToSetMarks, TriesWithBlock, TriesWithMemory};
 
 use crate::block::Block;
-use crate::numbers::{BUSY, DONE, NO_BLOCK, NO_MEMORY, NOT_OPEN, accepted};
-use crate::replies::{Cancelled, Flushed, Taken, Written};
+use crate::numbers::{DONE, NO_BLOCK, NO_MEMORY, NOT_OPEN, status_of};
+use crate::replies::{Cancelled, Changed, Flushed, Taken, Written, WrittenAndFlushed};
 use crate::shared::Shared;
-use crate::views::Look;
+use crate::views::{Look, Promise};
 use crate::writes::lent;
 use bytes::Bytes;
-use ob_connection::Refused;
-use ob_shared_connection::{Handle, Wakes};
-use ob_types::{Cause, Message, Refusal};
+use ob_shared_connection::writes::{Put, PutAndFlush, WriteCopy, WriteCopyAndFlush};
+use ob_shared_connection::{Wakes, commands, looks};
+use ob_types::{Cause, Message, WaterMark};
 use std::alloc::Global;
+
+/// How many bytes are copied under the lock: as many as share memory with other messages.
+const FEW_BYTES: usize = 2048;
 
 /// What is seen without the lock.
 #[repr(C)]
@@ -34,24 +41,52 @@ pub struct Glance {
     pub total: u32,
 }
 
-/// Writes a copy of these bytes. The copy is made before the lock is tried, so that nobody waits for that.
+/// Writes a copy of these bytes. Few are copied under the lock, into memory that messages share, and many before it, so that
+/// nobody waits for that.
 ///
-/// The status is 18 if another call has the lock, and 12 if it is out of memory.
+/// The status is 13 if there is no handle, 12 if it is out of memory, and 18 if another call has the lock.
 #[unsafe(no_mangle)]
 pub extern "C" fn limekeel_shared_write_bytes(
     alloc: Global,
     shared: &mut Shared,
     bytes: &[u8],
 ) -> Written
-    ensures { TriesToWrite shared.old.value bytes.now result shared.new.value }
+    ensures { TriesWithMemory shared.old.value (Puts (AsBlock bytes.now)) written_in_c result shared.new.value }
 {
+    if bytes.len() <= FEW_BYTES {
+        return Written::of(shared.obey(WriteCopy(bytes)));
+    }
     if !shared.is_open() {
         return Written::of(Err(NOT_OPEN));
     }
-    let Ok(copy) = Bytes::copy_from_slice(alloc, bytes) else {
-        return Written::of(Err(NO_MEMORY));
-    };
-    write(shared.reach(), Message::Block(copy))
+    match copied(alloc, bytes) {
+        Ok(copy) => Written::of(shared.obey(Put(copy))),
+        Err(status) => Written::of(Err(status)),
+    }
+}
+
+/// Writes as `limekeel_shared_write_bytes`, and flushes behind it, under one lock.
+///
+/// The statuses are those of that. A write that is accepted is flushed, and one that is refused is not.
+#[unsafe(no_mangle)]
+pub extern "C" fn limekeel_shared_write_and_flush_bytes(
+    alloc: Global,
+    shared: &mut Shared,
+    bytes: &[u8],
+) -> WrittenAndFlushed
+    ensures { TriesWithMemory shared.old.value (PutsAndFlushes (AsBlock bytes.now)) written_and_flushed_in_c result
+        shared.new.value }
+{
+    if bytes.len() <= FEW_BYTES {
+        return WrittenAndFlushed::of(shared.obey(WriteCopyAndFlush(bytes)));
+    }
+    if !shared.is_open() {
+        return WrittenAndFlushed::of(Err(NOT_OPEN));
+    }
+    match copied(alloc, bytes) {
+        Ok(copy) => WrittenAndFlushed::of(shared.obey(PutAndFlush(copy))),
+        Err(status) => WrittenAndFlushed::of(Err(status)),
+    }
 }
 
 /// Writes the bytes of a block, which the message shares: no byte is copied.
@@ -60,36 +95,62 @@ pub extern "C" fn limekeel_shared_write_bytes(
 /// can be counted, then 18 if another call has the lock.
 #[unsafe(no_mangle)]
 pub extern "C" fn limekeel_shared_write_block(shared: &mut Shared, block: &mut Block) -> Written
-    ensures writes { TriesToWriteBlock shared.old.value block.old.value result shared.new.value }
+    ensures writes { TriesWithBlock shared.old.value block.old.value Puts written_in_c result shared.new.value }
     ensures block { block.new.value ≡ block.old.value }
 {
     if !shared.is_open() {
         return Written::of(Err(NOT_OPEN));
     }
-    if !block.is_open() {
-        return Written::of(Err(NO_BLOCK));
+    match bytes_of(block) {
+        Ok(message) => Written::of(shared.obey(Put(message))),
+        Err(status) => Written::of(Err(status)),
     }
-    let bytes: &Bytes = block.reach();
-    let Ok(copy) = bytes.clone() else {
-        return Written::of(Err(NO_MEMORY));
-    };
-    write(shared.reach(), Message::Block(copy))
+}
+
+/// Writes as `limekeel_shared_write_block`, and flushes behind it, under one lock.
+#[unsafe(no_mangle)]
+pub extern "C" fn limekeel_shared_write_and_flush_block(
+    shared: &mut Shared,
+    block: &mut Block,
+) -> WrittenAndFlushed
+    ensures writes { TriesWithBlock shared.old.value block.old.value PutsAndFlushes written_and_flushed_in_c result
+        shared.new.value }
+    ensures block { block.new.value ≡ block.old.value }
+{
+    if !shared.is_open() {
+        return WrittenAndFlushed::of(Err(NOT_OPEN));
+    }
+    match bytes_of(block) {
+        Ok(message) => WrittenAndFlushed::of(shared.obey(PutAndFlush(message))),
+        Err(status) => WrittenAndFlushed::of(Err(status)),
+    }
 }
 
 /// Writes these bytes where they lie, as `limekeel_write_lent_bytes`: no byte is copied.
-///
-/// The status is 13 if there is no handle, and 18 if another call has the lock.
 #[unsafe(no_mangle)]
 pub extern "C" fn limekeel_shared_write_lent_bytes(
     shared: &mut Shared,
     bytes: &'static [u8],
 ) -> Written
-    ensures { TriesToWrite shared.old.value bytes.now result shared.new.value }
+    ensures { Tries shared.old.value (Puts (AsBlock bytes.now)) written_in_c result shared.new.value }
 {
-    if !shared.is_open() {
-        return Written::of(Err(NOT_OPEN));
-    }
-    write(shared.reach(), lent(bytes))
+    Written::of(shared.obey(Put(lent(bytes))))
+}
+
+/// Writes a region of `length` bytes, which whoever has the transport sends by itself.
+#[unsafe(no_mangle)]
+pub extern "C" fn limekeel_shared_write_region(shared: &mut Shared, length: u64) -> Written
+    ensures { Tries shared.old.value (Puts (AsRegion length)) written_in_c result shared.new.value }
+{
+    Written::of(shared.obey(Put(Message::Region(length))))
+}
+
+/// Writes any other message, by a number that means something to the application alone.
+#[unsafe(no_mangle)]
+pub extern "C" fn limekeel_shared_write_other(shared: &mut Shared, value: u32) -> Written
+    ensures { Tries shared.old.value (Puts (AsOther value)) written_in_c result shared.new.value }
+{
+    Written::of(shared.obey(Put(Message::Other(value))))
 }
 
 /// Lets the transport have all that was written so far.
@@ -97,16 +158,7 @@ pub extern "C" fn limekeel_shared_write_lent_bytes(
 pub extern "C" fn limekeel_shared_flush(shared: &mut Shared) -> Flushed
     ensures { Tries shared.old.value (Makes (ObeyingFreely flushed_reply) command.Flush) flushed_in_c result shared.new.value }
 {
-    if !shared.is_open() {
-        return Flushed::of(Err(NOT_OPEN));
-    }
-    match shared.reach().try_flush() {
-        None => Flushed::of(Err(BUSY)),
-        Some((answer, wakes)) => {
-            wake_nobody(wakes);
-            Flushed::of(accepted(Some(answer)))
-        }
-    }
+    Flushed::of(shared.obey(commands::Flush))
 }
 
 /// Takes a promise back.
@@ -115,16 +167,7 @@ pub extern "C" fn limekeel_shared_cancel(shared: &mut Shared, id: u64) -> Cancel
     ensures { Tries shared.old.value (Makes (ObeyingFreely (cancelled_reply id)) (command.Cancel (record { 0 = id })))
         cancelled_in_c result shared.new.value }
 {
-    if !shared.is_open() {
-        return Cancelled::of(Err(NOT_OPEN));
-    }
-    match shared.reach().try_cancel(id) {
-        None => Cancelled::of(Err(BUSY)),
-        Some((answer, wakes)) => {
-            wake_nobody(wakes);
-            Cancelled::of(accepted(Some(answer)))
-        }
-    }
+    Cancelled::of(shared.obey(commands::Cancel(id)))
 }
 
 /// Closes the connection for good: fails the messages that no flush has reached for this cause, and returns which they
@@ -135,15 +178,33 @@ pub extern "C" fn limekeel_shared_close(shared: &mut Shared, cause: u32) -> Take
         (Makes (TakingQuietly (Failed (record { 0 = cause })) ⊤) (command.Close (record { 0 = cause }))) taken_in_c result
         shared.new.value }
 {
+    Taken::of(shared.obey(commands::Close(Cause(cause))))
+}
+
+/// Sets the user bit of this index, or clears it if `writable` is set.
+#[unsafe(no_mangle)]
+pub extern "C" fn limekeel_shared_user_bit(
+    shared: &mut Shared,
+    index: u32,
+    writable: bool,
+) -> Changed
+    ensures { Tries shared.old.value (Makes (ObeyingFreely bit_reply) (command.UserBit index writable)) changed_in_c result
+        shared.new.value }
+{
+    Changed::of(shared.obey(commands::UserBit(index, writable)))
+}
+
+/// Sets the marks that are in force from now on.
+#[unsafe(no_mangle)]
+pub extern "C" fn limekeel_shared_set_marks(shared: &mut Shared, low: u32, high: u32) -> u32
+    ensures { TriesToSetMarks shared.old.value (water_mark_of low high) result shared.new.value }
+{
     if !shared.is_open() {
-        return Taken::of(Err(NOT_OPEN));
+        return NOT_OPEN;
     }
-    match shared.reach().try_close(Cause(cause)) {
-        None => Taken::of(Err(BUSY)),
-        Some((answer, wakes)) => {
-            wake_nobody(wakes);
-            Taken::of(accepted(Some(answer)))
-        }
+    match WaterMark::new(low, high) {
+        Ok(marks) => status_of(shared.obey(commands::SetMarks(marks))),
+        Err(refusal) => u32::from(refusal.number()),
     }
 }
 
@@ -152,18 +213,17 @@ pub extern "C" fn limekeel_shared_close(shared: &mut Shared, cause: u32) -> Take
 /// The status is 13 if there is no handle, and 18 if another call has the lock.
 #[unsafe(no_mangle)]
 pub extern "C" fn limekeel_shared_look(shared: &mut Shared) -> Look
-    ensures { TriesToLook shared.old.value result shared.new.value }
+    ensures { TriesToLook shared.old.value Shows look_or_status result shared.new.value }
 {
-    if !shared.is_open() {
-        return Look::without(NOT_OPEN);
-    }
-    match shared.reach().try_look() {
-        None => Look::without(BUSY),
-        Some((look, wakes)) => {
-            wake_nobody(wakes);
-            Look::of(Some(look))
-        }
-    }
+    Look::tried(shared.ask(looks::Look))
+}
+
+/// What has become of a promise, as `limekeel_promise`, under the lock.
+#[unsafe(no_mangle)]
+pub extern "C" fn limekeel_shared_promise(shared: &mut Shared, id: u64) -> Promise
+    ensures { TriesToLook shared.old.value (λ connected. Tells connected id) promise_or_status result shared.new.value }
+{
+    Promise::tried(shared.ask(looks::Promise(id)))
 }
 
 /// The word and the total after accepted calls that begin with all that this handle has seen. It takes no lock.
@@ -186,28 +246,29 @@ pub extern "C" fn limekeel_shared_glance(shared: &mut Shared) -> Glance
     }
 }
 
-/// Writes a message, which is let go if the lock is taken or it is refused.
-fn write(handle: &mut Handle, message: Message) -> Written
-    ensures { (tried : Option (Result WrittenReply Refused)) × IsWriteTried (Some tried) handle.old message result (Some handle.new) }
+/// A message of a copy of these bytes.
+fn copied(alloc: Global, bytes: &[u8]) -> Result<Message, u32>
+    ensures copy { IfOk result (λ message. message ≡ AsBlock bytes.now) }
+    ensures no_memory { IfErr result (λ status. status ≡ no_memory) }
 {
-    match handle.try_write(message) {
-        Err(_message) => Written::of(Err(BUSY)),
-        Ok((answer, wakes)) => {
-            wake_nobody(wakes);
-            Written::of(accepted(Some(without_message(answer))))
-        }
+    match Bytes::copy_from_slice(alloc, bytes) {
+        Ok(copy) => Ok(Message::Block(copy)),
+        Err(_) => Err(NO_MEMORY),
     }
 }
 
-/// The answer to a write, of which a refusal tells the reason alone: the caller of C has what the message is made of.
-fn without_message(
-    answer: Result<ob_connection::Written, Refused>,
-) -> Result<ob_connection::Written, Refusal>
-    ensures { result ≡ answer_of_write answer }
+/// A message that shares the bytes of a block.
+fn bytes_of(block: &mut Block) -> Result<Message, u32>
+    ensures message { MessageOf block.old.value result }
+    ensures block { block.new.value ≡ block.old.value }
 {
-    match answer {
-        Ok(written) => Ok(written),
-        Err(refused) => Err(refused.refusal),
+    if !block.is_open() {
+        return Err(NO_BLOCK);
+    }
+    let bytes: &Bytes = block.reach();
+    match bytes.clone() {
+        Ok(shared) => Ok(Message::Block(shared)),
+        Err(_) => Err(NO_MEMORY),
     }
 }
 

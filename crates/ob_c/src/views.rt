@@ -3,6 +3,7 @@
 ghost use Rattle.std.specs.Option.{option_copied};
 ghost use Rattle.std.specs.Prelude.{◌≡◌, option_map, Some, None};
 ghost use Rattle.ob_c.specs.Looks.{counts_in_c, no_look, settings_in_c, look_in_c, truth_in_c, promise_in_c, front_in_c, less_progress, current_in_c};
+ghost use Rattle.ob_c.specs.Looks.{current_or_status, look_or_status, promise_or_status};
 
 use crate::numbers::{DONE, NOT_OPEN, cause_number, outcome_number};
 use ob_connection::Status;
@@ -59,6 +60,16 @@ impl Look {
                 size: look.size,
                 current_progress: look.current_progress,
             },
+        }
+    }
+
+    /// What C gets for a look of a shared connection.
+    pub(crate) fn tried(look: Result<ob_connection::Look, u32>) -> Look
+        ensures { result ≡ look_or_status look }
+    {
+        match look {
+            Err(status) => Look::without(status),
+            Ok(look) => Look::of(Some(look)),
         }
     }
 }
@@ -208,6 +219,16 @@ impl Promise {
             Some(Some(Status::SettledBefore)) => Promise::in_state(DONE, 4),
         }
     }
+
+    /// What C gets for this promise of a shared connection.
+    pub(crate) fn tried(promise: Result<Option<Status>, u32>) -> Promise
+        ensures { result ≡ promise_or_status promise }
+    {
+        match promise {
+            Err(status) => Promise::in_state(status, 0),
+            Ok(promise) => Promise::of(Some(promise)),
+        }
+    }
 }
 
 /// The promise of the first flushed message.
@@ -274,6 +295,20 @@ impl Current {
             status: DONE,
             kind,
             number,
+        }
+    }
+
+    /// What C gets for the front of a shared connection.
+    pub(crate) fn tried(current: Result<Current, u32>) -> Current
+        ensures { result ≡ current_or_status current }
+    {
+        match current {
+            Err(status) => Current {
+                status,
+                kind: 0,
+                number: 0,
+            },
+            Ok(current) => current,
         }
     }
 }

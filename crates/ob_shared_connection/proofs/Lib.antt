@@ -1,5 +1,6 @@
 pub mod Bells
 pub mod Ending
+pub mod Flushing
 pub mod GivingUp
 pub mod Lists
 pub mod Locking

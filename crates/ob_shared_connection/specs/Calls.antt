@@ -1,7 +1,7 @@
 -- What a handle is told at the lock, and what a call promises.
-use Rattle.std.specs.Prelude.{◌≡◌, true, false, List, [], ◌∷◌, ◌++◌, Result, IfErr, IfOk, IsErrOf, OnErr, OnOk, is_err}
+use Rattle.std.specs.Prelude.{◌≡◌, true, false, List, [], ◌∷◌, ◌++◌, Result, Ok, Err, IfErr, IfOk, IsErrOf, OnErr, OnOk, is_err}
 use Rattle.ob_types.specs.declared.command.Command.{Command}
-use Rattle.ob_types.specs.declared.command.Command.TheVariants.{Close, FailFlushed, Write}
+use Rattle.ob_types.specs.declared.command.Command.TheVariants.{Close, FailFlushed, Flush, Write}
 use Rattle.ob_types.specs.declared.message.Message.{Message}
 use Rattle.ob_types.specs.declared.promise.Cause.{Cause}
 use Rattle.ob_types.specs.declared.promise.Outcome.{Outcome}
@@ -11,14 +11,16 @@ use Rattle.ob_types.specs.declared.refusal.Refusal.TheVariants.{Closed, NoMemory
 use Rattle.ob_types.specs.declared.reply.Reply.{Reply}
 use Rattle.ob_seq.specs.State.{closed_after}
 use Rattle.ob_connection.specs.Connected.{Connected, Gives}
-use Rattle.ob_connection.specs.Obeying.{GivesUp, IsNext, IsQuiet, Obeys, answer_of_write, taken_reply, written_reply}
+use Rattle.ob_connection.specs.Obeying.{GivesUp, IsNext, IsQuiet, Obeys, answer_of_write, flushed_reply, taken_reply, written_reply}
 use Rattle.ob_connection.specs.declared.refused.Refused.{Refused}
+use Rattle.ob_connection.specs.declared.replies.Flushed.{Flushed}
 use Rattle.ob_connection.specs.declared.replies.Taken.{Taken}
 use Rattle.ob_connection.specs.declared.replies.Written.{Written}
 use Rattle.ob_shared_connection.specs.Log.{commands_by}
 use Rattle.ob_shared_connection.specs.Removals.{NoneRemoves}
 use Rattle.ob_shared_connection.specs.Values.{HandleValue, Held, IsLeft, handle_with}
 use Rattle.ob_shared_connection.specs.declared.call.Call.{Call}
+use Rattle.ob_shared_connection.specs.declared.written.WrittenAndFlushed.{WrittenAndFlushed}
 
 -- a handle that takes the lock sees all accepted calls, and the connection is what they leave: what it had seen begins
 -- them, its own are just those that were accepted from it, in order, and what came between is of other handles; of that
@@ -63,11 +65,40 @@ pub record Writing (message : Message) (old : Connected) (result : Result Writte
 abbrev pub Writes : Message → Result Written Refused → Held → Held → Type 0
 Writes message result old new = IsCall (Writing message) (Write message ∷ []) old result new
 
+-- it writes a message, as the sequential connection does, may run out of memory, and lets a message go that it refuses
+abbrev pub Putting : Message → Connected → Result Written Refusal → Connected → Type 0
+Putting message old result new = Obeys old (Write message) written_reply result new
+
+-- a call that writes a message, which is gone if it is refused
+abbrev pub Puts : Message → Result Written Refusal → Held → Held → Type 0
+Puts message result old new = IsCall (Putting message) (Write message ∷ []) old result new
+
 -- it obeys the command, and never runs out of memory
 pub record ObeyingFreely {A : Type 0} (tell : List PromiseState → A → Reply) (command : Command) (old : Connected)
     (result : Result A Refusal) (new : Connected) : Type 0 where
   pub obeys : Obeys old command tell result new
   pub frugal : ¬ IsErrOf result NoMemory
+
+-- a flush that was accepted
+abbrev pub Flushing : Connected → Flushed → Connected → Type 0
+Flushing old flushed new =
+    let result : Result Flushed Refusal = Ok flushed in ObeyingFreely flushed_reply Flush old result new
+
+-- a write does this, and if it is accepted, what was written so far is flushed right behind it, which is accepted too; if
+-- it is refused, nothing is flushed
+abbrev pub ThenFlushes : {E : Type 0} → (Connected → Result Written E → Connected → Type 0) → Connected
+    → Result WrittenAndFlushed E → Connected → Type 0
+ThenFlushes Writes old (Ok done) new =
+    (between : Connected) × Writes old (Ok done.written) between × Flushing between done.flushed new
+ThenFlushes Writes old (Err refused) new = Writes old (Err refused) new
+
+-- a call that writes a message and flushes
+abbrev pub WritesAndFlushes : Message → Result WrittenAndFlushed Refused → Held → Held → Type 0
+WritesAndFlushes message result old new = IsCall (ThenFlushes (Writing message)) (Write message ∷ Flush ∷ []) old result new
+
+-- the same, if the message is gone when it is refused
+abbrev pub PutsAndFlushes : Message → Result WrittenAndFlushed Refusal → Held → Held → Type 0
+PutsAndFlushes message result old new = IsCall (ThenFlushes (Putting message)) (Write message ∷ Flush ∷ []) old result new
 
 -- it obeys the command, never runs out of memory, and what it took away goes on where those end that were gone before,
 -- with this outcome

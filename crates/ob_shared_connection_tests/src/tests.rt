@@ -6,9 +6,10 @@ mod rows;
 mod sending;
 mod threads;
 mod wakes;
+mod writes;
 
 use bytes::Bytes;
-use ob_shared_connection::{Handle, Transport};
+use ob_shared_connection::{Handle, Transport, Wakes};
 use ob_types::{Estimate, Message, WaterMark};
 use std::alloc::Global;
 use std::process::Abort;
@@ -43,6 +44,27 @@ fn flushed<R: Wait>(rt: &R, alloc: Global, count: u32) -> Result<(Transport, Han
 /// A block of four bytes.
 fn four() -> Message {
     Message::Block(Bytes::from_static(b"four"))
+}
+
+/// Takes what is told of whom to wake apart: the one who sleeps for the lock, writers, and the transport.
+fn told(wakes: Wakes) -> (bool, bool, bool) {
+    let Wakes {
+        next,
+        writers,
+        work,
+    } = wakes;
+    (next, writers, work)
+}
+
+/// What a try returned, or what it gives back. Nobody waits, so it wakes nobody.
+fn tried<T, E>(told_of: Result<(T, Wakes), E>) -> Result<T, E> {
+    match told_of {
+        Ok((answer, wakes)) => {
+            let _whom = told(wakes);
+            Ok(answer)
+        }
+        Err(again) => Err(again),
+    }
 }
 
 /// Returns once *n* threads have ended. If they have not in ten seconds, one sleeps that nobody wakes, and this ends

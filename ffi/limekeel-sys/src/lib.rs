@@ -23,7 +23,7 @@ mod heap;
 pub const PIECES: usize = 1024;
 
 /// A number of these declarations, which `limekeel_open_for` compares with the archive's.
-pub const EDGE: u32 = 3558090269;
+pub const EDGE: u32 = 577456178;
 
 macro_rules! numbers {
     ($($name:ident = $number:literal),* $(,)?) => {
@@ -99,6 +99,10 @@ plain! {
     Written 16 { status at 0: u32, change at 4: u32, id at 8: u64 }
     /// `struct limekeel_flushed`.
     Flushed 16 { status at 0: u32, change at 4: u32, count at 8: u64 }
+    /// `struct limekeel_written_and_flushed`.
+    WrittenAndFlushed 32 {
+        status at 0: u32, change at 4: u32, id at 8: u64, flush_change at 16: u32, count at 24: u64,
+    }
     /// `struct limekeel_removed`.
     Removed 32 {
         status at 0: u32, change at 4: u32, any at 8: bool, settled at 9: bool, outcome at 12: u32, cause at 16: u32,
@@ -203,10 +207,21 @@ unsafe extern "C" {
     pub fn limekeel_transport_free(transport: *mut Transport) -> u32;
     pub fn limekeel_shared_write_bytes(shared: *mut Shared, bytes: *const u8, length: usize) -> Written;
     pub fn limekeel_shared_write_block(shared: *mut Shared, block: *const Block) -> Written;
+    pub fn limekeel_shared_write_and_flush_bytes(
+        shared: *mut Shared,
+        bytes: *const u8,
+        length: usize,
+    ) -> WrittenAndFlushed;
+    pub fn limekeel_shared_write_and_flush_block(shared: *mut Shared, block: *const Block) -> WrittenAndFlushed;
+    pub fn limekeel_shared_write_region(shared: *mut Shared, length: u64) -> Written;
+    pub fn limekeel_shared_write_other(shared: *mut Shared, value: u32) -> Written;
     pub fn limekeel_shared_write_lent_bytes(shared: *mut Shared, bytes: *const u8, length: usize) -> Written;
     pub fn limekeel_shared_flush(shared: *mut Shared) -> Flushed;
     pub fn limekeel_shared_cancel(shared: *mut Shared, id: u64) -> Cancelled;
     pub fn limekeel_shared_close(shared: *mut Shared, cause: u32) -> Taken;
+    pub fn limekeel_shared_user_bit(shared: *mut Shared, index: u32, writable: bool) -> Changed;
+    pub fn limekeel_shared_set_marks(shared: *mut Shared, low: u32, high: u32) -> u32;
+    pub fn limekeel_shared_promise(shared: *mut Shared, id: u64) -> Promise;
     pub fn limekeel_shared_look(shared: *mut Shared) -> Look;
     pub fn limekeel_shared_glance(shared: *mut Shared) -> Glance;
     pub fn limekeel_transport_gather_pieces(
@@ -216,5 +231,10 @@ unsafe extern "C" {
         max_bytes: u32,
     ) -> Laid;
     pub fn limekeel_transport_take_sent(transport: *mut Transport, n: u64) -> Taken;
+    pub fn limekeel_transport_current(transport: *mut Transport) -> Current;
+    pub fn limekeel_transport_progress(transport: *mut Transport, n: u64) -> u32;
+    pub fn limekeel_transport_remove(transport: *mut Transport) -> Removed;
+    pub fn limekeel_transport_remove_with(transport: *mut Transport, cause: u32) -> Removed;
+    pub fn limekeel_transport_fail_flushed(transport: *mut Transport, cause: u32, notify: bool) -> Taken;
     pub fn limekeel_transport_give_up(transport: *mut Transport, cause: u32) -> Taken;
 }

@@ -129,8 +129,7 @@ impl Server<'_> {
         match client.socket.read(&mut bytes) {
             Ok(0) => Err("the client sends no more".into()),
             Ok(count) => {
-                let _ = client.connection.write(&bytes[..count])?;
-                let _ = client.connection.flush()?;
+                let _ = client.connection.write_and_flush(&bytes[..count])?;
                 self.seen.peak.fetch_max(client.connection.glance().total, Ordering::Relaxed);
                 self.wake.ring();
                 Ok(true)

@@ -30,11 +30,14 @@ pub(crate) struct Common {
 pub(crate) struct Role {
     pub(crate) sender: Sender,
     pub(crate) sharer: Sharer,
+    /// How many messages it has taken away, which is the promise of the first that is left: no other takes one away, but a close,
+    /// and then none is left.
+    pub(crate) gone: u64,
 }
 
 impl Role {
     pub(crate) fn none() -> Role {
-        Role { sender: Sender::none(), sharer: Sharer::none() }
+        Role { sender: Sender::none(), sharer: Sharer::none(), gone: 0 }
     }
 }
 
@@ -46,6 +49,22 @@ struct Books {
     cancelled: Promises,
     /// What messages are lent.
     lent: Lent,
+}
+
+/// How often one that is to wait looks without the lock before it sleeps. A pause comes after each look, twice as long as the one
+/// before it: some microseconds in all.
+const LOOKS: u32 = 7;
+
+/// Looks for a while whether it has come what one is to wait for, and returns once it seems so. While others work it comes as soon
+/// as that most often, and a sleep costs more: also the thread that has to wake the sleeper. The processor is not given away, since
+/// it comes back late if many want it.
+pub(crate) fn look_for_a_while(mut came: impl FnMut() -> bool) {
+    for turn in 0..LOOKS {
+        if came() {
+            return;
+        }
+        (0..1 << turn).for_each(|_| std::hint::spin_loop());
+    }
 }
 
 impl Common {

@@ -44,6 +44,19 @@ macro_rules! tries {
     };
 }
 
+/// The same of the handle that sends.
+macro_rules! sends {
+    ($($name:ident($($argument:ident: $kind:ty),*) -> $answer:ty = $export:ident;)*) => {
+        $(
+            pub(crate) fn $name(&mut self $(, $argument: $kind)*) -> Option<$answer> {
+                // SAFETY: the handle is this value's own, and `&mut` says that no other call uses it.
+                let told = unsafe { sys::$export(&mut self.inner $(, $argument)*) };
+                (told.status != sys::BUSY).then_some(told)
+            }
+        )*
+    };
+}
+
 impl Sharer {
     pub(crate) fn none() -> Sharer {
         Sharer { inner: UnsafeCell::new(sys::Shared { at: null_mut() }), in_use: AtomicBool::new(false) }
@@ -78,8 +91,18 @@ impl Sharer {
         flush() -> sys::Flushed = limekeel_shared_flush;
         cancel(id: u64) -> sys::Cancelled = limekeel_shared_cancel;
         close(cause: u32) -> sys::Taken = limekeel_shared_close;
+        write_region(length: u64) -> sys::Written = limekeel_shared_write_region;
+        write_other(value: u32) -> sys::Written = limekeel_shared_write_other;
+        user_bit(index: u32, writable: bool) -> sys::Changed = limekeel_shared_user_bit;
         look() -> sys::Look = limekeel_shared_look;
+        promise(id: u64) -> sys::Promise = limekeel_shared_promise;
         glance() -> sys::Glance = limekeel_shared_glance;
+    }
+
+    pub(crate) fn set_marks(&self, marks: Marks) -> Option<u32> {
+        // SAFETY: as of the others.
+        let told = self.with(|inner| unsafe { sys::limekeel_shared_set_marks(inner, marks.low, marks.high) })?;
+        (told != sys::BUSY).then_some(told)
     }
 
     #[inline]
@@ -87,6 +110,22 @@ impl Sharer {
         // SAFETY: as of the others; the pointer and the length are those of one slice.
         let told =
             self.with(|inner| unsafe { sys::limekeel_shared_write_bytes(inner, bytes.as_ptr(), bytes.len()) })?;
+        (told.status != sys::BUSY).then_some(told)
+    }
+
+    /// Writes, and flushes under the same lock.
+    #[inline]
+    pub(crate) fn write_and_flush(&self, bytes: &[u8]) -> Option<sys::WrittenAndFlushed> {
+        // SAFETY: as of `write`.
+        let told = self
+            .with(|inner| unsafe { sys::limekeel_shared_write_and_flush_bytes(inner, bytes.as_ptr(), bytes.len()) })?;
+        (told.status != sys::BUSY).then_some(told)
+    }
+
+    #[inline]
+    pub(crate) fn write_block_and_flush(&self, block: &Slot) -> Option<sys::WrittenAndFlushed> {
+        // SAFETY: as of the others; the block is only read.
+        let told = self.with(|inner| unsafe { sys::limekeel_shared_write_and_flush_block(inner, block.inner()) })?;
         (told.status != sys::BUSY).then_some(told)
     }
 
@@ -167,20 +206,23 @@ impl Sender {
         Sharer::made(|second| unsafe { sys::limekeel_transport_another(&mut self.inner, second) })
     }
 
-    pub(crate) fn take_sent(&mut self, n: u64) -> Option<sys::Taken> {
-        // SAFETY: the handle is this value's own, and `&mut` says that no other call uses it.
-        let told = unsafe { sys::limekeel_transport_take_sent(&mut self.inner, n) };
-        (told.status != sys::BUSY).then_some(told)
+    sends! {
+        take_sent(n: u64) -> sys::Taken = limekeel_transport_take_sent;
+        remove() -> sys::Removed = limekeel_transport_remove;
+        remove_with(cause: u32) -> sys::Removed = limekeel_transport_remove_with;
+        fail_flushed(cause: u32, notify: bool) -> sys::Taken = limekeel_transport_fail_flushed;
+        give_up(cause: u32) -> sys::Taken = limekeel_transport_give_up;
+        current() -> sys::Current = limekeel_transport_current;
     }
 
-    pub(crate) fn give_up(&mut self, cause: u32) -> Option<sys::Taken> {
-        // SAFETY: as of `take_sent`.
-        let told = unsafe { sys::limekeel_transport_give_up(&mut self.inner, cause) };
-        (told.status != sys::BUSY).then_some(told)
+    pub(crate) fn progress(&mut self, n: u64) -> Option<u32> {
+        // SAFETY: as of the others.
+        let told = unsafe { sys::limekeel_transport_progress(&mut self.inner, n) };
+        (told != sys::BUSY).then_some(told)
     }
 
     fn gather(&mut self, places: &mut [Place], max_bytes: u32) -> Option<sys::Laid> {
-        // SAFETY: as of `take_sent`; the pointer and the length are those of one slice, where the archive only writes.
+        // SAFETY: as of the others; the pointer and the length are those of one slice, where the archive only writes.
         let told = unsafe {
             sys::limekeel_transport_gather_pieces(&mut self.inner, places.as_mut_ptr().cast(), places.len(), max_bytes)
         };

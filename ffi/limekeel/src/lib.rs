@@ -103,7 +103,7 @@ mod raw;
 pub use block::Block;
 pub use connection::{Connection, Estimate, Marks};
 pub use raw::Pieces;
-pub use replies::{Change, Flushed, Outcome, Refusal, Refused, Removed, Settled, Taken, Written};
+pub use replies::{Change, Flushed, Outcome, Refusal, Refused, Removed, Settled, Taken, Written, WrittenAndFlushed};
 pub use room::Room;
 pub use send::{Ending, Sent, SentTurns};
 pub use shared::{Moment, SharedConnection, Unwritten};

@@ -224,6 +224,27 @@ impl Flushed {
     }
 }
 
+/// What a write with the flush behind it returns.
+#[must_use = "nothing tells the changes of writability again"]
+#[derive(Clone, Copy, Debug, PartialEq, Eq)]
+pub struct WrittenAndFlushed {
+    /// What the write returned.
+    pub written: Written,
+    /// What the flush behind it returned.
+    pub flushed: Flushed,
+}
+
+impl WrittenAndFlushed {
+    #[inline]
+    pub(crate) fn of(told: sys::WrittenAndFlushed) -> Result<WrittenAndFlushed, Refusal> {
+        done(told.status)?;
+        Ok(WrittenAndFlushed {
+            written: Written { id: told.id, change: Change::of(told.change) },
+            flushed: Flushed { count: told.count, change: Change::of(told.flush_change) },
+        })
+    }
+}
+
 /// What the removal of the first flushed message returns.
 #[must_use = "nothing tells the change of writability or the settlement again"]
 #[derive(Clone, Copy, Debug, PartialEq, Eq)]
@@ -262,6 +283,12 @@ pub struct Taken {
 }
 
 impl Taken {
+    /// One message, with this promise.
+    pub(crate) fn one(id: u64) -> Taken {
+        let (outcome, cancelled) = (Outcome::Success, Promises::default());
+        Taken { count: 1, change: None, promises: id..id + 1, outcome, cancelled }
+    }
+
     #[inline]
     pub(crate) fn of(told: sys::Taken) -> Result<Taken, Refusal> {
         done(told.status)?;

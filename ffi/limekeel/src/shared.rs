@@ -1,11 +1,12 @@
 use crate::block::Block;
-use crate::common::{Common, Role};
+use crate::common::{Common, Role, look_for_a_while};
 use crate::connection::{Estimate, Marks};
 use crate::handles::{Sender, Sharer};
-use crate::replies::{Change, Flushed, Refusal, Refused, Taken, Written};
+use crate::replies::{Change, Flushed, Refusal, Refused, Taken, Written, WrittenAndFlushed, done};
 use crate::transport::Transport;
-use crate::views::{Glance, Look};
+use crate::views::{Glance, Look, Promise};
 use crate::waits::{end_of, lock};
+use limekeel_sys as sys;
 use std::alloc::{Layout, handle_alloc_error};
 use std::error::Error;
 use std::fmt;
@@ -54,6 +55,9 @@ pub struct SharedConnection {
     sharer: Sharer,
     common: Arc<Common>,
 }
+
+/// Up to how many bytes the archive copies under its lock.
+const FEW_BYTES: usize = 2048;
 
 /// What was found at the end of a wait.
 #[must_use = "it may not be what was waited for"]
@@ -106,7 +110,7 @@ impl SharedConnection {
         let common = Arc::new(Common::new());
         let connection = SharedConnection::new(sender.another()?, &common);
         let sharer = connection.another()?;
-        let transport = Transport::new(Role { sender, sharer }, &common);
+        let transport = Transport::new(Role { sender, sharer, gone: 0 }, &common);
         Ok((connection, transport))
     }
 
@@ -126,15 +130,88 @@ impl SharedConnection {
         Ok(SharedConnection::new(self.another()?, &self.common))
     }
 
-    /// Writes a copy of these bytes after all else, as [`crate::Connection::write`], also if the connection is not writable. Each
-    /// copy has memory of its own.
+    /// Writes a copy of these bytes after all else, as [`crate::Connection::write`], also if the connection is not writable. Small
+    /// messages that wait together share memory; more than 2048 bytes are copied before the lock is taken, so that no thread waits
+    /// for that.
     #[inline]
     pub fn write(&self, bytes: &[u8]) -> Result<Written, Refusal> {
+        if bytes.len() > FEW_BYTES {
+            return self.write_many(bytes);
+        }
+        Written::of(self.common.line.had(|| self.sharer.write(bytes)))
+    }
+
+    #[cold]
+    fn write_many(&self, bytes: &[u8]) -> Result<Written, Refusal> {
         match self.common.line.at_once(|| self.sharer.write(bytes)) {
             Some(told) => Written::of(told),
             // not copied again at each try
             None => self.write_block(&Block::new(bytes)?),
         }
+    }
+
+    /// Writes as [`SharedConnection::write`], and flushes behind it, under one lock (Netty's `writeAndFlush`): no call of another
+    /// thread comes between the two, and it costs half of both. A write that is refused is not flushed. It wakes the transport if
+    /// that waits for work.
+    ///
+    /// ```
+    /// use limekeel::{Estimate, Marks, SharedConnection};
+    ///
+    /// let (connection, _transport) = SharedConnection::open(Marks::default(), Estimate::default())?;
+    /// let _ = connection.write(b"head")?;
+    /// let done = connection.write_and_flush(b"body")?;
+    /// assert_eq!((done.written.id, done.flushed.count), (1, 2));
+    /// # Ok::<(), limekeel::Refusal>(())
+    /// ```
+    #[inline]
+    pub fn write_and_flush(&self, bytes: &[u8]) -> Result<WrittenAndFlushed, Refusal> {
+        if bytes.len() > FEW_BYTES {
+            return self.write_many_and_flush(bytes);
+        }
+        self.flushed_behind(self.common.line.had(|| self.sharer.write_and_flush(bytes)))
+    }
+
+    #[cold]
+    fn write_many_and_flush(&self, bytes: &[u8]) -> Result<WrittenAndFlushed, Refusal> {
+        match self.common.line.at_once(|| self.sharer.write_and_flush(bytes)) {
+            Some(told) => self.flushed_behind(told),
+            None => self.write_block_and_flush(&Block::new(bytes)?),
+        }
+    }
+
+    /// Writes as [`SharedConnection::write_block`], and flushes behind it, as [`SharedConnection::write_and_flush`].
+    #[inline]
+    pub fn write_block_and_flush(&self, block: &Block) -> Result<WrittenAndFlushed, Refusal> {
+        self.flushed_behind(self.common.line.had(|| self.sharer.write_block_and_flush(&block.slot)))
+    }
+
+    /// Tells those who wait of the flush behind a write.
+    #[inline]
+    fn flushed_behind(&self, told: sys::WrittenAndFlushed) -> Result<WrittenAndFlushed, Refusal> {
+        let done = WrittenAndFlushed::of(told)?;
+        self.tell(done.flushed);
+        Ok(done)
+    }
+
+    #[inline]
+    fn tell(&self, flushed: Flushed) {
+        if flushed.count > 0 {
+            self.common.work.ring();
+        }
+        if flushed.change == Some(Change::Writable) {
+            self.common.writers.ring();
+        }
+    }
+
+    /// Writes a region: `length` bytes of something that who has the transport sends, as of a file: [`Transport::current`] tells
+    /// it, once it is in front.
+    pub fn write_region(&self, length: u64) -> Result<Written, Refusal> {
+        Written::of(self.common.line.had(|| self.sharer.write_region(length)))
+    }
+
+    /// Writes any other message, by a number that means something to the caller alone.
+    pub fn write_other(&self, value: u32) -> Result<Written, Refusal> {
+        Written::of(self.common.line.had(|| self.sharer.write_other(value)))
     }
 
     /// Waits until the connection is writable, and writes then, as [`SharedConnection::write`]. Threads that found it writable at
@@ -197,12 +274,7 @@ impl SharedConnection {
     #[inline]
     pub fn flush(&self) -> Result<Flushed, Refusal> {
         let flushed = Flushed::of(self.common.line.had(|| self.sharer.flush()))?;
-        if flushed.count > 0 {
-            self.common.work.ring();
-        }
-        if flushed.change == Some(Change::Writable) {
-            self.common.writers.ring();
-        }
+        self.tell(flushed);
         Ok(flushed)
     }
 
@@ -218,6 +290,29 @@ impl SharedConnection {
         let taken = Taken::of(self.common.line.had(|| self.sharer.close(cause)))?;
         self.common.closes();
         Ok(self.common.settled_by(taken))
+    }
+
+    /// Sets the user bit 1 to 31, which makes the connection unwritable, or clears it if `writable` is set. It wakes those who wait
+    /// for room if they may go on.
+    pub fn user_bit(&self, index: u32, writable: bool) -> Result<Option<Change>, Refusal> {
+        let told = self.common.line.had(|| self.sharer.user_bit(index, writable));
+        done(told.status)?;
+        let change = Change::of(told.change);
+        if change == Some(Change::Writable) {
+            self.common.writers.ring();
+        }
+        Ok(change)
+    }
+
+    /// Sets other marks. They change nothing by themselves: the next rise or fall goes by them.
+    pub fn set_marks(&self, marks: Marks) -> Result<(), Refusal> {
+        done(self.common.line.had(|| self.sharer.set_marks(marks)))
+    }
+
+    /// What has become of a promise, or nothing if no write was accepted under it.
+    #[must_use]
+    pub fn promise(&self, id: u64) -> Option<Promise> {
+        Promise::of(self.common.line.had(|| self.sharer.promise(id)))
     }
 
     /// What is pending now.
@@ -258,6 +353,7 @@ impl SharedConnection {
     }
 
     fn wait_until(&self, end: Option<Instant>) -> Moment {
+        look_for_a_while(|| self.is_writable() || self.is_closed());
         self.common.writers.wait(end, || self.moment()).unwrap_or(Moment::NotYet)
     }
 

@@ -1,9 +1,9 @@
-use crate::common::{Common, Role};
+use crate::common::{Common, Role, look_for_a_while};
 use crate::raw::Place;
-use crate::replies::{Change, Flushed, Refusal, Taken};
+use crate::replies::{Change, Flushed, Refusal, Removed, Taken, done};
 use crate::send::{Ending, PIECES, Sent, SentTurns, written};
 use crate::shared::{Moment, SharedConnection};
-use crate::views::Look;
+use crate::views::{Current, Glance, Look};
 use crate::waits::{end_of, lock};
 use std::io::{self, ErrorKind, IoSlice, Write};
 use std::mem::replace;
@@ -84,6 +84,71 @@ impl Transport {
         Ok(self.common.settled_by(taken))
     }
 
+    /// What is left of the first flushed message: a region or another one is for who has the transport to send, and then to
+    /// [`Transport::remove`].
+    ///
+    /// ```
+    /// use limekeel::{Current, Ending, Estimate, Marks, SharedConnection};
+    ///
+    /// let (connection, mut transport) = SharedConnection::open(Marks::default(), Estimate::default())?;
+    /// let _ = connection.write_and_flush(b"head")?;
+    /// let _ = connection.write_region(1000)?;
+    /// let _ = connection.write_and_flush(b"tail")?;
+    /// let mut socket = Vec::new();
+    /// assert!(matches!(transport.send_until_blocked(&mut socket, 10)?.ending, Ending::OtherInFront));
+    /// assert_eq!((transport.current(), &socket[..]), (Some(Current::Region(1000)), &b"head"[..]));
+    /// transport.progress(1000)?;
+    /// assert_eq!(transport.current(), Some(Current::Region(0)));
+    /// assert_eq!(transport.remove()?.settled.map(|(id, _)| id), Some(1));
+    /// assert!(matches!(transport.send_until_blocked(&mut socket, 10)?.ending, Ending::Drained));
+    /// # Ok::<(), limekeel::Refusal>(())
+    /// ```
+    #[must_use]
+    pub fn current(&mut self) -> Option<Current> {
+        let Transport { role, common } = self;
+        Current::of(common.line.had(|| role.sender.current()))
+    }
+
+    /// Adds *n* bytes to the progress of the first flushed message: of a region, as they were sent.
+    pub fn progress(&mut self, n: u64) -> Result<(), Refusal> {
+        let Transport { role, common } = self;
+        done(common.line.had(|| role.sender.progress(n)))
+    }
+
+    /// Takes the first flushed message away, as sent.
+    pub fn remove(&mut self) -> Result<Removed, Refusal> {
+        let Transport { role, common } = self;
+        let removed = Removed::of(common.line.had(|| role.sender.remove()))?;
+        Ok(self.removed(removed))
+    }
+
+    /// Takes the first flushed message away, as failed for this cause.
+    pub fn remove_with(&mut self, cause: u32) -> Result<Removed, Refusal> {
+        let Transport { role, common } = self;
+        let removed = Removed::of(common.line.had(|| role.sender.remove_with(cause)))?;
+        Ok(self.removed(removed))
+    }
+
+    fn removed(&mut self, removed: Removed) -> Removed {
+        if removed.any {
+            // its promise may have been cancelled, and then it is not told
+            let id = self.role.gone;
+            self.role.gone += 1;
+            self.tell(removed.change);
+            let _ = self.common.settled_by(Taken::one(id));
+        }
+        removed
+    }
+
+    /// Takes all flushed messages away, as failed for this cause. Without `notify` writability stays as it was.
+    pub fn fail_flushed(&mut self, cause: u32, notify: bool) -> Result<Taken, Refusal> {
+        let Transport { role, common } = self;
+        let taken = Taken::of(common.line.had(|| role.sender.fail_flushed(cause, notify)))?;
+        role.gone = taken.promises.end;
+        self.tell(taken.change);
+        Ok(self.common.settled_by(taken))
+    }
+
     /// Gives the connection up, as [`crate::Connection::give_up`]: all who wait are woken, and each command is refused after it.
     pub fn give_up(&mut self, cause: u32) -> Result<Taken, Refusal> {
         let Transport { role, common } = self;
@@ -103,6 +168,7 @@ impl Transport {
     }
 
     fn wait_until(&self, end: Option<Instant>) -> Moment {
+        look_for_a_while(|| self.total() > 0 || self.is_closed());
         self.common.work.wait(end, || self.moment()).unwrap_or(Moment::NotYet)
     }
 
@@ -156,7 +222,7 @@ impl Transport {
     /// is sent too.
     ///
     /// What the turns took away is returned as one interval, and of the changes of writability the first: others may have followed.
-    /// [`Refusal::Closed`] comes if the connection is closed, and no other refusal does. An [`Ending::OtherInFront`] never comes.
+    /// [`Refusal::Closed`] comes if the connection is closed, and no other refusal does.
     pub fn send_until_blocked<W: Write + ?Sized>(
         &mut self,
         writer: &mut W,
@@ -188,13 +254,30 @@ impl Transport {
             match took {
                 Err(error) => break Ending::Broken(error),
                 Ok((_, true)) => break Ending::Blocked,
-                Ok(_) if self.look().size == 0 => break Ending::Drained,
+                Ok((0, false)) if self.is_held_up() => break Ending::OtherInFront,
+                Ok(_) if self.is_drained(turns >= max_turns) => break Ending::Drained,
                 Ok(_) if turns >= max_turns => break Ending::TurnsUsed,
                 Ok(_) => {}
             }
         };
         let taken = all.expect("a turn was made");
         Ok(SentTurns { bytes, taken: self.common.settled_by(taken), ending })
+    }
+
+    /// Whether a message is in front that is no block.
+    fn is_held_up(&mut self) -> bool {
+        matches!(self.current(), Some(Current::Region(_) | Current::Other(_)))
+    }
+
+    /// Whether no flushed message is left. While bytes are pending that takes no lock and may be told as no, unless it `is_last`:
+    /// another turn finds it out.
+    fn is_drained(&mut self, is_last: bool) -> bool {
+        (is_last || self.total() == 0) && self.look().size == 0
+    }
+
+    /// The pending bytes, without the lock.
+    fn total(&self) -> u32 {
+        Glance::of(self.common.line.had(|| self.role.sharer.glance())).total
     }
 
     /// How many bytes a writer took, and whether it would block.
@@ -213,6 +296,7 @@ impl Transport {
     fn take(&mut self, n: u64) -> Result<Taken, Refusal> {
         let Transport { role, common } = self;
         let taken = Taken::of(common.line.had(|| role.sender.take_sent(n)))?;
+        role.gone = taken.promises.end;
         self.tell(taken.change);
         Ok(taken)
     }

@@ -124,6 +124,60 @@ fn the_transport_waits_until_something_is_flushed() {
 }
 
 #[test]
+fn a_write_with_its_flush_wakes_who_waits() {
+    watched(|| {
+        let (connection, mut transport) = open(1000, 2000);
+        let block = Block::new(b"block").expect("there is memory");
+        for turn in 0..3 {
+            let waits = move || (transport.wait_for_work(), transport);
+            let come = || {
+                let done = match turn {
+                    0 => connection.write_and_flush(b"few"),
+                    1 => connection.write_and_flush(&[1; 3000]),
+                    _ => connection.write_block_and_flush(&block),
+                };
+                assert_eq!(done.expect("it is open").flushed.count, 1);
+            };
+            let (found, mut back) = comes_to_who_waits(waits, come);
+            assert_eq!(found, Moment::Ready);
+            assert!(!back.send_to(&mut io::sink()).expect("it takes all").more);
+            transport = back;
+        }
+        let (connection, _transport) = open(400, 500);
+        let _ = connection.write(&[0; 304]).expect("it is open");
+        let _ = connection.write(&[0; 104]).expect("it is open");
+        assert_eq!((connection.cancel(0), connection.is_writable()), (Ok(true), false));
+        let writer = connection.clone();
+        // 96 bytes more, and 400 fewer
+        let come = || assert!(connection.write_and_flush(b"").is_ok());
+        assert_eq!(comes_to_who_waits(move || writer.wait_writable(), come), Moment::Ready);
+    });
+}
+
+#[test]
+fn each_call_that_makes_room_wakes_writers() {
+    watched(|| {
+        let (connection, mut transport) = filled(100, 200, true);
+        let writer = connection.clone();
+        let come = || assert!(transport.remove().expect("it is open").any);
+        assert_eq!(comes_to_who_waits(move || writer.wait_writable(), come), Moment::Ready);
+        let (connection, mut transport) = filled(100, 200, true);
+        let writer = connection.clone();
+        let come = || assert!(transport.remove_with(1).expect("it is open").any);
+        assert_eq!(comes_to_who_waits(move || writer.wait_writable(), come), Moment::Ready);
+        let (connection, mut transport) = filled(100, 200, true);
+        let writer = connection.clone();
+        let come = || assert_eq!(transport.fail_flushed(1, true).expect("it is open").count, 1);
+        assert_eq!(comes_to_who_waits(move || writer.wait_writable(), come), Moment::Ready);
+        let (connection, _transport) = open(100, 200);
+        assert!(connection.user_bit(1, false).is_ok());
+        let writer = connection.clone();
+        let come = || assert!(connection.user_bit(1, true).is_ok());
+        assert_eq!(comes_to_who_waits(move || writer.wait_writable(), come), Moment::Ready);
+    });
+}
+
+#[test]
 fn each_wait_ends_with_its_time() {
     watched(|| {
         let (connection, mut transport) = filled(100, 200, false);

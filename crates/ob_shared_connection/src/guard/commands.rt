@@ -1,14 +1,16 @@
 //! One call for each command, under the lock.
 ghost use Rattle.std.specs.Prelude.{◌≡◌, true, false, ⊤};
 ghost use Rattle.ob_types.specs.declared.command.Command.TheVariants as command;
+ghost use Rattle.ob_types.specs.declared.message.Message.TheVariants.{Block};
 ghost use Rattle.ob_types.specs.declared.promise.Outcome.TheVariants.{Success, Failed};
 ghost use Rattle.ob_connection.specs.Obeying.{flushed_reply, removed_reply, taken_reply, cancelled_reply, bit_reply};
 ghost use Rattle.ob_connection.specs.Obeying.{done_reply};
 ghost use Rattle.ob_shared_connection.specs.Calls.{GivingUp, IsCall, Makes, ObeyingFreely, Taking};
-ghost use Rattle.ob_shared_connection.specs.Calls.{TakingQuietly, Writes, giving_up};
+ghost use Rattle.ob_shared_connection.specs.Calls.{Puts, TakingQuietly, Writes, giving_up};
 
 use crate::commands;
 use crate::guard::Guard;
+use crate::writes::WriteCopy;
 use ob_connection::{Flushed, Refused, Removed, Taken, Written};
 use ob_types::{Cause, Change, Message, Refusal, WaterMark};
 
@@ -18,6 +20,13 @@ impl Guard {
         ensures { Writes message result self.old self.new }
     {
         self.caller.act(commands::Write(message))
+    }
+
+    /// Adds a copy of these bytes behind all others, as `Connection::write_copy`.
+    pub fn write_copy(&mut self, bytes: &[u8]) -> Result<Written, Refusal>
+        ensures { Puts (Block bytes.now) result self.old self.new }
+    {
+        self.caller.act(WriteCopy(bytes))
     }
 
     /// Lets the transport have all that was written so far, as `Connection::flush`.

@@ -1,12 +1,16 @@
 //! The calls that take nothing away, each of which takes the lock for it.
 ghost use Rattle.std.specs.Prelude.{⊤};
 ghost use Rattle.ob_types.specs.declared.command.Command.TheVariants as command;
+ghost use Rattle.ob_types.specs.declared.message.Message.TheVariants.{Block};
 ghost use Rattle.ob_types.specs.declared.promise.Outcome.TheVariants.{Failed};
 ghost use Rattle.ob_connection.specs.Obeying.{flushed_reply, cancelled_reply, bit_reply, done_reply};
-ghost use Rattle.ob_shared_connection.specs.Calls.{Makes, ObeyingFreely, TakingQuietly, UnderLock, Writes};
+ghost use Rattle.ob_shared_connection.specs.Calls.{Makes, ObeyingFreely, TakingQuietly, UnderLock};
+ghost use Rattle.ob_shared_connection.specs.Calls.{Puts, PutsAndFlushes, Writes, WritesAndFlushes};
 
 use crate::commands;
 use crate::handle::Handle;
+use crate::writes::{WriteAndFlush, WriteCopy, WriteCopyAndFlush};
+use crate::written::WrittenAndFlushed;
 use ob_connection::{Flushed, Refused, Taken, Written};
 use ob_types::{Cause, Change, Message, Refusal, WaterMark};
 use std::sync::Wait;
@@ -17,6 +21,38 @@ impl Handle {
         ensures { UnderLock self.old (Writes message result) self.new }
     {
         self.caller.call(rt, commands::Write(message))
+    }
+
+    /// Adds a copy of these bytes behind all others, as `Connection::write_copy`: few bytes share memory with other messages.
+    /// They are copied under the lock, so write many as a block that is made before.
+    pub fn write_copy<R: Wait>(&mut self, rt: &R, bytes: &[u8]) -> Result<Written, Refusal>
+        ensures { UnderLock self.old (Puts (Block bytes.now) result) self.new }
+    {
+        self.caller.call(rt, WriteCopy(bytes))
+    }
+
+    /// Writes as `write`, and flushes as `flush`, under one lock (Netty's `writeAndFlush`): no call comes between the two. A
+    /// message that is refused comes back, and nothing is flushed then. The flush behind a write that was accepted is
+    /// accepted too.
+    pub fn write_and_flush<R: Wait>(
+        &mut self,
+        rt: &R,
+        message: Message,
+    ) -> Result<WrittenAndFlushed, Refused>
+        ensures { UnderLock self.old (WritesAndFlushes message result) self.new }
+    {
+        self.caller.call(rt, WriteAndFlush(message))
+    }
+
+    /// Writes as `write_copy`, and flushes, as `write_and_flush`.
+    pub fn write_copy_and_flush<R: Wait>(
+        &mut self,
+        rt: &R,
+        bytes: &[u8],
+    ) -> Result<WrittenAndFlushed, Refusal>
+        ensures { UnderLock self.old (PutsAndFlushes (Block bytes.now) result) self.new }
+    {
+        self.caller.call(rt, WriteCopyAndFlush(bytes))
     }
 
     /// Lets the transport have all that was written so far, as `Connection::flush`.

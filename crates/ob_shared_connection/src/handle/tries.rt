@@ -4,22 +4,49 @@ ghost use Rattle.ob_types.specs.declared.command.Command.TheVariants as command;
 ghost use Rattle.ob_types.specs.declared.promise.Outcome.TheVariants.{Failed};
 ghost use Rattle.ob_connection.specs.Looks.{Shows};
 ghost use Rattle.ob_connection.specs.Obeying.{cancelled_reply, flushed_reply};
-ghost use Rattle.ob_shared_connection.specs.Calls.{Makes, ObeyingFreely, TakingQuietly, UnderLock, Writes};
+ghost use Rattle.ob_shared_connection.specs.Calls.{IsCall, Makes, ObeyingFreely, TakingQuietly};
+ghost use Rattle.ob_shared_connection.specs.Calls.{UnderLock, Writes, WritesAndFlushes};
 ghost use Rattle.ob_shared_connection.specs.Looking.{IsLook};
+ghost use Rattle.ob_shared_connection.specs.Removals.{MayGive};
 ghost use Rattle.ob_shared_connection.specs.Values.{appointed};
 ghost use Rattle.ob_shared_connection.specs.Waiting.{Waited};
 ghost use Rattle.ob_shared_connection.specs.declared.bell.Waiter.TheVariants as waiter;
 
+use crate::act::Act;
+use crate::ask::Ask;
 use crate::bell::Writers;
 use crate::handle::Handle;
 use crate::moment::Moment;
 use crate::transport::Transport;
 use crate::wakes::Wakes;
+use crate::writes::WriteAndFlush;
+use crate::written::WrittenAndFlushed;
 use crate::{commands, looks};
 use ob_connection::{Flushed, Look, Refused, Taken, Written};
 use ob_types::{Cause, Message, Refusal};
 
 impl Handle {
+    /// Makes the call of an act, one of `commands` or of `writes`, if the lock is free; else the act comes back. Only the
+    /// handle that sends makes one that takes flushed messages away.
+    pub fn try_act<A: Act>(&mut self, act: A) -> Result<(Result<A::Answer, A::Fault>, Wakes), A>
+        requires { MayGive self.old.sends (A.commands act) }
+        ensures under { IfOk result (λ told. UnderLock self.old
+            (λ before after. IsCall (A.does act) (A.commands act) before told.0 after) self.new) }
+        ensures busy { OnErr result (self.new ≡ self.old) }
+        ensures back { IfErr result (λ again. again ≡ act) }
+    {
+        self.caller.try_call(act)
+    }
+
+    /// Takes one of `looks` if the lock is free; else what was asked comes back.
+    pub fn try_ask<A: Ask>(&mut self, ask: A) -> Result<(A::Answer, Wakes), A>
+        ensures under { IfOk result (λ told. UnderLock self.old (IsLook (A.shows ask) told.0) self.new) }
+        ensures busy { OnErr result (self.new ≡ self.old) }
+        ensures back { IfErr result (λ again. again ≡ ask) }
+    {
+        self.caller.try_look(ask)
+    }
+
     /// Adds a message behind all others, as `write`: it comes back if the lock is taken, and if it is refused.
     pub fn try_write(
         &mut self,
@@ -33,6 +60,21 @@ impl Handle {
             Ok(told) => Ok(told),
             Err(act) => Err(act.0),
         }
+    }
+
+    /// Writes and flushes under one lock, as `write_and_flush`: the message comes back if the lock is taken, and if it is
+    /// refused.
+    pub fn try_write_and_flush(
+        &mut self,
+        message: Message,
+    ) -> Result<(Result<WrittenAndFlushed, Refused>, Wakes), Message>
+        ensures under { IfOk result (λ told. UnderLock self.old (WritesAndFlushes message told.0) self.new) }
+        ensures busy { OnErr result (self.new ≡ self.old) }
+        ensures back { IfErr result (λ again. again ≡ message) }
+    {
+        self.caller
+            .try_call(WriteAndFlush(message))
+            .map_err(|act| act.0)
     }
 
     /// Lets the transport have all that was written so far, as `flush`. None if the lock is taken.

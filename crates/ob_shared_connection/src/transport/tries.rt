@@ -1,6 +1,6 @@
 //! The calls of a transport that are made if the lock is free. They wait for nobody, and wake nobody: each tells whom to
 //! wake.
-ghost use Rattle.std.specs.Prelude.{◌≡◌, ◌<◌, IfOk, IfSome, IsOk, None};
+ghost use Rattle.std.specs.Prelude.{◌≡◌, ◌<◌, IfErr, IfOk, IfSome, IsOk, None, OnErr};
 ghost use Rattle.ob_types.specs.declared.command.Command.TheVariants as command;
 ghost use Rattle.ob_types.specs.declared.promise.Outcome.TheVariants.{Success};
 ghost use Rattle.ob_seq.specs.Effect.{bytes_in};
@@ -10,6 +10,8 @@ ghost use Rattle.ob_shared_connection.specs.Staying.{AreInFront};
 ghost use Rattle.ob_shared_connection.specs.Waiting.{Waited};
 ghost use Rattle.ob_shared_connection.specs.declared.bell.Waiter.TheVariants as waiter;
 
+use crate::act::Act;
+use crate::ask::Ask;
 use crate::bell::Work;
 use crate::moment::Moment;
 use crate::transport::Transport;
@@ -20,6 +22,25 @@ use ob_connection::Taken;
 use ob_types::{Cause, Refusal};
 
 impl Transport {
+    /// Makes the call of an act, one of `commands` or of `writes`, if the lock is free; else the act comes back.
+    pub fn try_act<A: Act>(&mut self, act: A) -> Result<(Result<A::Answer, A::Fault>, Wakes), A>
+        ensures under { IfOk result (λ told. UnderLock self.old
+            (λ before after. IsCall (A.does act) (A.commands act) before told.0 after) self.new) }
+        ensures busy { OnErr result (self.new ≡ self.old) }
+        ensures back { IfErr result (λ again. again ≡ act) }
+    {
+        self.caller.try_call(act)
+    }
+
+    /// Takes one of `looks` if the lock is free; else what was asked comes back.
+    pub fn try_ask<A: Ask>(&mut self, ask: A) -> Result<(A::Answer, Wakes), A>
+        ensures under { IfOk result (λ told. UnderLock self.old (IsLook (A.shows ask) told.0) self.new) }
+        ensures busy { OnErr result (self.new ≡ self.old) }
+        ensures back { IfErr result (λ again. again ≡ ask) }
+    {
+        self.caller.try_look(ask)
+    }
+
     /// The flushed blocks in front that can be sent at once, as `gather`. None if the lock is taken.
     pub fn try_gather(
         &mut self,

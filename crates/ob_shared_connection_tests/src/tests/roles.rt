@@ -1,7 +1,7 @@
 //! The role of the transport in other hands, and polls in place of waits.
 
-use crate::tests::{flushed, four, opened};
-use ob_shared_connection::{Handle, Moment, Transport, Wakes};
+use crate::tests::{flushed, four, opened, told, tried};
+use ob_shared_connection::Moment;
 use ob_types::Cause;
 use std::test::Fail;
 
@@ -23,19 +23,6 @@ fn a_dropped_transport_is_replaced(rt: HostRuntime) -> Result<(), Fail> {
     Ok(())
 }
 
-/// What the handle is that tried to take the role, or the handle if the lock was taken.
-fn tried(
-    told_of: Result<(Result<Transport, Handle>, Wakes), Handle>,
-) -> Result<Result<Transport, Handle>, Handle> {
-    match told_of {
-        Ok((answer, wakes)) => {
-            let _whom = told(wakes);
-            Ok(answer)
-        }
-        Err(handle) => Err(handle),
-    }
-}
-
 #[test]
 fn who_retires_may_take_the_role_again(rt: HostRuntime) -> Result<(), Fail> {
     let (transport, writer) = flushed(&rt, rt.alloc(), 2)?;
@@ -53,16 +40,6 @@ fn who_retires_may_take_the_role_again(rt: HostRuntime) -> Result<(), Fail> {
     };
     assert!(rt; transport.give_up(&rt, Cause(1))?.count == 2);
     Ok(())
-}
-
-/// Takes what is told of whom to wake apart: the one who sleeps for the lock, writers, and the transport.
-fn told(wakes: Wakes) -> (bool, bool, bool) {
-    let Wakes {
-        next,
-        writers,
-        work,
-    } = wakes;
-    (next, writers, work)
 }
 
 #[test]

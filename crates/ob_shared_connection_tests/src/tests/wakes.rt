@@ -1,6 +1,6 @@
 //! Who sleeps uses no processor, and is woken. No clause says so: a body that spins, or that wakes nobody, is proved.
 
-use crate::tests::{flushed, four, opened, watch};
+use crate::tests::{flushed, four, opened, told as whom, watch};
 use ob_shared_connection::{Handle, Moment, Transport};
 use ob_types::Cause;
 use std::alloc::Alloc;
@@ -10,7 +10,7 @@ use std::sync::Wait;
 use std::sync::atomic::{AtomicU64, Ordering};
 use std::test::Fail;
 use std::thread::{map_vec, sleep};
-use std::time::{Clock, Duration};
+use std::time::{Clock, Duration, Instant};
 
 /// How many milliseconds others sleep before they are woken.
 const LATER: u64 = 300;
@@ -249,5 +249,44 @@ fn who_sleeps_for_the_lock_is_woken(rt: HostRuntime) -> Result<(), Fail> {
     let count = AtomicU64::new(0);
     let sleepers = map_vec(&rt, sleepers, &|sleeper| plays(&rt, &count, sleeper))?;
     assert!(rt; all_ended(&sleepers));
+    Ok(())
+}
+
+/// How often each of two calls is made in a row, and how often these are timed: the least counts.
+const CALLS: u32 = 1000;
+
+const TIMES: u32 = 20;
+
+/// The nanoseconds of as many flushes, each of which wakes whom it has to.
+fn of_flushes<R: Wait + Clock>(rt: &R, handle: &mut Handle) -> Option<u128> {
+    let start = Instant::now(rt).ok()?;
+    for _ in 0..CALLS {
+        let _flushed = handle.flush(rt).ok()?;
+    }
+    Some(start.elapsed(rt).ok()?.as_nanos())
+}
+
+/// The same, but for the waking.
+fn of_tries<R: Clock>(rt: &R, handle: &mut Handle) -> Option<u128> {
+    let start = Instant::now(rt).ok()?;
+    for _ in 0..CALLS {
+        let (_flushed, wakes) = handle.try_flush()?;
+        let _told = whom(wakes);
+    }
+    Some(start.elapsed(rt).ok()?.as_nanos())
+}
+
+#[test]
+fn who_lets_the_lock_go_asks_the_system_to_wake_nobody(rt: HostRuntime) -> Result<(), Fail> {
+    let mut handle = opened(rt.alloc())?;
+    let _written = handle.write(&rt, four())?;
+    let mut flushes = u128::MAX;
+    let mut tries = u128::MAX;
+    for _ in 0..TIMES {
+        flushes = flushes.min(of_flushes(&rt, &mut handle).unwrap_or(u128::MAX));
+        tries = tries.min(of_tries(&rt, &mut handle).unwrap_or(u128::MAX));
+    }
+    // to ask it once takes ten times as long as a flush
+    assert!(rt; flushes < tries.saturating_mul(3));
     Ok(())
 }

@@ -1,0 +1,143 @@
+//! Writes of messages that are made for them, and writes with the flush behind them, as acts.
+ghost use Rattle.std.specs.Prelude.{[], ◌∷◌};
+ghost use Rattle.ob_types.specs.declared.command.Command.TheVariants as command;
+ghost use Rattle.ob_types.specs.declared.message.Message.TheVariants.{Block};
+ghost use Rattle.ob_connection.specs.Obeying.{joined};
+ghost use Rattle.ob_shared_connection.specs.Acts.{IsOpen};
+ghost use Rattle.ob_shared_connection.specs.Calls.{Flushing, Putting, ThenFlushes, Writing};
+
+use crate::act::Act;
+use crate::written::WrittenAndFlushed;
+use ob_connection::{Connection, Flushed, Refused, Written};
+use ob_types::{Message, Refusal};
+
+/// A write of a message, which is let go if it is refused.
+#[derive(Drop)]
+pub struct Put(pub Message);
+
+impl Act for Put {
+    type Answer = Written;
+
+    type Fault = Refusal;
+
+    ghost commands = { λ act. command.Write act.0 ∷ [] };
+
+    ghost does = { λ act. Putting act.0 };
+
+    fn act(self, connection: &mut Connection) -> Result<Written, Refusal> {
+        match connection.write(self.0) {
+            Ok(written) => Ok(written),
+            Err(refused) => Err(refused.refusal),
+        }
+    }
+}
+
+/// A write of a copy of these bytes, as `Connection::write_copy`.
+#[derive(Drop)]
+pub struct WriteCopy<'b>(pub &'b [u8]);
+
+impl<'b> Act for WriteCopy<'b> {
+    type Answer = Written;
+
+    type Fault = Refusal;
+
+    ghost commands = { λ act. command.Write (Block act.0.now) ∷ [] };
+
+    ghost does = { λ act. Putting (Block act.0.now) };
+
+    fn act(self, connection: &mut Connection) -> Result<Written, Refusal> {
+        connection.write_copy(self.0)
+    }
+}
+
+/// A write of a copy of these parts as one block, as `Connection::write_parts`.
+#[derive(Drop)]
+pub struct WriteParts<'p, 'b>(pub &'p [&'b [u8]]);
+
+impl<'p, 'b> Act for WriteParts<'p, 'b> {
+    type Answer = Written;
+
+    type Fault = Refusal;
+
+    ghost commands = { λ act. command.Write (Block (joined act.0.now)) ∷ [] };
+
+    ghost does = { λ act. Putting (Block (joined act.0.now)) };
+
+    fn act(self, connection: &mut Connection) -> Result<Written, Refusal> {
+        connection.write_parts(self.0)
+    }
+}
+
+/// A write of a message, and the flush behind it. A message that is refused comes back.
+#[derive(Drop)]
+pub struct WriteAndFlush(pub Message);
+
+impl Act for WriteAndFlush {
+    type Answer = WrittenAndFlushed;
+
+    type Fault = Refused;
+
+    ghost commands = { λ act. command.Write act.0 ∷ command.Flush ∷ [] };
+
+    ghost does = { λ act. ThenFlushes (Writing act.0) };
+
+    fn act(self, connection: &mut Connection) -> Result<WrittenAndFlushed, Refused> {
+        connection.stands_for_some_commands();
+        let written = connection.write(self.0)?;
+        let flushed = flush_behind(connection);
+        Ok(WrittenAndFlushed { written, flushed })
+    }
+}
+
+/// A write of a message, which is let go if it is refused, and the flush behind it.
+#[derive(Drop)]
+pub struct PutAndFlush(pub Message);
+
+impl Act for PutAndFlush {
+    type Answer = WrittenAndFlushed;
+
+    type Fault = Refusal;
+
+    ghost commands = { λ act. command.Write act.0 ∷ command.Flush ∷ [] };
+
+    ghost does = { λ act. ThenFlushes (Putting act.0) };
+
+    fn act(self, connection: &mut Connection) -> Result<WrittenAndFlushed, Refusal> {
+        connection.stands_for_some_commands();
+        let written = Put(self.0).act(connection)?;
+        let flushed = flush_behind(connection);
+        Ok(WrittenAndFlushed { written, flushed })
+    }
+}
+
+/// A write of a copy of these bytes, and the flush behind it.
+#[derive(Drop)]
+pub struct WriteCopyAndFlush<'b>(pub &'b [u8]);
+
+impl<'b> Act for WriteCopyAndFlush<'b> {
+    type Answer = WrittenAndFlushed;
+
+    type Fault = Refusal;
+
+    ghost commands = { λ act. command.Write (Block act.0.now) ∷ command.Flush ∷ [] };
+
+    ghost does = { λ act. ThenFlushes (Putting (Block act.0.now)) };
+
+    fn act(self, connection: &mut Connection) -> Result<WrittenAndFlushed, Refusal> {
+        connection.stands_for_some_commands();
+        let written = connection.write_copy(self.0)?;
+        let flushed = flush_behind(connection);
+        Ok(WrittenAndFlushed { written, flushed })
+    }
+}
+
+/// The flush of an open connection, which is accepted.
+fn flush_behind(connection: &mut Connection) -> Flushed
+    requires { IsOpen connection.old }
+    ensures { Flushing connection.old result connection.new }
+{
+    let Ok(flushed) = connection.flush() else {
+        unreachable!()
+    };
+    flushed
+}
