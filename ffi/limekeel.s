@@ -4,7 +4,7 @@
 #
 # kit: rattle-kit-13b logic dac8208d650f15bf
 # proved: logic=proved functions=156 axioms=3 target=x86_64-unknown-linux-gnu cpu=x86-64-v2
-# sources: 197888c31d56b4d55ca84b34b03f1f88d0dbcc1da8e142f125cf69d444aef517 (ob_types, ob_seq, ob_connection, ob_shared_connection, ob_c)
+# sources: ae517c2671d627437ff34dc6b9d8a4d0da2feecfa40ca73cf1c95e18fdfdb5ea (ob_types, ob_seq, ob_connection, ob_shared_connection, ob_c)
 	.file	"rattle"
 	.section	".text.std_alloc::vec::deque::VecDeque::into_vec::<#b7ffe1be842f416e>","ax",@progbits
 	.p2align	6                               # -- Begin function std_alloc::vec::deque::VecDeque::into_vec::<#b7ffe1be842f416e>

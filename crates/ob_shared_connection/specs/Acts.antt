@@ -1,4 +1,4 @@
--- What commands leave of a connection. No public clause cites it.
+-- What an act leaves of a connection.
 use Rattle.std.specs.Prelude.{◌≡◌, List, ◌++◌, false}
 use Rattle.ob_types.specs.declared.command.Command.{Command}
 use Rattle.ob_seq.specs.State.{closed_after}
