@@ -1,0 +1,178 @@
+-- What the calls bring that are more than one command, or none.
+use Rattle.std.proofs.Common.{◌≡◌, ℕ, Bool, true, false, List, [], ◌∷◌, ◌++◌, ◌||◌, ◌&&◌, map, length, not, sym, refl, ap, ◌∙◌, subst, append_assoc, append-nil, arith}
+use Rattle.std.specs.Prelude.{Result, Ok, Err, IfOk, OnErr, Option, ◌==◌, is_err}
+use Rattle.std.proofs.lemmas.List.Sums.{fold-append}
+use Rattle.ob_types.specs.declared.command.Command.{Command}
+use Rattle.ob_types.specs.declared.command.Command.TheVariants.{RemoveBytes, FailFlushed, Close}
+use Rattle.ob_types.specs.declared.promise.Cause.{Cause}
+use Rattle.ob_types.specs.declared.refusal.Refusal.{Refusal}
+use Rattle.ob_seq.specs.Effect.{closed_row, effect, rows_after}
+use Rattle.ob_seq.specs.Rows.{Row, Settings, line, unflushed}
+use Rattle.ob_connection.specs.Calls.{Call}
+use Rattle.ob_connection.specs.Connected.{Connected, StandsFor as ConnectionStandsFor, Gives as ConnectionGives}
+use Rattle.ob_connection.specs.Looks.{waiting_count_after}
+use Rattle.ob_connection.specs.Obeying.{GivesUp, as_result, taken_reply}
+use Rattle.ob_connection.specs.Sending.{Sends, SendsInTurns}
+use Rattle.ob_connection.specs.declared.connection.sending.SendFault.{SendFault}
+use Rattle.ob_connection.specs.declared.connection.sending.Sent.{Sent}
+use Rattle.ob_connection.specs.declared.replies.SentTurns.{SentTurns}
+use Rattle.ob_connection.specs.declared.replies.Taken.{Taken}
+use Rattle.ob_lifecycle.specs.Events.{Event, Accepted, Refused, Finishing, Opened, commands_in}
+use Rattle.ob_lifecycle.specs.Finish.{is_finishing, is_over, was_over}
+use Rattle.ob_lifecycle.specs.Managed.{Managed, StandsFor, Brings, opened_as}
+use Rattle.ob_lifecycle.specs.Sendings.{once_happens, turns_happen, giving_up_happens}
+use Rattle.ob_lifecycle.specs.declared.ending.Ending.{Ending}
+use Rattle.ob_lifecycle.specs.declared.fault.WriteFault.TheVariants.{Refused as Declined}
+use Rattle.ob_lifecycle.proofs.Steps.{brings_command, brings_one, commands_more, finishing_more, managed_with, opened_alike, over_more, reached, left_by_reach, or_true, or_none, and_all}
+
+-- to ask for the end
+pub brings_finish : (old : Managed) (asked ending : Ending) (waiting : ℕ) (finished : Bool)
+    → ConnectionGives old.connection waiting_count_after waiting → asked ≡ record old.ending { asked = true }
+    → ending ≡ record asked { over = asked.over || (asked.asked && (waiting == 0)) }
+    → finished ≡ (ending.over && not asked.over)
+    → Brings old (Finishing ∷ []) finished (managed_with old old.connection ending)
+brings_finish old asked ending waiting finished waits asks is told =
+    let all : ending ≡ record { asked = true; over = old.ending.over || (waiting == 0) } =
+    is ∙ ap (λ (a : Ending). record a { over = a.over || (a.asked && (waiting == 0)) }) asks in
+    let follows : (commands : List Command) → ConnectionStandsFor old.connection commands
+    → ConnectionStandsFor old.connection (commands ++ commands_in (Finishing ∷ [])) =
+    λ commands stands. subst (λ c. ConnectionStandsFor old.connection c) (sym (append-nil commands)) stands in
+    brings_one old old.connection ending Finishing finished (record {
+      settings = refl;
+      stands = follows;
+      asked = ap (λ e. e.asked) all ∙ sym (or_true old.ending.asked);
+      over = λ events stands. ap (λ e. e.over) all ∙ ap (λ b. old.ending.over || b)
+          (reached old old.connection Finishing waiting true refl follows waits (sym (or_true old.ending.asked)) events stands);
+      told = told ∙ ap (λ a. ending.over && not a.over) asks;
+    })
+
+pub brings_once : (max_count max_bytes : ℕ) (before after : Option (List ℕ)) (old : Managed) (connection : Connected)
+    (ending : Ending) (result : Result Sent SendFault) (waiting : ℕ) (finished : Bool)
+    → IfOk result (λ done. Sends max_count max_bytes old.connection before done connection after) → is_err result ≡ false
+    → ConnectionGives connection waiting_count_after waiting
+    → ending ≡ record old.ending { over = old.ending.over || (old.ending.asked && (waiting == 0)) }
+    → finished ≡ (ending.over && not old.ending.over)
+    → Brings old (once_happens result) finished (managed_with old connection ending)
+brings_once max_count max_bytes before after old connection ending (Ok done) waiting finished sends went waits is told =
+    brings_command old connection ending (RemoveBytes done.bytes) taken_reply (as_result done.taken) waiting finished
+    sends.obeys waits is told
+brings_once max_count max_bytes before after old connection ending (Err fault) waiting finished sends went waits is told =
+    absurd (cc)
+
+pub brings_turns : (max_turns max_bytes : ℕ) (before after : Option (List ℕ)) (calls_before calls_after : Option (List Call))
+    (old : Managed) (connection : Connected) (ending : Ending) (result : Result SentTurns SendFault) (waiting : ℕ) (finished : Bool)
+    → IfOk result (λ done. SendsInTurns max_turns max_bytes old.connection before calls_before done connection after calls_after)
+    → is_err result ≡ false → ConnectionGives connection waiting_count_after waiting
+    → ending ≡ record old.ending { over = old.ending.over || (old.ending.asked && (waiting == 0)) }
+    → finished ≡ (ending.over && not old.ending.over)
+    → Brings old (turns_happen result) finished (managed_with old connection ending)
+brings_turns max_turns max_bytes before after calls_before calls_after old connection ending (Ok done) waiting finished sends went waits is told =
+    brings_command old connection ending (RemoveBytes done.bytes) taken_reply (as_result done.taken) waiting finished
+    sends.obeys waits is told
+brings_turns max_turns max_bytes before after calls_before calls_after old connection ending (Err fault) waiting finished sends went waits is told =
+    absurd (cc)
+
+-- a close leaves nothing that waits
+no_line : (cause : Cause) (rows : List Row) → length (line (map (closed_row cause) rows)) ≡ 0
+no_line cause [] = refl
+no_line cause (row ∷ rows) = no_line cause rows
+
+no_fresh : (cause : Cause) (rows : List Row) → length (unflushed (map (closed_row cause) rows)) ≡ 0
+no_fresh cause [] = refl
+no_fresh cause (row ∷ rows) = no_fresh cause rows
+
+pub none_waits : (settings : Settings) (commands : List Command) (cause : Cause)
+    → waiting_count_after settings (commands ++ Close cause ∷ []) ≡ 0
+none_waits settings commands cause =
+    let rows = rows_after settings.estimate commands in
+    let more : rows_after settings.estimate (commands ++ Close cause ∷ []) ≡ map (closed_row cause) rows =
+    fold-append (effect settings.estimate) [] commands (Close cause ∷ []) in
+    rw more (omega (arith, no_line cause rows, no_fresh cause rows))
+
+-- an end that was asked for is reached by a close
+over_by_close : (opened : Opened) (events : List Event) (cause : Cause)
+    → is_over opened (events ++ Accepted (Close cause) ∷ []) ≡ is_finishing events
+over_by_close opened events cause =
+    let waits : waiting_count_after opened.settings (commands_in (events ++ Accepted (Close cause) ∷ [])) ≡ 0 =
+    ap (λ commands. waiting_count_after opened.settings commands) (commands_more events (Accepted (Close cause) ∷ []))
+    ∙ none_waits opened.settings (commands_in events) cause in
+    ap (λ n. is_finishing (events ++ Accepted (Close cause) ∷ []) && (n == 0)) waits
+    ∙ and_all (is_finishing (events ++ Accepted (Close cause) ∷ []))
+    ∙ finishing_more events (Accepted (Close cause)) ∙ or_none (is_finishing events)
+
+-- whether the end was reached, once what is flushed failed and the connection closed
+over_by_both : (was asked between : Bool) → ((was || (asked && between)) || asked) ≡ (was || asked)
+over_by_both true asked between = refl
+over_by_both false true between = or_true between
+over_by_both false false between = refl
+
+over_at_last : (opened : Opened) (events : List Event) (cause : Cause)
+    → was_over opened (events ++ Accepted (FailFlushed cause false) ∷ Accepted (Close cause) ∷ []) ≡ (was_over opened events || is_finishing events)
+over_at_last opened events cause =
+    let fails = Accepted (FailFlushed cause false) in
+    let one = events ++ fails ∷ [] in
+    let waits = waiting_count_after opened.settings (commands_in one) in
+    let still : is_finishing one ≡ is_finishing events = finishing_more events fails ∙ or_none (is_finishing events) in
+    ap (was_over opened) (sym (append_assoc events (fails ∷ []) (Accepted (Close cause) ∷ [])))
+    ∙ over_more opened one (Accepted (Close cause))
+    ∙ ap (λ b. was_over opened one || b) (over_by_close opened one cause ∙ still)
+    ∙ ap (λ b. b || is_finishing events) (over_more opened events fails ∙ ap (λ b. was_over opened events || (b && (waits == 0))) still)
+    ∙ over_by_both (was_over opened events) (is_finishing events) (waits == 0)
+
+asked_at_last : (events : List Event) (cause : Cause)
+    → is_finishing (events ++ Accepted (FailFlushed cause false) ∷ Accepted (Close cause) ∷ []) ≡ is_finishing events
+asked_at_last events cause =
+    let fails = Accepted (FailFlushed cause false) in
+    ap is_finishing (sym (append_assoc events (fails ∷ []) (Accepted (Close cause) ∷ [])))
+    ∙ finishing_more (events ++ fails ∷ []) (Accepted (Close cause)) ∙ or_none (is_finishing (events ++ fails ∷ []))
+    ∙ finishing_more events fails ∙ or_none (is_finishing events)
+
+given_up : (old : Managed) (connection : Connected) (ending : Ending) (cause : Cause) (taken : Taken) (waiting : ℕ) (finished : Bool)
+    → GivesUp old.connection cause taken connection → ConnectionGives connection waiting_count_after waiting
+    → ending ≡ record old.ending { over = old.ending.over || (old.ending.asked && (waiting == 0)) }
+    → finished ≡ (ending.over && not old.ending.over)
+    → Brings old (Accepted (FailFlushed cause false) ∷ Accepted (Close cause) ∷ []) finished (managed_with old connection ending)
+given_up old connection ending cause taken waiting finished gives waits is told =
+    let both = Accepted (FailFlushed cause false) ∷ Accepted (Close cause) ∷ [] in
+    let settings = gives.closes.settings ∙ gives.fails.settings in
+    let opened : opened_as (managed_with old connection ending) ≡ opened_as old = opened_alike old connection ending settings in
+    let follows : (commands : List Command) → ConnectionStandsFor old.connection commands
+    → ConnectionStandsFor connection ((commands ++ FailFlushed cause false ∷ []) ++ Close cause ∷ []) =
+    λ commands stands. gives.closes.stands (commands ++ FailFlushed cause false ∷ []) (gives.fails.stands commands stands) in
+    let over : (events : List Event) → StandsFor old events → ending.over ≡ was_over (opened_as old) (events ++ both) =
+    λ events stands.
+    let none : waiting ≡ 0 =
+    waits _ (follows (commands_in events) stands.commands)
+    ∙ none_waits connection.unsent.settings (commands_in events ++ FailFlushed cause false ∷ []) cause in
+    ap (λ e. e.over) is ∙ ap (λ n. old.ending.over || (old.ending.asked && (n == 0))) none
+    ∙ ap (λ b. old.ending.over || b) (and_all old.ending.asked ∙ stands.asked)
+    ∙ ap (λ b. b || is_finishing events) stands.over ∙ sym (over_at_last (opened_as old) events cause) in
+    record {
+      opened = opened;
+      stands = λ events stands. record {
+        commands = subst (λ c. ConnectionStandsFor connection c)
+            (append_assoc (commands_in events) (FailFlushed cause false ∷ []) (Close cause ∷ []) ∙ sym (commands_more events both))
+            (follows (commands_in events) stands.commands);
+        asked = ap (λ e. e.asked) is ∙ stands.asked ∙ sym (asked_at_last events cause);
+        over = over events stands ∙ ap (λ o. was_over o (events ++ both)) (sym opened);
+      };
+      told = λ events stands. told ∙ ap (λ b. b && not old.ending.over) (over events stands)
+          ∙ ap (λ b. was_over (opened_as old) (events ++ both) && not b) stands.over;
+    }
+
+-- a connection that is given up
+pub brings_give_up : (old : Managed) (connection : Connected) (ending : Ending) (cause : Cause)
+    (result : Result Taken Refusal) (waiting : ℕ) (finished : Bool)
+    → IfOk result (λ taken. GivesUp old.connection cause taken connection) → OnErr result (connection ≡ old.connection)
+    → ConnectionGives connection waiting_count_after waiting
+    → ending ≡ record old.ending { over = old.ending.over || (old.ending.asked && (waiting == 0)) }
+    → finished ≡ (ending.over && not old.ending.over)
+    → Brings old (giving_up_happens cause result) finished (managed_with old connection ending)
+brings_give_up old connection ending cause (Ok taken) waiting finished gives kept waits is told =
+    given_up old connection ending cause taken waiting finished gives waits is told
+brings_give_up old connection ending cause (Err refusal) waiting finished gives kept waits is told =
+    brings_one old connection ending (Refused (Declined refusal)) finished
+    (left_by_reach old connection ending (Refused (Declined refusal)) waiting finished (ap (λ c. c.unsent.settings) kept)
+    (λ commands stands. subst (λ c. ConnectionStandsFor c (commands ++ [])) (sym kept)
+    (subst (λ c. ConnectionStandsFor old.connection c) (sym (append-nil commands)) stands))
+    waits refl is told)
