@@ -23,28 +23,39 @@ use Rattle.ob_lifecycle.specs.Managed.{Managed, StandsFor, Brings, opened_as}
 use Rattle.ob_lifecycle.specs.Sendings.{once_happens, turns_happen, giving_up_happens}
 use Rattle.ob_lifecycle.specs.declared.ending.Ending.{Ending}
 use Rattle.ob_lifecycle.specs.declared.fault.WriteFault.TheVariants.{Refused as Declined}
-use Rattle.ob_lifecycle.proofs.Steps.{brings_command, brings_one, commands_more, finishing_more, managed_with, opened_alike, over_more, reached, left_by_reach, or_true, or_none, and_all}
+use Rattle.ob_lifecycle.proofs.Steps.{and_all, commands_more, finishing_more, or_none, or_true, over_more}
+use Rattle.ob_lifecycle.proofs.Bringing.{brings_command, brings_one, left_by_reach, managed_with, opened_alike, reached, uncounted}
+use Rattle.ob_lifecycle.proofs.Tallies.{cancels_step, fits_of, quiet, tally_accepted}
+use Rattle.ob_lifecycle.specs.Counts.{tally_after, tally_by, Counts, CountsGivingUp}
+use Rattle.ob_lifecycle.specs.declared.tally.Tally.{Tally}
 
 -- to ask for the end
 pub brings_finish : (old : Managed) (asked ending : Ending) (waiting : ℕ) (finished : Bool)
     → ConnectionGives old.connection waiting_count_after waiting → asked ≡ record old.ending { asked = true }
     → ending ≡ record asked { over = asked.over || (asked.asked && (waiting == 0)) }
     → finished ≡ (ending.over && not asked.over)
-    → Brings old (Finishing ∷ []) finished (managed_with old old.connection ending)
+    → Brings old (Finishing ∷ []) finished (managed_with old old.connection ending old.tally)
 brings_finish old asked ending waiting finished waits asks is told =
     let all : ending ≡ record { asked = true; over = old.ending.over || (waiting == 0) } =
     is ∙ ap (λ (a : Ending). record a { over = a.over || (a.asked && (waiting == 0)) }) asks in
     let follows : (commands : List Command) → ConnectionStandsFor old.connection commands
     → ConnectionStandsFor old.connection (commands ++ commands_in (Finishing ∷ [])) =
     λ commands stands. subst (λ c. ConnectionStandsFor old.connection c) (sym (append-nil commands)) stands in
-    brings_one old old.connection ending Finishing finished (record {
+    brings_one old old.connection ending old.tally Finishing finished (record {
       settings = refl;
       stands = follows;
       asked = ap (λ e. e.asked) all ∙ sym (or_true old.ending.asked);
       over = λ events stands. ap (λ e. e.over) all ∙ ap (λ b. old.ending.over || b)
           (reached old old.connection Finishing waiting true refl follows waits (sym (or_true old.ending.asked)) events stands);
       told = told ∙ ap (λ a. ending.over && not a.over) asks;
+      counts = uncounted old Finishing old.tally refl refl;
+      messages = λ events stands. stands.messages;
+      bytes = λ events stands. stands.bytes;
     })
+
+sent_quietly : {A E : Type 0} (old : Connected) (tally : Tally) (n : ℕ) (result : Result A E) → Counts old tally (RemoveBytes n) result tally
+sent_quietly old tally n result =
+    quiet old tally (RemoveBytes n) result refl refl (λ commands. refl) (λ commands. refl) (λ commands. cancels_step commands (RemoveBytes n))
 
 pub brings_once : (max_count max_bytes : ℕ) (before after : Option (List ℕ)) (old : Managed) (connection : Connected)
     (ending : Ending) (result : Result Sent SendFault) (waiting : ℕ) (finished : Bool)
@@ -52,10 +63,10 @@ pub brings_once : (max_count max_bytes : ℕ) (before after : Option (List ℕ))
     → ConnectionGives connection waiting_count_after waiting
     → ending ≡ record old.ending { over = old.ending.over || (old.ending.asked && (waiting == 0)) }
     → finished ≡ (ending.over && not old.ending.over)
-    → Brings old (once_happens result) finished (managed_with old connection ending)
+    → Brings old (once_happens result) finished (managed_with old connection ending old.tally)
 brings_once max_count max_bytes before after old connection ending (Ok done) waiting finished sends went waits is told =
-    brings_command old connection ending (RemoveBytes done.bytes) taken_reply (as_result done.taken) waiting finished
-    sends.obeys waits is told
+    brings_command old connection ending old.tally (RemoveBytes done.bytes) taken_reply (as_result done.taken) waiting finished
+    sends.obeys waits is told (sent_quietly old.connection old.tally done.bytes (as_result done.taken)) refl
 brings_once max_count max_bytes before after old connection ending (Err fault) waiting finished sends went waits is told =
     absurd (cc)
 
@@ -65,10 +76,10 @@ pub brings_turns : (max_turns max_bytes : ℕ) (before after : Option (List ℕ)
     → is_err result ≡ false → ConnectionGives connection waiting_count_after waiting
     → ending ≡ record old.ending { over = old.ending.over || (old.ending.asked && (waiting == 0)) }
     → finished ≡ (ending.over && not old.ending.over)
-    → Brings old (turns_happen result) finished (managed_with old connection ending)
+    → Brings old (turns_happen result) finished (managed_with old connection ending old.tally)
 brings_turns max_turns max_bytes before after calls_before calls_after old connection ending (Ok done) waiting finished sends went waits is told =
-    brings_command old connection ending (RemoveBytes done.bytes) taken_reply (as_result done.taken) waiting finished
-    sends.obeys waits is told
+    brings_command old connection ending old.tally (RemoveBytes done.bytes) taken_reply (as_result done.taken) waiting finished
+    sends.obeys waits is told (sent_quietly old.connection old.tally done.bytes (as_result done.taken)) refl
 brings_turns max_turns max_bytes before after calls_before calls_after old connection ending (Err fault) waiting finished sends went waits is told =
     absurd (cc)
 
@@ -127,15 +138,31 @@ asked_at_last events cause =
     ∙ finishing_more (events ++ fails ∷ []) (Accepted (Close cause)) ∙ or_none (is_finishing (events ++ fails ∷ []))
     ∙ finishing_more events fails ∙ or_none (is_finishing events)
 
-given_up : (old : Managed) (connection : Connected) (ending : Ending) (cause : Cause) (taken : Taken) (waiting : ℕ) (finished : Bool)
+counted_up : (old : Managed) (tally : Tally) (cause : Cause) (taken : Taken)
+    → CountsGivingUp {E = Refusal} old.connection old.tally cause (Ok taken) tally → (events : List Event) → StandsFor old events
+    → tally ≡ tally_after (opened_as old) (events ++ Accepted (FailFlushed cause false) ∷ Accepted (Close cause) ∷ [])
+counted_up old tally cause taken counts events stands =
+    let settings = old.connection.unsent.settings in
+    let fails = FailFlushed cause false in
+    let one = events ++ Accepted fails ∷ [] in
+    let commands : commands_in events ++ fails ∷ [] ≡ commands_in one = sym (commands_more events (Accepted fails ∷ [])) in
+    counts (commands_in events) stands.commands (fits_of old events stands)
+    ∙ ap (λ t. tally_by settings (commands_in events ++ fails ∷ []) (Close cause) (tally_by settings (commands_in events) fails t)) stands.tally
+    ∙ ap (tally_by settings (commands_in events ++ fails ∷ []) (Close cause)) (sym (tally_accepted (opened_as old) events fails))
+    ∙ ap (λ c. tally_by settings c (Close cause) (tally_after (opened_as old) one)) commands
+    ∙ sym (tally_accepted (opened_as old) one (Close cause))
+    ∙ ap (tally_after (opened_as old)) (append_assoc events (Accepted fails ∷ []) (Accepted (Close cause) ∷ []))
+
+given_up : (old : Managed) (connection : Connected) (ending : Ending) (tally : Tally) (cause : Cause) (taken : Taken) (waiting : ℕ) (finished : Bool)
     → GivesUp old.connection cause taken connection → ConnectionGives connection waiting_count_after waiting
     → ending ≡ record old.ending { over = old.ending.over || (old.ending.asked && (waiting == 0)) }
     → finished ≡ (ending.over && not old.ending.over)
-    → Brings old (Accepted (FailFlushed cause false) ∷ Accepted (Close cause) ∷ []) finished (managed_with old connection ending)
-given_up old connection ending cause taken waiting finished gives waits is told =
+    → CountsGivingUp {E = Refusal} old.connection old.tally cause (Ok taken) tally
+    → Brings old (Accepted (FailFlushed cause false) ∷ Accepted (Close cause) ∷ []) finished (managed_with old connection ending tally)
+given_up old connection ending tally cause taken waiting finished gives waits is told counts =
     let both = Accepted (FailFlushed cause false) ∷ Accepted (Close cause) ∷ [] in
     let settings = gives.closes.settings ∙ gives.fails.settings in
-    let opened : opened_as (managed_with old connection ending) ≡ opened_as old = opened_alike old connection ending settings in
+    let opened : opened_as (managed_with old connection ending tally) ≡ opened_as old = opened_alike old connection ending tally settings in
     let follows : (commands : List Command) → ConnectionStandsFor old.connection commands
     → ConnectionStandsFor connection ((commands ++ FailFlushed cause false ∷ []) ++ Close cause ∷ []) =
     λ commands stands. gives.closes.stands (commands ++ FailFlushed cause false ∷ []) (gives.fails.stands commands stands) in
@@ -155,24 +182,30 @@ given_up old connection ending cause taken waiting finished gives waits is told 
             (follows (commands_in events) stands.commands);
         asked = ap (λ e. e.asked) is ∙ stands.asked ∙ sym (asked_at_last events cause);
         over = over events stands ∙ ap (λ o. was_over o (events ++ both)) (sym opened);
+        tally = counted_up old tally cause taken counts events stands ∙ ap (λ o. tally_after o (events ++ both)) (sym opened);
+        messages = omega (arith, ap (λ t. t.accepted.messages) (counts (commands_in events) stands.commands (fits_of old events stands)), stands.messages);
+        bytes = omega (arith, ap (λ t. t.accepted.bytes) (counts (commands_in events) stands.commands (fits_of old events stands)), stands.bytes);
       };
       told = λ events stands. told ∙ ap (λ b. b && not old.ending.over) (over events stands)
           ∙ ap (λ b. was_over (opened_as old) (events ++ both) && not b) stands.over;
     }
 
 -- a connection that is given up
-pub brings_give_up : (old : Managed) (connection : Connected) (ending : Ending) (cause : Cause)
+pub brings_give_up : (old : Managed) (connection : Connected) (ending : Ending) (tally : Tally) (cause : Cause)
     (result : Result Taken Refusal) (waiting : ℕ) (finished : Bool)
     → IfOk result (λ taken. GivesUp old.connection cause taken connection) → OnErr result (connection ≡ old.connection)
     → ConnectionGives connection waiting_count_after waiting
     → ending ≡ record old.ending { over = old.ending.over || (old.ending.asked && (waiting == 0)) }
     → finished ≡ (ending.over && not old.ending.over)
-    → Brings old (giving_up_happens cause result) finished (managed_with old connection ending)
-brings_give_up old connection ending cause (Ok taken) waiting finished gives kept waits is told =
-    given_up old connection ending cause taken waiting finished gives waits is told
-brings_give_up old connection ending cause (Err refusal) waiting finished gives kept waits is told =
-    brings_one old connection ending (Refused (Declined refusal)) finished
-    (left_by_reach old connection ending (Refused (Declined refusal)) waiting finished (ap (λ c. c.unsent.settings) kept)
+    → CountsGivingUp old.connection old.tally cause result tally
+    → Brings old (giving_up_happens cause result) finished (managed_with old connection ending tally)
+brings_give_up old connection ending tally cause (Ok taken) waiting finished gives kept waits is told counts =
+    given_up old connection ending tally cause taken waiting finished gives waits is told counts
+brings_give_up old connection ending tally cause (Err refusal) waiting finished gives kept waits is told counts =
+    brings_one old connection ending tally (Refused (Declined refusal)) finished
+    (left_by_reach old connection ending tally (Refused (Declined refusal)) waiting finished (ap (λ c. c.unsent.settings) kept)
     (λ commands stands. subst (λ c. ConnectionStandsFor c (commands ++ [])) (sym kept)
     (subst (λ c. ConnectionStandsFor old.connection c) (sym (append-nil commands)) stands))
-    waits refl is told)
+    waits refl is told (uncounted old (Refused (Declined refusal)) tally refl counts)
+    (λ events stands. omega (arith, ap (λ t. t.accepted.messages) counts, stands.messages))
+    (λ events stands. omega (arith, ap (λ t. t.accepted.bytes) counts, stands.bytes)))

@@ -1,4 +1,10 @@
 pub mod Steps
+pub mod Ages
+pub mod Balance
+pub mod Tallies
+pub mod Showing
+pub mod Pending
+pub mod Bringing
 pub mod Ends
 pub mod Writing
 pub mod Telling

@@ -1,5 +1,7 @@
 pub mod Events
 pub mod Finish
+pub mod Counts
+pub mod Numbers
 pub mod Writes
 pub mod Sendings
 pub mod Managed

@@ -1,10 +1,12 @@
 -- What a contract sees of a managed connection, and the events that it stands for.
-use Rattle.std.specs.Prelude.{◌≡◌, ℕ, Bool, List, ◌++◌}
+use Rattle.std.specs.Prelude.{◌≡◌, ◌≤◌, ℕ, Bool, List, ◌++◌}
 use Rattle.ob_connection.specs.Connected.{Connected, StandsFor as ConnectionStandsFor}
+use Rattle.ob_lifecycle.specs.Counts.{most_told, tally_after}
 use Rattle.ob_lifecycle.specs.Events.{Event, Opened, commands_in}
 use Rattle.ob_lifecycle.specs.Finish.{finishes, is_finishing, was_over}
 use Rattle.ob_lifecycle.specs.declared.ending.Ending.{Ending}
 use Rattle.ob_lifecycle.specs.declared.limits.Limits.{Limits}
+use Rattle.ob_lifecycle.specs.declared.tally.Tally.{Tally}
 
 -- a connection, its limits, the time at which it was opened, and what is kept of its life
 pub record Managed : Type 0 where
@@ -12,6 +14,7 @@ pub record Managed : Type 0 where
   pub limits : Limits
   pub opened : ℕ
   pub ending : Ending
+  pub tally : Tally
 
 -- what it was opened with
 abbrev pub opened_as : Managed → Opened
@@ -24,6 +27,9 @@ pub record StandsFor (managed : Managed) (events : List Event) : Type 0 where
   pub commands : ConnectionStandsFor managed.connection (commands_in events)
   pub asked : managed.ending.asked ≡ is_finishing events
   pub over : managed.ending.over ≡ was_over (opened_as managed) events
+  pub tally : managed.tally ≡ tally_after (opened_as managed) events
+  pub messages : managed.tally.accepted.messages ≤ most_told
+  pub bytes : managed.tally.accepted.bytes ≤ most_told
 
 -- a managed connection stands for some events
 abbrev pub StandsForSome : Managed → Type 0

@@ -5,6 +5,7 @@ use Rattle.ob_types.specs.declared.message.Message.TheVariants.{Block, Region}
 use Rattle.ob_types.specs.declared.refusal.Refusal.TheVariants.{Closed, Oversize}
 use Rattle.ob_lifecycle.specs.Events.{Event, Accepted, Finishing as Asked, Opened}
 use Rattle.ob_lifecycle.specs.Finish.{finishes}
+use Rattle.ob_lifecycle.specs.Numbers.{numbers_after}
 use Rattle.ob_lifecycle.specs.Writes.{fault_of_write}
 use Rattle.ob_lifecycle.specs.declared.fault.WriteFault.TheVariants.{Refused, Finishing, Full}
 
@@ -79,3 +80,24 @@ InThatOrder =
     (fault_of_write (Block (replicate 30 0)) (counting 96) (block 29 ∷ Asked ∷ []) ≡ Some Finishing)
     × (fault_of_write (Block []) (counting 96) (Asked ∷ Accepted (Close (record { 0 = 1 })) ∷ []) ≡ Some (Refused Closed))
     × (fault_of_write (Region 9223372036854775808) (counting 300) [] ≡ Some (Refused Oversize))
+
+-- of three blocks one is sent, one voided by a flush and one failed by a close; 200 bytes were pending at most
+abbrev pub OneOfEach : Type 0
+OneOfEach =
+    numbers_after (counting 96)
+    (block 4 ∷ block 4 ∷ Accepted (Cancel (record { 0 = 1 })) ∷ Accepted Flush ∷ Accepted (RemoveBytes 4) ∷ block 10
+    ∷ Accepted (Close (record { 0 = 1 })) ∷ [])
+    ≡ record {
+      accepted = record { messages = 3; bytes = 306 };
+      sent = record { messages = 1; bytes = 100 };
+      failed = record { messages = 1; bytes = 106 };
+      cancelled = record { messages = 1; bytes = 100 };
+      pending = record { messages = 0; bytes = 0 };
+      peak = 200;
+    }
+
+-- a cancelled message is pending until a flush voids it, and one that is sent in part until it is sent whole
+abbrev pub StillPending : Type 0
+StillPending =
+    (numbers_after (counting 96) (block 4 ∷ Accepted Flush ∷ Accepted (RemoveBytes 3) ∷ block 4 ∷ Accepted (Cancel (record { 0 = 1 })) ∷ [])).pending
+    ≡ record { messages = 2; bytes = 200 }

@@ -1,5 +1,5 @@
 -- Why a write is refused, and what a write brings.
-use Rattle.std.specs.Prelude.{◌≡◌, ℕ, ◌+◌, Bool, List, [], ◌∷◌, Option, Some, None, option_map, Result, Ok, Err, nat_lt, if◌then◌else◌}
+use Rattle.std.specs.Prelude.{◌≡◌, ℕ, ◌+◌, Bool, ◌||◌, List, [], ◌∷◌, Option, Some, None, option_map, Result, Ok, Err, nat_lt, if◌then◌else◌}
 use Rattle.ob_types.specs.PendingSize.{counted_bytes, is_oversize}
 use Rattle.ob_types.specs.declared.command.Command.TheVariants.{Write}
 use Rattle.ob_types.specs.declared.message.Message.{Message}
@@ -12,15 +12,18 @@ use Rattle.ob_seq.specs.State.{is_closed}
 use Rattle.ob_connection.specs.Connected.{Connected, connection_limit}
 use Rattle.ob_connection.specs.Obeying.{Obeys, written_reply}
 use Rattle.ob_connection.specs.declared.replies.Written.{Written}
+use Rattle.ob_lifecycle.specs.Counts.{accepted_after, is_untold}
 use Rattle.ob_lifecycle.specs.Events.{Event, Accepted, Refused as WasRefused, Opened, commands_in}
 use Rattle.ob_lifecycle.specs.Finish.{is_finishing}
 use Rattle.ob_lifecycle.specs.declared.fault.WriteFault.{WriteFault}
 use Rattle.ob_lifecycle.specs.declared.fault.WriteFault.TheVariants.{Refused, Finishing, Full}
 
--- whether a message is past the cap: with it more bytes would be pending than may be
+-- whether a message is past the cap: with it more bytes would be pending than may be, or more was written than 64 bits
+-- can tell
 abbrev pub is_past_the_cap : Opened → List Event → ℕ → Bool
 is_past_the_cap opened events size =
     nat_lt opened.limits.most_pending (total (rows_after opened.settings.estimate (commands_in events)) + size)
+    || is_untold (accepted_after opened events) size
 
 -- why a write is refused after events, or nothing: the connection is closed, its end was asked for, the message is too
 -- large to be counted, it is past the cap, or the connection refuses it; memory comes last

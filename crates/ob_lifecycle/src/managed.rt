@@ -1,17 +1,18 @@
 ghost use Rattle.std.specs.Prelude.{◌≡◌, ◌≤◌, [], ◌∷◌};
 ghost use Rattle.ob_types.specs.Limits.{greatest_overhead, greatest_unknown};
 ghost use Rattle.ob_lifecycle.specs.Events.{Finishing};
-ghost use Rattle.ob_lifecycle.specs.Finish.{is_finishing, was_over};
 ghost use Rattle.ob_lifecycle.specs.Inside.{managed_of};
-ghost use Rattle.ob_lifecycle.specs.Managed.{Brings, Gives, Managed, StandsFor, StandsForSome, opened_as};
+ghost use Rattle.ob_lifecycle.specs.Managed.{Brings, Managed, StandsFor, StandsForSome, opened_as};
 
 mod commands;
 mod giving_up;
+mod looks;
 mod sending;
 mod write;
 
 use crate::ending::Ending;
 use crate::limits::Limits;
+use crate::tally::Tally;
 use ob_connection::Connection;
 use ob_types::{Estimate, WaterMark};
 use std::alloc::Global;
@@ -24,6 +25,7 @@ pub struct ManagedConnection {
     limits: Limits,
     opened: u64,
     ending: Ending,
+    tally: Tally,
 }
 
 /// It stands for some list of events.
@@ -62,14 +64,8 @@ impl ManagedConnection {
                 asked: false,
                 over: false,
             },
+            tally: Tally::new(),
         }
-    }
-
-    /// The connection, for all its looks.
-    pub fn connection(&self) -> &Connection
-        ensures { result.now ≡ self.now.connection }
-    {
-        &self.connection
     }
 
     /// Asks for the end: from now on no write is accepted, and everything else goes on. It returns whether the end is
@@ -80,20 +76,6 @@ impl ManagedConnection {
     {
         self.ending.ask();
         self.ending.reach(self.connection.waiting_count())
-    }
-
-    /// Whether the end was asked for.
-    pub fn is_finishing(&self) -> bool
-        ensures { Gives self.now (λ opened events. is_finishing events) result }
-    {
-        self.ending.asked
-    }
-
-    /// Whether the end was reached: a call has told it.
-    pub fn is_finished(&self) -> bool
-        ensures { Gives self.now was_over result }
-    {
-        self.ending.over
     }
 
     /// Each managed connection stands for some list of events, so what its calls promise is promised of some list. It does

@@ -1,7 +1,7 @@
 //! The definitions, computed on small lists of events.
 
 ghost use Rattle.ob_lifecycle.specs.Worked.{TheLastByte, NothingLeft, ARegionLeft, AnUnflushedLeft, AVoidedLeft};
-ghost use Rattle.ob_lifecycle.specs.Worked.{GivenUp, AtTheCap, InThatOrder};
+ghost use Rattle.ob_lifecycle.specs.Worked.{GivenUp, AtTheCap, InThatOrder, OneOfEach, StillPending};
 
 fn worked_ends()
     ensures the_last_byte { TheLastByte }
@@ -15,4 +15,9 @@ fn worked_ends()
 fn worked_faults()
     ensures at_the_cap { AtTheCap }
     ensures in_that_order { InThatOrder }
+{}
+
+fn worked_numbers()
+    ensures one_of_each { OneOfEach }
+    ensures still_pending { StillPending }
 {}

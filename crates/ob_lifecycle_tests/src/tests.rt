@@ -3,6 +3,7 @@ ghost use Rattle.std.specs.Prelude.{◌≤◌};
 
 mod caps;
 mod ends;
+mod numbers;
 
 use bytes::Bytes;
 use ob_lifecycle::{Limits, ManagedConnection, NotWritten, WriteFault};

@@ -11,6 +11,7 @@ ghost use Rattle.ob_lifecycle.specs.Events.{happens};
 ghost use Rattle.ob_lifecycle.specs.Managed.{Brings};
 
 use super::ManagedConnection;
+use crate::counted;
 use crate::fault::Told;
 use ob_connection::{Flushed, Removed, Taken};
 use ob_types::{Cause, Change, Refusal, WaterMark};
@@ -23,7 +24,7 @@ impl ManagedConnection {
         ensures room { KeepsRoom self.old.connection self.new.connection }
         ensures brings { Brings self.old (happens Flush result.answer) result.finished self.new }
     {
-        let answer = self.connection.flush();
+        let answer = counted::flush(&mut self.connection, &mut self.tally);
         let finished = self.ending.reach(self.connection.waiting_count());
         Told { answer, finished }
     }
@@ -47,7 +48,7 @@ impl ManagedConnection {
         ensures room { TakesNoRoom self.old.connection self.new.connection }
         ensures brings { Brings self.old (happens (RemoveWith cause) result.answer) result.finished self.new }
     {
-        let answer = self.connection.remove_with(cause);
+        let answer = counted::remove_with(&mut self.connection, &mut self.tally, cause);
         let finished = self.ending.reach(self.connection.waiting_count());
         Told { answer, finished }
     }
@@ -84,7 +85,7 @@ impl ManagedConnection {
         ensures room { KeepsRoom self.old.connection self.new.connection }
         ensures brings { Brings self.old (happens (Cancel (record { 0 = id })) result.answer) result.finished self.new }
     {
-        let answer = self.connection.cancel(id);
+        let answer = counted::cancel(&mut self.connection, &mut self.tally, id);
         let finished = self.ending.reach(self.connection.waiting_count());
         Told { answer, finished }
     }
@@ -98,7 +99,7 @@ impl ManagedConnection {
         ensures room { TakesNoRoom self.old.connection self.new.connection }
         ensures brings { Brings self.old (happens (FailFlushed cause notify) result.answer) result.finished self.new }
     {
-        let answer = self.connection.fail_flushed(cause, notify);
+        let answer = counted::fail_flushed(&mut self.connection, &mut self.tally, cause, notify);
         let finished = self.ending.reach(self.connection.waiting_count());
         Told { answer, finished }
     }
@@ -112,7 +113,7 @@ impl ManagedConnection {
         ensures room { OnOk result.answer (room_in self.new.connection ≡ 0) }
         ensures brings { Brings self.old (happens (Close cause) result.answer) result.finished self.new }
     {
-        let answer = self.connection.close(cause);
+        let answer = counted::close(&mut self.connection, &mut self.tally, cause);
         let finished = self.ending.reach(self.connection.waiting_count());
         Told { answer, finished }
     }

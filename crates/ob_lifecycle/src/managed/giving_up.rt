@@ -6,6 +6,7 @@ ghost use Rattle.ob_lifecycle.specs.Managed.{Brings};
 ghost use Rattle.ob_lifecycle.specs.Sendings.{giving_up_happens};
 
 use super::ManagedConnection;
+use crate::counted;
 use crate::fault::Told;
 use ob_connection::Taken;
 use ob_types::{Cause, Refusal};
@@ -21,7 +22,7 @@ impl ManagedConnection {
         ensures room { OnOk result.answer (room_in self.new.connection ≡ 0) }
         ensures brings { Brings self.old (giving_up_happens cause result.answer) result.finished self.new }
     {
-        let answer = self.connection.give_up(cause);
+        let answer = counted::give_up(&mut self.connection, &mut self.tally, cause);
         let finished = self.ending.reach(self.connection.waiting_count());
         Told { answer, finished }
     }
