@@ -4,7 +4,10 @@ pub mod Balance
 pub mod Tallies
 pub mod Showing
 pub mod Pending
+pub mod Watching
 pub mod Bringing
 pub mod Ends
 pub mod Writing
 pub mod Telling
+pub mod Stalling
+pub mod Naming

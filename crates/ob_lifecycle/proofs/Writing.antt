@@ -1,5 +1,5 @@
 -- Why a write is refused, and what it brings.
-use Rattle.std.proofs.Common.{◌≡◌, ℕ, ◌+◌, ◌-◌, ◌≤◌, max, arith, Bool, true, false, List, [], ◌∷◌, ◌++◌, ◌||◌, ◌&&◌, not, sym, refl, ap, ◌∙◌, subst, append-nil}
+use Rattle.std.proofs.Common.{◌≡◌, ℕ, ◌+◌, ◌-◌, ◌≤◌, max, arith, Bool, true, false, List, [], ◌∷◌, ◌++◌, ◌||◌, ◌&&◌, sym, refl, ap, ◌∙◌, subst, append-nil}
 use Rattle.ob_types.specs.PendingSize.{counted_bytes, is_oversize}
 use Rattle.std.specs.Prelude.{Result, Ok, Err, IfOk, IfErr, Option, Some, None, option_map, if◌then◌else◌, ◌==◌}
 use Rattle.ob_types.specs.declared.command.Command.TheVariants.{Write}
@@ -30,8 +30,9 @@ use Rattle.ob_lifecycle.specs.Managed.{StandsForSome}
 use Rattle.ob_lifecycle.specs.declared.count.Count.{Count}
 use Rattle.ob_lifecycle.specs.declared.tally.Tally.{Tally}
 use Rattle.ob_lifecycle.proofs.Balance.{written_bytes}
-use Rattle.ob_lifecycle.proofs.Bringing.{brings_one, counted, managed_with, uncounted}
-use Rattle.ob_lifecycle.proofs.Steps.{commands_more, finishing_more, over_seen, or_none}
+use Rattle.ob_lifecycle.proofs.Watching.{watch_more}
+use Rattle.ob_lifecycle.proofs.Bringing.{and_not, unmoved_over, brings_one, counted, managed_with, uncounted}
+use Rattle.ob_lifecycle.proofs.Steps.{finishing_more, or_none}
 use Rattle.ob_lifecycle.proofs.Tallies.{cancels_step, fits_of, plus_none, tally_like}
 
 -- the fault of a write of ours is its first
@@ -107,16 +108,6 @@ first_of_put why managed message new (Ok written) own wrote refused no_end no_ca
 first_of_put why managed message new (Err left) own wrote refused no_end no_cap memory events stands =
     first_of_fault managed message new events stands (own events stands) (why left) refused no_end no_cap memory
 
--- an end that is reached was told, so what changes no command tells nothing
-stays_over : (was now : Bool) → (now ≡ true → was ≡ true) → was ≡ (was || now)
-stays_over true now seen = refl
-stays_over false true seen = seen refl
-stays_over false false seen = refl
-
-and_not : (b : Bool) → false ≡ (b && not b)
-and_not true = refl
-and_not false = refl
-
 -- a write that was refused
 refused_brings : (old : Managed) (connection : Connected) (why : WriteFault) → connection ≡ old.connection
     → Brings old (WasRefused why ∷ []) false (managed_with old connection old.ending old.tally)
@@ -125,12 +116,9 @@ refused_brings old connection why same = brings_one old connection old.ending ol
   stands = λ commands stands. subst (λ c. ConnectionStandsFor c (commands ++ [])) (sym same)
       (subst (λ c. ConnectionStandsFor old.connection c) (sym (append-nil commands)) stands);
   asked = sym (or_none old.ending.asked);
-  over = λ events stands. stays_over old.ending.over _ (λ now. stands.over ∙ over_seen (opened_as old) events
-      (sym (ap (λ commands. is_finishing events && (waiting_count_after old.connection.unsent.settings commands == 0))
-      (commands_more events (WasRefused why ∷ []) ∙ append-nil (commands_in events)))
-      ∙ sym (ap (λ b. b && (waiting_count_after old.connection.unsent.settings (commands_in (events ++ WasRefused why ∷ [])) == 0))
-      (finishing_more events (WasRefused why) ∙ or_none (is_finishing events))) ∙ now));
+  over = λ events stands. unmoved_over old (WasRefused why) refl refl events stands;
   told = and_not old.ending.over;
+  watch = λ events stands. stands.watch ∙ sym (watch_more (opened_as old) events (WasRefused why));
   counts = uncounted old (WasRefused why) old.tally refl refl;
   messages = λ events stands. stands.messages;
   bytes = λ events stands. stands.bytes;
@@ -251,6 +239,7 @@ put_brings {E = E} why old message new tally (Ok written) own wrote refused coun
           sym (or_none old.ending.over)
           ∙ ap (λ b. old.ending.over || (b && (waiting_count_after old.connection.unsent.settings (commands_in (events ++ Accepted (Write message) ∷ [])) == 0))) (sym goes_on);
       told = and_not old.ending.over;
+      watch = λ events stands. stands.watch ∙ sym (watch_more (opened_as old) events (Accepted (Write message)));
       counts = counted E old (Write message) written tally counts;
       messages = λ events stands.
           let room = may_count old message (events, stands) own (commands_in events) stands.commands

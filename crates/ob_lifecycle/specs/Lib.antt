@@ -2,6 +2,7 @@ pub mod Events
 pub mod Finish
 pub mod Counts
 pub mod Numbers
+pub mod Stalls
 pub mod Writes
 pub mod Sendings
 pub mod Managed

@@ -4,6 +4,7 @@ use Rattle.ob_connection.specs.Connected.{Connected, StandsFor as ConnectionStan
 use Rattle.ob_lifecycle.specs.Counts.{most_told, tally_after}
 use Rattle.ob_lifecycle.specs.Events.{Event, Opened, commands_in}
 use Rattle.ob_lifecycle.specs.Finish.{finishes, is_finishing, was_over}
+use Rattle.ob_lifecycle.specs.Stalls.{watch_after}
 use Rattle.ob_lifecycle.specs.declared.ending.Ending.{Ending}
 use Rattle.ob_lifecycle.specs.declared.limits.Limits.{Limits}
 use Rattle.ob_lifecycle.specs.declared.tally.Tally.{Tally}
@@ -27,6 +28,7 @@ pub record StandsFor (managed : Managed) (events : List Event) : Type 0 where
   pub commands : ConnectionStandsFor managed.connection (commands_in events)
   pub asked : managed.ending.asked ≡ is_finishing events
   pub over : managed.ending.over ≡ was_over (opened_as managed) events
+  pub watch : managed.ending.watch ≡ watch_after (opened_as managed) events
   pub tally : managed.tally ≡ tally_after (opened_as managed) events
   pub messages : managed.tally.accepted.messages ≤ most_told
   pub bytes : managed.tally.accepted.bytes ≤ most_told

@@ -1,10 +1,13 @@
 ghost use Rattle.std.specs.Prelude.{◌≡◌, ◌||◌, ◌&&◌, ◌==◌, not, true};
 
-/// Whether the end was asked for, and whether it was reached.
+use crate::watch::Watch;
+
+/// Whether the end was asked for, whether it was reached, and the window of the peer until then.
 #[derive(Drop)]
 pub struct Ending {
     pub asked: bool,
     pub over: bool,
+    pub watch: Watch,
 }
 
 impl Ending {

@@ -5,14 +5,17 @@ ghost use Rattle.ob_lifecycle.specs.Inside.{managed_of};
 ghost use Rattle.ob_lifecycle.specs.Managed.{Brings, Managed, StandsFor, StandsForSome, opened_as};
 
 mod commands;
+mod copying;
 mod giving_up;
 mod looks;
 mod sending;
+mod ticking;
 mod write;
 
 use crate::ending::Ending;
 use crate::limits::Limits;
 use crate::tally::Tally;
+use crate::watch::Watch;
 use ob_connection::Connection;
 use ob_types::{Estimate, WaterMark};
 use std::alloc::Global;
@@ -63,6 +66,7 @@ impl ManagedConnection {
             ending: Ending {
                 asked: false,
                 over: false,
+                watch: Watch::new(now),
             },
             tally: Tally::new(),
         }

@@ -2,8 +2,10 @@
 ghost use Rattle.std.specs.Prelude.{◌≤◌};
 
 mod caps;
+mod copies;
 mod ends;
 mod numbers;
+mod stalls;
 
 use bytes::Bytes;
 use ob_lifecycle::{Limits, ManagedConnection, NotWritten, WriteFault};

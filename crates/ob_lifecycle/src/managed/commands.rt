@@ -25,6 +25,9 @@ impl ManagedConnection {
         ensures brings { Brings self.old (happens Flush result.answer) result.finished self.new }
     {
         let answer = counted::flush(&mut self.connection, &mut self.tally);
+        self.ending
+            .watch
+            .after(answer.is_ok(), 0, self.connection.is_empty());
         let finished = self.ending.reach(self.connection.waiting_count());
         Told { answer, finished }
     }
@@ -37,6 +40,11 @@ impl ManagedConnection {
         ensures brings { Brings self.old (happens Remove result.answer) result.finished self.new }
     {
         let answer = self.connection.remove();
+        self.ending.watch.after(
+            answer.is_ok(),
+            self.limits.least_bytes,
+            self.connection.is_empty(),
+        );
         let finished = self.ending.reach(self.connection.waiting_count());
         Told { answer, finished }
     }
@@ -49,6 +57,9 @@ impl ManagedConnection {
         ensures brings { Brings self.old (happens (RemoveWith cause) result.answer) result.finished self.new }
     {
         let answer = counted::remove_with(&mut self.connection, &mut self.tally, cause);
+        self.ending
+            .watch
+            .after(answer.is_ok(), 0, self.connection.is_empty());
         let finished = self.ending.reach(self.connection.waiting_count());
         Told { answer, finished }
     }
@@ -62,6 +73,9 @@ impl ManagedConnection {
         ensures brings { Brings self.old (happens (RemoveBytes n) result.answer) result.finished self.new }
     {
         let answer = self.connection.take_sent(n);
+        self.ending
+            .watch
+            .after(answer.is_ok(), n, self.connection.is_empty());
         let finished = self.ending.reach(self.connection.waiting_count());
         Told { answer, finished }
     }
@@ -74,6 +88,9 @@ impl ManagedConnection {
         ensures brings { Brings self.old (happens (Progress n) result.answer) result.finished self.new }
     {
         let answer = self.connection.progress(n);
+        self.ending
+            .watch
+            .after(answer.is_ok(), n, self.connection.is_empty());
         let finished = self.ending.reach(self.connection.waiting_count());
         Told { answer, finished }
     }
@@ -86,6 +103,9 @@ impl ManagedConnection {
         ensures brings { Brings self.old (happens (Cancel (record { 0 = id })) result.answer) result.finished self.new }
     {
         let answer = counted::cancel(&mut self.connection, &mut self.tally, id);
+        self.ending
+            .watch
+            .after(answer.is_ok(), 0, self.connection.is_empty());
         let finished = self.ending.reach(self.connection.waiting_count());
         Told { answer, finished }
     }
@@ -100,6 +120,9 @@ impl ManagedConnection {
         ensures brings { Brings self.old (happens (FailFlushed cause notify) result.answer) result.finished self.new }
     {
         let answer = counted::fail_flushed(&mut self.connection, &mut self.tally, cause, notify);
+        self.ending
+            .watch
+            .after(answer.is_ok(), 0, self.connection.is_empty());
         let finished = self.ending.reach(self.connection.waiting_count());
         Told { answer, finished }
     }
@@ -114,6 +137,9 @@ impl ManagedConnection {
         ensures brings { Brings self.old (happens (Close cause) result.answer) result.finished self.new }
     {
         let answer = counted::close(&mut self.connection, &mut self.tally, cause);
+        self.ending
+            .watch
+            .after(answer.is_ok(), 0, self.connection.is_empty());
         let finished = self.ending.reach(self.connection.waiting_count());
         Told { answer, finished }
     }
@@ -126,6 +152,9 @@ impl ManagedConnection {
         ensures brings { Brings self.old (happens (UserBit index writable) result.answer) result.finished self.new }
     {
         let answer = self.connection.user_bit(index, writable);
+        self.ending
+            .watch
+            .after(answer.is_ok(), 0, self.connection.is_empty());
         let finished = self.ending.reach(self.connection.waiting_count());
         Told { answer, finished }
     }
@@ -138,6 +167,9 @@ impl ManagedConnection {
         ensures brings { Brings self.old (happens (SetMarks marks) result.answer) result.finished self.new }
     {
         let answer = self.connection.set_marks(marks);
+        self.ending
+            .watch
+            .after(answer.is_ok(), 0, self.connection.is_empty());
         let finished = self.ending.reach(self.connection.waiting_count());
         Told { answer, finished }
     }

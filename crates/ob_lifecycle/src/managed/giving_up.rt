@@ -23,6 +23,9 @@ impl ManagedConnection {
         ensures brings { Brings self.old (giving_up_happens cause result.answer) result.finished self.new }
     {
         let answer = counted::give_up(&mut self.connection, &mut self.tally, cause);
+        self.ending
+            .watch
+            .after(answer.is_ok(), 0, self.connection.is_empty());
         let finished = self.ending.reach(self.connection.waiting_count());
         Told { answer, finished }
     }

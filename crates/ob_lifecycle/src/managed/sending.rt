@@ -28,12 +28,16 @@ impl ManagedConnection {
         ensures brings { Brings self.old (once_happens result.answer) result.finished self.new }
     {
         let answer = self.connection.send_once(socket, max_count, max_bytes);
+        let bytes = bytes_of_once(&answer);
         if answer.is_err() {
             return Told {
                 answer,
                 finished: false,
             };
         }
+        self.ending
+            .watch
+            .after(true, bytes, self.connection.is_empty());
         let finished = self.ending.reach(self.connection.waiting_count());
         Told { answer, finished }
     }
@@ -59,13 +63,37 @@ impl ManagedConnection {
         let answer = self
             .connection
             .send_until_blocked(socket, max_turns, max_bytes);
+        let bytes = bytes_of_turns(&answer);
         if answer.is_err() {
             return Told {
                 answer,
                 finished: false,
             };
         }
+        self.ending
+            .watch
+            .after(true, bytes, self.connection.is_empty());
         let finished = self.ending.reach(self.connection.waiting_count());
         Told { answer, finished }
+    }
+}
+
+/// How many bytes a sending at once sent.
+fn bytes_of_once(answer: &Result<Sent, SendFault>) -> u64
+    ensures { IfOk answer.now (λ done. result ≡ done.bytes) }
+{
+    match answer {
+        Ok(done) => done.bytes,
+        Err(_fault) => 0,
+    }
+}
+
+/// How many bytes a sending in turns sent.
+fn bytes_of_turns(answer: &Result<SentTurns, SendFault>) -> u64
+    ensures { IfOk answer.now (λ done. result ≡ done.bytes) }
+{
+    match answer {
+        Ok(done) => done.bytes,
+        Err(_fault) => 0,
     }
 }
