@@ -9,7 +9,7 @@ mod stalls;
 
 use bytes::Bytes;
 use ob_lifecycle::{Limits, ManagedConnection, NotWritten, WriteFault};
-use ob_types::{Estimate, Message, WaterMark};
+use ob_types::{Estimate, Message, Refusal, WaterMark};
 use std::alloc::Global;
 use std::test::Fail;
 
@@ -31,7 +31,20 @@ fn opened(alloc: Global, overhead: u32) -> Result<ManagedConnection, Fail>
 
 /// Writes a block of four bytes, or says why not.
 fn write(connection: &mut ManagedConnection) -> Result<(), WriteFault> {
-    match connection.write(Message::Block(Bytes::from_static(b"four"))) {
+    put(connection, Message::Block(Bytes::from_static(b"four")))
+}
+
+/// Writes a message, or says why not. If memory was refused, nothing may have changed, and it is written again.
+fn put(connection: &mut ManagedConnection, message: Message) -> Result<(), WriteFault> {
+    let before = connection.numbers();
+    let Err(refused) = connection.write(message) else {
+        return Ok(());
+    };
+    let NotWritten { why, message } = refused;
+    if why != WriteFault::Refused(Refusal::NoMemory) || connection.numbers() != before {
+        return Err(why);
+    }
+    match connection.write(message) {
         Ok(_written) => Ok(()),
         Err(NotWritten { why, message: _ }) => Err(why),
     }

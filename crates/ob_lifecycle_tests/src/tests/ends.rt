@@ -1,6 +1,6 @@
 //! Each way in which the end of a connection is told, and told once.
 
-use super::{opened, write};
+use super::{opened, put, write};
 use ob_connection::{Socket, SocketFault};
 use ob_lifecycle::{ManagedConnection, WriteFault};
 use ob_types::{Cause, Message, Refusal, WaterMark};
@@ -116,7 +116,7 @@ fn what_no_flush_has_reached_is_waited_for(rt: HostRuntime) -> Result<(), Fail> 
 #[test]
 fn a_region_that_counts_nothing_is_waited_for(rt: HostRuntime) -> Result<(), Fail> {
     let mut connection = opened(rt.alloc(), 0)?;
-    assert!(rt; connection.write(Message::Region(10)).is_ok());
+    assert!(rt; put(&mut connection, Message::Region(10)).is_ok());
     assert!(rt; connection.flush().answer.is_ok());
     assert_eq!(rt; connection.connection().look().total, 0);
     assert!(rt; !connection.finish());

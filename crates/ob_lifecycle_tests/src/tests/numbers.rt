@@ -1,6 +1,6 @@
 //! The numbers, with a block of each end.
 
-use super::{opened, write};
+use super::{opened, put, write};
 use bytes::Bytes;
 use ob_lifecycle::{Count, ManagedConnection, Numbers};
 use ob_types::{Cause, Message};
@@ -48,9 +48,11 @@ fn each_end_is_counted(rt: HostRuntime) -> Result<(), Fail> {
     assert!(rt; connection.fail_flushed(Cause(1), true).answer.is_ok());
     assert_eq!(rt; connection.numbers().failed, count(2, 200));
     assert!(rt;
-        connection
-            .write(Message::Block(Bytes::from_static(b"the fifth")))
-            .is_ok()
+        put(
+            &mut connection,
+            Message::Block(Bytes::from_static(b"the fifth"))
+        )
+        .is_ok()
     );
     assert!(rt; adds_up(&connection));
     assert!(rt; connection.close(Cause(1)).answer.is_ok());

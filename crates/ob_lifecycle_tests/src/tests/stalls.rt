@@ -1,6 +1,6 @@
 //! Peers that stall, with a window of 30 and at least 10 bytes in it.
 
-use super::{opened, write};
+use super::{opened, put, write};
 use ob_lifecycle::ManagedConnection;
 use ob_types::{Cause, Message};
 use std::alloc::Global;
@@ -84,7 +84,7 @@ fn what_no_flush_has_reached_opens_no_window(rt: HostRuntime) -> Result<(), Fail
 #[test]
 fn a_region_is_taken_by_its_progress(rt: HostRuntime) -> Result<(), Fail> {
     let mut connection = opened(rt.alloc(), 0)?;
-    assert!(rt; connection.write(Message::Region(100)).is_ok());
+    assert!(rt; put(&mut connection, Message::Region(100)).is_ok());
     write(&mut connection)?;
     assert!(rt; connection.flush().answer.is_ok());
     assert!(rt; !connection.tick(1));
