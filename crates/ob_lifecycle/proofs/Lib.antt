@@ -1,0 +1,13 @@
+pub mod Steps
+pub mod Ages
+pub mod Balance
+pub mod Tallies
+pub mod Showing
+pub mod Pending
+pub mod Watching
+pub mod Bringing
+pub mod Ends
+pub mod Writing
+pub mod Telling
+pub mod Stalling
+pub mod Naming

@@ -1,0 +1,257 @@
+-- Why a write is refused, and what it brings.
+use Rattle.std.proofs.Common.{◌≡◌, ℕ, ◌+◌, ◌-◌, ◌≤◌, max, arith, Bool, true, false, List, [], ◌∷◌, ◌++◌, ◌||◌, ◌&&◌, sym, refl, ap, ◌∙◌, subst, append-nil}
+use Rattle.ob_types.specs.PendingSize.{counted_bytes, is_oversize}
+use Rattle.std.specs.Prelude.{Result, Ok, Err, IfOk, IfErr, Option, Some, None, option_map, if◌then◌else◌, ◌==◌}
+use Rattle.ob_types.specs.declared.command.Command.TheVariants.{Write}
+use Rattle.ob_types.specs.declared.message.Message.{Message}
+use Rattle.ob_types.specs.declared.refusal.Refusal.{Refusal}
+use Rattle.ob_types.specs.declared.refusal.Refusal.TheVariants.{Closed, Oversize, NoMemory}
+use Rattle.ob_types.specs.declared.reply.Reply.{Reply}
+use Rattle.ob_seq.specs.Answer.{unless_refused, first_refusal_within}
+use Rattle.ob_seq.specs.State.{is_closed}
+use Rattle.ob_connection.specs.Connected.{Connected, StandsFor as ConnectionStandsFor, connection_limit}
+use Rattle.ob_connection.specs.Looks.{waiting_count_after}
+use Rattle.ob_connection.specs.Obeying.{Obeys, written_reply}
+use Rattle.ob_connection.specs.declared.replies.Written.{Written}
+use Rattle.ob_lifecycle.specs.Events.{Event, Accepted, Refused as WasRefused, commands_in}
+use Rattle.ob_lifecycle.specs.Finish.{is_finishing}
+use Rattle.ob_lifecycle.specs.Inside.{own_fault, own_fault_by}
+use Rattle.ob_lifecycle.specs.Managed.{Managed, StandsFor, Brings, Gives, opened_as}
+use Rattle.ob_lifecycle.specs.Writes.{IsNotWritten, accepted, declined, fault_in, fault_of_write, write_happens}
+use Rattle.ob_lifecycle.specs.declared.fault.WriteFault.{WriteFault}
+use Rattle.ob_lifecycle.specs.declared.fault.WriteFault.TheVariants.{Refused, Finishing, Full}
+use Rattle.std.proofs.lemmas.Bool.Decides.{nat_tests}
+use Rattle.ob_types.specs.declared.command.Command.{Command}
+use Rattle.ob_connection.specs.Looks.{Shows}
+use Rattle.ob_connection.specs.declared.look.Look.{Look}
+use Rattle.ob_lifecycle.specs.Counts.{is_untold, most_told, pending_after, plus, tally_by, Counts, Fits}
+use Rattle.ob_lifecycle.specs.Inside.{MayCount}
+use Rattle.ob_lifecycle.specs.Managed.{StandsForSome}
+use Rattle.ob_lifecycle.specs.declared.count.Count.{Count}
+use Rattle.ob_lifecycle.specs.declared.tally.Tally.{Tally}
+use Rattle.ob_lifecycle.proofs.Balance.{written_bytes}
+use Rattle.ob_lifecycle.proofs.Watching.{watch_more}
+use Rattle.ob_lifecycle.proofs.Bringing.{and_not, unmoved_over, brings_one, counted, managed_with, uncounted}
+use Rattle.ob_lifecycle.proofs.Steps.{finishing_more, or_none}
+use Rattle.ob_lifecycle.proofs.Tallies.{cancels_step, fits_of, plus_none, tally_like}
+
+-- the fault of a write of ours is its first
+own_first : (closed finishing oversize past : Bool) (rest : Option Refusal) (why : WriteFault)
+    → Some why ≡ own_fault_by closed finishing oversize past
+    → Some why
+    ≡ (if closed then Some (Refused Closed)
+    else (if finishing then Some Finishing
+    else (if oversize then Some (Refused Oversize)
+    else (if past then Some Full else option_map (λ refusal. Refused refusal) (if oversize then Some Oversize else rest)))))
+own_first true finishing oversize past rest why is = absurd (cc)
+own_first false true oversize past rest why is = is
+own_first false false true past rest why is = absurd (cc)
+own_first false false false true rest why is = is
+own_first false false false false rest why is = absurd (cc)
+
+-- and if there is none of ours, the first is the connection's
+others_first : (closed finishing oversize past : Bool) (rest : Option Refusal)
+    → None ≡ own_fault_by closed finishing oversize past
+    → option_map (λ refusal. Refused refusal) (if closed then Some Closed else (if oversize then Some Oversize else rest))
+    ≡ (if closed then Some (Refused Closed)
+    else (if finishing then Some Finishing
+    else (if oversize then Some (Refused Oversize)
+    else (if past then Some Full else option_map (λ refusal. Refused refusal) (if oversize then Some Oversize else rest)))))
+others_first true finishing oversize past rest is = refl
+others_first false true oversize past rest is = absurd (cc)
+others_first false false true past rest is = refl
+others_first false false false true rest is = absurd (cc)
+others_first false false false false rest is = refl
+
+pub first_of_own : (managed : Managed) (message : Message) (why : WriteFault) → Gives managed (own_fault message) (Some why)
+    → Gives managed (fault_of_write message) (Some why)
+first_of_own managed message why own events stands = own_first _ _ _ _ _ why (own events stands)
+
+-- what the connection's answer says of its first refusal
+accepted_says : (refusal : Option Refusal) (told reply : Reply) → Ok told ≡ unless_refused refusal reply → None ≡ refusal
+accepted_says None told reply is = refl
+accepted_says (Some refusal) told reply is = absurd (cc)
+
+refused_says : (refusal : Option Refusal) (first : Refusal) (reply : Reply) → Err first ≡ unless_refused refusal reply
+    → Some first ≡ refusal
+refused_says None first reply is = absurd (cc)
+refused_says (Some refusal) first reply is = cc
+
+some_memory : (refusal : Refusal) → ¬ (Some (Refused refusal) ≡ Some (Refused NoMemory)) → ¬ (declined refusal ≡ Err NoMemory)
+some_memory refusal other is = other (cc)
+
+never_memory : (written : Written) → ¬ (accepted written ≡ Err NoMemory)
+never_memory written is = cc
+
+first_of_fault : (managed : Managed) (message : Message) (new : Connected) (events : List Event) → StandsFor managed events
+    → None ≡ own_fault message (opened_as managed) events → (fault : WriteFault)
+    → IsNotWritten managed.connection message fault new → ¬ (Some fault ≡ Some Finishing) → ¬ (Some fault ≡ Some Full)
+    → ¬ (Some fault ≡ Some (Refused NoMemory)) → Some fault ≡ fault_of_write message (opened_as managed) events
+first_of_fault managed message new events stands own (Refused refusal) is no_end no_cap memory =
+    let first : Some refusal ≡ first_refusal_within connection_limit managed.connection.unsent.settings.estimate (commands_in events) (Write message) =
+    refused_says _ refusal _ (is.answer (some_memory refusal memory) (commands_in events) stands.commands) in
+    ap (option_map (λ refusal. Refused refusal)) first ∙ others_first _ _ _ _ _ own
+first_of_fault managed message new events stands own Finishing is no_end no_cap memory = absurd (no_end refl)
+first_of_fault managed message new events stands own Full is no_end no_cap memory = absurd (no_cap refl)
+
+-- the fault of a write that the connection was asked for is its first
+pub first_of_put : {E : Type 0} (why : E → WriteFault) (managed : Managed) (message : Message) (new : Connected) (result : Result Written E)
+    → Gives managed (own_fault message) None
+    → IfOk result (λ written. Obeys managed.connection (Write message) written_reply (accepted written) new)
+    → IfErr result (λ left. IsNotWritten managed.connection message (why left) new)
+    → ¬ (fault_in why result ≡ Some Finishing) → ¬ (fault_in why result ≡ Some Full)
+    → ¬ (fault_in why result ≡ Some (Refused NoMemory)) → Gives managed (fault_of_write message) (fault_in why result)
+first_of_put why managed message new (Ok written) own wrote refused no_end no_cap memory events stands =
+    let none : None ≡ first_refusal_within connection_limit managed.connection.unsent.settings.estimate (commands_in events) (Write message) =
+    accepted_says _ _ _ (wrote.answer (never_memory written) (commands_in events) stands.commands) in
+    ap (option_map (λ refusal. Refused refusal)) none ∙ others_first _ _ _ _ _ (own events stands)
+first_of_put why managed message new (Err left) own wrote refused no_end no_cap memory events stands =
+    first_of_fault managed message new events stands (own events stands) (why left) refused no_end no_cap memory
+
+-- a write that was refused
+refused_brings : (old : Managed) (connection : Connected) (why : WriteFault) → connection ≡ old.connection
+    → Brings old (WasRefused why ∷ []) false (managed_with old connection old.ending old.tally)
+refused_brings old connection why same = brings_one old connection old.ending old.tally (WasRefused why) false (record {
+  settings = ap (λ c. c.unsent.settings) same;
+  stands = λ commands stands. subst (λ c. ConnectionStandsFor c (commands ++ [])) (sym same)
+      (subst (λ c. ConnectionStandsFor old.connection c) (sym (append-nil commands)) stands);
+  asked = sym (or_none old.ending.asked);
+  over = λ events stands. unmoved_over old (WasRefused why) refl refl events stands;
+  told = and_not old.ending.over;
+  watch = λ events stands. stands.watch ∙ sym (watch_more (opened_as old) events (WasRefused why));
+  counts = uncounted old (WasRefused why) old.tally refl refl;
+  messages = λ events stands. stands.messages;
+  bytes = λ events stands. stands.bytes;
+})
+
+pub own_brings : (old : Managed) (why : WriteFault) → Brings old (WasRefused why ∷ []) false old
+own_brings old why = refused_brings old old.connection why refl
+
+-- an open connection with no fault of ours was not asked to end
+open_by : (closed : Bool) (rest : Option Refusal) → None ≡ (if closed then Some Closed else rest) → closed ≡ false
+open_by true rest is = absurd (cc)
+open_by false rest is = refl
+
+not_finishing : (closed finishing oversize past : Bool) → None ≡ own_fault_by closed finishing oversize past → closed ≡ false
+    → finishing ≡ false
+not_finishing true finishing oversize past own unclosed = absurd (cc)
+not_finishing false true oversize past own unclosed = absurd (cc)
+not_finishing false false oversize past own unclosed = refl
+
+not_put : (old new : Connected) (message : Message) (fault : WriteFault) → IsNotWritten old message fault new → new ≡ old
+not_put old new message (Refused refusal) is = is.refused
+not_put old new message Finishing is = is
+not_put old new message Full is = is
+
+-- numbers with room for a message can tell it
+told_messages : (count : Count) (size : ℕ) → is_untold count size ≡ false → count.messages + 1 ≤ most_told
+told_messages count size room = grind (arith, nat_tests, room)
+
+told_bytes : (count : Count) (size : ℕ) → is_untold count size ≡ false → count.bytes + size ≤ most_told
+told_bytes count size room = grind (arith, nat_tests, room)
+
+-- a message that is written was not too large
+fine_by : (closed oversize : Bool) (rest : Option Refusal)
+    → None ≡ (if closed then Some Closed else (if oversize then Some Oversize else rest)) → oversize ≡ false
+fine_by true oversize rest is = absurd (cc)
+fine_by false true rest is = absurd (cc)
+fine_by false false rest is = refl
+
+pub written_open : (old new : Connected) (message : Message) (written : Written) (commands : List Command)
+    → ConnectionStandsFor old commands → Obeys old (Write message) written_reply (accepted written) new
+    → is_closed commands ≡ false
+written_open old new message written commands stands wrote =
+    open_by _ _ (accepted_says (first_refusal_within connection_limit old.unsent.settings.estimate commands (Write message)) _ _
+    (wrote.answer (never_memory written) commands stands))
+
+pub written_fine : (old new : Connected) (message : Message) (written : Written) (commands : List Command)
+    → ConnectionStandsFor old commands → Obeys old (Write message) written_reply (accepted written) new
+    → is_oversize old.unsent.settings.estimate message ≡ false
+written_fine old new message written commands stands wrote =
+    fine_by _ _ _ (accepted_says (first_refusal_within connection_limit old.unsent.settings.estimate commands (Write message)) _ _
+    (wrote.answer (never_memory written) commands stands))
+
+-- the numbers have room for a message that is not refused by us
+past_by : (closed finishing oversize past : Bool) → None ≡ own_fault_by closed finishing oversize past → closed ≡ false
+    → oversize ≡ false → past ≡ false
+past_by true finishing oversize past own a b = absurd (cc)
+past_by false true oversize past own a b = absurd (cc)
+past_by false false true past own a b = absurd (cc)
+past_by false false false true own a b = absurd (cc)
+past_by false false false false own a b = refl
+
+or_right : (a b : Bool) → (a || b) ≡ false → b ≡ false
+or_right true b is = absurd (cc)
+or_right false b is = is
+
+pub may_count : (managed : Managed) (message : Message) → StandsForSome managed → Gives managed (own_fault message) None
+    → MayCount managed.connection managed.tally message
+may_count managed message some own commands stands unclosed fine =
+    let same : is_closed (commands_in some.0) ≡ false = sym some.1.commands.leaves.closed ∙ stands.leaves.closed ∙ unclosed in
+    let size = counted_bytes managed.connection.unsent.settings.estimate message in
+    ap (λ t. is_untold t.accepted size) some.1.tally
+    ∙ or_right _ _ (past_by _ _ _ _ (own some.0 some.1) same fine)
+
+-- what is pending grows by what the message counts
+pub put_grows : (old new : Connected) (message : Message) (written : Written) (before after : Look) (commands : List Command)
+    → ConnectionStandsFor old commands → Obeys old (Write message) written_reply (accepted written) new → Shows old before
+    → Shows new after → after.total ≡ before.total + counted_bytes old.unsent.settings.estimate message
+put_grows old new message written before after commands stands wrote shows shown =
+    let settings = old.unsent.settings in
+    let was : before.total ≡ (pending_after settings commands).bytes = ap (λ look. look.total) (shows commands stands) in
+    let now : after.total ≡ (pending_after settings (commands ++ Write message ∷ [])).bytes =
+    ap (λ look. look.total) (shown _ (wrote.stands commands stands))
+    ∙ ap (λ s. (pending_after s (commands ++ Write message ∷ [])).bytes) wrote.settings in
+    omega (arith, was, now, written_bytes settings commands message)
+
+pub put_counted : (old new : Connected) (message : Message) (written : Written) (before after : Look) (size : ℕ) (tally : Tally)
+    → Obeys old (Write message) written_reply (accepted written) new → Shows old before → Shows new after
+    → size ≡ after.total - before.total → (commands : List Command) → ConnectionStandsFor old commands
+    → Fits old.unsent.settings commands tally
+    → record tally { accepted = plus tally.accepted (record { messages = 1; bytes = size }); peak = max tally.peak after.total }
+    ≡ tally_by old.unsent.settings commands (Write message) tally
+put_counted old new message written before after size tally wrote shows shown is commands stands fits =
+    let settings = old.unsent.settings in
+    let counts : size ≡ counted_bytes settings.estimate message =
+    omega (arith, is, put_grows old new message written before after commands stands wrote shows shown) in
+    let now : after.total ≡ (pending_after settings (commands ++ Write message ∷ [])).bytes =
+    ap (λ look. look.total) (shown _ (wrote.stands commands stands))
+    ∙ ap (λ s. (pending_after s (commands ++ Write message ∷ [])).bytes) wrote.settings in
+    tally_like _ (tally_by settings commands (Write message) tally)
+    (ap (λ n. plus tally.accepted (record { messages = 1; bytes = n })) counts) (sym (plus_none tally.failed))
+    (sym (plus_none tally.cancelled)) (ap (max tally.peak) now) (fits.cancels ∙ sym (cancels_step commands (Write message)))
+
+pub put_brings : {E : Type 0} (why : E → WriteFault) (old : Managed) (message : Message) (new : Connected) (tally : Tally)
+    (result : Result Written E) → Gives old (own_fault message) None
+    → IfOk result (λ written. Obeys old.connection (Write message) written_reply (accepted written) new)
+    → IfErr result (λ left. IsNotWritten old.connection message (why left) new)
+    → Counts old.connection old.tally (Write message) result tally
+    → Brings old (write_happens why message result) false (managed_with old new old.ending tally)
+put_brings {E = E} why old message new tally (Ok written) own wrote refused counts =
+    brings_one old new old.ending tally (Accepted (Write message)) false (record {
+      settings = wrote.settings;
+      stands = wrote.stands;
+      asked = sym (or_none old.ending.asked);
+      over = λ events stands.
+          let goes_on : is_finishing (events ++ Accepted (Write message) ∷ []) ≡ false =
+          finishing_more events (Accepted (Write message)) ∙ or_none (is_finishing events)
+          ∙ not_finishing _ _ _ _ (own events stands) (written_open old.connection new message written (commands_in events) stands.commands wrote) in
+          sym (or_none old.ending.over)
+          ∙ ap (λ b. old.ending.over || (b && (waiting_count_after old.connection.unsent.settings (commands_in (events ++ Accepted (Write message) ∷ [])) == 0))) (sym goes_on);
+      told = and_not old.ending.over;
+      watch = λ events stands. stands.watch ∙ sym (watch_more (opened_as old) events (Accepted (Write message)));
+      counts = counted E old (Write message) written tally counts;
+      messages = λ events stands.
+          let room = may_count old message (events, stands) own (commands_in events) stands.commands
+          (written_open old.connection new message written (commands_in events) stands.commands wrote)
+          (written_fine old.connection new message written (commands_in events) stands.commands wrote) in
+          omega (arith, told_messages old.tally.accepted _ room, ap (λ t. t.accepted.messages) (counts (commands_in events) stands.commands (fits_of old events stands)));
+      bytes = λ events stands.
+          let room = may_count old message (events, stands) own (commands_in events) stands.commands
+          (written_open old.connection new message written (commands_in events) stands.commands wrote)
+          (written_fine old.connection new message written (commands_in events) stands.commands wrote) in
+          omega (arith, told_bytes old.tally.accepted _ room, ap (λ t. t.accepted.bytes) (counts (commands_in events) stands.commands (fits_of old events stands)));
+    })
+put_brings why old message new tally (Err left) own wrote refused counts =
+    subst (λ t. Brings old (WasRefused (why left) ∷ []) false (managed_with old new old.ending t)) (sym counts)
+    (refused_brings old new (why left) (not_put old.connection new message (why left) refused))

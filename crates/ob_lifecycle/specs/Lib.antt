@@ -1,0 +1,10 @@
+pub mod Events
+pub mod Finish
+pub mod Counts
+pub mod Numbers
+pub mod Stalls
+pub mod Writes
+pub mod Sendings
+pub mod Managed
+pub mod Inside
+pub mod Worked

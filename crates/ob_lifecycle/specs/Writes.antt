@@ -1,0 +1,62 @@
+-- Why a write is refused, and what a write brings.
+use Rattle.std.specs.Prelude.{◌≡◌, ℕ, ◌+◌, Bool, ◌||◌, List, [], ◌∷◌, Option, Some, None, option_map, Result, Ok, Err, nat_lt, if◌then◌else◌}
+use Rattle.ob_types.specs.PendingSize.{counted_bytes, is_oversize}
+use Rattle.ob_types.specs.declared.command.Command.TheVariants.{Write}
+use Rattle.ob_types.specs.declared.message.Message.{Message}
+use Rattle.ob_types.specs.declared.refusal.Refusal.{Refusal}
+use Rattle.ob_types.specs.declared.refusal.Refusal.TheVariants.{Closed, Oversize}
+use Rattle.ob_seq.specs.Answer.{refusal_within}
+use Rattle.ob_seq.specs.Effect.{rows_after}
+use Rattle.ob_seq.specs.Rows.{total}
+use Rattle.ob_seq.specs.State.{is_closed}
+use Rattle.ob_connection.specs.Connected.{Connected, connection_limit}
+use Rattle.ob_connection.specs.Obeying.{Obeys, written_reply}
+use Rattle.ob_connection.specs.declared.replies.Written.{Written}
+use Rattle.ob_lifecycle.specs.Counts.{accepted_after, is_untold}
+use Rattle.ob_lifecycle.specs.Events.{Event, Accepted, Refused as WasRefused, Opened, commands_in}
+use Rattle.ob_lifecycle.specs.Finish.{is_finishing}
+use Rattle.ob_lifecycle.specs.declared.fault.WriteFault.{WriteFault}
+use Rattle.ob_lifecycle.specs.declared.fault.WriteFault.TheVariants.{Refused, Finishing, Full}
+
+-- whether a message is past the cap: with it more bytes would be pending than may be, or more was written than 64 bits
+-- can tell
+abbrev pub is_past_the_cap : Opened → List Event → ℕ → Bool
+is_past_the_cap opened events size =
+    nat_lt opened.limits.most_pending (total (rows_after opened.settings.estimate (commands_in events)) + size)
+    || is_untold (accepted_after opened events) size
+
+-- why a write is refused after events, or nothing: the connection is closed, its end was asked for, the message is too
+-- large to be counted, it is past the cap, or the connection refuses it; memory comes last
+abbrev pub fault_of_write : Message → Opened → List Event → Option WriteFault
+fault_of_write message opened events =
+    let estimate = opened.settings.estimate in
+    if is_closed (commands_in events) then Some (Refused Closed)
+    else (if is_finishing events then Some Finishing
+    else (if is_oversize estimate message then Some (Refused Oversize)
+    else (if is_past_the_cap opened events (counted_bytes estimate message) then Some Full
+    else option_map (λ refusal. Refused refusal)
+    (refusal_within connection_limit estimate (rows_after estimate (commands_in events)) (Write message)))))
+
+-- why this write was refused, if it was
+abbrev pub fault_in : {A E : Type 0} → (E → WriteFault) → Result A E → Option WriteFault
+fault_in why (Ok written) = None
+fault_in why (Err not) = Some (why not)
+
+-- what a write brings
+abbrev pub write_happens : {E : Type 0} → (E → WriteFault) → Message → Result Written E → List Event
+write_happens why message (Ok written) = Accepted (Write message) ∷ []
+write_happens why message (Err not) = WasRefused (why not) ∷ []
+
+-- a result of the connection's write
+abbrev pub accepted : Written → Result Written Refusal
+accepted written = Ok written
+
+-- and of one that it refused
+abbrev pub declined : Refusal → Result Written Refusal
+declined refusal = Err refusal
+
+-- a write that was refused: by the connection, or the connection was not asked and is as it was
+abbrev pub IsNotWritten : Connected → Message → WriteFault → Connected → Type 0
+IsNotWritten old message (Refused refusal) new = Obeys old (Write message) written_reply (declined refusal) new
+IsNotWritten old message Finishing new = new ≡ old
+IsNotWritten old message Full new = new ≡ old

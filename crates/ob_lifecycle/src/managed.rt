@@ -1,0 +1,92 @@
+ghost use Rattle.std.specs.Prelude.{◌≡◌, ◌≤◌, [], ◌∷◌};
+ghost use Rattle.ob_types.specs.Limits.{greatest_overhead, greatest_unknown};
+ghost use Rattle.ob_lifecycle.specs.Events.{Finishing};
+ghost use Rattle.ob_lifecycle.specs.Inside.{managed_of};
+ghost use Rattle.ob_lifecycle.specs.Managed.{Brings, Managed, StandsFor, StandsForSome, opened_as};
+
+mod commands;
+mod copying;
+mod giving_up;
+mod looks;
+mod sending;
+mod ticking;
+mod write;
+
+use crate::ending::Ending;
+use crate::limits::Limits;
+use crate::tally::Tally;
+use crate::watch::Watch;
+use ob_connection::Connection;
+use ob_types::{Estimate, WaterMark};
+use std::alloc::Global;
+use std::marker::Model;
+
+/// A connection whose life is managed.
+#[derive(Drop)]
+pub struct ManagedConnection {
+    connection: Connection,
+    limits: Limits,
+    opened: u64,
+    ending: Ending,
+    tally: Tally,
+}
+
+/// It stands for some list of events.
+impl Model for ManagedConnection {
+    ghost Value = { Managed };
+
+    ghost view = { managed_of };
+
+    ghost invariant = { λ managed. StandsForSome (managed_of managed) };
+}
+
+impl ManagedConnection {
+    /// A connection with nothing written, as `Connection::new` makes it, held to these limits. The clock of the caller
+    /// stands at `now`.
+    pub fn new(
+        alloc: Global,
+        marks: WaterMark,
+        estimate: Estimate,
+        limits: Limits,
+        now: u64,
+    ) -> ManagedConnection
+        requires overhead { estimate.overhead ≤ greatest_overhead }
+        requires unknown { estimate.unknown ≤ greatest_unknown }
+        ensures opened { opened_as result ≡ record {
+          settings = record { marks = marks; estimate = estimate };
+          limits = limits;
+          now = now;
+        } }
+        ensures stands { StandsFor result [] }
+    {
+        ManagedConnection {
+            connection: Connection::new(alloc, marks, estimate),
+            limits,
+            opened: now,
+            ending: Ending {
+                asked: false,
+                over: false,
+                watch: Watch::new(now),
+            },
+            tally: Tally::new(),
+        }
+    }
+
+    /// Asks for the end: from now on no write is accepted, and everything else goes on. It returns whether the end is
+    /// reached, since nothing is left; else the call returns it by which the last is gone that was accepted.
+    pub fn finish(&mut self) -> bool
+        ensures brings { Brings self.old (Finishing ∷ []) result self.new }
+        ensures connection { self.new.connection ≡ self.old.connection }
+    {
+        self.ending.ask();
+        self.ending.reach(self.connection.waiting_count())
+    }
+
+    /// Each managed connection stands for some list of events, so what its calls promise is promised of some list. It does
+    /// nothing.
+    pub fn stands_for_some_events(&self)
+        ensures { StandsForSome self.now }
+    {
+        let _ending = &self.ending;
+    }
+}

@@ -1,0 +1,21 @@
+ghost use Rattle.std.specs.Prelude.{◌≡◌, false, [], ◌∷◌};
+ghost use Rattle.ob_lifecycle.specs.Events.{Ticked};
+ghost use Rattle.ob_lifecycle.specs.Managed.{Brings, Gives};
+ghost use Rattle.ob_lifecycle.specs.Stalls.{names_by};
+
+use super::ManagedConnection;
+
+impl ManagedConnection {
+    /// Tells the time, in units of the caller, and returns whether the peer is named as one that stalls: something was
+    /// flushed all along since a tick that is a window or more ago, and the peer took fewer bytes since then than it has
+    /// to. It is named once, until it took as many or all. A time behind the last one tells nothing.
+    pub fn tick(&mut self, now: u64) -> bool
+        ensures named { Gives self.old (names_by now) result }
+        ensures connection { self.new.connection ≡ self.old.connection }
+        ensures brings { Brings self.old (Ticked now ∷ []) false self.new }
+    {
+        self.ending
+            .watch
+            .tick(self.limits, now, self.connection.is_empty())
+    }
+}

@@ -1,0 +1,77 @@
+ghost use Rattle.std.specs.Prelude.{◌≡◌, ◌≤◌, ◌+◌, max, not, true, false};
+ghost use Rattle.ob_lifecycle.specs.Counts.{beyond, is_untold, most_told, none, plus};
+
+use crate::count::Count;
+
+/// What is counted of a connection as it goes. What was sent is what was accepted, less all else.
+#[derive(Drop)]
+pub struct Tally {
+    pub accepted: Count,
+    pub failed: Count,
+    pub cancelled: Count,
+    pub peak: u64,
+    /// Whether a cancellation came since the last flush, which may void something then.
+    pub cancels: bool,
+}
+
+impl Tally {
+    /// Nothing.
+    pub fn new() -> Tally
+        ensures { result ≡ record { accepted = none; failed = none; cancelled = none; peak = 0; cancels = false } }
+    {
+        let none = Count {
+            messages: 0,
+            bytes: 0,
+        };
+        Tally {
+            accepted: none,
+            failed: none,
+            cancelled: none,
+            peak: 0,
+            cancels: false,
+        }
+    }
+
+    /// Whether one more message of this size can be counted.
+    #[inline(always)]
+    pub fn has_room(&self, size: u64) -> bool
+        ensures { result ≡ not (is_untold self.now.accepted size) }
+    {
+        size <= u64::MAX - self.accepted.bytes && self.accepted.messages < u64::MAX
+    }
+
+    /// Counts a message of this size, with which this many bytes are pending.
+    #[inline(always)]
+    pub fn accept(&mut self, size: u64, pending: u64)
+        requires { is_untold self.old.accepted size ≡ false }
+        ensures { self.new ≡ record self.old {
+          accepted = plus self.old.accepted (record { messages = 1; bytes = size });
+          peak = max self.old.peak pending;
+        } }
+    {
+        self.accepted = Count {
+            messages: self.accepted.messages + 1,
+            bytes: self.accepted.bytes + size,
+        };
+        self.peak = self.peak.max(pending);
+    }
+
+    /// Counts as failed what was pending before and is not after.
+    pub fn fail(&mut self, before: Count, after: Count)
+        requires messages { self.old.failed.messages + before.messages ≤ most_told }
+        requires bytes { self.old.failed.bytes + before.bytes ≤ most_told }
+        ensures { self.new ≡ record self.old { failed = plus self.old.failed (beyond before after) } }
+    {
+        self.failed = self.failed.more_by(before, after);
+    }
+
+    /// Counts as cancelled what was pending before a flush and is not after.
+    pub fn void(&mut self, before: Count, after: Count)
+        requires messages { self.old.cancelled.messages + before.messages ≤ most_told }
+        requires bytes { self.old.cancelled.bytes + before.bytes ≤ most_told }
+        ensures { self.new ≡ record self.old { cancelled = plus self.old.cancelled (beyond before after); cancels = false } }
+    {
+        self.cancelled = self.cancelled.more_by(before, after);
+        self.cancels = false;
+    }
+}

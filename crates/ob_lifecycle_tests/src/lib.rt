@@ -1,0 +1,5 @@
+//! The tests of `ob_lifecycle`.
+#![tactic(auto)]
+
+#[cfg(test)]
+mod tests;
