@@ -1,4 +1,4 @@
-//! A connection with a life: an end in order, that is told once.
+//! Connections with a life: an end in order that is told once, a cap, numbers that add up, and peers that stall.
 #![tactic(auto)]
 
 mod count;

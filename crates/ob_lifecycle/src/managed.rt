@@ -21,7 +21,11 @@ use ob_types::{Estimate, WaterMark};
 use std::alloc::Global;
 use std::marker::Model;
 
-/// A connection whose life is managed.
+/// A connection that ends in order, holds no more than its cap, names a peer that stalls, and counts what becomes of what
+/// was written.
+///
+/// Its calls are those of `Connection`, and each promises besides which events it brings. A deadline is the caller's: once
+/// it is over, `give_up` fails what is left.
 #[derive(Drop)]
 pub struct ManagedConnection {
     connection: Connection,
