@@ -3,7 +3,7 @@ ghost use Rattle.ob_types.specs.Limits.{greatest_overhead, greatest_unknown};
 ghost use Rattle.ob_connection.specs.Connected.{StandsFor};
 ghost use Rattle.futures.specs.Poll.{IfReady, OnPending};
 ghost use Rattle.futures.specs.Task.{Covers, Keeps};
-ghost use Rattle.futures.specs.WaitList.{HasRoom, IsParkedAt, IsQueued, QueuesFewer, value_of};
+ghost use Rattle.futures.specs.WaitList.{HasRoom, IsParkedAt, IsQueued, Leaves, QueuesFewer, value_of};
 ghost use Rattle.ob_async.specs.Inside.{task_connection_of};
 ghost use Rattle.ob_async.specs.Waiting.{AllWoken, Finds, IsLeftToSend, MustWait, WakesJust, room_after, work_after};
 
@@ -83,7 +83,8 @@ impl TaskConnection {
     /// One poll of a writer that waits for room, with its ticket if it waited before. It is ready if the connection is
     /// writable or closed, and tells which. Else it is pending: the task's waker is left in the queue.
     ///
-    /// The error is that the allocator refused a place for it in the queue; then it is not in the queue.
+    /// The error is that the allocator refused a place for it in the queue; then it is not in the queue. It never comes to one
+    /// that stands there.
     pub fn poll_writable(
         &mut self,
         cx: &mut Context<'_>,
@@ -94,6 +95,7 @@ impl TaskConnection {
         ensures waits { OnPending result (MustWait room_after self.old.connection) }
         ensures no_memory { IfReady result (λ told. OnErr told (MustWait room_after self.old.connection)) }
         ensures spares { ticket.old ≡ None → HasRoom self.old.writers → IfReady result (λ told. IsOk told) }
+        ensures stays { IfSome ticket.old (λ it. IsQueued self.old.writers it.key → result ≡ Poll.Pending) }
         ensures parked { OnPending result (IsSomeAnd ticket.new (λ it. IsParkedAt cx.old cx.new self.new.writers it.key)) }
         ensures left { IfReady result (λ _. ticket.new ≡ None) }
         ensures removed { IfReady result (λ _. IfSome ticket.old (λ it. value_of self.new.writers it.key ≡ None)) }
@@ -111,6 +113,13 @@ impl TaskConnection {
             self.writers.leave(ticket.take());
             return Poll::Ready(Ok(Moment::Ready));
         }
+        if let Some(place) = ticket.take() {
+            let key = place.key();
+            place.store(ticket);
+            if self.writers.is_queued(key) {
+                return self.writers.register(cx, room, key);
+            }
+        }
         match self.writers.park(cx, room, ticket, ()) {
             Poll::Ready(error) => Poll::Ready(Err(error)),
             Poll::Pending => Poll::Pending,
@@ -120,11 +129,13 @@ impl TaskConnection {
     /// Ends the wait of a writer that does not wait any more, as if its task is dropped.
     pub fn leave(&mut self, ticket: Ticket)
         ensures removed { value_of self.new.writers ticket.key ≡ None }
+        ensures leaves { Leaves self.old.writers self.new.writers ticket.key }
         ensures fewer { QueuesFewer self.old.writers self.new.writers }
         ensures connection { self.new.connection ≡ self.old.connection }
         ensures sender { self.new.sender ≡ self.old.sender }
     {
-        self.writers.leave(Some(ticket));
+        let key = self.writers.redeem(ticket);
+        self.writers.remove(key);
     }
 
     /// One poll of the task that sends. It is ready if a flushed message is there or the connection is closed, and tells
