@@ -48,8 +48,9 @@ fn put(
 
 impl ManagedConnection {
     /// As `Connection::write`, but `Finishing` comes after `Closed` once the end was asked for, and `Full` after
-    /// `Oversize`, and before anything is allocated, if more bytes would be pending than the cap allows. Each refusal
-    /// leaves everything as it was, and the message comes back.
+    /// `Oversize`, and before anything is allocated, if more bytes would be pending than the cap allows, or more than
+    /// 2^64 - 1 bytes or messages would have been accepted in all. Each refusal leaves everything as it was, and the
+    /// message comes back.
     #[inline(always)]
     pub fn write(&mut self, message: Message) -> Result<Written, NotWritten>
         ensures written { IfOk result (λ written.
