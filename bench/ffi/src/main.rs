@@ -1,6 +1,7 @@
 //! Times the cycle (write of 64 bytes, flush, remove) and 16 writes, flush, gather and removal of their bytes, behind messages
 //! that wait: through the crate `limekeel`, by the same rules in plain Rust, and by the barest queue.
 //! Prints lines of a name, a depth and the nanoseconds of a cycle and of a message in a batch.
+//! With the word `threads` it times the threads alone.
 
 // of what is there by hand this needs the connection alone
 #[allow(dead_code, unused_imports)]
@@ -245,6 +246,9 @@ fn time<Q: Queue>(name: &str) {
 }
 
 fn main() {
+    if std::env::args().nth(1).as_deref() == Some("threads") {
+        return threads::time_all();
+    }
     time::<Copied>("rust");
     time::<Shared<Copied>>("rust-shared");
     time::<ByHand>("by-hand");

@@ -2,9 +2,10 @@ use crate::handles::{Sender, Sharer};
 use crate::lent::{Kept, Lent, Owner};
 use crate::promises::{Node, Promises};
 use crate::replies::{Refusal, Taken, Written, done};
-use crate::waits::{Bell, Line, lock};
+use crate::waits::{Bell, Line, lock, look_for};
 use std::sync::Mutex;
 use std::sync::atomic::{AtomicBool, AtomicUsize, Ordering};
+use std::time::Duration;
 
 /// What all that have a shared connection have in common, beside what the archive keeps.
 #[derive(Debug)]
@@ -51,20 +52,14 @@ struct Books {
     lent: Lent,
 }
 
-/// How often one that is to wait looks without the lock before it sleeps. A pause comes after each look, twice as long as the one
-/// before it: some microseconds in all.
-const LOOKS: u32 = 7;
+/// How long one that is to wait looks without the lock before it sleeps. It is some half of what it takes to wake a thread that sleeps.
+const LOOKS: Duration = Duration::from_micros(30);
 
 /// Looks for a while whether it has come what one is to wait for, and returns once it seems so. While others work it comes as soon
 /// as that most often, and a sleep costs more: also the thread that has to wake the sleeper. The processor is not given away, since
 /// it comes back late if many want it.
-pub(crate) fn look_for_a_while(mut came: impl FnMut() -> bool) {
-    for turn in 0..LOOKS {
-        if came() {
-            return;
-        }
-        (0..1 << turn).for_each(|_| std::hint::spin_loop());
-    }
+pub(crate) fn look_for_a_while(came: impl FnMut() -> bool) {
+    look_for(LOOKS, came);
 }
 
 impl Common {

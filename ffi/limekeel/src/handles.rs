@@ -236,7 +236,7 @@ impl Sender {
         places: &'a mut [Place],
         max_bytes: u32,
     ) -> Result<&'a [IoSlice<'a>], Refusal> {
-        let told = line.had(|| self.gather(places, max_bytes));
+        let told = line.had_by_sender(|| self.gather(places, max_bytes));
         done(told.status)?;
         // SAFETY: the archive filled the first `count` places, with where bytes of the connection lie; `joined` leaves as many
         // as it says, with where the same bytes lie. They lie there until this handle takes them away, which its borrow keeps

@@ -61,7 +61,7 @@ impl Transport {
     /// What is pending now.
     #[must_use]
     pub fn look(&self) -> Look {
-        Look::of(self.common.line.had(|| self.role.sharer.look()))
+        Look::of(self.common.line.had_by_sender(|| self.role.sharer.look()))
     }
 
     /// Whether a close was accepted, from a call that has returned.
@@ -295,7 +295,7 @@ impl Transport {
 
     fn take(&mut self, n: u64) -> Result<Taken, Refusal> {
         let Transport { role, common } = self;
-        let taken = Taken::of(common.line.had(|| role.sender.take_sent(n)))?;
+        let taken = Taken::of(common.line.had_by_sender(|| role.sender.take_sent(n)))?;
         role.gone = taken.promises.end;
         self.tell(taken.change);
         Ok(taken)

@@ -8,11 +8,19 @@ use std::sync::{Condvar, Mutex, MutexGuard, PoisonError};
 use std::thread;
 use std::time::{Duration, Instant};
 
-/// How often a call is tried anew before its thread stands in line. The lock is had for less than a microsecond most often.
-const TRIES: u32 = 20;
-/// How many of these do not give the processor away, since whoever has the lock runs on another one, most often. Each pauses twice
-/// as long as the one before it, so that threads that try do not keep it from that; some microseconds in all.
-const SPINS: u32 = 8;
+/// What a thread that found the lock taken lets pass before each further try, in microseconds, before it gives its processor away:
+/// one try for each. The lock is had for less than a microsecond most often, but who has it makes more calls meanwhile, and that
+/// costs less than to hand over the lock, and what it guards, for each: threads that try again at once were seen to make half as many
+/// calls together.
+#[derive(Clone, Copy)]
+pub(crate) struct Pauses([u64; 6]);
+
+/// Of most calls.
+const SHORT: Pauses = Pauses([2, 4, 8, 16, 16, 16]);
+/// Of those of the thread that sends: what is written meanwhile goes by the same call to the socket.
+const LONG: Pauses = Pauses([30; 6]);
+/// How often it gives its processor away between tries then, before it stands in line.
+const YIELDS: u32 = 12;
 /// How long the first in line sleeps between two tries.
 const NAP: Duration = Duration::from_micros(50);
 /// How long one waits in line before those stand in line too who come: in line each costs the waking of a thread.
@@ -56,20 +64,29 @@ impl Line {
     pub(crate) fn had<T>(&self, mut call: impl FnMut() -> Option<T>) -> T {
         match self.at_once(&mut call) {
             Some(answer) => answer,
-            None => self.tried_again(&mut call),
+            None => self.tried_again(SHORT, &mut call),
+        }
+    }
+
+    /// The same for the thread that sends.
+    #[inline]
+    pub(crate) fn had_by_sender<T>(&self, mut call: impl FnMut() -> Option<T>) -> T {
+        match self.at_once(&mut call) {
+            Some(answer) => answer,
+            None => self.tried_again(LONG, &mut call),
         }
     }
 
     #[cold]
-    fn tried_again<T>(&self, call: &mut impl FnMut() -> Option<T>) -> T {
-        for turn in 0..TRIES {
+    fn tried_again<T>(&self, pauses: Pauses, call: &mut impl FnMut() -> Option<T>) -> T {
+        let spins = pauses.0.map(Some);
+        for spin in spins.into_iter().chain((0..YIELDS).map(|_| None)) {
             if self.pressed.load(Ordering::Relaxed) {
                 break;
             }
-            if turn < SPINS {
-                (0..1 << turn).for_each(|_| std::hint::spin_loop());
-            } else {
-                thread::yield_now();
+            match spin {
+                Some(micros) => look_for(Duration::from_micros(micros), || false),
+                None => thread::yield_now(),
             }
             if let Some(answer) = call() {
                 return answer;
@@ -110,6 +127,23 @@ impl Line {
             tickets = self.seats[mine % SEATS].wait(tickets).unwrap_or_else(PoisonError::into_inner);
         }
         mine
+    }
+}
+
+/// Looks until it has come what one is to wait for, or this time is over; the processor is not given away. Pauses come between looks,
+/// each twice as long as the one before it up to a microsecond or so.
+pub(crate) fn look_for(time: Duration, mut came: impl FnMut() -> bool) {
+    if came() {
+        return;
+    }
+    let start = Instant::now();
+    let mut turn = 0;
+    while start.elapsed() < time {
+        (0..1 << turn).for_each(|_| std::hint::spin_loop());
+        if came() {
+            return;
+        }
+        turn = (turn + 1).min(4);
     }
 }
 
