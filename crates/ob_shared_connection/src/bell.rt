@@ -5,6 +5,7 @@ ghost use Rattle.ob_shared_connection.specs.Bells.{bell_word};
 ghost use Rattle.ob_shared_connection.specs.Waiting.{moment_after};
 
 use crate::moment::Moment;
+use crate::patience::Patience;
 use crate::rule::{WORK, WRITERS};
 use ob_connection::Connection;
 
@@ -28,6 +29,9 @@ pub trait Bell {
         ensures is { result ≡ bell_word waiter }
         ensures within { result < 8 };
 
+    /// For how long who waits there leaves the lock to others.
+    fn patience() -> Patience;
+
     /// What who waits there finds now.
     fn moment(connection: &Connection) -> Moment
         ensures { Gives connection.now (moment_after waiter) result };
@@ -43,6 +47,10 @@ impl Bell for Writers {
 
     fn word() -> usize {
         WRITERS
+    }
+
+    fn patience() -> Patience {
+        Patience::Short
     }
 
     fn moment(connection: &Connection) -> Moment {
@@ -67,6 +75,10 @@ impl Bell for Work {
 
     fn word() -> usize {
         WORK
+    }
+
+    fn patience() -> Patience {
+        Patience::Long
     }
 
     fn moment(connection: &Connection) -> Moment {

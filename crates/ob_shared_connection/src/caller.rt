@@ -11,6 +11,7 @@ use crate::glance::Glance;
 use crate::handle::TooManyHandles;
 use crate::looks::{At, Leave};
 use crate::moment::Moment;
+use crate::patience::Patience;
 use crate::place::Place;
 use crate::plays::Accepted;
 use crate::shared::{Seat, Shared};
@@ -69,12 +70,13 @@ impl Caller {
     }
 
     /// Takes the lock.
-    pub fn lock<R: Wait>(&mut self, rt: &R)
+    #[inline(always)]
+    pub fn lock<R: Wait>(&mut self, rt: &R, patience: Patience)
         requires { IsFree self.old }
         ensures holds { IsHolder self.new }
         ensures locks { IsLock (caller_handle self.old) (caller_held self.new) }
     {
-        self.shared.lock(rt, &mut self.seat);
+        self.shared.lock(rt, &mut self.seat, patience);
     }
 
     /// Takes the lock if it is free.
@@ -120,7 +122,7 @@ impl Caller {
         ensures finds { IsMoment B.waiter (caller_held self.new) result }
         ensures came { is_due result ≡ true }
     {
-        self.lock(rt);
+        self.lock(rt, B::patience());
         'waits: for _ in rt.forever() {
             let moment = self.moment::<B>();
             if moment.is_due() {
@@ -128,7 +130,7 @@ impl Caller {
             }
             let place = self.leave_to_wait::<B>();
             self.shared.sleep(rt, place);
-            self.lock(rt);
+            self.lock(rt, B::patience());
         }
         unreachable!()
     }
@@ -141,7 +143,7 @@ impl Caller {
         ensures finds { IsMoment B.waiter (caller_held self.new) result }
     {
         let end = time_after(rt, limit);
-        self.lock(rt);
+        self.lock(rt, B::patience());
         'waits: for _ in rt.forever() {
             let moment = self.moment::<B>();
             if moment.is_due() {
@@ -152,7 +154,7 @@ impl Caller {
             };
             let place = self.leave_to_wait::<B>();
             self.shared.sleep_within(rt, place, left);
-            self.lock(rt);
+            self.lock(rt, B::patience());
         }
         unreachable!()
     }
@@ -253,7 +255,7 @@ impl Caller {
         ensures under { UnderLock (caller_handle self.old)
             (λ before after. IsCall (A.does act) (A.commands act) before result after) (caller_handle self.new) }
     {
-        self.lock(rt);
+        self.lock(rt, Patience::Short);
         let answer = self.act(act);
         self.unlock();
         answer
@@ -303,7 +305,7 @@ impl Caller {
         ensures sends { (caller_handle self.new).sends ≡ (caller_handle self.old).sends }
         ensures under { UnderLock (caller_handle self.old) (IsLook (A.shows ask) result) (caller_handle self.new) }
     {
-        self.lock(rt);
+        self.lock(rt, Patience::Short);
         let answer = self.ask(ask);
         self.unlock();
         answer

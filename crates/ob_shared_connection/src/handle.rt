@@ -18,6 +18,7 @@ use crate::ended::Ended;
 use crate::glance::Glance;
 use crate::guard::Guard;
 use crate::moment::Moment;
+use crate::patience::Patience;
 use crate::transport::Transport;
 use ob_types::{Estimate, Refusal, WaterMark};
 use std::alloc::{AllocError, Global};
@@ -44,9 +45,10 @@ impl From<AllocError> for TooManyHandles {
 /// the sequential `Connection` returns after the calls before it, and the list is stored nowhere. Contracts see the
 /// number of the handle, what was accepted from it, and the calls that it has seen.
 ///
-/// Each call takes the lock and lets it go: it waits while another handle has it. It lets other threads run and tries
-/// again, ten times; then it naps for 50 microseconds between tries, a hundred times; and then it sleeps until it is
-/// woken. The lock is never poisoned; that it is had in any order, or ever, is not promised.
+/// Each call takes the lock and lets it go: it waits while another handle has it. It pauses for some microseconds and
+/// tries again, six times; then it lets other threads run between tries, ten times; then it naps for 50 microseconds, a
+/// hundred times; and then it sleeps until it is woken. The lock is never poisoned; that it is had in any order, or ever,
+/// is not promised.
 #[derive(Drop)]
 pub struct Handle {
     caller: Caller,
@@ -111,7 +113,7 @@ impl Handle {
         ensures back { IfErr result (λ handle. UnderLock self (λ before after. after ≡ before) handle) }
     {
         let Handle { mut caller } = self;
-        caller.lock(rt);
+        caller.lock(rt, Patience::Short);
         let sends = caller.appoint();
         caller.unlock();
         if sends {
@@ -144,7 +146,7 @@ impl Handle {
         ensures { IsLock self result }
     {
         let Handle { mut caller } = self;
-        caller.lock(rt);
+        caller.lock(rt, Patience::Short);
         Guard::new(caller)
     }
 

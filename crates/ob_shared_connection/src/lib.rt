@@ -17,6 +17,7 @@ pub mod looks;
 mod moment;
 mod offered;
 mod owed;
+mod patience;
 mod place;
 mod plays;
 mod rule;

@@ -4,6 +4,7 @@ use crate::bell::{Bell, Work, Writers};
 use crate::ended::Ended;
 use crate::handle::TooManyHandles;
 use crate::owed::Owed;
+use crate::patience::{Patience, pause};
 use crate::place::Place;
 use crate::plays::{
     Accepted, Appoint, Await, Cut, Find, Hear, List, Lock, Name, Publish, Published, Read, Resign,
@@ -27,7 +28,10 @@ use std::time::Duration;
 /// What one handle steps with. It has no bytes.
 pub type Seat = atomic_table::Seat<Connection, View>;
 
-/// How often a thread that finds the lock taken lets others run and tries again, before it naps.
+/// How often a thread that finds the lock taken pauses and tries again, before it lets others run.
+const PAUSES: u32 = 6;
+
+/// How often it lets others run and tries again, before it naps.
 const YIELDS: u32 = 10;
 
 /// How often it naps and tries again, before it sleeps until it is woken.
@@ -35,6 +39,10 @@ const NAPS: u32 = 100;
 
 /// How many microseconds a nap takes.
 const NAP: u64 = 50;
+
+/// How often a thread that is to sleep at a bell looks whether it has rung already, with pauses between: some tens of
+/// microseconds, less than it takes to wake a thread.
+const LOOKS: u32 = 40;
 
 /// The table that all handles of a connection share: the lock is one of its words, and the connection lies in its slot.
 #[derive(Drop)]
@@ -76,6 +84,7 @@ impl Shared {
     }
 
     /// Takes the lock if it is free.
+    #[inline(always)]
     pub fn try_lock(&self, seat: &mut Seat) -> bool
         requires table { IsSeatOf self.now seat.old }
         requires rests { Rests seat.old.me }
@@ -100,14 +109,29 @@ impl Shared {
         self.table.shared.swap::<Lock>(seat, LOCK, WAITED) == FREE
     }
 
-    /// Takes the lock. Who finds it taken lets others run, then naps, and then sleeps until it is woken.
-    pub fn lock<R: Wait>(&self, rt: &R, seat: &mut Seat)
+    /// Takes the lock. Who finds it taken pauses, then lets others run, then naps, and then sleeps until it is woken.
+    // in one piece with its callers: most often it is free
+    #[inline(always)]
+    pub fn lock<R: Wait>(&self, rt: &R, seat: &mut Seat, patience: Patience)
         requires table { IsSeatOf self.now seat.old }
         requires rests { Rests seat.old.me }
         ensures seat { IsSameSeat seat.old seat.new }
         ensures locks { Locks seat.old.me seat.new.me }
     {
-        if self.try_lock(seat) || self.yielding(seat) || self.napping(rt, seat) {
+        if !self.try_lock(seat) {
+            self.lock_later(rt, seat, patience);
+        }
+    }
+
+    /// The same for one who found it taken.
+    #[inline(never)]
+    fn lock_later<R: Wait>(&self, rt: &R, seat: &mut Seat, patience: Patience)
+        requires table { IsSeatOf self.now seat.old }
+        requires rests { Rests seat.old.me }
+        ensures seat { IsSameSeat seat.old seat.new }
+        ensures locks { Locks seat.old.me seat.new.me }
+    {
+        if self.pausing(seat, patience) || self.yielding(seat) || self.napping(rt, seat) {
             return;
         }
         'asks: for _ in rt.forever() {
@@ -117,6 +141,23 @@ impl Shared {
             self.table.shared.park(rt, LOCK, WAITED as u32);
         }
         unreachable!()
+    }
+
+    /// Tries to take the lock, and pauses between tries: whoever has it makes several calls meanwhile.
+    fn pausing(&self, seat: &mut Seat, patience: Patience) -> bool
+        requires table { IsSeatOf self.now seat.old }
+        requires rests { Rests seat.old.me }
+        ensures seat { IsSameSeat seat.old seat.new }
+        ensures taken { result ≡ true → Locks seat.old.me seat.new.me }
+        ensures missed { result ≡ false → seat.new.me ≡ seat.old.me }
+    {
+        'pauses: for turn in 0..PAUSES {
+            pause(patience.pauses(turn));
+            if self.try_lock(seat) {
+                return true;
+            }
+        }
+        false
     }
 
     /// Tries to take the lock, and lets other threads run between tries.
@@ -229,15 +270,30 @@ impl Shared {
     /// Sleeps at a bell unless it has rung since, until it rings. It may also return for no reason.
     pub fn sleep<B: Bell, R: Wait>(&self, rt: &R, place: Place<B>) {
         place.leave();
-        self.table.shared.park(rt, B::word(), AWAITED as u32);
+        if !self.has_rung::<B>() {
+            self.table.shared.park(rt, B::word(), AWAITED as u32);
+        }
     }
 
     /// The same, for no longer than this.
     pub fn sleep_within<B: Bell, R: Wait>(&self, rt: &R, place: Place<B>, limit: Duration) {
         place.leave();
-        self.table
-            .shared
-            .park_timeout(rt, B::word(), AWAITED as u32, limit);
+        if !self.has_rung::<B>() {
+            self.table
+                .shared
+                .park_timeout(rt, B::word(), AWAITED as u32, limit);
+        }
+    }
+
+    /// Whether a bell rings while one looks at it for a while.
+    fn has_rung<B: Bell>(&self) -> bool {
+        'looks: for _ in 0..LOOKS {
+            if self.table.shared.peek(B::word()) != AWAITED {
+                return true;
+            }
+            pause(16);
+        }
+        false
     }
 
     /// Wakes all who sleep at a bell.

@@ -19,6 +19,7 @@ use crate::guard::Guard;
 use crate::handle::{Handle, TooManyHandles};
 use crate::looks;
 use crate::moment::Moment;
+use crate::patience::Patience;
 use bytes::Bytes;
 use ob_types::Refusal;
 pub use sending::SendFault;
@@ -94,7 +95,7 @@ impl Transport {
         ensures sends { result.handle.sends ≡ true }
     {
         let Transport { mut caller } = self;
-        caller.lock(rt);
+        caller.lock(rt, Patience::Long);
         Guard::new(caller)
     }
 

@@ -18,7 +18,22 @@ pub struct Wakes {
 
 impl Wakes {
     /// Wakes them. No contract sees that: what waking does is said of no memory.
+    // most often nobody is to be woken
+    #[inline(always)]
     pub(crate) fn pay(self, shared: &Shared) {
+        if self.next || self.writers || self.work {
+            self.pay_each(shared);
+        } else {
+            let Wakes {
+                next: _,
+                writers: _,
+                work: _,
+            } = self;
+        }
+    }
+
+    #[inline(never)]
+    fn pay_each(self, shared: &Shared) {
         let Wakes {
             next,
             writers,

@@ -9,6 +9,7 @@ ghost use Rattle.ob_shared_connection.specs.Sending.{Asked, IsOfBroken, Offering
 ghost use Rattle.ob_shared_connection.specs.Staying.{AreInFront};
 
 use crate::offered::{MOST_PIECES, Offered};
+use crate::patience::Patience;
 use crate::transport::Transport;
 use bytes::Bytes;
 use ob_connection::{Sent, Socket, SocketFault};
@@ -75,7 +76,7 @@ impl Transport {
     ) -> Result<Offered, SendFault>
         ensures { UnderLock self.old (Offering max_count max_bytes result) self.new }
     {
-        self.caller.lock(rt);
+        self.caller.lock(rt, Patience::Long);
         let offered = self.caller.offer(max_count, max_bytes);
         self.caller.unlock();
         offered
@@ -88,7 +89,7 @@ impl Transport {
         ensures bytes { result.bytes ≡ bytes }
         ensures blocked { result.blocked ≡ (bytes == 0) }
     {
-        self.caller.lock(rt);
+        self.caller.lock(rt, Patience::Long);
         let sent = self.caller.take_away(bytes, bytes == 0);
         self.caller.unlock();
         sent

@@ -1,0 +1,10 @@
+use Rattle.std.proofs.Common.{◌≡◌}
+use Rattle.ob_shared_connection.proofs.shared.Shared.lock_later.Given as goal
+
+-- nothing is taken yet
+abbrev pub invariant-asks : goal.invariant-asks
+invariant-asks g l = record {
+  table : l.seat.table_id ≡ l.initial.seat.table_id;
+  number : l.seat.id ≡ l.initial.seat.id;
+  same : l.seat.me ≡ l.initial.seat.me;
+}
