@@ -13,6 +13,7 @@ mod steps;
 
 use crate::account::Account;
 use atomic_table::Seat as TableSeat;
+use std::hint::spin_loop;
 use std::marker::Model;
 
 /// How many seats the first one is for.
@@ -20,6 +21,20 @@ const MOST_SEATS: u64 = 1 << 62;
 
 /// How many exchanges a call loses before it gives up.
 const TRIES: u32 = 65536;
+
+/// How often a seat pauses before it tries again: for some microseconds in all.
+const PAUSES: u32 = 128;
+
+/// Pauses after every second exchange that failed: other seats make several steps meanwhile, while the word stays with one
+/// processor. What was found before a pause is old after it, so the next exchange finds it anew, and the one behind that
+/// comes at once.
+fn pause_after(turn: u32) {
+    if turn & 1 == 0 {
+        for _ in 0..PAUSES {
+            spin_loop();
+        }
+    }
+}
 
 /// A seat at a budget: it holds an amount of bytes, which it is raised and lowered by. It may go to another thread.
 ///

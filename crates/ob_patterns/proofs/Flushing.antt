@@ -37,7 +37,7 @@ module _ {old between : Connected} {message : Message} {written : Written}
 
   module _ {new : Connected} where
     -- so the flush after it is not refused
-    pub none_refused : (refusal : Refusal) → (let result : Result Flushed Refusal = Err refusal in
+    none_refused : (refusal : Refusal) → (let result : Result Flushed Refusal = Err refusal in
         Obeys between Flush flushed_reply result new × ¬ IsErrOf result NoMemory) → (commands : List Command) →
         StandsFor old commands → ⊥
     none_refused refusal flushes commands stands =

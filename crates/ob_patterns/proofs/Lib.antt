@@ -2,5 +2,4 @@ pub mod Flushing
 pub mod GivenUp
 pub mod Pieces
 pub mod Serving
-pub mod Sharing
 pub mod Handing

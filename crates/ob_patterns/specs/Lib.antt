@@ -3,4 +3,3 @@ pub mod Broadcasting
 pub mod Chunking
 pub mod Saying
 pub mod Sending
-pub mod Sharing

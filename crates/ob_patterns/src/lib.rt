@@ -17,4 +17,4 @@ pub use many::{LeftOut, Reached, TOO_SLOW, broadcast, give_up_if_slow, hand};
 pub use next::Next;
 pub use proxy::{forward, forwarded};
 pub use turns::{BROKEN, Peer, serve, spin};
-pub use writers::{Responded, respond_from_any_thread};
+pub use writers::respond_from_any_thread;

@@ -20,11 +20,19 @@ use crate::share::Share;
 use crate::words::Words;
 use ob_history::{Booked, Receipt, Seen, a_history_settles_each_promise_once};
 use ob_types::{Command, PromiseId, Refusal};
+use std::hint::spin_loop;
 use std::sync::{Condvar, Mutex, MutexGuard, Wait};
 use std::thread::{Parker, yield_now};
 use std::time::Duration;
 
-/// How often a thread that finds the lock taken lets others run and tries again, before it naps.
+/// How often a thread that finds the lock taken pauses and tries again, before it lets others run.
+const PAUSES: u32 = 6;
+
+/// How long the first of these pauses is, in turns of a loop that waits for nothing: some microseconds. Each is twice as long
+/// as the one before it, up to eight times that.
+const PAUSE: u32 = 32;
+
+/// How often it lets others run and tries again, before it naps.
 const YIELDS: u32 = 10;
 
 /// How often it naps and tries again, before it sleeps until it is woken.
@@ -64,9 +72,10 @@ impl<L: Named> SharedBuffer<L> {
     }
 
     /// A desk for the caller of a share, whose history begins with all that the share has seen. It waits while another
-    /// caller has one: it lets other threads run and tries again, ten times; then it naps for 50 microseconds between
-    /// tries, a hundred times; and then it sleeps until it is woken. It does not allocate. The lock is never poisoned,
-    /// and no desk is refused; that it is given in any order, or ever, is not promised.
+    /// caller has one: it pauses for some microseconds and tries again, six times; then it lets other threads run between
+    /// tries, ten times; then it naps for 50 microseconds, a hundred times; and then it sleeps until it is woken. It does
+    /// not allocate. The lock is never poisoned, and no desk is refused; that it is given in any order, or ever, is not
+    /// promised.
     pub fn desk<R: Wait>(&self, rt: &R, share: Share<L>) -> Desk<'_, L>
         ensures maker { result.maker ≡ share.maker }
         ensures part { IsBeginning share.sight.seen result.history.records }
@@ -75,9 +84,15 @@ impl<L: Named> SharedBuffer<L> {
         Desk::new(self, self.lock(rt), share)
     }
 
-    /// The lock. Who finds it taken lets others run, and then naps: whoever has it goes on meanwhile, and wakes nobody. A
+    /// The lock. Who finds it taken pauses, lets others run, and then naps: whoever has it goes on meanwhile, and wakes nobody. A
     /// thread that sleeps on the lock itself is handed it in the end, and until that thread is awake nobody has it.
     fn lock<R: Wait>(&self, rt: &R) -> MutexGuard<'_, Locked<L>> {
+        for turn in 0..PAUSES {
+            if let Some(guard) = self.locked.try_lock() {
+                return guard;
+            }
+            pause(PAUSE << turn.min(3));
+        }
         for _ in 0..YIELDS {
             if let Some(guard) = self.locked.try_lock() {
                 return guard;
@@ -267,5 +282,12 @@ impl<L: Named> SharedBuffer<L> {
         requires unsettled { IsUnsettled (mutex_guard_value asked).records _id }
     {
         self.settled.wait(rt, asked)
+    }
+}
+
+/// Lets time pass, and does not give the processor away.
+fn pause(turns: u32) {
+    for _ in 0..turns {
+        spin_loop();
     }
 }

@@ -2,7 +2,7 @@ ghost use Rattle.std.specs.Prelude.{◌≡◌, ◌≤◌, ◌-◌, IfOk, IfErr};
 ghost use Rattle.ob_budget.specs.Calls.{IsMoved, WasBusy};
 ghost use Rattle.ob_budget.specs.Word.{lowered};
 
-use super::{Seat, TRIES};
+use super::{Seat, TRIES, pause_after};
 use crate::budget::Budget;
 use crate::fault::Busy;
 use crate::pressure::Pressure;
@@ -23,12 +23,13 @@ impl Seat {
         ensures refused { IfErr result (λ _. WasBusy self.old self.new) }
     {
         self.is_sound();
-        'tries: for _ in 0..TRIES {
+        'tries: for turn in 0..TRIES {
             let last = self.last;
             let next = lowered(budget.bounds, last, amount);
             if self.exchange(budget, next) {
                 return Ok(change_between(last, next));
             }
+            pause_after(turn);
         }
         Err(Busy)
     }

@@ -2,7 +2,7 @@ ghost use Rattle.std.specs.Prelude.{◌≡◌, ◌≤◌, ◌+◌, IfOk, IfErr, 
 ghost use Rattle.ob_budget.specs.Calls.{IsRaised, IsRefused};
 ghost use Rattle.ob_budget.specs.Word.{total_of};
 
-use super::{Seat, TRIES};
+use super::{Seat, TRIES, pause_after};
 use crate::budget::Budget;
 use crate::fault::RaiseFault;
 use crate::pressure::Pressure;
@@ -33,7 +33,7 @@ impl Seat {
         if !self.has_room(budget, amount) {
             self.read(budget);
         }
-        'tries: for _ in 0..TRIES {
+        'tries: for turn in 0..TRIES {
             if !self.has_room(budget, amount) {
                 return Err(RaiseFault::Full);
             }
@@ -42,6 +42,7 @@ impl Seat {
             if self.exchange(budget, next) {
                 return Ok(change_between(last, next));
             }
+            pause_after(turn);
         }
         Err(RaiseFault::Busy)
     }

@@ -1,6 +1,8 @@
 //! A charge and a discharge: exchanges until one of them finds what it expects. The first expects what the lane's own last
-//! step left, so a lane alone makes one exchange, and no load; each other expects what the one before it found. If no total
-//! is above the high mark, both are one addition or subtraction, which cannot fail.
+//! step left, so a lane alone makes one exchange, and no load; each other expects what the one before it found. After every
+//! second one that fails comes a pause: other lanes make several steps meanwhile, while the word stays with one processor. What
+//! was found before a pause is old after it, so the next exchange finds it anew, and the one behind that comes at once. If no
+//! total is above the high mark, both are one addition or subtraction, which cannot fail.
 ghost use Rattle.std.specs.Prelude.{◌≡◌, ◌<◌, ◌+◌, ◌≤◌, IfSome};
 ghost use Rattle.ob_types.specs.Packed.{total_half};
 ghost use Rattle.ob_core.specs.declared.lane_step.LaneStep.TheVariants.{Add, Load, Subtract};
@@ -10,7 +12,21 @@ ghost use Rattle.ob_lanes.specs.Tried.{HasTried, SeatTries};
 use super::Words;
 use crate::facts::Facts;
 use atomic_table::Seat;
+use std::hint::spin_loop;
 use std::sync::Wait;
+
+/// How often a lane pauses before it tries again: for some microseconds in all.
+const PAUSES: u32 = 128;
+
+/// Pauses if it is to, and tells whether to pause the next time.
+fn pause(pauses: bool) -> bool {
+    if pauses {
+        for _ in 0..PAUSES {
+            spin_loop();
+        }
+    }
+    !pauses
+}
 
 impl Words {
     /// What a lane expects to find: what its own last step left, or what it reads if that is not known.
@@ -43,12 +59,14 @@ impl Words {
             return self.add_at_once(seat, amount);
         }
         let mut expected = self.expected(seat, last);
+        let mut pauses = true;
         'tries: for _ in rt.forever() {
             let found = self.try_add(seat, expected, amount);
             if found == expected {
                 return found;
             }
             expected = found;
+            pauses = pause(pauses);
         }
         unreachable!()
     }
@@ -71,12 +89,14 @@ impl Words {
             return self.subtract_at_once(seat, amount);
         }
         let mut expected = self.expected(seat, last);
+        let mut pauses = true;
         'tries: for _ in rt.forever() {
             let found = self.try_subtract(seat, expected, amount);
             if found == expected {
                 return found;
             }
             expected = found;
+            pauses = pause(pauses);
         }
         unreachable!()
     }

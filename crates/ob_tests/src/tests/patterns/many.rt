@@ -55,8 +55,10 @@ fn a_thread_writes_and_the_one_with_the_socket_sends(rt: HostRuntime) -> Result<
     )?.into_transport();
     let mut socket = Slow::new(rt.alloc(), false);
     let four = || Bytes::from_static(b"four");
-    let first = respond_from_any_thread(&rt, transport.another()?, four());
-    let second = respond_from_any_thread(&rt, first.handle, four());
+    let mut writer = transport.another()?;
+    let first = respond_from_any_thread(&rt, &mut writer, four());
+    let mut other = transport.another()?;
+    let second = respond_from_any_thread(&rt, &mut other, four());
     let sent = [0; 3].map(|_| {
         transport
             .send_once(&rt, &mut socket, 64, 65536)
@@ -64,13 +66,13 @@ fn a_thread_writes_and_the_one_with_the_socket_sends(rt: HostRuntime) -> Result<
             .ok()
     });
     let _closed = transport.give_up(&rt, Cause(7))?;
-    let late = respond_from_any_thread(&rt, second.handle, four());
+    let late = respond_from_any_thread(&rt, &mut writer, four());
     assert_eq!(rt;
         (
-            [first.written, second.written].map(|written| written.map(|written| written.id).ok()),
+            [first, second].map(|done| done.map(|done| done.written.id).ok()),
             sent,
             socket.log.as_slice(),
-            late.written.err().map(|refused| refused.refusal),
+            late.err().map(|refused| refused.refusal),
         ),
         (
             [Some(0), Some(1)],
@@ -79,7 +81,7 @@ fn a_thread_writes_and_the_one_with_the_socket_sends(rt: HostRuntime) -> Result<
             Some(Refusal::Closed),
         )
     );
-    drop((transport, late.handle, socket));
+    drop((transport, writer, other, socket));
     Ok(())
 }
 

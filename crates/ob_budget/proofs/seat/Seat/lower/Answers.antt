@@ -51,7 +51,7 @@ returns-then-exchange-clause-held c =
 
 pub returns-clause-refused : goal.returns-clause-refused
 returns-clause-refused c = record {
-  tried = subst (λ losses. HasTried losses c.args.self.now.account c.tries.self.account) (omega (arith, c.tries-test.false, c.tries.auto.counter-end)) c.tries.invariant.tried;
+  tried = subst (λ losses. HasTried losses c.args.self.now.account c.tries.self.account) (omega (arith, c.tries-test.false, c.tries.auto.turn-end)) c.tries.invariant.tried;
   budget = c.tries.invariant.budget;
 }
 
@@ -59,7 +59,7 @@ pub returns-then-exchange-clause-lowered : goal.returns-then-exchange-clause-low
 returns-then-exchange-clause-lowered c =
     let at = (goal.at.returns-then-exchange-clause-lowered c).After-lowered-next in
     let next : ℕ → ℕ = λ found. lowered c.args.self.now.budget.bounds found c.args.amount in
-    won c.tries.counter c.args.self.now c.tries.self c.exchange.new.self c.tries.invariant c.if-exchange.ensures.budget next
+    won c.tries.turn c.args.self.now c.tries.self c.exchange.new.self c.tries.invariant c.if-exchange.ensures.budget next
     c.change_between.result c.tries-test.true
     (c.if-exchange.ensures.won refl ∙ ap (λ next. after_move next c.tries.self.account) (lowers at))
     (rw (← lowers at, ← last_is at) c.change_between.ensures)

@@ -38,7 +38,7 @@ returns-then-exchange-clause-raised c =
     let at = (goal.at.returns-then-exchange-clause-raised c).After-raised-next in
     let room : c.tries.self.budget.bounds.room ≡ c.args.self.now.budget.bounds.room =
     ap (λ b. b.bounds.room) c.tries.invariant.0.budget in
-    won_raise c.tries.counter c.args.self.now c.tries.self c.exchange.new.self c.tries.invariant.0 c.if-exchange.ensures.budget
+    won_raise c.tries.turn c.args.self.now c.tries.self c.exchange.new.self c.tries.invariant.0 c.if-exchange.ensures.budget
     c.args.amount c.change_between.result c.tries-test.true
     (c.if-exchange.ensures.won refl ∙ ap (λ next. after_move next c.tries.self.account) (raises at))
     (rw (← raises at, ← last_is at) c.change_between.ensures)

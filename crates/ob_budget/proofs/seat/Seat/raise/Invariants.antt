@@ -6,5 +6,5 @@ use Rattle.ob_budget.proofs.seat.Seat.raise.Given as goal
 -- if there is no room, this call has seen that
 abbrev pub invariant-tries : goal.invariant-tries
 invariant-tries l =
-    IsTrying l.counter l.fn.self l.self
+    IsTrying l.turn l.fn.self l.self
     × (l.fn.self.budget.bounds.room < total_of l.self.account.last + l.amount → l.fn.self.account.steps < l.self.account.steps)
