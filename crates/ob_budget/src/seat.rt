@@ -25,11 +25,11 @@ const TRIES: u32 = 65536;
 /// How often a seat pauses before it tries again: for some microseconds in all.
 const PAUSES: u32 = 128;
 
-/// Pauses after every second exchange that failed: other seats make several steps meanwhile, while the word stays with one
-/// processor. What was found before a pause is old after it, so the next exchange finds it anew, and the one behind that
-/// comes at once.
+/// Pauses after every second exchange that failed. The first expects what the seat's own last step left, and the second what
+/// the first found; if that fails too, other seats are at it, and make several steps meanwhile, while the word stays with one
+/// processor. What was found before a pause is old after it, so the next exchange finds it anew, and so on.
 fn pause_after(turn: u32) {
-    if turn & 1 == 0 {
+    if turn & 1 == 1 {
         for _ in 0..PAUSES {
             spin_loop();
         }

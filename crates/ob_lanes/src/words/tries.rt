@@ -1,8 +1,8 @@
 //! A charge and a discharge: exchanges until one of them finds what it expects. The first expects what the lane's own last
-//! step left, so a lane alone makes one exchange, and no load; each other expects what the one before it found. After every
-//! second one that fails comes a pause: other lanes make several steps meanwhile, while the word stays with one processor. What
-//! was found before a pause is old after it, so the next exchange finds it anew, and the one behind that comes at once. If no
-//! total is above the high mark, both are one addition or subtraction, which cannot fail.
+//! step left, so a lane alone makes one exchange, and no load; each other expects what the one before it found. If that fails
+//! too, other lanes are at it, and a pause comes: they make several steps meanwhile, while the word stays with one processor.
+//! What was found before a pause is old after it, so the next exchange finds it anew, and the one behind that comes at once.
+//! If no total is above the high mark, both are one addition or subtraction, which cannot fail.
 ghost use Rattle.std.specs.Prelude.{◌≡◌, ◌<◌, ◌+◌, ◌≤◌, IfSome};
 ghost use Rattle.ob_types.specs.Packed.{total_half};
 ghost use Rattle.ob_core.specs.declared.lane_step.LaneStep.TheVariants.{Add, Load, Subtract};
@@ -59,7 +59,7 @@ impl Words {
             return self.add_at_once(seat, amount);
         }
         let mut expected = self.expected(seat, last);
-        let mut pauses = true;
+        let mut pauses = false;
         'tries: for _ in rt.forever() {
             let found = self.try_add(seat, expected, amount);
             if found == expected {
@@ -89,7 +89,7 @@ impl Words {
             return self.subtract_at_once(seat, amount);
         }
         let mut expected = self.expected(seat, last);
-        let mut pauses = true;
+        let mut pauses = false;
         'tries: for _ in rt.forever() {
             let found = self.try_subtract(seat, expected, amount);
             if found == expected {
