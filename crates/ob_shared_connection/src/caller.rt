@@ -80,6 +80,7 @@ impl Caller {
     }
 
     /// Takes the lock if it is free.
+    #[inline(always)]
     pub fn try_lock(&mut self) -> bool
         requires { IsFree self.old }
         ensures holds { result ≡ true → IsHolder self.new }
@@ -91,6 +92,7 @@ impl Caller {
     }
 
     /// Lets the lock go, and wakes those who wait for it, or for what was done under it.
+    #[inline(always)]
     pub fn unlock(&mut self)
         requires { IsHolder self.old }
         ensures free { IsFree self.new }
@@ -101,6 +103,7 @@ impl Caller {
     }
 
     /// Lets the lock go, and tells whom to wake: it wakes nobody.
+    #[inline(always)]
     pub fn leave(&mut self) -> Wakes
         requires { IsHolder self.old }
         ensures free { IsFree self.new }
@@ -212,6 +215,7 @@ impl Caller {
     }
 
     /// Does something to the connection under the lock.
+    #[inline(always)]
     pub fn act<A: Act>(&mut self, act: A) -> Result<A::Answer, A::Fault>
         requires holds { IsHolder self.old }
         requires may { MayGive (caller_handle self.old).sends (A.commands act) }
@@ -221,6 +225,7 @@ impl Caller {
         self.act_for::<A, Brand>(act)
     }
 
+    #[inline(always)]
     fn act_for<A: Act, C: Accepted>(&mut self, act: A) -> Result<A::Answer, A::Fault>
         requires holds { IsHolder self.old }
         requires may { MayGive (caller_handle self.old).sends (A.commands act) }
@@ -236,6 +241,7 @@ impl Caller {
     }
 
     /// Looks at the connection under the lock.
+    #[inline(always)]
     pub fn ask<A: Ask>(&mut self, ask: A) -> A::Answer
         requires { IsHolder self.old }
         ensures holds { IsHolder self.new }
@@ -247,6 +253,7 @@ impl Caller {
     }
 
     /// One call, which takes the lock and lets it go.
+    #[inline(always)]
     pub fn call<A: Act, R: Wait>(&mut self, rt: &R, act: A) -> Result<A::Answer, A::Fault>
         requires free { IsFree self.old }
         requires may { MayGive (caller_handle self.old).sends (A.commands act) }

@@ -197,6 +197,7 @@ impl Shared {
     }
 
     /// Lets the lock go, and tells whom to wake: it wakes nobody.
+    #[inline(always)]
     pub fn leave(&self, seat: &mut Seat, writers: Owed<Writers>, work: Owed<Work>) -> Wakes
         requires table { IsSeatOf self.now seat.old }
         requires may { MayLeave seat.old.me }
@@ -217,6 +218,7 @@ impl Shared {
     }
 
     /// Has a bell ring if who waits there may go on: it is silent then, and what is owed is told.
+    #[inline(always)]
     pub fn hush<B: Bell>(&self, seat: &mut Seat, due: bool) -> Owed<B>
         requires table { IsSeatOf self.now seat.old }
         requires lock { HasLock seat.old.me }
@@ -232,6 +234,7 @@ impl Shared {
     }
 
     /// Whether nobody waits at a bell. One load.
+    #[inline(always)]
     fn is_silent<B: Bell>(&self, seat: &mut Seat) -> bool
         requires table { IsSeatOf self.now seat.old }
         requires lock { HasLock seat.old.me }
@@ -307,6 +310,7 @@ impl Shared {
     }
 
     /// Publishes the glance after all calls.
+    #[inline(always)]
     pub fn publish(&self, seat: &mut Seat, number: u64)
         requires table { IsSeatOf self.now seat.old }
         requires lock { HasLock seat.old.me }
@@ -321,6 +325,7 @@ impl Shared {
     }
 
     /// Whether the glance after all calls is published already.
+    #[inline(always)]
     fn is_published<N: Published>(&self, seat: &mut Seat, number: u64) -> bool
         requires table { IsSeatOf self.now seat.old }
         requires lock { HasLock seat.old.me }
@@ -344,6 +349,7 @@ impl Shared {
     }
 
     /// Puts commands that were just accepted behind the list. It is for the proof alone: no word changes.
+    #[inline(always)]
     pub fn list<C: Accepted>(&self, seat: &mut Seat)
         requires table { IsSeatOf self.now seat.old }
         requires lock { HasLock seat.old.me }

@@ -17,6 +17,7 @@ use std::sync::Wait;
 
 impl Handle {
     /// Adds a message behind all others, as `Connection::write`: one that is refused comes back.
+    #[inline(always)]
     pub fn write<R: Wait>(&mut self, rt: &R, message: Message) -> Result<Written, Refused>
         ensures { UnderLock self.old (Writes message result) self.new }
     {
@@ -25,6 +26,7 @@ impl Handle {
 
     /// Adds a copy of these bytes behind all others, as `Connection::write_copy`: few bytes share memory with other messages.
     /// They are copied under the lock, so write many as a block that is made before.
+    #[inline(always)]
     pub fn write_copy<R: Wait>(&mut self, rt: &R, bytes: &[u8]) -> Result<Written, Refusal>
         ensures { UnderLock self.old (Puts (Block bytes.now) result) self.new }
     {
@@ -34,6 +36,7 @@ impl Handle {
     /// Writes as `write`, and flushes as `flush`, under one lock (Netty's `writeAndFlush`): no call comes between the two. A
     /// message that is refused comes back, and nothing is flushed then. The flush behind a write that was accepted is
     /// accepted too.
+    #[inline(always)]
     pub fn write_and_flush<R: Wait>(
         &mut self,
         rt: &R,
@@ -45,6 +48,7 @@ impl Handle {
     }
 
     /// Writes as `write_copy`, and flushes, as `write_and_flush`.
+    #[inline(always)]
     pub fn write_copy_and_flush<R: Wait>(
         &mut self,
         rt: &R,
@@ -56,6 +60,7 @@ impl Handle {
     }
 
     /// Lets the transport have all that was written so far, as `Connection::flush`.
+    #[inline(always)]
     pub fn flush<R: Wait>(&mut self, rt: &R) -> Result<Flushed, Refusal>
         ensures { UnderLock self.old (Makes (ObeyingFreely flushed_reply) command.Flush result) self.new }
     {
@@ -63,6 +68,7 @@ impl Handle {
     }
 
     /// Adds *n* bytes to the progress of the first flushed message, as `Connection::progress`.
+    #[inline(always)]
     pub fn progress<R: Wait>(&mut self, rt: &R, n: u64) -> Result<(), Refusal>
         ensures { UnderLock self.old (Makes (ObeyingFreely done_reply) (command.Progress n) result) self.new }
     {
@@ -70,6 +76,7 @@ impl Handle {
     }
 
     /// Takes a promise back, as `Connection::cancel`.
+    #[inline(always)]
     pub fn cancel<R: Wait>(&mut self, rt: &R, id: u64) -> Result<bool, Refusal>
         ensures { UnderLock self.old (Makes (ObeyingFreely (cancelled_reply id)) (command.Cancel (record { 0 = id })) result) self.new }
     {
@@ -77,6 +84,7 @@ impl Handle {
     }
 
     /// Closes the connection for good, as `Connection::close`.
+    #[inline(always)]
     pub fn close<R: Wait>(&mut self, rt: &R, cause: Cause) -> Result<Taken, Refusal>
         ensures { UnderLock self.old (Makes (TakingQuietly (Failed cause) ⊤) (command.Close cause) result) self.new }
     {
@@ -84,6 +92,7 @@ impl Handle {
     }
 
     /// Sets a user bit or clears it, as `Connection::user_bit`.
+    #[inline(always)]
     pub fn user_bit<R: Wait>(
         &mut self,
         rt: &R,
@@ -96,6 +105,7 @@ impl Handle {
     }
 
     /// Sets the marks that are in force from now on, as `Connection::set_marks`.
+    #[inline(always)]
     pub fn set_marks<R: Wait>(&mut self, rt: &R, marks: WaterMark) -> Result<(), Refusal>
         ensures { UnderLock self.old (Makes (ObeyingFreely done_reply) (command.SetMarks marks) result) self.new }
     {
