@@ -16,8 +16,8 @@ impl Patience {
     /// How many pauses come before this try.
     pub fn pauses(self, turn: u32) -> u32 {
         match self {
-            Patience::Short => 32 << turn.min(3),
-            Patience::Long => 512,
+            Patience::Short => 64 << turn.min(2),
+            Patience::Long => 1024,
         }
     }
 }
