@@ -12,7 +12,7 @@ use Rattle.ob_seq.specs.State.{is_closed}
 use Rattle.ob_seq.specs.Unsent.{room_for_one_more}
 use Rattle.ob_connection.specs.Connected.{Connected, StandsFor as ConnectionStandsFor, connection_limit, room_in}
 use Rattle.ob_connection.specs.Looks.{Refuses, waiting_count_after}
-use Rattle.ob_connection.specs.Obeying.{Obeys, written_reply}
+use Rattle.ob_connection.specs.Obeying.{Accepts, Obeys, written_reply}
 use Rattle.ob_connection.specs.declared.replies.Written.{Written}
 use Rattle.ob_lifecycle.specs.Events.{Event, Accepted, Refused as WasRefused, commands_in}
 use Rattle.ob_lifecycle.specs.Finish.{is_finishing}
@@ -119,6 +119,28 @@ memory_last_of_put why managed message new (Err left) own refused is events stan
     let none : None ≡ first_refusal_within connection_limit managed.connection.unsent.settings.estimate (commands_in events) (Write message) =
     accepts_says _ _ (obeys.no_memory_last refl (commands_in events) stands.commands) in
     ap (option_map (λ refusal. Refused refusal)) none ∙ others_first _ _ _ _ _ (own events stands)
+
+-- what the connection refuses first, a write that is refused by it answers; and if it refuses nothing, it accepts
+answers_first : (first : Option Refusal) (refusal : Refusal) (reply : Reply) → Some refusal ≡ first → Err refusal ≡ unless_refused first reply
+answers_first None refusal reply is = absurd (cc)
+answers_first (Some other) refusal reply is = cc
+
+refusing_obeys : (old : Connected) (message : Message) (refusal : Refusal) → Refuses old (Write message) (Some refusal)
+    → ¬ (Some refusal ≡ Some NoMemory) → Obeys old (Write message) written_reply (declined refusal) old
+refusing_obeys old message refusal first other = record {
+  answer = λ memory commands stands. answers_first _ refusal _ (first commands stands);
+  stands = λ commands stands. stands;
+  settings = refl;
+  refused = refl;
+  no_memory_last = λ is. absurd (other (cc));
+}
+
+ok_of_none : (first : Option Refusal) (reply : Reply) → None ≡ first → true ≡ is_ok (unless_refused first reply)
+ok_of_none None reply is = refl
+ok_of_none (Some refusal) reply is = absurd (cc)
+
+pub accepts_of_none : (old : Connected) (message : Message) → Refuses old (Write message) None → Accepts old (Write message)
+accepts_of_none old message first commands stands = ok_of_none _ _ (first commands stands)
 
 refusal_is_not_ours : (closed finishing oversize past : Bool) (refusal : Refusal)
     → Some (Refused refusal) ≡ own_fault_by closed finishing oversize past → ⊥
@@ -337,4 +359,17 @@ put_writes why old message new tally result own wrote room refused no_end no_cap
   first = first_of_put why old message new result own wrote refused no_end no_cap;
   memory_last = memory_last_of_put why old message new result own refused;
   brings = put_brings why old message new tally result own wrote refused counts;
+}
+
+-- a write that the connection would refuse
+pub refusing_writes : (managed : Managed) (message : Message) (refusal : Refusal) → Gives managed (own_fault message) None
+    → Refuses managed.connection (Write message) (Some refusal) → ¬ (Some refusal ≡ Some NoMemory)
+    → WritesTo (λ why. why) message managed (Err (Refused refusal)) managed
+refusing_writes managed message refusal own first other = record {
+  written = tt;
+  room = tt;
+  refused = refusing_obeys managed.connection message refusal first other;
+  first = λ memory. none_of_both managed message (Some refusal) own first;
+  memory_last = λ is. absurd (other (cc));
+  brings = own_brings managed (Refused refusal);
 }

@@ -1,11 +1,11 @@
 //! Messages that are written as bytes.
 
-ghost use Rattle.std.specs.Prelude.{◌≡◌, IfOk, IfErr, OnOk, Some};
+ghost use Rattle.std.specs.Prelude.{◌≡◌, IfOk, IfErr, IfSome, OnOk, Some, None, Err};
 ghost use Rattle.ob_types.specs.declared.command.Command.TheVariants.{Write};
 ghost use Rattle.ob_types.specs.declared.message.Message.TheVariants.{Block};
 ghost use Rattle.ob_seq.specs.Unsent.{room_for_one_more};
 ghost use Rattle.ob_connection.specs.Connected.{room_in};
-ghost use Rattle.ob_connection.specs.Obeying.{Obeys, written_reply};
+ghost use Rattle.ob_connection.specs.Obeying.{Accepts, Obeys, written_reply};
 ghost use Rattle.ob_lifecycle.specs.Counts.{Counts};
 ghost use Rattle.ob_lifecycle.specs.Inside.{MayCount};
 ghost use Rattle.ob_lifecycle.specs.Managed.{Gives};
@@ -59,7 +59,9 @@ impl ManagedConnection {
     /// Why a write of these bytes as a block would be refused now, or nothing if it would be accepted while there is memory.
     /// It copies nothing and does not allocate: ask it before the bytes are copied or shared.
     pub fn fault_of_block(&self, bytes: &[u8]) -> Option<WriteFault>
-        ensures { Gives self.now (fault_of_write (Block bytes.now)) result }
+        ensures first { Gives self.now (fault_of_write (Block bytes.now)) result }
+        ensures refused { IfSome result (λ why. WritesTo (λ why. why) (Block bytes.now) self.now (Err why) self.now) }
+        ensures accepted { result ≡ None → Accepts self.now.connection (Write (Block bytes.now)) }
     {
         let size = pending_size_of_block(bytes, self.connection.estimate());
         if let Some(why) = self.own_fault(size) {
