@@ -6,6 +6,7 @@ one floods. At SIGTERM it ends in order: what was heard is sent, and the numbers
 """
 
 import contextlib
+import functools
 import re
 import signal
 import socket
@@ -15,8 +16,10 @@ import threading
 import time
 
 # in bytes, and of the window and the end in milliseconds
-HIGH, MOST, WINDOW, LEAST, DRAIN = 65536, 200_000, 1500, 20_000, 4000
+HIGH, WINDOW, LEAST, DRAIN = 65536, 1500, 20_000, 4000
 SECONDS = 60
+# what a message counts beside its own bytes
+OVERHEAD = 96
 FLOOD = 64 << 20
 NUMBER = re.compile(r'^limekeel_(\w+)(?:\{\w+="(\w+)"\})? (\d+)$', re.M)
 
@@ -34,8 +37,9 @@ def numbers_in(text):
 def do_not_add_up(numbers):
     """What of the numbers is not so at each moment."""
     ends = ("sent", "failed", "cancelled", "pending")
+    sums = {kind: sum(numbers[f"{kind} {end}"] for end in ends) for kind in ("messages", "bytes")}
     return [f"{kind}: {numbers[f'{kind} accepted']} accepted, and {ended} ended or pending"
-            for kind in ("messages", "bytes") if numbers[f"{kind} accepted"] != (ended := sum(numbers[f"{kind} {end}"] for end in ends))]
+            for kind, ended in sums.items() if numbers[f"{kind} accepted"] != ended]
 
 
 class Client(threading.Thread):
@@ -56,9 +60,10 @@ class Client(threading.Thread):
         except OSError as error:
             self.fault = self.fault or f"{type(error).__name__}: {error}"
 
-    def wants(self, link, until):
+    def wants(self, link, until, pause=0.0):
         """Each byte up to this one comes back, and no other."""
         while self.came < until:
+            time.sleep(pause)
             came = link.recv(min(1 << 16, until - self.came))
             if came != pattern(self.came, len(came)) or not came:
                 self.fault = f"behind {self.came} bytes came {len(came)} that were not sent"
@@ -66,13 +71,19 @@ class Client(threading.Thread):
             self.came += len(came)
         return True
 
-    def drops(self, link):
-        """The server ends it, by a reset or by the end of the stream."""
-        with contextlib.suppress(OSError):
-            while link.recv(1 << 16):
+    def waits_for_the_end(self, link, bytes_a_second=0):
+        """The server gives it up: the link is broken for who writes."""
+        for _ in range(int(WINDOW / 1000 * 6)):
+            time.sleep(1)
+            try:
+                if bytes_a_second:
+                    link.recv(bytes_a_second)
+                link.send(b"x")
+            except ConnectionError:
+                return
+            except OSError:
                 pass
-            return
-        self.fault = self.fault if self.fault != "timed out" else "the server did not end it"
+        self.fault = "the server kept it"
 
 
 def talks(client, link):
@@ -89,12 +100,18 @@ def talks(client, link):
 
 
 def ends_its_half(client, link):
-    """Sends all, ends, and reads what is left only then."""
-    sent = 1 << 20
-    sender = threading.Thread(target=lambda: (link.sendall(pattern(0, sent)), link.shutdown(socket.SHUT_WR)), daemon=True)
+    """Sends more than the system keeps, and ends; it reads slowly, so that something waits when the server hears the end."""
+    sent = 12 << 20
+
+    def sends():
+        with contextlib.suppress(OSError):
+            link.sendall(pattern(0, sent))
+            link.shutdown(socket.SHUT_WR)
+
+    sender = threading.Thread(target=sends, daemon=True)
     sender.start()
     time.sleep(0.3)
-    if client.wants(link, sent) and link.recv(1):
+    if client.wants(link, sent, pause=0.002) and link.recv(1):
         client.fault = "more came than was sent"
     sender.join(SECONDS)
 
@@ -115,21 +132,35 @@ def floods(client, link):
         client.fault = f"the server heard {FLOOD} bytes of it"
 
 
-def reads_nothing(client, link):
-    """Sends little more than a socket's own room, and never reads."""
+def sends_until_it_is_full(link):
     link.settimeout(1)
     with contextlib.suppress(OSError):
         for start in range(0, 16 << 20, 1 << 14):
             link.sendall(pattern(start, 1 << 14))
+
+
+def reads_nothing(client, link):
+    """Sends until the server takes no more, and never reads."""
+    sends_until_it_is_full(link)
     client.waits_for_the_end(link)
 
 
 def reads_a_byte_a_second(client, link):
-    link.settimeout(1)
-    with contextlib.suppress(OSError):
-        for start in range(0, 16 << 20, 1 << 14):
-            link.sendall(pattern(start, 1 << 14))
+    """The same, but for a byte a second."""
+    sends_until_it_is_full(link)
     client.waits_for_the_end(link, bytes_a_second=1)
+
+
+def reads_late(client, link, over):
+    """Sends until the server takes no more, and reads only once that is told to end: all that it heard, and then the end."""
+    sends_until_it_is_full(link)
+    link.settimeout(SECONDS)
+    over.wait(SECONDS)
+    while came := link.recv(1 << 16):
+        if came != pattern(client.came, len(came)):
+            client.fault = f"behind {client.came} bytes came {len(came)} that were not sent"
+            return
+        client.came += len(came)
 
 
 def stays(client, link):
@@ -139,54 +170,35 @@ def stays(client, link):
         client.fault = "more came than was sent"
 
 
-def waits_for_the_end(client, link, bytes_a_second=0):
-    """Whether the server gives it up: the link is broken for who writes."""
-    for _ in range(int(WINDOW / 1000 * 6)):
-        time.sleep(1)
-        try:
-            if bytes_a_second:
-                link.recv(bytes_a_second)
-            link.send(b"x")
-        except (ConnectionError, BrokenPipeError):
-            return
-        except OSError:
-            pass
-    client.fault = "the server kept it"
-
-
-Client.waits_for_the_end = waits_for_the_end
-
-
 def scraped(port):
     """What the server tells to who asks for its numbers."""
     with socket.create_connection(("127.0.0.1", port), timeout=SECONDS) as link:
         link.sendall(b"GET /metrics HTTP/1.0\r\n\r\n")
-        return link.makefile().read()
+        return link.makefile(newline="").read()
 
 
-def served(command):
-    """What is wrong with a server among these clients, and how much was looked at."""
-    words = [str(word) for word in (HIGH, MOST, WINDOW, LEAST, DRAIN)]
+def among(command, most, window, some, wanted):
+    """What is wrong with a server that may hold this much for a client, among these clients and some that are there to the end,
+    and how much was looked at."""
+    words, over = [str(word) for word in (HIGH, most, window, LEAST, DRAIN)], threading.Event()
     with subprocess.Popen([*command, *words], stdout=subprocess.PIPE, stderr=subprocess.PIPE, text=True) as server:
         port, of_numbers = (int(server.stdout.readline().rpartition(":")[2]) for _ in range(2))
-        some = {f"a client that talks {at}": Client(port, talks) for at in range(8)}
-        some |= {
-            "a client that ends its half": Client(port, ends_its_half),
-            "a client that resets": Client(port, resets),
-            "a client that reads nothing": Client(port, reads_nothing, room=1 << 14),
-            "a client that reads a byte a second": Client(port, reads_a_byte_a_second, room=1 << 14),
-            "a client that floods": Client(port, floods, room=1 << 14),
-        }
-        late = {f"a client that stays {at}": Client(port, stays) for at in range(4)}
-        for client in some.values():
+        clients = {name: Client(port, *how) for name, how in some.items()}
+        for client in clients.values():
             client.start()
-        for client in some.values():
+        for client in clients.values():
             client.join(SECONDS)
+        late = {f"a client that stays {at}": Client(port, stays) for at in range(4)}
+        if not some:
+            how = functools.partial(reads_late, over=over)
+            late |= {f"a client that reads late {at}": Client(port, how, 1 << 14) for at in range(4)}
         for client in late.values():
             client.start()
-        time.sleep(1)
+        time.sleep(1 if some else 3)
         page = scraped(of_numbers)
+        told = time.monotonic()
         server.send_signal(signal.SIGTERM)
+        over.set()
         try:
             out, errors = server.communicate(timeout=SECONDS)
         except subprocess.TimeoutExpired:
@@ -194,14 +206,20 @@ def served(command):
             out, errors = server.communicate()[0], "the server did not end"
         for client in late.values():
             client.join(SECONDS)
-    clients = some | late
+    clients |= late
     failed = [f"{name}: {client.fault}" for name, client in clients.items() if client.fault]
     failed += [f"{name} did not end" for name, client in clients.items() if client.is_alive()]
     failed += [f"the server: {errors.strip()}, status {server.returncode}"] if errors or server.returncode else []
-    return failed + of_numbers_told(page, out), len(clients) + 3
+    failed += ["each client ends in time, and the server did not"] if time.monotonic() > told + DRAIN / 1000 * 0.8 else []
+    if not some:
+        # each byte that was accepted came to somebody
+        last, came = numbers_in(out), sum(client.came for client in clients.values()) + len(page)
+        if last["bytes sent"] - OVERHEAD * last["messages sent"] != came or last["messages failed"]:
+            failed.append(f"{came} bytes came, and it tells of {out}")
+    return failed + of_numbers_told(page, out, most, wanted), len(clients) + 4
 
 
-def of_numbers_told(page, out):
+def of_numbers_told(page, out, most, wanted):
     """What is otherwise than it is to be in the numbers, while it serves and at its end."""
     if not page.startswith("HTTP/1.0 200 OK"):
         return [f"the numbers: {page[:200]!r}"]
@@ -209,6 +227,24 @@ def of_numbers_told(page, out):
     failed = do_not_add_up(here) + do_not_add_up(last)
     failed += [] if last.get("clients") == 0 and last.get("bytes pending") == 0 else [f"at its end: {out}"]
     failed += [] if here.get("clients", 0) >= 4 else [f"four stay: {page}"]
-    failed += [] if last.get("peak_pending_bytes", MOST + 1) <= MOST else ["more was pending than may be"]
-    failed += [] if last.get("given_up_total stalled", 0) >= 2 else [f"of two that stall: {out}"]
+    failed += [] if 0 < last.get("peak_pending_bytes", 0) <= most else ["more was pending than may be"]
+    failed += [f"{cause}: {out}" for cause, least in wanted.items() if last.get(f"given_up_total {cause}", 0) < least]
+    failed += [] if last.get("given_up_total late", 1) == 0 else [f"nobody is late: {out}"]
     return failed
+
+
+def served(command):
+    """What is wrong with a server that lives with any client, and how much was looked at."""
+    talk = {f"a client that talks {at}": (talks,) for at in range(8)}
+    misbehave = {
+        "a client that ends its half": (ends_its_half, 1 << 14),
+        "a client that resets": (resets,),
+        "a client that reads nothing": (reads_nothing, 1 << 14),
+        "a client that reads a byte a second": (reads_a_byte_a_second, 1 << 14),
+        "a client that floods": (floods, 1 << 14),
+    }
+    # above the high mark no more is read, so that what may be pending is reached only if it is less
+    runs = [among(command, 200_000, WINDOW, talk | misbehave, {"stalled": 3, "broken": 1}),
+            among(command, 30_000, WINDOW, talk | {"a client that floods": (floods, 1 << 14)}, {"full": 1}),
+            among(command, 200_000, SECONDS * 1000, {}, {})]
+    return [text for failed, _ in runs for text in failed], sum(count for _, count in runs)

@@ -25,15 +25,26 @@ impl Managed {
         let mut opened = Managed { inner: sys::Managed { at: null_mut() } };
         let (Marks { low, high }, Estimate { overhead, unknown }) = (marks, estimate);
         let Limits { most_pending, window, least_bytes } = limits;
-        done(opened.open_for(sys::EDGE, low, high, overhead, unknown, most_pending, window, least_bytes, now))?;
+        let at = &mut opened.inner;
+        // SAFETY: the handle is this value's own, and owns nothing yet.
+        done(unsafe {
+            sys::limekeel_managed_open_for(
+                at,
+                sys::EDGE,
+                low,
+                high,
+                overhead,
+                unknown,
+                most_pending,
+                window,
+                least_bytes,
+                now,
+            )
+        })?;
         Ok(opened)
     }
 
     commands! {
-        open_for(
-            edge: u32, low: u32, high: u32, overhead: u32, unknown: u32, most_pending: u32, window: u64, least_bytes: u64,
-            now: u64
-        ) -> u32 = limekeel_managed_open_for;
         free() -> u32 = limekeel_managed_free;
         finish() -> sys::Truth = limekeel_managed_finish;
         tick(now: u64) -> sys::Truth = limekeel_managed_tick;

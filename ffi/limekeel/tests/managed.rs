@@ -1,8 +1,8 @@
 //! A managed connection: the end that is told once, the limit, a peer that stalls, and numbers that add up.
 
 use limekeel::{
-    Block, Change, Count, Current, Ending, Estimate, Front, Limits, ManagedConnection, Marks, Numbers, Outcome, Promise,
-    Refusal,
+    Block, Change, Count, Current, Ending, Estimate, Front, Limits, ManagedConnection, Marks, Numbers, Outcome,
+    Promise, Refusal,
 };
 use std::io::{self, ErrorKind, IoSlice, Read, Write};
 use std::os::unix::net::UnixStream;
@@ -35,7 +35,9 @@ fn the_end_is_told_by_what_takes_the_last_message_away() {
     let told = connection.take_sent(1).expect("it waits");
     assert_eq!((told.answer.promises, told.finished), (0..1, false));
     assert_eq!((connection.current(), connection.front()), (Some(Current::Other(5)), Some(1)));
-    assert!(connection.is_finishing() && !connection.is_finished() && !connection.is_closed() && !connection.is_empty());
+    assert!(
+        connection.is_finishing() && !connection.is_finished() && !connection.is_closed() && !connection.is_empty()
+    );
     let told = connection.remove().expect("it is open");
     assert_eq!((told.answer.settled, told.finished), (Some((1, Outcome::Success)), true));
     assert!(connection.is_finished() && connection.is_empty());
@@ -153,7 +155,10 @@ fn a_sending_tells_the_end_and_none_that_breaks_before_it() {
     assert!(connection.send_to(&mut Breaks(9)).expect("it takes the last").finished);
     assert!(!connection.send_to(&mut Breaks(9)).expect("nothing is left").finished);
     let _ = connection.close(1).expect("nothing is flushed");
-    assert_eq!(connection.send_to(&mut Breaks(9)).map(|told| told.finished).expect_err("it is closed").kind(), ErrorKind::BrokenPipe);
+    assert_eq!(
+        connection.send_to(&mut Breaks(9)).map(|told| told.finished).expect_err("it is closed").kind(),
+        ErrorKind::BrokenPipe
+    );
 }
 
 #[test]

@@ -176,8 +176,9 @@ impl Server {
     }
 
     fn serve(&mut self, key: u64, ready: u32) {
-        let Some(client) = self.clients.iter_mut().find(|client| client.key == key) else { return };
-        if ready & client.wanted() & IN != 0 { client.hear() } else { client.send() }
+        if let Some(client) = self.clients.iter_mut().find(|client| client.key == key) {
+            if ready & client.wanted() & IN != 0 { client.hear() } else { client.send() }
+        }
     }
 
     /// Gives up who stalls, and who is late.
@@ -207,12 +208,12 @@ impl Server {
         let (mut echo, mut ticked, mut deadline) = (Some(echo), 0, u64::MAX);
         while echo.is_some() || !self.clients.is_empty() {
             for (key, ready) in self.poll.wait(TICK) {
-                // a client that cannot be taken is no end of the others
-                let _ = match (key, &echo) {
-                    (ECHO, Some(echo)) => self.welcome(echo).map(drop),
-                    (NUMBERS, _) => self.tell(numbers),
-                    _ => Ok(self.serve(key, ready)),
-                };
+                // a client that cannot be taken in is no end of the others
+                match (key, &echo) {
+                    (ECHO, Some(echo)) => drop(self.welcome(echo)),
+                    (NUMBERS, _) => drop(self.tell(numbers)),
+                    _ => self.serve(key, ready),
+                }
             }
             let now = now();
             if ASKED.load(Ordering::Relaxed) && echo.take().is_some() {
