@@ -64,7 +64,7 @@ extern "C" {
 
 /* A number of the structs, functions and numbers of this header. limekeel_open says LIMEKEEL_OTHER_VERSION to an archive of
  * another. Before 1.0 each version may have another. */
-#define LIMEKEEL_EDGE 577456178u
+#define LIMEKEEL_EDGE 1509890235u
 
 /* What may tell a change of writability is not to be dropped. */
 #if (defined(__cplusplus) && __cplusplus >= 201703L) || (defined(__STDC_VERSION__) && __STDC_VERSION__ >= 202311L)
@@ -94,7 +94,9 @@ enum limekeel_status {
     LIMEKEEL_BAD_ESTIMATE = 15,    /* the overhead or the unknown size is above 65535 */
     LIMEKEEL_NO_BLOCK = 16,        /* the block that is to be written owns nothing */
     LIMEKEEL_OTHER_VERSION = 17,   /* the archive is of another version than this header */
-    LIMEKEEL_BUSY = 18             /* another call has the lock of the shared connection: try again */
+    LIMEKEEL_BUSY = 18,            /* another call has the lock of the shared connection: try again */
+    LIMEKEEL_FINISHING = 19,       /* the end of the managed connection was asked for */
+    LIMEKEEL_FULL = 20             /* more bytes would be pending than the managed connection may hold */
 };
 
 /* How a call changed writability. Each change is reported once: act on it. */
@@ -170,6 +172,11 @@ struct limekeel_shared {
 struct limekeel_transport {
     uint8_t *at;
 };
+/* A connection with a life: an end in order, a limit on what is pending, a watch over its peer, and numbers. */
+struct limekeel_managed {
+    uint8_t *at;
+};
+#define LIMEKEEL_MANAGED LIMEKEEL_CONNECTION
 #define LIMEKEEL_SHARED LIMEKEEL_CONNECTION
 #define LIMEKEEL_TRANSPORT LIMEKEEL_CONNECTION
 
@@ -289,6 +296,64 @@ struct limekeel_laid {
     size_t count; /* how many pieces were filled */
 };
 
+/* What the commands of a managed connection return: the reply of a connection, and whether the end is reached by the call, which
+ * is told once. */
+struct limekeel_told_done {
+    uint32_t status;
+    bool finished;
+};
+
+struct limekeel_told_flushed {
+    struct limekeel_flushed flushed;
+    bool finished;
+};
+
+struct limekeel_told_removed {
+    struct limekeel_removed removed;
+    bool finished;
+};
+
+struct limekeel_told_taken {
+    struct limekeel_taken taken;
+    bool finished;
+};
+
+struct limekeel_told_cancelled {
+    struct limekeel_cancelled cancelled;
+    bool finished;
+};
+
+struct limekeel_told_changed {
+    struct limekeel_changed changed;
+    bool finished;
+};
+
+struct limekeel_state {
+    uint32_t status;
+    bool writable;  /* whether writers may go on */
+    bool closed;    /* whether a close was accepted */
+    bool empty;     /* whether no message is flushed and not yet removed */
+    bool finishing; /* whether the end was asked for */
+    bool finished;  /* whether the end was reached: a call has told it */
+};
+
+/* Messages, and the bytes that they count together, each with the overhead. */
+struct limekeel_count {
+    uint64_t messages;
+    uint64_t bytes;
+};
+
+/* What was accepted is what was sent, failed, was cancelled and is pending, at each moment. */
+struct limekeel_numbers {
+    uint32_t status;
+    struct limekeel_count accepted;
+    struct limekeel_count sent;
+    struct limekeel_count failed;    /* by a close, a giving up or a failing */
+    struct limekeel_count cancelled; /* from the flush on that voided it */
+    struct limekeel_count pending;
+    uint64_t peak; /* the most bytes that were pending at any moment */
+};
+
 /* The layout that the archive was compiled with. */
 #if defined(__cplusplus)
 #define LIMEKEEL_LAYOUT(type, size, last, offset)                                                         \
@@ -317,6 +382,16 @@ LIMEKEEL_LAYOUT(limekeel_promise_told, 16, cause, 12);
 LIMEKEEL_LAYOUT(limekeel_front_told, 16, id, 8);
 LIMEKEEL_LAYOUT(limekeel_current_told, 16, number, 8);
 LIMEKEEL_LAYOUT(limekeel_gathered, 16, count, 8);
+LIMEKEEL_LAYOUT(limekeel_managed, 8, at, 0);
+LIMEKEEL_LAYOUT(limekeel_told_done, 8, finished, 4);
+LIMEKEEL_LAYOUT(limekeel_told_flushed, 24, finished, 16);
+LIMEKEEL_LAYOUT(limekeel_told_removed, 40, finished, 32);
+LIMEKEEL_LAYOUT(limekeel_told_taken, 48, finished, 40);
+LIMEKEEL_LAYOUT(limekeel_told_cancelled, 12, finished, 8);
+LIMEKEEL_LAYOUT(limekeel_told_changed, 12, finished, 8);
+LIMEKEEL_LAYOUT(limekeel_state, 12, finished, 8);
+LIMEKEEL_LAYOUT(limekeel_count, 16, bytes, 8);
+LIMEKEEL_LAYOUT(limekeel_numbers, 96, peak, 88);
 LIMEKEEL_LAYOUT(limekeel_shared, 8, at, 0);
 LIMEKEEL_LAYOUT(limekeel_transport, 8, at, 0);
 LIMEKEEL_LAYOUT(limekeel_glance, 12, total, 8);
@@ -447,6 +522,73 @@ struct limekeel_current_told limekeel_current(const struct limekeel_connection *
 struct limekeel_gathered limekeel_gather_pieces(const struct limekeel_connection *connection,
                                                 struct limekeel_piece *pieces, size_t length, uint32_t max_bytes);
 
+/* A connection with a life. Its calls are those of a connection, by the same words, and besides: it ends in order, refuses what is
+ * past a limit, names a peer that stalls, and counts. No call asks a clock: times are numbers of yours, in units of yours.
+ *
+ * What it is held to: the most bytes that may be pending, past which a write is LIMEKEEL_FULL; and how long a window is in which
+ * the peer has to take at least so many bytes, or limekeel_managed_tick names it. With `least_bytes` 0 none is ever named. */
+struct limekeel_limits {
+    uint32_t most_pending;
+    uint64_t window;
+    uint64_t least_bytes;
+};
+
+/* Opens one, as limekeel_open, at the time `now`. Call limekeel_managed_open. */
+uint32_t limekeel_managed_open_for(struct limekeel_managed *managed, uint32_t edge, uint32_t low, uint32_t high, uint32_t overhead,
+                                   uint32_t unknown, uint32_t most_pending, uint64_t window, uint64_t least_bytes, uint64_t now);
+static inline uint32_t limekeel_managed_open(struct limekeel_managed *managed, uint32_t low, uint32_t high, uint32_t overhead,
+                                             uint32_t unknown, struct limekeel_limits limits, uint64_t now)
+{
+    return limekeel_managed_open_for(managed, LIMEKEEL_EDGE, low, high, overhead, unknown, limits.most_pending, limits.window,
+                                     limits.least_bytes, now);
+}
+
+/* Frees it with all that waits in it. Promises that wait are not reported: give it up before. */
+uint32_t limekeel_managed_free(struct limekeel_managed *managed);
+
+/* Asks for the end: from now on each write is LIMEKEEL_FINISHING, and all else goes on. It `holds` if the end is reached by that,
+ * since nothing is left of what was accepted; else the call that takes the last of it away says `finished`. Either is said once.
+ * Flush before it. At a deadline, limekeel_managed_give_up reaches the end. */
+LIMEKEEL_TOLD struct limekeel_truth limekeel_managed_finish(struct limekeel_managed *managed);
+
+/* Tells the time, and whether the peer is named: something was flushed since a tick a window ago or more, and the peer took fewer
+ * than `least_bytes` since. It is named once, until it took as many, or all. A time behind the last one tells nothing. */
+LIMEKEEL_TOLD struct limekeel_truth limekeel_managed_tick(struct limekeel_managed *managed, uint64_t now);
+
+/* The writes. LIMEKEEL_FINISHING comes after LIMEKEEL_CLOSED, and LIMEKEEL_FULL after LIMEKEEL_OVERSIZE, before anything is
+ * allocated. */
+LIMEKEEL_TOLD struct limekeel_written limekeel_managed_write_bytes(struct limekeel_managed *managed, const uint8_t *bytes,
+                                                                   size_t length);
+LIMEKEEL_TOLD struct limekeel_written limekeel_managed_write_block(struct limekeel_managed *managed,
+                                                                   const struct limekeel_block *block);
+LIMEKEEL_TOLD struct limekeel_written limekeel_managed_write_lent_bytes(struct limekeel_managed *managed, const uint8_t *bytes,
+                                                                        size_t length);
+LIMEKEEL_TOLD struct limekeel_written limekeel_managed_write_region(struct limekeel_managed *managed, uint64_t length);
+LIMEKEEL_TOLD struct limekeel_written limekeel_managed_write_other(struct limekeel_managed *managed, uint32_t value);
+
+/* The commands, each as that of a connection. Giving up fails the promise of each message that is left, once. */
+LIMEKEEL_TOLD struct limekeel_told_flushed limekeel_managed_flush(struct limekeel_managed *managed);
+LIMEKEEL_TOLD struct limekeel_told_done limekeel_managed_progress(struct limekeel_managed *managed, uint64_t n);
+LIMEKEEL_TOLD struct limekeel_told_cancelled limekeel_managed_cancel(struct limekeel_managed *managed, uint64_t id);
+LIMEKEEL_TOLD struct limekeel_told_changed limekeel_managed_user_bit(struct limekeel_managed *managed, uint32_t index, bool writable);
+LIMEKEEL_TOLD struct limekeel_told_done limekeel_managed_set_marks(struct limekeel_managed *managed, uint32_t low, uint32_t high);
+LIMEKEEL_TOLD struct limekeel_told_removed limekeel_managed_remove(struct limekeel_managed *managed);
+LIMEKEEL_TOLD struct limekeel_told_removed limekeel_managed_remove_with(struct limekeel_managed *managed, uint32_t cause);
+LIMEKEEL_TOLD struct limekeel_told_taken limekeel_managed_take_sent(struct limekeel_managed *managed, uint64_t n);
+LIMEKEEL_TOLD struct limekeel_told_taken limekeel_managed_fail_flushed(struct limekeel_managed *managed, uint32_t cause, bool notify);
+LIMEKEEL_TOLD struct limekeel_told_taken limekeel_managed_close(struct limekeel_managed *managed, uint32_t cause);
+LIMEKEEL_TOLD struct limekeel_told_taken limekeel_managed_give_up(struct limekeel_managed *managed, uint32_t cause);
+
+/* The looks. The numbers go over the flushed messages. */
+struct limekeel_state limekeel_managed_state(const struct limekeel_managed *managed);
+struct limekeel_numbers limekeel_managed_numbers(const struct limekeel_managed *managed);
+struct limekeel_look_told limekeel_managed_look(const struct limekeel_managed *managed);
+struct limekeel_promise_told limekeel_managed_promise(const struct limekeel_managed *managed, uint64_t id);
+struct limekeel_front_told limekeel_managed_front(const struct limekeel_managed *managed);
+struct limekeel_current_told limekeel_managed_current(const struct limekeel_managed *managed);
+struct limekeel_gathered limekeel_managed_gather_pieces(const struct limekeel_managed *managed, struct limekeel_piece *pieces,
+                                                        size_t length, uint32_t max_bytes);
+
 /* A connection that several threads write to, and one sends from. Each thread has a handle of its own, a limekeel_shared or
  * the limekeel_transport, and no lock around it: a handle is used by one call at a time, and handles of one connection by
  * any threads at once. A call takes the lock of the connection if that is free, and else returns LIMEKEEL_BUSY, and nothing
@@ -561,6 +703,13 @@ struct limekeel_sent {
  * messages in front are taken away in each case. It is in send.c, over the archive; it needs 16 KB of stack. */
 LIMEKEEL_TOLD struct limekeel_sent limekeel_send(struct limekeel_connection *connection, int socket, uint32_t max_turns);
 
+/* The same of a managed connection, and whether the end is reached by it. */
+struct limekeel_told_sent {
+    struct limekeel_sent sent;
+    bool finished;
+};
+LIMEKEEL_TOLD struct limekeel_told_sent limekeel_managed_send(struct limekeel_managed *managed, int socket, uint32_t max_turns);
+
 /* Messages that are made in place, as by a serializer, in memory that small ones share: reserve room, fill it, write it. These
  * are in room.c, over limekeel_write_lent. One connection has one of these, which is let go of as messages are taken away. */
 struct limekeel_chunk;
@@ -643,6 +792,18 @@ LIMEKEEL_TOLD static inline struct limekeel_written limekeel_write_lent(struct l
     return limekeel_write_lent_bytes(connection, length > 0 ? (const uint8_t *)bytes : (const uint8_t *)"", length);
 }
 
+LIMEKEEL_TOLD static inline struct limekeel_written limekeel_managed_write(struct limekeel_managed *managed, const void *bytes,
+                                                                           size_t length)
+{
+    return limekeel_managed_write_bytes(managed, length > 0 ? (const uint8_t *)bytes : (const uint8_t *)"", length);
+}
+
+LIMEKEEL_TOLD static inline struct limekeel_written limekeel_managed_write_lent(struct limekeel_managed *managed,
+                                                                                const void *bytes, size_t length)
+{
+    return limekeel_managed_write_lent_bytes(managed, length > 0 ? (const uint8_t *)bytes : (const uint8_t *)"", length);
+}
+
 LIMEKEEL_TOLD static inline struct limekeel_written limekeel_write_parts(struct limekeel_connection *connection,
                                                                          const struct limekeel_piece *parts,
                                                                          size_t length)
@@ -657,6 +818,14 @@ static inline struct limekeel_gathered limekeel_gather(const struct limekeel_con
 {
     struct limekeel_piece none = {(const uint8_t *)"", 0};
     return limekeel_gather_pieces(connection, length > 0 ? pieces : &none, length, max_bytes);
+}
+
+static inline struct limekeel_gathered limekeel_managed_gather(const struct limekeel_managed *managed,
+                                                               struct limekeel_piece *pieces, size_t length,
+                                                               uint32_t max_bytes)
+{
+    struct limekeel_piece none = {(const uint8_t *)"", 0};
+    return limekeel_managed_gather_pieces(managed, length > 0 ? pieces : &none, length, max_bytes);
 }
 
 #ifdef LIMEKEEL_IOVEC
@@ -694,6 +863,8 @@ static inline const char *limekeel_strstatus(uint32_t status)
     case LIMEKEEL_NO_BLOCK: return "the block that is to be written owns nothing";
     case LIMEKEEL_OTHER_VERSION: return "the archive is of another version than the header";
     case LIMEKEEL_BUSY: return "another call has the lock";
+    case LIMEKEEL_FINISHING: return "the connection is finishing";
+    case LIMEKEEL_FULL: return "more would be pending than the connection may hold";
     default: return "no status of this version";
     }
 }

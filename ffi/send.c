@@ -1,7 +1,7 @@
 /*
- * limekeel_send, over sendmsg. limekeel.h says what it does.
+ * limekeel_send and limekeel_managed_send, over sendmsg. limekeel.h says what they do.
  *
- * It is made of calls of the archive, and not itself proved. liblimekeel.a has this file too.
+ * They are made of calls of the archive, and not themselves proved. liblimekeel.a has this file too.
  */
 #define _POSIX_C_SOURCE 200809L
 #include <errno.h>
@@ -52,10 +52,39 @@ static uint32_t offer(int socket, struct iovec *slices, size_t count, uint64_t *
     }
 }
 
-/* Takes away what was sent, along with what went before. */
-static void take(struct limekeel_connection *connection, uint64_t bytes, struct limekeel_sent *sent)
+/* What is sent from: a connection, or else a managed one. */
+struct source {
+    struct limekeel_connection *connection;
+    struct limekeel_managed *managed;
+};
+
+static size_t gather(struct source source, struct iovec *slices)
 {
-    struct limekeel_taken taken = limekeel_take_sent(connection, bytes);
+    struct limekeel_piece *pieces = (struct limekeel_piece *)slices;
+    if (source.managed)
+        return limekeel_managed_gather_pieces(source.managed, pieces, LIMEKEEL_PIECES, UINT32_MAX).count;
+    return limekeel_gather_pieces(source.connection, pieces, LIMEKEEL_PIECES, UINT32_MAX).count;
+}
+
+static bool is_empty(struct source source)
+{
+    return source.managed ? limekeel_managed_state(source.managed).empty : limekeel_is_empty(source.connection).holds;
+}
+
+static struct limekeel_told_taken take_sent(struct source source, uint64_t bytes)
+{
+    if (source.managed)
+        return limekeel_managed_take_sent(source.managed, bytes);
+    struct limekeel_told_taken told = {limekeel_take_sent(source.connection, bytes), false};
+    return told;
+}
+
+/* Takes away what was sent, along with what went before. */
+static void take(struct source source, uint64_t bytes, struct limekeel_told_sent *told)
+{
+    struct limekeel_told_taken now = take_sent(source, bytes);
+    struct limekeel_sent *sent = &told->sent;
+    struct limekeel_taken taken = now.taken;
     if (sent->taken.outcome == LIMEKEEL_SUCCESS) {
         /* the promises follow those before, and writability changed by one of them at most */
         taken.from = sent->taken.from;
@@ -66,23 +95,37 @@ static void take(struct limekeel_connection *connection, uint64_t bytes, struct 
     sent->taken = taken;
     sent->status = taken.status;
     sent->bytes += bytes;
+    told->finished = told->finished || now.finished;
+}
+
+static struct limekeel_told_sent send_from(struct source source, int socket, uint32_t max_turns)
+{
+    struct limekeel_told_sent told = {0};
+    struct limekeel_sent *sent = &told.sent;
+    for (uint32_t turn = 1;; turn++) {
+        struct iovec slices[LIMEKEEL_PIECES];
+        size_t count = gather(source, slices);
+        uint64_t took = 0;
+        if (count > 0)
+            sent->ending = offer(socket, slices, count, &took, &sent->error);
+        take(source, took, &told);
+        if (sent->ending != LIMEKEEL_ENDED_DRAINED || sent->status != LIMEKEEL_OK || is_empty(source))
+            return told;
+        if (count == 0 || turn >= max_turns) {
+            sent->ending = count == 0 ? LIMEKEEL_ENDED_OTHER : LIMEKEEL_ENDED_BY_TURNS;
+            return told;
+        }
+    }
 }
 
 struct limekeel_sent limekeel_send(struct limekeel_connection *connection, int socket, uint32_t max_turns)
 {
-    struct limekeel_sent sent = {0};
-    for (uint32_t turn = 1;; turn++) {
-        struct iovec slices[LIMEKEEL_PIECES];
-        size_t count = limekeel_gather_iovec(connection, slices, LIMEKEEL_PIECES, UINT32_MAX).count;
-        uint64_t took = 0;
-        if (count > 0)
-            sent.ending = offer(socket, slices, count, &took, &sent.error);
-        take(connection, took, &sent);
-        if (sent.ending != LIMEKEEL_ENDED_DRAINED || sent.status != LIMEKEEL_OK || limekeel_is_empty(connection).holds)
-            return sent;
-        if (count == 0 || turn >= max_turns) {
-            sent.ending = count == 0 ? LIMEKEEL_ENDED_OTHER : LIMEKEEL_ENDED_BY_TURNS;
-            return sent;
-        }
-    }
+    struct source source = {connection, NULL};
+    return send_from(source, socket, max_turns).sent;
+}
+
+struct limekeel_told_sent limekeel_managed_send(struct limekeel_managed *managed, int socket, uint32_t max_turns)
+{
+    struct source source = {NULL, managed};
+    return send_from(source, socket, max_turns);
 }

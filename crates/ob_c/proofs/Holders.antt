@@ -1,13 +1,15 @@
--- The four holders.
+-- The five holders.
 use Rattle.std.proofs.Common.{refl, []}
 use Rattle.std.specs.Prelude.{codes}
 use mir.Syntax.{ty_named, tcons, tnil}
 use Rattle.ob_connection.specs.contracts.connection.Connection.{the_row as connection_row}
+use Rattle.ob_lifecycle.specs.contracts.managed.ManagedConnection.{the_row as inner_row}
 use Rattle.ob_shared_connection.specs.contracts.handle.Handle.{the_row as sharer_row}
 use Rattle.ob_shared_connection.specs.contracts.transport.Transport.{the_row as sender_row}
 use Rattle.ob_c.specs.Shared.{bytes_row}
 use Rattle.ob_c.specs.contracts.block.Block as block
 use Rattle.ob_c.specs.contracts.handle.Handle as handle
+use Rattle.ob_c.specs.contracts.managed.Managed as managed
 use Rattle.ob_c.specs.contracts.shared.Shared as shared
 use Rattle.ob_c.specs.contracts.transport.Transport as transport
 use Rattle.ob_c.proofs.Holder.{Holder}
@@ -62,6 +64,20 @@ senders = record {
   one = tt;
   D = transport.the_row.Denot;
   codes = transport.the_codes;
+  at = λ d. d.at;
+  value = λ d. d.value;
+  make = λ p x. record { at = p; value = x };
+  just = (λ d. refl, λ v g. refl, λ p x. refl);
+}
+
+abbrev pub managers : Holder
+managers = record {
+  name = managed.struct.name;
+  inner = inner_row;
+  written = ty_named (codes "ob_lifecycle::managed::ManagedConnection", []) tnil;
+  one = tt;
+  D = managed.the_row.Denot;
+  codes = managed.the_codes;
   at = λ d. d.at;
   value = λ d. d.value;
   make = λ p x. record { at = p; value = x };

@@ -2,6 +2,7 @@ pub mod Blocks
 pub mod Gathering
 pub mod Held
 pub mod Looks
+pub mod Managing
 pub mod Numbers
 pub mod Obeying
 pub mod Opening

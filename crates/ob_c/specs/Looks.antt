@@ -23,9 +23,8 @@ use Rattle.ob_c.specs.declared.views.Promise.{Promise}
 use Rattle.ob_c.specs.declared.views.Settings.{Settings as InForce}
 use Rattle.ob_c.specs.declared.views.Truth.{Truth}
 
--- C is told what is so of the connection, if there is one, and nothing changes
-abbrev pub Tells : {A C : Type 0} → Option Connected → (Connected → A → Type 0) → (Option A → C) → C → Option Connected →
-    Type 0
+-- C is told what is so of what is behind a handle, if there is something, and nothing changes
+abbrev pub Tells : {H A C : Type 0} → Option H → (H → A → Type 0) → (Option A → C) → C → Option H → Type 0
 Tells handle is_so in_c told new =
     Relays handle (λ old value after. is_so old value × (after ≡ old)) in_c told new
 

@@ -39,6 +39,14 @@ other_version = 17
 abbrev pub busy : ℕ
 busy = 18
 
+-- the status of a write that came after the end was asked for
+abbrev pub finishing : ℕ
+finishing = 19
+
+-- the status of a write past the limit on the pending bytes
+abbrev pub full : ℕ
+full = 20
+
 -- what a call has to report: its reply, or else the status of a handle that holds nothing, or of its refusal
 abbrev pub accepted : {A : Type 0} → Option (Result A Refusal) → Result A ℕ
 accepted None = Err not_open

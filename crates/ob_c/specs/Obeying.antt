@@ -15,13 +15,12 @@ use Rattle.ob_c.specs.Numbers.{accepted}
 use Rattle.ob_c.specs.Replies.{taken_in_c}
 use Rattle.ob_c.specs.declared.replies.Taken.{Taken}
 
--- with no connection C is told so and nothing changes, and else C is told a value that is so of the connection before and
--- after
-abbrev pub Relays : {A C : Type 0} → Option Connected → (Connected → A → Connected → Type 0) → (Option A → C) → C →
-    Option Connected → Type 0
+-- with nothing behind a handle C is told so and nothing changes, and else C is told a value that is so of what was behind
+-- it before and after
+abbrev pub Relays : {H A C : Type 0} → Option H → (H → A → H → Type 0) → (Option A → C) → C → Option H → Type 0
 Relays None is_so in_c told new = (told ≡ in_c None) × (new ≡ None)
-Relays {A = A} (Some old) is_so in_c told new =
-    (value : A) × (after : Connected) × (told ≡ in_c (Some value)) × (new ≡ Some after) × is_so old value after
+Relays {H = H} {A = A} (Some old) is_so in_c told new =
+    (value : A) × (after : H) × (told ≡ in_c (Some value)) × (new ≡ Some after) × is_so old value after
 
 -- the same of a command: C is told its reply, or why there is none
 abbrev pub Answers : {A C : Type 0} → Option Connected → (Connected → Result A Refusal → Connected → Type 0) →
@@ -34,11 +33,14 @@ abbrev pub ObeysFor : {A C : Type 0} → Option Connected → Command → (List 
 ObeysFor handle command tell in_c told new =
     Answers handle (λ old result after. Obeys old command tell result after) in_c told new
 
--- the same of a command that does not allocate, and so never reports that it is out of memory
+-- a connection obeys a command that does not allocate, and so never reports that it is out of memory
+abbrev pub ObeysFrugally : {A : Type 0} → Command → (List PromiseState → A → Reply) → Connected → Result A Refusal → Connected → Type 0
+ObeysFrugally command tell old result new = Obeys old command tell result new × ¬ IsErrOf result NoMemory
+
+-- the same of a handle
 abbrev pub ObeysFrugallyFor : {A C : Type 0} → Option Connected → Command → (List PromiseState → A → Reply) →
     (Result A ℕ → C) → C → Option Connected → Type 0
-ObeysFrugallyFor handle command tell in_c told new =
-    Answers handle (λ old result after. Obeys old command tell result after × ¬ IsErrOf result NoMemory) in_c told new
+ObeysFrugallyFor handle command tell in_c told new = Answers handle (ObeysFrugally command tell) in_c told new
 
 -- a connection obeys a command that takes several messages away: those that come next, with this outcome
 abbrev pub Takes : Command → Outcome → Connected → Result TakenReply Refusal → Connected → Type 0

@@ -3,15 +3,19 @@ use Rattle.std.specs.Prelude.{ℕ, List, Some}
 use Rattle.std.specs.Borrow.{Lends, MutBor, Fml}
 use Rattle.ob_connection.specs.Connected.{Connected}
 use Rattle.ob_connection.specs.contracts.connection.Connection.{the_row as connection_row}
+use Rattle.ob_lifecycle.specs.Managed.{Managed as ManagedValue}
+use Rattle.ob_lifecycle.specs.contracts.managed.ManagedConnection.{the_row as inner_row}
 use Rattle.ob_shared_connection.specs.Values.{HandleValue}
 use Rattle.ob_shared_connection.specs.contracts.handle.Handle.{the_row as sharer_row}
 use Rattle.ob_shared_connection.specs.contracts.transport.Transport.{the_row as sender_row}
 use Rattle.ob_c.specs.Shared.{bytes_row}
 use Rattle.ob_c.specs.declared.block.Block.{Block}
 use Rattle.ob_c.specs.declared.handle.Handle.{Handle}
+use Rattle.ob_c.specs.declared.managed.Managed.{Managed}
 use Rattle.ob_c.specs.declared.shared.Shared.{Shared}
 use Rattle.ob_c.specs.declared.transport.Transport.{Transport}
 use Rattle.ob_c.specs.contracts.transport.Transport.{the_row as transport_row}
+use Rattle.ob_c.specs.contracts.managed.Managed.{the_row as managed_row}
 use Rattle.ob_c.specs.contracts.shared.Shared.{the_row as shared_row}
 use Rattle.ob_c.specs.contracts.block.Block.{the_row as block_row}
 use Rattle.ob_c.specs.contracts.handle.Handle.{the_row as handle_row}
@@ -47,3 +51,11 @@ transport_with transport handle = record { at = transport.at; value = Some handl
 -- and it ends with what was left behind the reference
 abbrev pub LendsTransport : MutBor Transport → MutBor HandleValue → Fml
 LendsTransport transport handle = Lends transport_row sender_row transport handle (transport_with transport.now)
+
+-- what C holds of a managed connection at the same place, with this one behind it
+abbrev pub managed_with : Managed → ManagedValue → Managed
+managed_with managed connection = record { at = managed.at; value = Some connection }
+
+-- and it ends with what was left behind the reference
+abbrev pub LendsManaged : MutBor Managed → MutBor ManagedValue → Fml
+LendsManaged managed connection = Lends managed_row inner_row managed connection (managed_with managed.now)

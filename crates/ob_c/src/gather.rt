@@ -1,8 +1,9 @@
 //! What can be sent at once, as pieces for `writev`.
 
 ghost use Rattle.std.specs.Option.{option_copied};
-ghost use Rattle.std.specs.Prelude.{◌≡◌, ◌&&◌, ◌||◌, nat_le, nat_lt, length, drop};
+ghost use Rattle.std.specs.Prelude.{◌≡◌, ◌&&◌, ◌||◌, nat_le, nat_lt, length, drop, Some};
 ghost use Rattle.ob_c.specs.Gathering.{Gathers, front_number, gathered_as};
+ghost use Rattle.ob_c.specs.Numbers.{not_open};
 
 use crate::handle::Handle;
 use crate::numbers::{DONE, NOT_OPEN};
@@ -22,6 +23,19 @@ pub struct Gathered {
     pub count: usize,
 }
 
+impl Gathered {
+    /// What C gets if there is no connection.
+    pub(crate) fn not_open() -> Gathered
+        ensures { result ≡ record { status = not_open; front = 0; count = 0 } }
+    {
+        Gathered {
+            status: NOT_OPEN,
+            front: 0,
+            count: 0,
+        }
+    }
+}
+
 /// Fills pieces with where the flushed blocks in front lie that hold a byte, as many as there are pieces, and together at
 /// most `max_bytes` bytes, but the first in any case. The other pieces stay as they were.
 #[unsafe(no_mangle)]
@@ -34,13 +48,16 @@ pub extern "C" fn limekeel_gather_pieces(
     ensures rest { drop result.count pieces.new ≡ drop result.count pieces.old }
 {
     if !handle.is_open() {
-        return Gathered {
-            status: NOT_OPEN,
-            front: 0,
-            count: 0,
-        };
+        return Gathered::not_open();
     }
-    let connection: &Connection = handle.reach();
+    fill(handle.reach(), pieces, max_bytes)
+}
+
+/// Fills pieces from a connection.
+pub(crate) fn fill(connection: &Connection, pieces: &mut [Piece], max_bytes: u32) -> Gathered
+    ensures gathers { Gathers (Some connection.now) (length pieces.old) max_bytes result pieces.new (Some connection.now) }
+    ensures rest { drop result.count pieces.new ≡ drop result.count pieces.old }
+{
     let count = lay(connection, pieces, max_bytes);
     Gathered {
         status: DONE,

@@ -29,9 +29,15 @@ pub(crate) const OTHER_VERSION: u32 = 17;
 /// The status of a call that found the lock taken by another one: nothing changed.
 pub(crate) const BUSY: u32 = 18;
 
+/// The status of a write to a managed connection whose end was asked for.
+pub(crate) const FINISHING: u32 = 19;
+
+/// The status of a write to a managed connection past its limit on the pending bytes.
+pub(crate) const FULL: u32 = 20;
+
 /// A number of the structs, functions and numbers that C and this library have to agree on: `ffi/check_edge` computes it of
 /// them, and wants another one if they change.
-pub(crate) const EDGE: u32 = 577456178;
+pub(crate) const EDGE: u32 = 1509890235;
 
 /// What a call has to report: its reply, or else the status of a handle that holds nothing, or of its refusal.
 pub(crate) fn accepted<T>(answer: Option<Result<T, Refusal>>) -> Result<T, u32>

@@ -9,7 +9,7 @@ use Rattle.ob_types.specs.declared.refusal.Refusal.{Refusal}
 use Rattle.ob_seq.specs.Effect.{closed_row, effect, rows_after}
 use Rattle.ob_seq.specs.Rows.{Row, Settings, line, unflushed}
 use Rattle.ob_connection.specs.Calls.{Call}
-use Rattle.ob_connection.specs.Connected.{Connected, StandsFor as ConnectionStandsFor, Gives as ConnectionGives}
+use Rattle.ob_connection.specs.Connected.{Connected, Shrinks, StandsFor as ConnectionStandsFor, Gives as ConnectionGives}
 use Rattle.ob_connection.specs.Looks.{waiting_count_after}
 use Rattle.ob_connection.specs.Obeying.{GivesUp, as_result, taken_reply}
 use Rattle.ob_connection.specs.Sending.{Sends, SendsInTurns}
@@ -20,7 +20,7 @@ use Rattle.ob_connection.specs.declared.replies.Taken.{Taken}
 use Rattle.ob_lifecycle.specs.Events.{Event, Accepted, Refused, Finishing, Ticked, Opened, commands_in}
 use Rattle.ob_lifecycle.specs.Finish.{is_finishing, is_over, was_over}
 use Rattle.ob_lifecycle.specs.Managed.{Managed, StandsFor, Brings, Gives, opened_as}
-use Rattle.ob_lifecycle.specs.Sendings.{once_happens, turns_happen, giving_up_happens}
+use Rattle.ob_lifecycle.specs.Sendings.{sending_happens, giving_up_happens}
 use Rattle.std.specs.Prelude.{is_ok, if◌then◌else◌}
 use Rattle.ob_seq.specs.State.{empty_after}
 use Rattle.ob_lifecycle.specs.Stalls.{names_by, rested, told_time, ticked, watch_after, watched, watched_by}
@@ -71,7 +71,7 @@ pub brings_once : (max_count max_bytes : ℕ) (before after : Option (List ℕ))
     → watch ≡ watched_by old.limits.least_bytes (RemoveBytes bytes) empty old.ending.watch
     → ending ≡ record old.ending { over = old.ending.over || (old.ending.asked && (waiting == 0)); watch = watch }
     → finished ≡ (ending.over && not old.ending.over)
-    → Brings old (once_happens result) finished (managed_with old connection ending old.tally)
+    → Brings old (sending_happens (λ done. done.bytes) result) finished (managed_with old connection ending old.tally)
 brings_once max_count max_bytes before after old connection ending (Ok done) bytes waiting watch empty finished sends went same waits empties watches is told =
     brings_command old connection ending old.tally watch (RemoveBytes done.bytes) taken_reply (as_result done.taken) waiting empty finished
     sends.obeys waits empties (watches ∙ ap (λ n. watched_by old.limits.least_bytes (RemoveBytes n) empty old.ending.watch) same) is told (sent_quietly old.connection old.tally done.bytes (as_result done.taken)) refl
@@ -87,7 +87,7 @@ pub brings_turns : (max_turns max_bytes : ℕ) (before after : Option (List ℕ)
     → watch ≡ watched_by old.limits.least_bytes (RemoveBytes bytes) empty old.ending.watch
     → ending ≡ record old.ending { over = old.ending.over || (old.ending.asked && (waiting == 0)); watch = watch }
     → finished ≡ (ending.over && not old.ending.over)
-    → Brings old (turns_happen result) finished (managed_with old connection ending old.tally)
+    → Brings old (sending_happens (λ done. done.bytes) result) finished (managed_with old connection ending old.tally)
 brings_turns max_turns max_bytes before after calls_before calls_after old connection ending (Ok done) bytes waiting watch empty finished sends went same waits empties watches is told =
     brings_command old connection ending old.tally watch (RemoveBytes done.bytes) taken_reply (as_result done.taken) waiting empty finished
     sends.obeys waits empties (watches ∙ ap (λ n. watched_by old.limits.least_bytes (RemoveBytes n) empty old.ending.watch) same) is told (sent_quietly old.connection old.tally done.bytes (as_result done.taken)) refl
@@ -298,3 +298,37 @@ pub names_at : (old : Managed) (watch : Watch) (empty : Bool) (now : ℕ) (named
 names_at old watch empty now named empties is told events stands =
     told ∙ ap (λ w. w.named && not old.ending.watch.named) (ticks_to old watch empty now empties is events stands)
     ∙ ap (λ w. (watch_after (opened_as old) (events ++ Ticked now ∷ [])).named && not w.named) stands.watch
+
+-- a shrink keeps what the connection stands for
+shrunk_connection : (old new : Connected) → Shrinks old new → (commands : List Command) → ConnectionStandsFor old commands
+    → ConnectionStandsFor new commands
+shrunk_connection old new shrinks commands stands =
+    let is : new ≡ record old { unsent = record old.unsent { room = new.unsent.room } } =
+    shrinks.same ∙ ap (λ unsent. record old { unsent = unsent }) shrinks.unsent.same in
+    subst (λ connection. ConnectionStandsFor connection commands) (sym is) (record {
+      accepted = stands.accepted;
+      past = stands.past;
+      forgotten = stands.forgotten;
+      leaves = stands.leaves;
+    })
+
+shrunk_settings : (old new : Connected) → Shrinks old new → new.unsent.settings ≡ old.unsent.settings
+shrunk_settings old new shrinks = ap (λ unsent. unsent.settings) shrinks.unsent.same
+
+pub shrunk_opened : (old : Managed) (connection : Connected) → Shrinks old.connection connection
+    → opened_as (record old { connection = connection }) ≡ opened_as old
+shrunk_opened old connection shrinks =
+    opened_alike old connection old.ending old.tally (shrunk_settings old.connection connection shrinks)
+
+pub shrunk_stands : (old : Managed) (connection : Connected) → Shrinks old.connection connection → (events : List Event)
+    → StandsFor old events → StandsFor (record old { connection = connection }) events
+shrunk_stands old connection shrinks events stands =
+    let same = shrunk_opened old connection shrinks in record {
+      commands = shrunk_connection old.connection connection shrinks (commands_in events) stands.commands;
+      asked = stands.asked;
+      over = stands.over ∙ ap (λ opened. was_over opened events) (sym same);
+      watch = stands.watch ∙ ap (λ opened. watch_after opened events) (sym same);
+      tally = stands.tally ∙ ap (λ opened. tally_after opened events) (sym same);
+      messages = stands.messages;
+      bytes = stands.bytes;
+    }

@@ -1,7 +1,7 @@
 -- Why a write is refused, and what it brings.
 use Rattle.std.proofs.Common.{◌≡◌, ℕ, ◌+◌, ◌-◌, ◌≤◌, max, arith, Bool, true, false, List, [], ◌∷◌, ◌++◌, ◌||◌, ◌&&◌, sym, refl, ap, ◌∙◌, subst, append-nil}
 use Rattle.ob_types.specs.PendingSize.{counted_bytes, is_oversize}
-use Rattle.std.specs.Prelude.{Result, Ok, Err, IfOk, IfErr, Option, Some, None, option_map, if◌then◌else◌, ◌==◌}
+use Rattle.std.specs.Prelude.{Result, Ok, Err, IfOk, IfErr, OnOk, Option, Some, None, option_map, if◌then◌else◌, ◌==◌, is_ok}
 use Rattle.ob_types.specs.declared.command.Command.TheVariants.{Write}
 use Rattle.ob_types.specs.declared.message.Message.{Message}
 use Rattle.ob_types.specs.declared.refusal.Refusal.{Refusal}
@@ -9,15 +9,16 @@ use Rattle.ob_types.specs.declared.refusal.Refusal.TheVariants.{Closed, Oversize
 use Rattle.ob_types.specs.declared.reply.Reply.{Reply}
 use Rattle.ob_seq.specs.Answer.{unless_refused, first_refusal_within}
 use Rattle.ob_seq.specs.State.{is_closed}
-use Rattle.ob_connection.specs.Connected.{Connected, StandsFor as ConnectionStandsFor, connection_limit}
-use Rattle.ob_connection.specs.Looks.{waiting_count_after}
-use Rattle.ob_connection.specs.Obeying.{Obeys, written_reply}
+use Rattle.ob_seq.specs.Unsent.{room_for_one_more}
+use Rattle.ob_connection.specs.Connected.{Connected, StandsFor as ConnectionStandsFor, connection_limit, room_in}
+use Rattle.ob_connection.specs.Looks.{Refuses, waiting_count_after}
+use Rattle.ob_connection.specs.Obeying.{Accepts, Obeys, written_reply}
 use Rattle.ob_connection.specs.declared.replies.Written.{Written}
 use Rattle.ob_lifecycle.specs.Events.{Event, Accepted, Refused as WasRefused, commands_in}
 use Rattle.ob_lifecycle.specs.Finish.{is_finishing}
 use Rattle.ob_lifecycle.specs.Inside.{own_fault, own_fault_by}
 use Rattle.ob_lifecycle.specs.Managed.{Managed, StandsFor, Brings, Gives, opened_as}
-use Rattle.ob_lifecycle.specs.Writes.{IsNotWritten, accepted, declined, fault_in, fault_of_write, write_happens}
+use Rattle.ob_lifecycle.specs.Writes.{IsNotWritten, WritesTo, accepted, declined, fault_in, fault_of_write, is_past_the_cap, write_happens}
 use Rattle.ob_lifecycle.specs.declared.fault.WriteFault.{WriteFault}
 use Rattle.ob_lifecycle.specs.declared.fault.WriteFault.TheVariants.{Refused, Finishing, Full}
 use Rattle.std.proofs.lemmas.Bool.Decides.{nat_tests}
@@ -93,6 +94,80 @@ first_of_fault managed message new events stands own (Refused refusal) is no_end
     ap (option_map (λ refusal. Refused refusal)) first ∙ others_first _ _ _ _ _ own
 first_of_fault managed message new events stands own Finishing is no_end no_cap memory = absurd (no_end refl)
 first_of_fault managed message new events stands own Full is no_end no_cap memory = absurd (no_cap refl)
+
+-- if there is none of ours and none of the connection's, there is none
+pub none_of_both : (managed : Managed) (message : Message) (refusal : Option Refusal) → Gives managed (own_fault message) None
+    → Refuses managed.connection (Write message) refusal
+    → Gives managed (fault_of_write message) (option_map (λ refusal. Refused refusal) refusal)
+none_of_both managed message refusal own first events stands =
+    ap (option_map (λ refusal. Refused refusal)) (first (commands_in events) stands.commands) ∙ others_first _ _ _ _ _ (own events stands)
+
+accepts_says : (refusal : Option Refusal) (reply : Reply) → true ≡ is_ok (unless_refused refusal reply) → None ≡ refusal
+accepts_says None reply is = refl
+accepts_says (Some refusal) reply is = absurd (cc)
+
+-- memory is the last fault
+pub memory_last_of_put : {E : Type 0} (why : E → WriteFault) (managed : Managed) (message : Message) (new : Connected)
+    (result : Result Written E) → Gives managed (own_fault message) None
+    → IfErr result (λ left. IsNotWritten managed.connection message (why left) new)
+    → fault_in why result ≡ Some (Refused NoMemory) → Gives managed (fault_of_write message) None
+memory_last_of_put why managed message new (Ok written) own refused is events stands = absurd (cc)
+memory_last_of_put why managed message new (Err left) own refused is events stands =
+    let same : why left ≡ Refused NoMemory = cc in
+    let obeys : Obeys managed.connection (Write message) written_reply (declined NoMemory) new =
+    subst (λ fault. IsNotWritten managed.connection message fault new) same refused in
+    let none : None ≡ first_refusal_within connection_limit managed.connection.unsent.settings.estimate (commands_in events) (Write message) =
+    accepts_says _ _ (obeys.no_memory_last refl (commands_in events) stands.commands) in
+    ap (option_map (λ refusal. Refused refusal)) none ∙ others_first _ _ _ _ _ (own events stands)
+
+-- what the connection refuses first, a write that is refused by it answers; and if it refuses nothing, it accepts
+answers_first : (first : Option Refusal) (refusal : Refusal) (reply : Reply) → Some refusal ≡ first → Err refusal ≡ unless_refused first reply
+answers_first None refusal reply is = absurd (cc)
+answers_first (Some other) refusal reply is = cc
+
+refusing_obeys : (old : Connected) (message : Message) (refusal : Refusal) → Refuses old (Write message) (Some refusal)
+    → ¬ (Some refusal ≡ Some NoMemory) → Obeys old (Write message) written_reply (declined refusal) old
+refusing_obeys old message refusal first other = record {
+  answer = λ memory commands stands. answers_first _ refusal _ (first commands stands);
+  stands = λ commands stands. stands;
+  settings = refl;
+  refused = refl;
+  no_memory_last = λ is. absurd (other (cc));
+}
+
+ok_of_none : (first : Option Refusal) (reply : Reply) → None ≡ first → true ≡ is_ok (unless_refused first reply)
+ok_of_none None reply is = refl
+ok_of_none (Some refusal) reply is = absurd (cc)
+
+pub accepts_of_none : (old : Connected) (message : Message) → Refuses old (Write message) None → Accepts old (Write message)
+accepts_of_none old message first commands stands = ok_of_none _ _ (first commands stands)
+
+refusal_is_not_ours : (closed finishing oversize past : Bool) (refusal : Refusal)
+    → Some (Refused refusal) ≡ own_fault_by closed finishing oversize past → ⊥
+refusal_is_not_ours true finishing oversize past refusal own = cc
+refusal_is_not_ours false true oversize past refusal own = cc
+refusal_is_not_ours false false true past refusal own = cc
+refusal_is_not_ours false false false true refusal own = cc
+refusal_is_not_ours false false false false refusal own = cc
+
+not_refused : (managed : Managed) (message : Message) (refusal : Refusal) (events : List Event) → StandsFor managed events
+    → Gives managed (own_fault message) (Some (Refused refusal)) → ⊥
+not_refused managed message refusal events stands own =
+    refusal_is_not_ours (is_closed (commands_in events)) (is_finishing events) (is_oversize (opened_as managed).settings.estimate message)
+    (is_past_the_cap (opened_as managed) events (counted_bytes (opened_as managed).settings.estimate message)) refusal (own events stands)
+
+-- a fault of ours leaves the connection, and is not that memory is out
+own_unwritten : (managed : Managed) (message : Message) (why : WriteFault) → StandsForSome managed
+    → Gives managed (own_fault message) (Some why) → IsNotWritten managed.connection message why managed.connection
+own_unwritten managed message (Refused refusal) some own = absurd (not_refused managed message refusal some.0 some.1 own)
+own_unwritten managed message Finishing some own = refl
+own_unwritten managed message Full some own = refl
+
+memory_last_of_own : (managed : Managed) (message : Message) (why : WriteFault) → Gives managed (own_fault message) (Some why)
+    → Some why ≡ Some (Refused NoMemory) → Gives managed (fault_of_write message) None
+memory_last_of_own managed message (Refused refusal) own is events stands = absurd (not_refused managed message refusal events stands own)
+memory_last_of_own managed message Finishing own is events stands = absurd (cc)
+memory_last_of_own managed message Full own is events stands = absurd (cc)
 
 -- the fault of a write that the connection was asked for is its first
 pub first_of_put : {E : Type 0} (why : E → WriteFault) (managed : Managed) (message : Message) (new : Connected) (result : Result Written E)
@@ -255,3 +330,46 @@ put_brings {E = E} why old message new tally (Ok written) own wrote refused coun
 put_brings why old message new tally (Err left) own wrote refused counts =
     subst (λ t. Brings old (WasRefused (why left) ∷ []) false (managed_with old new old.ending t)) (sym counts)
     (refused_brings old new (why left) (not_put old.connection new message (why left) refused))
+
+-- a write that is refused by us
+pub own_writes : {E : Type 0} (why : E → WriteFault) (old : Managed) (message : Message) (left : E) → StandsForSome old
+    → Gives old (own_fault message) (Some (why left)) → WritesTo why message old (Err left) old
+own_writes why old message left some own = record {
+  written = tt;
+  room = tt;
+  refused = own_unwritten old message (why left) some own;
+  first = λ other. first_of_own old message (why left) own;
+  memory_last = memory_last_of_own old message (why left) own;
+  brings = own_brings old (why left);
+}
+
+-- a write for which the connection is asked
+pub put_writes : {E : Type 0} (why : E → WriteFault) (old : Managed) (message : Message) (new : Connected) (tally : Tally)
+    (result : Result Written E) → Gives old (own_fault message) None
+    → IfOk result (λ written. Obeys old.connection (Write message) written_reply (accepted written) new)
+    → OnOk result (room_in new ≡ room_for_one_more old.connection.unsent)
+    → IfErr result (λ left. IsNotWritten old.connection message (why left) new)
+    → ¬ (fault_in why result ≡ Some Finishing) → ¬ (fault_in why result ≡ Some Full)
+    → Counts old.connection old.tally (Write message) result tally
+    → WritesTo why message old result (managed_with old new old.ending tally)
+put_writes why old message new tally result own wrote room refused no_end no_cap counts = record {
+  written = wrote;
+  room = room;
+  refused = refused;
+  first = first_of_put why old message new result own wrote refused no_end no_cap;
+  memory_last = memory_last_of_put why old message new result own refused;
+  brings = put_brings why old message new tally result own wrote refused counts;
+}
+
+-- a write that the connection would refuse
+pub refusing_writes : (managed : Managed) (message : Message) (refusal : Refusal) → Gives managed (own_fault message) None
+    → Refuses managed.connection (Write message) (Some refusal) → ¬ (Some refusal ≡ Some NoMemory)
+    → WritesTo (λ why. why) message managed (Err (Refused refusal)) managed
+refusing_writes managed message refusal own first other = record {
+  written = tt;
+  room = tt;
+  refused = refusing_obeys managed.connection message refusal first other;
+  first = λ memory. none_of_both managed message (Some refusal) own first;
+  memory_last = λ is. absurd (other (cc));
+  brings = own_brings managed (Refused refusal);
+}

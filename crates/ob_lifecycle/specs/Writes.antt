@@ -1,20 +1,23 @@
 -- Why a write is refused, and what a write brings.
-use Rattle.std.specs.Prelude.{◌≡◌, ℕ, ◌+◌, Bool, ◌||◌, List, [], ◌∷◌, Option, Some, None, option_map, Result, Ok, Err, nat_lt, if◌then◌else◌}
+use Rattle.std.specs.Prelude.{◌≡◌, ℕ, ◌+◌, Bool, false, ◌||◌, List, [], ◌∷◌, Option, Some, None, option_map, Result, Ok, Err, nat_lt}
+use Rattle.std.specs.Prelude.{if◌then◌else◌, IfOk, IfErr, OnOk}
 use Rattle.ob_types.specs.PendingSize.{counted_bytes, is_oversize}
 use Rattle.ob_types.specs.declared.command.Command.TheVariants.{Write}
 use Rattle.ob_types.specs.declared.message.Message.{Message}
 use Rattle.ob_types.specs.declared.refusal.Refusal.{Refusal}
-use Rattle.ob_types.specs.declared.refusal.Refusal.TheVariants.{Closed, Oversize}
+use Rattle.ob_types.specs.declared.refusal.Refusal.TheVariants.{Closed, NoMemory, Oversize}
 use Rattle.ob_seq.specs.Answer.{refusal_within}
 use Rattle.ob_seq.specs.Effect.{rows_after}
 use Rattle.ob_seq.specs.Rows.{total}
 use Rattle.ob_seq.specs.State.{is_closed}
-use Rattle.ob_connection.specs.Connected.{Connected, connection_limit}
+use Rattle.ob_seq.specs.Unsent.{room_for_one_more}
+use Rattle.ob_connection.specs.Connected.{Connected, connection_limit, room_in}
 use Rattle.ob_connection.specs.Obeying.{Obeys, written_reply}
 use Rattle.ob_connection.specs.declared.replies.Written.{Written}
 use Rattle.ob_lifecycle.specs.Counts.{accepted_after, is_untold}
 use Rattle.ob_lifecycle.specs.Events.{Event, Accepted, Refused as WasRefused, Opened, commands_in}
 use Rattle.ob_lifecycle.specs.Finish.{is_finishing}
+use Rattle.ob_lifecycle.specs.Managed.{Brings, Gives, Managed}
 use Rattle.ob_lifecycle.specs.declared.fault.WriteFault.{WriteFault}
 use Rattle.ob_lifecycle.specs.declared.fault.WriteFault.TheVariants.{Refused, Finishing, Full}
 
@@ -60,3 +63,14 @@ abbrev pub IsNotWritten : Connected → Message → WriteFault → Connected →
 IsNotWritten old message (Refused refusal) new = Obeys old (Write message) written_reply (declined refusal) new
 IsNotWritten old message Finishing new = new ≡ old
 IsNotWritten old message Full new = new ≡ old
+
+-- a write to a managed connection: its connection obeys it, or the message is not written; then the fault is the first that
+-- there is, and that memory is out comes only if there is none
+pub record WritesTo {E : Type 0} (why : E → WriteFault) (message : Message) (old : Managed) (result : Result Written E)
+    (new : Managed) : Type 0 where
+  pub written : IfOk result (λ written. Obeys old.connection (Write message) written_reply (accepted written) new.connection)
+  pub room : OnOk result (room_in new.connection ≡ room_for_one_more old.connection.unsent)
+  pub refused : IfErr result (λ not. IsNotWritten old.connection message (why not) new.connection)
+  pub first : ¬ (fault_in why result ≡ Some (Refused NoMemory)) → Gives old (fault_of_write message) (fault_in why result)
+  pub memory_last : fault_in why result ≡ Some (Refused NoMemory) → Gives old (fault_of_write message) None
+  pub brings : Brings old (write_happens why message result) false new

@@ -1,6 +1,7 @@
-ghost use Rattle.std.specs.Prelude.{◌≡◌, ◌≤◌, [], ◌∷◌};
+ghost use Rattle.std.specs.Prelude.{◌≡◌, ◌≤◌, List, [], ◌∷◌};
 ghost use Rattle.ob_types.specs.Limits.{greatest_overhead, greatest_unknown};
-ghost use Rattle.ob_lifecycle.specs.Events.{Finishing};
+ghost use Rattle.ob_connection.specs.Connected.{Shrinks};
+ghost use Rattle.ob_lifecycle.specs.Events.{Event, Finishing};
 ghost use Rattle.ob_lifecycle.specs.Inside.{managed_of};
 ghost use Rattle.ob_lifecycle.specs.Managed.{Brings, Managed, StandsFor, StandsForSome, opened_as};
 
@@ -84,6 +85,15 @@ impl ManagedConnection {
     {
         self.ending.ask();
         self.ending.reach(self.connection.waiting_count())
+    }
+
+    /// As `Connection::shrink_to_fit`: for a connection that has sent all and is idle. It brings no event.
+    pub fn shrink_to_fit(&mut self)
+        ensures shrinks { Shrinks self.old.connection self.new.connection }
+        ensures stands { (events : List Event) → StandsFor self.old events → StandsFor self.new events }
+        ensures opened { opened_as self.new ≡ opened_as self.old }
+    {
+        self.connection.shrink_to_fit();
     }
 
     /// Each managed connection stands for some list of events, so what its calls promise is promised of some list. It does

@@ -23,7 +23,7 @@ mod heap;
 pub const PIECES: usize = 1024;
 
 /// A number of these declarations, which `limekeel_open_for` compares with the archive's.
-pub const EDGE: u32 = 577456178;
+pub const EDGE: u32 = 1509890235;
 
 macro_rules! numbers {
     ($($name:ident = $number:literal),* $(,)?) => {
@@ -35,7 +35,7 @@ macro_rules! numbers {
 numbers! {
     OK = 0, OVERSIZE = 1, BAD_MARKS = 2, TOO_MUCH = 3, CLOSED = 4, NOTHING_FLUSHED = 5, TOO_FAR = 6, TOO_MANY_BYTES = 7,
     BAD_INDEX = 8, FLUSHED_LEFT = 9, UNKNOWN_PROMISE = 10, NO_MEMORY = 12, NOT_OPEN = 13, ALREADY_OPEN = 14,
-    BAD_ESTIMATE = 15, NO_BLOCK = 16, OTHER_VERSION = 17, BUSY = 18,
+    BAD_ESTIMATE = 15, NO_BLOCK = 16, OTHER_VERSION = 17, BUSY = 18, FINISHING = 19, FULL = 20,
     UNCHANGED = 0, UNWRITABLE = 1, WRITABLE = 2,
     NO_OUTCOME = 0, SUCCESS = 1, FAILED = 2, CANCELLED = 3,
     UNKNOWN = 0, WAITING = 1, FIXED = 2, SETTLED = 3, SETTLED_BEFORE = 4,
@@ -91,6 +91,14 @@ pub struct Transport {
     pub at: *mut u8,
 }
 
+/// A managed connection: null, or a pointer that owns one. It is freed by `limekeel_managed_free` alone.
+#[repr(C)]
+#[derive(Debug)]
+pub struct Managed {
+    /// The archive's.
+    pub at: *mut u8,
+}
+
 // Each struct with its size, and each field with its offset.
 plain! {
     /// `struct limekeel_piece`.
@@ -140,10 +148,34 @@ plain! {
     Glance 12 { status at 0: u32, word at 4: u32, total at 8: u32 }
     /// `struct limekeel_laid`.
     Laid 16 { status at 0: u32, count at 8: usize }
+    /// `struct limekeel_told_done`.
+    ToldDone 8 { status at 0: u32, finished at 4: bool }
+    /// `struct limekeel_told_flushed`.
+    ToldFlushed 24 { flushed at 0: Flushed, finished at 16: bool }
+    /// `struct limekeel_told_removed`.
+    ToldRemoved 40 { removed at 0: Removed, finished at 32: bool }
+    /// `struct limekeel_told_taken`.
+    ToldTaken 48 { taken at 0: Taken, finished at 40: bool }
+    /// `struct limekeel_told_cancelled`.
+    ToldCancelled 12 { cancelled at 0: Cancelled, finished at 8: bool }
+    /// `struct limekeel_told_changed`.
+    ToldChanged 12 { changed at 0: Changed, finished at 8: bool }
+    /// `struct limekeel_state`.
+    State 12 {
+        status at 0: u32, writable at 4: bool, closed at 5: bool, empty at 6: bool, finishing at 7: bool,
+        finished at 8: bool,
+    }
+    /// `struct limekeel_count`.
+    Count 16 { messages at 0: u64, bytes at 8: u64 }
+    /// `struct limekeel_numbers`.
+    Numbers 96 {
+        status at 0: u32, accepted at 8: Count, sent at 24: Count, failed at 40: Count, cancelled at 56: Count,
+        pending at 72: Count, peak at 88: u64,
+    }
 }
 
 const _: () = assert!(size_of::<Connection>() == 8 && size_of::<Block>() == 8);
-const _: () = assert!(size_of::<Shared>() == 8 && size_of::<Transport>() == 8);
+const _: () = assert!(size_of::<Shared>() == 8 && size_of::<Transport>() == 8 && size_of::<Managed>() == 8);
 
 #[allow(missing_docs)]
 unsafe extern "C" {
@@ -189,6 +221,49 @@ unsafe extern "C" {
     pub fn limekeel_current(connection: *const Connection) -> Current;
     pub fn limekeel_gather_pieces(
         connection: *const Connection,
+        pieces: *mut Piece,
+        length: usize,
+        max_bytes: u32,
+    ) -> Gathered;
+    pub fn limekeel_managed_open_for(
+        managed: *mut Managed,
+        edge: u32,
+        low: u32,
+        high: u32,
+        overhead: u32,
+        unknown: u32,
+        most_pending: u32,
+        window: u64,
+        least_bytes: u64,
+        now: u64,
+    ) -> u32;
+    pub fn limekeel_managed_free(managed: *mut Managed) -> u32;
+    pub fn limekeel_managed_finish(managed: *mut Managed) -> Truth;
+    pub fn limekeel_managed_tick(managed: *mut Managed, now: u64) -> Truth;
+    pub fn limekeel_managed_write_bytes(managed: *mut Managed, bytes: *const u8, length: usize) -> Written;
+    pub fn limekeel_managed_write_block(managed: *mut Managed, block: *const Block) -> Written;
+    pub fn limekeel_managed_write_lent_bytes(managed: *mut Managed, bytes: *const u8, length: usize) -> Written;
+    pub fn limekeel_managed_write_region(managed: *mut Managed, length: u64) -> Written;
+    pub fn limekeel_managed_write_other(managed: *mut Managed, value: u32) -> Written;
+    pub fn limekeel_managed_flush(managed: *mut Managed) -> ToldFlushed;
+    pub fn limekeel_managed_progress(managed: *mut Managed, n: u64) -> ToldDone;
+    pub fn limekeel_managed_cancel(managed: *mut Managed, id: u64) -> ToldCancelled;
+    pub fn limekeel_managed_user_bit(managed: *mut Managed, index: u32, writable: bool) -> ToldChanged;
+    pub fn limekeel_managed_set_marks(managed: *mut Managed, low: u32, high: u32) -> ToldDone;
+    pub fn limekeel_managed_remove(managed: *mut Managed) -> ToldRemoved;
+    pub fn limekeel_managed_remove_with(managed: *mut Managed, cause: u32) -> ToldRemoved;
+    pub fn limekeel_managed_take_sent(managed: *mut Managed, n: u64) -> ToldTaken;
+    pub fn limekeel_managed_fail_flushed(managed: *mut Managed, cause: u32, notify: bool) -> ToldTaken;
+    pub fn limekeel_managed_close(managed: *mut Managed, cause: u32) -> ToldTaken;
+    pub fn limekeel_managed_give_up(managed: *mut Managed, cause: u32) -> ToldTaken;
+    pub fn limekeel_managed_state(managed: *const Managed) -> State;
+    pub fn limekeel_managed_numbers(managed: *const Managed) -> Numbers;
+    pub fn limekeel_managed_look(managed: *const Managed) -> Look;
+    pub fn limekeel_managed_promise(managed: *const Managed, id: u64) -> Promise;
+    pub fn limekeel_managed_front(managed: *const Managed) -> Front;
+    pub fn limekeel_managed_current(managed: *const Managed) -> Current;
+    pub fn limekeel_managed_gather_pieces(
+        managed: *const Managed,
         pieces: *mut Piece,
         length: usize,
         max_bytes: u32,

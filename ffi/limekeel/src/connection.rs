@@ -1,11 +1,10 @@
 use crate::block::Block;
-use crate::promises::{Node, Promises};
-use crate::raw::{Handle, Pieces};
+use crate::promises::{Cancelled, Node};
+use crate::raw::{Gather, Handle, Pieces};
 use crate::replies::{Change, Flushed, Refusal, Refused, Removed, Taken, Written, done};
 use crate::room::Room;
 use crate::views::{Counts, Current, Look, Promise};
 use std::io::IoSlice;
-use std::mem::take;
 
 /// The two marks, in bytes: writers stop above the high one, and go on below the low one. The default is Netty's.
 #[derive(Clone, Copy, Debug, PartialEq, Eq)]
@@ -44,9 +43,7 @@ impl Default for Estimate {
 #[derive(Debug)]
 pub struct Connection {
     pub(crate) handle: Handle,
-    /// Promises that were cancelled and whose messages are not gone. The archive reports an interval of promises, and
-    /// which of them it had settled before; this is to leave those out.
-    cancelled: Promises,
+    pub(crate) cancelled: Cancelled,
 }
 
 impl Connection {
@@ -54,7 +51,7 @@ impl Connection {
     pub fn open(marks: Marks, estimate: Estimate) -> Result<Connection, Refusal> {
         let mut handle = Handle::none();
         done(handle.open(marks.low, marks.high, estimate.overhead, estimate.unknown))?;
-        Ok(Connection { handle, cancelled: Promises::default() })
+        Ok(Connection { handle, cancelled: Cancelled::default() })
     }
 
     /// Writes a copy of these bytes after all else. They are not sent before a flush. Small messages that wait together
@@ -153,7 +150,7 @@ impl Connection {
     #[inline]
     pub fn remove(&mut self) -> Result<Removed, Refusal> {
         let removed = Removed::of(self.handle.remove())?;
-        self.forget_the_first(&removed);
+        self.cancelled.removed(&removed);
         Ok(removed)
     }
 
@@ -161,7 +158,7 @@ impl Connection {
     #[inline]
     pub fn remove_with(&mut self, cause: u32) -> Result<Removed, Refusal> {
         let removed = Removed::of(self.handle.remove_with(cause))?;
-        self.forget_the_first(&removed);
+        self.cancelled.removed(&removed);
         Ok(removed)
     }
 
@@ -170,7 +167,7 @@ impl Connection {
     #[inline]
     pub fn take_sent(&mut self, n: u64) -> Result<Taken, Refusal> {
         let taken = Taken::of(self.handle.take_sent(n))?;
-        Ok(self.settled_by(taken))
+        Ok(self.cancelled.settled_by(taken))
     }
 
     /// Adds *n* bytes to the progress of the first flushed message: of a region, as they were sent.
@@ -195,13 +192,13 @@ impl Connection {
     /// Takes all flushed messages away, as failed for this cause. Without `notify` writability stays as it was.
     pub fn fail_flushed(&mut self, cause: u32, notify: bool) -> Result<Taken, Refusal> {
         let taken = Taken::of(self.handle.fail_flushed(cause, notify))?;
-        Ok(self.settled_by(taken))
+        Ok(self.cancelled.settled_by(taken))
     }
 
     /// Closes for good: takes away what no flush has reached, as failed for this cause. Each command is refused after it.
     pub fn close(&mut self, cause: u32) -> Result<Taken, Refusal> {
         let taken = Taken::of(self.handle.close(cause))?;
-        Ok(self.settled_by(taken))
+        Ok(self.cancelled.settled_by(taken))
     }
 
     /// Gives the connection up, as when its socket is broken: what is flushed fails for this cause, and the connection
@@ -209,7 +206,7 @@ impl Connection {
     /// connection is closed, and no other refusal does.
     pub fn give_up(&mut self, cause: u32) -> Result<Taken, Refusal> {
         let taken = Taken::of(self.handle.give_up(cause))?;
-        Ok(self.settled_by(taken))
+        Ok(self.cancelled.settled_by(taken))
     }
 
     /// Keeps memory for what waits and for no more: none if nothing waits. For a connection that has sent all and is
@@ -311,35 +308,5 @@ impl Connection {
     #[must_use]
     pub fn pieces<const N: usize>(&self, max_bytes: u32) -> Pieces<'_, N> {
         self.handle.pieces(max_bytes)
-    }
-
-    /// A message that was cancelled and is gone.
-    #[inline]
-    fn forget_the_first(&mut self, removed: &Removed) {
-        if removed.any && removed.settled.is_none() {
-            self.forget_one();
-        }
-    }
-
-    // Few messages are cancelled: apart, so that a removal is small enough to be inlined.
-    #[cold]
-    fn forget_one(&mut self) {
-        self.cancelled.pop_first();
-    }
-
-    /// Leaves out those of these promises that were cancelled before, and forgets them.
-    pub(crate) fn settled_by(&mut self, taken: Taken) -> Taken {
-        if self.cancelled.is_empty() {
-            return taken;
-        }
-        let cancelled = self.forget_below(taken.promises.end);
-        taken.without(cancelled)
-    }
-
-    #[cold]
-    fn forget_below(&mut self, end: u64) -> Promises {
-        let (gone, left) = take(&mut self.cancelled).cut(end);
-        self.cancelled = left;
-        gone
     }
 }

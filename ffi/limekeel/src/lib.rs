@@ -4,7 +4,7 @@
 //! above a high mark it tells writers to stop, below a low mark to go on. It is Netty's `ChannelOutboundBuffer` and
 //! `WriteBufferWaterMark`, without end. The archive below was compiled from a proof that each call returns what a short
 //! definition says, whatever was called before. This crate over it is not proved; it is small, and its `unsafe` stands
-//! in four files.
+//! in five files.
 //!
 //! ```
 //! use limekeel::{Change, Connection, Estimate, Marks};
@@ -21,7 +21,8 @@
 //! # Ok::<(), Box<dyn std::error::Error>>(())
 //! ```
 //!
-//! A [`SharedConnection`] is one that threads use at once. A connection goes from thread to thread, and is used by one at a time:
+//! A [`ManagedConnection`] ends in order, refuses what is past a limit, names a peer that stalls, and counts. A
+//! [`SharedConnection`] is one that threads use at once. A connection goes from thread to thread, and is used by one at a time:
 //!
 //! ```
 //! fn goes_to_another_thread<T: Send>() {}
@@ -84,6 +85,7 @@
 mod block;
 mod common;
 mod connection;
+mod managed;
 mod promises;
 mod replies;
 mod room;
@@ -98,10 +100,13 @@ mod handles;
 #[allow(unsafe_code)]
 mod lent;
 #[allow(unsafe_code)]
+mod managed_raw;
+#[allow(unsafe_code)]
 mod raw;
 
 pub use block::Block;
 pub use connection::{Connection, Estimate, Marks};
+pub use managed::{Count, Limits, ManagedConnection, Numbers, Told};
 pub use raw::Pieces;
 pub use replies::{Change, Flushed, Outcome, Refusal, Refused, Removed, Settled, Taken, Written, WrittenAndFlushed};
 pub use room::Room;

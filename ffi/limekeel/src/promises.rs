@@ -1,7 +1,49 @@
 //! The promises that were cancelled and whose messages wait.
 
-use crate::replies::Refusal;
+use crate::replies::{Refusal, Removed, Taken};
 use std::mem::take;
+
+/// Promises of a connection that were cancelled and whose messages are not gone. The archive reports an interval of promises,
+/// and which of them it had settled before; this is to leave those out.
+#[derive(Debug, Default)]
+pub(crate) struct Cancelled(Promises);
+
+impl Cancelled {
+    pub(crate) fn insert(&mut self, node: Node) {
+        self.0.insert(node);
+    }
+
+    /// Forgets a message that was cancelled and is gone.
+    #[inline]
+    pub(crate) fn removed(&mut self, removed: &Removed) {
+        if removed.any && removed.settled.is_none() {
+            self.forget_one();
+        }
+    }
+
+    // Few messages are cancelled: apart, so that a removal is small enough to be inlined.
+    #[cold]
+    fn forget_one(&mut self) {
+        self.0.pop_first();
+    }
+
+    /// Leaves out those of these promises that were cancelled before, and forgets them.
+    #[inline]
+    pub(crate) fn settled_by(&mut self, taken: Taken) -> Taken {
+        if self.0.is_empty() {
+            return taken;
+        }
+        let cancelled = self.forget_below(taken.promises.end);
+        taken.without(cancelled)
+    }
+
+    #[cold]
+    fn forget_below(&mut self, end: u64) -> Promises {
+        let (gone, left) = take(&mut self.0).cut(end);
+        self.0 = left;
+        gone
+    }
+}
 
 /// Promises that are cut in two without allocating. Each stands in a node with memory of its own, which is refused before
 /// anything changes; the nodes are a tree, by promise from left to right and by rank from the top down.

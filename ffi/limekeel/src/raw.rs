@@ -1,4 +1,4 @@
-//! The `unsafe` of this crate, but that of `lent.rs`, `handles.rs` and `common.rs`. Each call here is as safe as its signature.
+//! The `unsafe` of this crate, but that of `lent.rs`, `handles.rs`, `managed_raw.rs` and `common.rs`. Each call here is as safe as its signature.
 //!
 //! What the archive asks of a caller, and why it is so here:
 //!
@@ -50,6 +50,8 @@ macro_rules! commands {
     };
 }
 
+pub(crate) use commands;
+
 /// The same of those that tell which messages are gone: what these were lent is let go.
 macro_rules! removals {
     ($($name:ident($($argument:ident: $kind:ty),*) = $export:ident;)*) => {
@@ -79,6 +81,47 @@ macro_rules! looks {
             }
         )*
     };
+}
+
+pub(crate) use looks;
+
+/// What is gathered from.
+///
+/// # Safety
+///
+/// `gather` fills as many places as it says, with where bytes lie, and they lie there as they are until this value is borrowed as
+/// `&mut`.
+pub(crate) unsafe trait Gather {
+    /// Fills places with where the flushed blocks in front lie, and returns how many were filled and what stands in front.
+    fn gather(&self, places: &mut [Place], max_bytes: u32) -> (usize, Front);
+
+    fn pieces<const N: usize>(&self, max_bytes: u32) -> Pieces<'_, N> {
+        let mut places = [const { Place::uninit() }; N];
+        let (count, front) = self.gather(&mut places, max_bytes);
+        Pieces { places, count, front, connection: PhantomData }
+    }
+
+    /// The pieces that one vectored write is offered, by these places: those that lie together in memory are one.
+    fn offered<'a>(&'a self, places: &'a mut [Place]) -> &'a [IoSlice<'a>] {
+        let (count, _) = self.gather(places, u32::MAX);
+        // SAFETY: the first `count` places were filled, with where bytes of the connection lie; `joined` leaves as many as it
+        // says, with where the same bytes lie. They lie there until the connection changes, which its borrow keeps off.
+        unsafe {
+            let count = joined(as_pieces(&mut places[..count]));
+            as_slices(&places[..count])
+        }
+    }
+}
+
+// SAFETY: the archive says so, and a `&mut` is what a command takes.
+unsafe impl Gather for Handle {
+    fn gather(&self, places: &mut [Place], max_bytes: u32) -> (usize, Front) {
+        // SAFETY: the handle is this value's own, as in a look; the pointer and the length are those of one slice. A place
+        // is laid out as a `Piece`, and the archive only writes there.
+        let told =
+            unsafe { sys::limekeel_gather_pieces(&self.inner, places.as_mut_ptr().cast(), places.len(), max_bytes) };
+        (told.count, Front::of(told.front))
+    }
 }
 
 impl Handle {
@@ -241,32 +284,6 @@ impl Handle {
         // one of them meanwhile.
         unsafe { sys::limekeel_write_block(&mut self.inner, &block.inner) }
     }
-
-    /// Fills places with where the flushed blocks in front lie, and returns how many were filled and what stands in front.
-    fn gather(&self, places: &mut [Place], max_bytes: u32) -> (usize, Front) {
-        // SAFETY: the handle is this value's own, as in a look; the pointer and the length are those of one slice. A place
-        // is laid out as a `Piece`, and the archive only writes there.
-        let told =
-            unsafe { sys::limekeel_gather_pieces(&self.inner, places.as_mut_ptr().cast(), places.len(), max_bytes) };
-        (told.count, Front::of(told.front))
-    }
-
-    pub(crate) fn pieces<const N: usize>(&self, max_bytes: u32) -> Pieces<'_, N> {
-        let mut places = [const { Place::uninit() }; N];
-        let (count, front) = self.gather(&mut places, max_bytes);
-        Pieces { places, count, front, connection: PhantomData }
-    }
-
-    /// The pieces that one vectored write is offered, by these places: those that lie together in memory are one.
-    pub(crate) fn offered<'a>(&'a self, places: &'a mut [Place]) -> &'a [IoSlice<'a>] {
-        let (count, _) = self.gather(places, u32::MAX);
-        // SAFETY: the archive filled the first `count` places, with where bytes of the connection lie; `joined` leaves as many
-        // as it says, with where the same bytes lie. They lie there until the connection changes, which its borrow keeps off.
-        unsafe {
-            let count = joined(as_pieces(&mut places[..count]));
-            as_slices(&places[..count])
-        }
-    }
 }
 
 /// A message that is being made, in memory of the connection's. Without [`Made::write`] it comes to nothing.
@@ -381,7 +398,7 @@ pub struct Pieces<'a, const N: usize> {
     places: [Place; N],
     count: usize,
     front: Front,
-    connection: PhantomData<&'a Handle>,
+    connection: PhantomData<&'a ()>,
 }
 
 // SAFETY: what it holds is where bytes lie that nobody changes while it lives, as an `IoSlice` does.

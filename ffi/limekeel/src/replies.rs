@@ -36,6 +36,10 @@ pub enum Refusal {
     BadEstimate,
     /// The archive that `LIMEKEEL_LIB_DIR` named is of another version than this crate.
     OtherVersion,
+    /// The end of the managed connection was asked for.
+    Finishing,
+    /// More bytes would be pending than the managed connection may hold.
+    Full,
     /// A status that this crate does not know; it names no call that this crate makes.
     Unknown(u32),
 }
@@ -58,6 +62,8 @@ impl Refusal {
             Refusal::NoMemory => sys::NO_MEMORY,
             Refusal::BadEstimate => sys::BAD_ESTIMATE,
             Refusal::OtherVersion => sys::OTHER_VERSION,
+            Refusal::Finishing => sys::FINISHING,
+            Refusal::Full => sys::FULL,
             Refusal::Unknown(status) => status,
         }
     }
@@ -78,6 +84,8 @@ impl Refusal {
             sys::NO_MEMORY => Refusal::NoMemory,
             sys::BAD_ESTIMATE => Refusal::BadEstimate,
             sys::OTHER_VERSION => Refusal::OtherVersion,
+            sys::FINISHING => Refusal::Finishing,
+            sys::FULL => Refusal::Full,
             other => Refusal::Unknown(other),
         }
     }
@@ -99,6 +107,8 @@ impl fmt::Display for Refusal {
             Refusal::NoMemory => "out of memory",
             Refusal::BadEstimate => "the overhead or the size of unknown messages is above 65535",
             Refusal::OtherVersion => "the archive is of another version than the crate",
+            Refusal::Finishing => "the connection is finishing",
+            Refusal::Full => "more would be pending than the connection may hold",
             Refusal::Unknown(status) => return write!(f, "status {status}"),
         })
     }

@@ -1,5 +1,5 @@
 use crate::connection::Connection;
-use crate::raw::Place;
+use crate::raw::{Gather, Place};
 use crate::replies::{Refusal, Taken};
 use limekeel_sys as sys;
 use std::io::{self, ErrorKind, IoSlice, Write};
@@ -69,13 +69,7 @@ impl Connection {
     /// The same for what is no [`Write`]: `write` is given the pieces, at most 1024, and returns how many of their bytes it
     /// took, as a vectored write does. Messages that lie together in memory are one piece.
     pub fn send_with(&mut self, write: impl FnMut(&[IoSlice<'_>]) -> io::Result<usize>) -> io::Result<Sent> {
-        if self.is_closed() {
-            return Err(io::Error::new(ErrorKind::BrokenPipe, crate::Refusal::Closed));
-        }
-        let (bytes, blocked) = self.write_once(write)?;
-        // no refusal is left that could come
-        let taken = self.take_sent(bytes as u64).map_err(io::Error::other)?;
-        Ok(Sent { bytes, taken, blocked, more: !self.is_empty() })
+        once(self, write)
     }
 
     /// Lets a writer take of the flushed blocks in front, turn by turn as [`Connection::send_to`] does, until no flushed message
@@ -115,36 +109,98 @@ impl Connection {
         max_turns: u32,
         mut write: impl FnMut(&[IoSlice<'_>]) -> io::Result<usize>,
     ) -> Result<SentTurns, Refusal> {
-        let mut taken = Taken::of(self.handle.take_sent(0))?;
-        let (mut bytes, mut turns) = (0, 0);
-        let ending = loop {
-            turns += 1;
-            let took = self.write_once(&mut write);
-            let count = took.as_ref().map_or(0, |(count, _)| *count as u64);
-            bytes += count;
-            taken.add(Taken::of(self.handle.take_sent(count))?);
-            match took {
-                Err(error) => break Ending::Broken(error),
-                Ok((_, true)) => break Ending::Blocked,
-                Ok(_) if self.is_empty() => break Ending::Drained,
-                Ok((0, false)) => break Ending::OtherInFront,
-                Ok(_) if turns >= max_turns => break Ending::TurnsUsed,
-                Ok(_) => {}
-            }
-        };
-        Ok(SentTurns { bytes, taken: self.settled_by(taken), ending })
+        in_turns(self, max_turns, &mut write)
+    }
+}
+
+/// What sends: a connection, or one that is managed.
+pub(crate) trait Source {
+    fn gathers(&self) -> &impl Gather;
+    fn is_closed(&self) -> bool;
+    fn is_empty(&self) -> bool;
+
+    /// Takes bytes off the flushed blocks in front, as sent.
+    fn take(&mut self, bytes: u64) -> Result<Taken, Refusal>;
+
+    /// Leaves out those of these promises that were cancelled before.
+    fn settled_by(&mut self, taken: Taken) -> Taken;
+}
+
+impl Source for Connection {
+    fn gathers(&self) -> &impl Gather {
+        &self.handle
     }
 
-    /// How many bytes a writer took, and whether it would block.
-    fn write_once(&self, mut write: impl FnMut(&[IoSlice<'_>]) -> io::Result<usize>) -> io::Result<(usize, bool)> {
-        // not filled beforehand: most often few are
-        let mut places = [const { Place::uninit() }; PIECES];
-        let pieces = self.handle.offered(&mut places);
-        if pieces.is_empty() {
-            return Ok((0, false));
-        }
-        written(pieces, &mut write)
+    fn is_closed(&self) -> bool {
+        Connection::is_closed(self)
     }
+
+    fn is_empty(&self) -> bool {
+        Connection::is_empty(self)
+    }
+
+    fn take(&mut self, bytes: u64) -> Result<Taken, Refusal> {
+        Taken::of(self.handle.take_sent(bytes))
+    }
+
+    fn settled_by(&mut self, taken: Taken) -> Taken {
+        self.cancelled.settled_by(taken)
+    }
+}
+
+/// A sending at once.
+pub(crate) fn once(
+    source: &mut impl Source,
+    mut write: impl FnMut(&[IoSlice<'_>]) -> io::Result<usize>,
+) -> io::Result<Sent> {
+    if source.is_closed() {
+        return Err(io::Error::new(ErrorKind::BrokenPipe, Refusal::Closed));
+    }
+    let (bytes, blocked) = write_once(source, &mut write)?;
+    // no refusal is left that could come
+    let taken = source.take(bytes as u64).map_err(io::Error::other)?;
+    let taken = source.settled_by(taken);
+    Ok(Sent { bytes, taken, blocked, more: !source.is_empty() })
+}
+
+/// A sending in turns.
+pub(crate) fn in_turns(
+    source: &mut impl Source,
+    max_turns: u32,
+    write: &mut impl FnMut(&[IoSlice<'_>]) -> io::Result<usize>,
+) -> Result<SentTurns, Refusal> {
+    let mut taken = source.take(0)?;
+    let (mut bytes, mut turns) = (0, 0);
+    let ending = loop {
+        turns += 1;
+        let took = write_once(source, write);
+        let count = took.as_ref().map_or(0, |(count, _)| *count as u64);
+        bytes += count;
+        taken.add(source.take(count)?);
+        match took {
+            Err(error) => break Ending::Broken(error),
+            Ok((_, true)) => break Ending::Blocked,
+            Ok(_) if source.is_empty() => break Ending::Drained,
+            Ok((0, false)) => break Ending::OtherInFront,
+            Ok(_) if turns >= max_turns => break Ending::TurnsUsed,
+            Ok(_) => {}
+        }
+    };
+    Ok(SentTurns { bytes, taken: source.settled_by(taken), ending })
+}
+
+/// How many bytes a writer took, and whether it would block.
+fn write_once(
+    source: &impl Source,
+    write: &mut impl FnMut(&[IoSlice<'_>]) -> io::Result<usize>,
+) -> io::Result<(usize, bool)> {
+    // not filled beforehand: most often few are
+    let mut places = [const { Place::uninit() }; PIECES];
+    let pieces = source.gathers().offered(&mut places);
+    if pieces.is_empty() {
+        return Ok((0, false));
+    }
+    written(pieces, write)
 }
 
 /// How many bytes of these pieces a writer took, and whether it would block.

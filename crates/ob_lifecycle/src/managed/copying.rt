@@ -1,16 +1,15 @@
 //! Messages that are written as bytes.
 
-ghost use Rattle.std.specs.Prelude.{◌≡◌, IfOk, IfErr, OnOk, false, Some};
+ghost use Rattle.std.specs.Prelude.{◌≡◌, IfOk, IfErr, IfSome, OnOk, Some, None, Err};
 ghost use Rattle.ob_types.specs.declared.command.Command.TheVariants.{Write};
 ghost use Rattle.ob_types.specs.declared.message.Message.TheVariants.{Block};
-ghost use Rattle.ob_types.specs.declared.refusal.Refusal.TheVariants.{NoMemory};
 ghost use Rattle.ob_seq.specs.Unsent.{room_for_one_more};
 ghost use Rattle.ob_connection.specs.Connected.{room_in};
-ghost use Rattle.ob_connection.specs.Obeying.{Obeys, written_reply};
+ghost use Rattle.ob_connection.specs.Obeying.{Accepts, Obeys, written_reply};
 ghost use Rattle.ob_lifecycle.specs.Counts.{Counts};
-ghost use Rattle.ob_lifecycle.specs.Inside.{MayCount, own_fault};
-ghost use Rattle.ob_lifecycle.specs.Managed.{Brings, Gives};
-ghost use Rattle.ob_lifecycle.specs.Writes.{IsNotWritten, accepted, fault_in, fault_of_write, write_happens};
+ghost use Rattle.ob_lifecycle.specs.Inside.{MayCount};
+ghost use Rattle.ob_lifecycle.specs.Managed.{Gives};
+ghost use Rattle.ob_lifecycle.specs.Writes.{IsNotWritten, WritesTo, accepted, fault_in, fault_of_write};
 
 use super::ManagedConnection;
 use crate::fault::WriteFault;
@@ -48,39 +47,29 @@ fn put_copy(
 impl ManagedConnection {
     /// As `Connection::write_copy`, refused as `write` is, and before anything is copied.
     pub fn write_copy(&mut self, bytes: &[u8]) -> Result<Written, WriteFault>
-        ensures written { IfOk result (λ written.
-            Obeys self.old.connection (Write (Block bytes.now)) written_reply (accepted written) self.new.connection) }
-        ensures room { OnOk result (room_in self.new.connection ≡ room_for_one_more self.old.connection.unsent) }
-        ensures refused { IfErr result (λ why. IsNotWritten self.old.connection (Block bytes.now) why self.new.connection) }
-        ensures first { ¬ (fault_in (λ why. why) result ≡ Some (WriteFault.Refused NoMemory))
-            → Gives self.old (fault_of_write (Block bytes.now)) (fault_in (λ why. why) result) }
-        ensures brings { Brings self.old (write_happens (λ why. why) (Block bytes.now) result) false self.new }
+        ensures { WritesTo (λ why. why) (Block bytes.now) self.old result self.new }
     {
-        if let Some(why) = self.own_fault_of_block(bytes) {
+        let size = pending_size_of_block(bytes, self.connection.estimate());
+        if let Some(why) = self.own_fault(size) {
             return Err(why);
         }
         put_copy(&mut self.connection, &mut self.tally, bytes)
     }
 
-    /// Why a write of these bytes is refused before the connection is asked.
-    fn own_fault_of_block(&self, bytes: &[u8]) -> Option<WriteFault>
-        ensures { Gives self.now (own_fault (Block bytes.now)) result }
+    /// Why a write of these bytes as a block would be refused now, or nothing if it would be accepted while there is memory.
+    /// It copies nothing and does not allocate: ask it before the bytes are copied or shared.
+    pub fn fault_of_block(&self, bytes: &[u8]) -> Option<WriteFault>
+        ensures first { Gives self.now (fault_of_write (Block bytes.now)) result }
+        ensures refused { IfSome result (λ why. WritesTo (λ why. why) (Block bytes.now) self.now (Err why) self.now) }
+        ensures accepted { result ≡ None → Accepts self.now.connection (Write (Block bytes.now)) }
     {
-        if self.connection.is_closed() {
-            return None;
+        let size = pending_size_of_block(bytes, self.connection.estimate());
+        if let Some(why) = self.own_fault(size) {
+            return Some(why);
         }
-        if self.ending.asked {
-            return Some(WriteFault::Finishing);
-        }
-        let Ok(size) = pending_size_of_block(bytes, self.connection.estimate()) else {
-            return None;
-        };
-        let pending = u64::from(self.connection.look().total);
-        let size = u64::from(size);
-        if pending + size > u64::from(self.limits.most_pending) || !self.tally.has_room(size) {
-            Some(WriteFault::Full)
-        } else {
-            None
+        match self.connection.refusal_of_block(bytes) {
+            None => None,
+            Some(refusal) => Some(WriteFault::Refused(refusal)),
         }
     }
 }

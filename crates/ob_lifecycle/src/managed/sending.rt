@@ -5,7 +5,7 @@ ghost use Rattle.ob_connection.specs.declared.connection.sending.SendFault.TheVa
 ghost use Rattle.ob_connection.specs.Connected.{TakesNoRoom};
 ghost use Rattle.ob_connection.specs.Sending.{Asks, EndsSending, Sends, SendsInTurns};
 ghost use Rattle.ob_lifecycle.specs.Managed.{Brings};
-ghost use Rattle.ob_lifecycle.specs.Sendings.{once_happens, turns_happen};
+ghost use Rattle.ob_lifecycle.specs.Sendings.{sending_happens};
 
 use super::ManagedConnection;
 use crate::fault::Told;
@@ -25,7 +25,7 @@ impl ManagedConnection {
         ensures kept { OnErr result.answer (self.new.connection ≡ self.old.connection) }
         ensures unsent { OnErr result.answer (S.sent socket.new ≡ S.sent socket.old) }
         ensures room { TakesNoRoom self.old.connection self.new.connection }
-        ensures brings { Brings self.old (once_happens result.answer) result.finished self.new }
+        ensures brings { Brings self.old (sending_happens (λ done. done.bytes) result.answer) result.finished self.new }
     {
         let answer = self.connection.send_once(socket, max_count, max_bytes);
         let bytes = bytes_of_once(&answer);
@@ -58,7 +58,7 @@ impl ManagedConnection {
         ensures ends { EndsSending self.old.connection result.answer }
         ensures closed { IfErr result.answer (λ fault. fault ≡ IsClosed) }
         ensures room { TakesNoRoom self.old.connection self.new.connection }
-        ensures brings { Brings self.old (turns_happen result.answer) result.finished self.new }
+        ensures brings { Brings self.old (sending_happens (λ done. done.bytes) result.answer) result.finished self.new }
     {
         let answer = self
             .connection

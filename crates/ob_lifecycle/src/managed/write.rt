@@ -1,19 +1,20 @@
-ghost use Rattle.std.specs.Prelude.{◌≡◌, IfOk, IfErr, OnOk, false, Some};
+ghost use Rattle.std.specs.Prelude.{◌≡◌, IfOk, IfErr, OnOk, Some};
+ghost use Rattle.ob_types.specs.PendingSize.{pending_size_of};
 ghost use Rattle.ob_types.specs.declared.command.Command.TheVariants.{Write};
-ghost use Rattle.ob_types.specs.declared.refusal.Refusal.TheVariants.{NoMemory};
+ghost use Rattle.ob_types.specs.declared.message.Message.{Message};
 ghost use Rattle.ob_seq.specs.Unsent.{room_for_one_more};
 ghost use Rattle.ob_connection.specs.Connected.{room_in};
 ghost use Rattle.ob_connection.specs.Obeying.{Obeys, written_reply};
 ghost use Rattle.ob_lifecycle.specs.Counts.{Counts};
 ghost use Rattle.ob_lifecycle.specs.Inside.{MayCount, own_fault};
-ghost use Rattle.ob_lifecycle.specs.Managed.{Brings, Gives};
-ghost use Rattle.ob_lifecycle.specs.Writes.{IsNotWritten, accepted, fault_in, fault_of_write, write_happens};
+ghost use Rattle.ob_lifecycle.specs.Managed.{Gives};
+ghost use Rattle.ob_lifecycle.specs.Writes.{IsNotWritten, WritesTo, accepted, fault_in};
 
 use super::ManagedConnection;
 use crate::fault::{NotWritten, WriteFault};
 use crate::tally::Tally;
 use ob_connection::{Connection, Written};
-use ob_types::{Message, pending_size};
+use ob_types::{Message, Refusal, pending_size};
 
 /// Writes to the connection, and counts the message by what is pending then.
 #[inline(always)]
@@ -53,25 +54,21 @@ impl ManagedConnection {
     /// message comes back.
     #[inline(always)]
     pub fn write(&mut self, message: Message) -> Result<Written, NotWritten>
-        ensures written { IfOk result (λ written.
-            Obeys self.old.connection (Write message) written_reply (accepted written) self.new.connection) }
-        ensures room { OnOk result (room_in self.new.connection ≡ room_for_one_more self.old.connection.unsent) }
-        ensures refused { IfErr result (λ not. IsNotWritten self.old.connection message not.why self.new.connection) }
+        ensures writes { WritesTo (λ not. not.why) message self.old result self.new }
         ensures returned { IfErr result (λ not. not.message ≡ message) }
-        ensures first { ¬ (fault_in (λ not. not.why) result ≡ Some (WriteFault.Refused NoMemory))
-            → Gives self.old (fault_of_write message) (fault_in (λ not. not.why) result) }
-        ensures brings { Brings self.old (write_happens (λ not. not.why) message result) false self.new }
     {
-        if let Some(why) = self.own_fault(&message) {
+        let size = pending_size(&message, self.connection.estimate());
+        if let Some(why) = self.own_fault(size) {
             return Err(NotWritten { why, message });
         }
         put(&mut self.connection, &mut self.tally, message)
     }
 
-    /// Why a write is refused before the connection is asked.
+    /// Why a write of a message of this size is refused before the connection is asked.
     #[inline(always)]
-    fn own_fault(&self, message: &Message) -> Option<WriteFault>
-        ensures { Gives self.now (own_fault message.now) result }
+    pub(super) fn own_fault(&self, size: Result<u32, Refusal>) -> Option<WriteFault>
+        ensures { (message : Message) → size ≡ pending_size_of self.now.connection.unsent.settings.estimate message
+            → Gives self.now (own_fault message) result }
     {
         if self.connection.is_closed() {
             return None;
@@ -79,7 +76,7 @@ impl ManagedConnection {
         if self.ending.asked {
             return Some(WriteFault::Finishing);
         }
-        let Ok(size) = pending_size(message, self.connection.estimate()) else {
+        let Ok(size) = size else {
             return None;
         };
         let pending = u64::from(self.connection.look().total);

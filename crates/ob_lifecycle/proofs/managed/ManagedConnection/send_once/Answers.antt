@@ -4,7 +4,7 @@ use Rattle.ob_lifecycle.specs.Managed.{Brings}
 use Rattle.ob_lifecycle.proofs.Bringing.{managed_with, stands_on}
 use Rattle.ob_lifecycle.proofs.Ends.{brings_once}
 use Rattle.ob_lifecycle.proofs.managed.ManagedConnection.send_once.Goals as goal
-use Rattle.ob_lifecycle.specs.Sendings.{once_happens}
+use Rattle.ob_lifecycle.specs.Sendings.{sending_happens}
 
 pub invariant_of-self-2 : goal.invariant_of-self-2
 invariant_of-self-2 g c =
@@ -14,7 +14,7 @@ invariant_of-self-2 g c =
 
 pub returns-clause-brings : goal.returns-clause-brings
 returns-clause-brings g c =
-    subst (λ old. Brings old (once_happens c.send_once-answer.result) c.reach-finished.result
+    subst (λ old. Brings old (sending_happens (λ done. done.bytes) c.send_once-answer.result) c.reach-finished.result
     (managed_with (managed_of c.self.inside) c.send_once-answer.new.self c.reach-finished.new.self c.self.inside.tally)) c.self.view_is
     (brings_once _ _ _ _ (managed_of c.self.inside) c.send_once-answer.new.self c.reach-finished.new.self
     c.send_once-answer.result c.bytes_of_once-bytes.result c.waiting_count.result c.after.new.self c.is_empty.result c.reach-finished.result c.send_once-answer.ensures.sends (cc) c.bytes_of_once-bytes.ensures c.waiting_count.ensures c.is_empty.ensures c.after.ensures c.reach-finished.ensures.reached c.reach-finished.ensures.told)

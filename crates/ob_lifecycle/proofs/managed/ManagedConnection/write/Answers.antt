@@ -1,38 +1,39 @@
-use Rattle.std.proofs.Common.{subst, sym, false}
-use Rattle.std.specs.Prelude.{None}
+use Rattle.std.proofs.Common.{◌∙◌, ap, subst, sym}
+use Rattle.std.specs.Prelude.{None, Some, Err}
+use Rattle.ob_types.specs.PendingSize.{pending_size_of}
 use Rattle.ob_lifecycle.specs.Inside.{managed_of, own_fault}
-use Rattle.ob_lifecycle.specs.Managed.{Brings, Gives}
-use Rattle.ob_lifecycle.specs.Writes.{fault_in, fault_of_write, write_happens}
+use Rattle.ob_lifecycle.specs.Managed.{Gives}
+use Rattle.ob_lifecycle.specs.Writes.{WritesTo}
 use Rattle.ob_lifecycle.proofs.Bringing.{managed_with, stands_on}
-use Rattle.ob_lifecycle.proofs.Writing.{first_of_put, may_count, own_brings, put_brings}
+use Rattle.ob_lifecycle.proofs.Writing.{may_count, own_writes, put_brings, put_writes}
 use Rattle.ob_lifecycle.proofs.managed.ManagedConnection.write.Goals as goal
 
-pub returns-in-Some-clause-brings : goal.returns-in-Some-clause-brings
-returns-in-Some-clause-brings c = own_brings c.args.self.now c.in-Some.why
+pub returns-in-Some-clause-writes : goal.returns-in-Some-clause-writes 
+returns-in-Some-clause-writes c =
+    subst (λ old. WritesTo (λ left. left.why) c.args.message old (Err (record { why = c.in-Some.why; message = c.args.message })) old) c.self.view_is
+    (own_writes (λ left. left.why) (managed_of c.self.inside) c.args.message (record { why = c.in-Some.why; message = c.args.message }) c.self.invariant
+    (subst (λ old. Gives old (own_fault c.args.message) (Some c.in-Some.why)) (sym c.self.view_is)
+    (c.in-Some.ensures c.args.message (c.pending_size-size.ensures ∙ ap (λ estimate. pending_size_of estimate c.args.message) c.estimate.ensures ∙ ap (λ managed. pending_size_of managed.connection.unsent.settings.estimate c.args.message) c.self.view_is))))
 
 pub put-requires : goal.put-requires
 put-requires c =
     may_count (managed_of c.self.inside) c.args.message c.self.invariant
-    (subst (λ old. Gives old (own_fault c.args.message) None) (sym c.self.view_is) c.in_default.ensures)
+    (subst (λ old. Gives old (own_fault c.args.message) None) (sym c.self.view_is) (c.in_default.ensures c.args.message
+    (c.pending_size-size.ensures ∙ ap (λ estimate. pending_size_of estimate c.args.message) c.estimate.ensures ∙ ap (λ managed. pending_size_of managed.connection.unsent.settings.estimate c.args.message) c.self.view_is)))
 
 pub invariant_of-self : goal.invariant_of-self
 invariant_of-self c =
     stands_on (managed_of c.self.inside) _ _ _ c.self.invariant
     (put_brings (λ left. left.why) (managed_of c.self.inside) c.args.message c.put.new.connection c.put.new.tally c.put.result
-    (subst (λ old. Gives old (own_fault c.args.message) None) (sym c.self.view_is) c.in_default.ensures)
+    (subst (λ old. Gives old (own_fault c.args.message) None) (sym c.self.view_is) (c.in_default.ensures c.args.message
+    (c.pending_size-size.ensures ∙ ap (λ estimate. pending_size_of estimate c.args.message) c.estimate.ensures ∙ ap (λ managed. pending_size_of managed.connection.unsent.settings.estimate c.args.message) c.self.view_is)))
     c.put.ensures.written c.put.ensures.refused c.put.ensures.counts)
 
-pub returns-clause-first : goal.returns-clause-first
-returns-clause-first c memory =
-    subst (λ old. Gives old (fault_of_write c.args.message) (fault_in (λ left. left.why) c.put.result)) c.self.view_is
-    (first_of_put (λ left. left.why) (managed_of c.self.inside) c.args.message c.put.new.connection c.put.result
-    (subst (λ old. Gives old (own_fault c.args.message) None) (sym c.self.view_is) c.in_default.ensures)
-    c.put.ensures.written c.put.ensures.refused c.put.ensures.own c.put.ensures.within memory)
-
-pub returns-clause-brings : goal.returns-clause-brings
-returns-clause-brings c =
-    subst (λ old. Brings old (write_happens (λ left. left.why) c.args.message c.put.result) false
+pub returns-clause-writes : goal.returns-clause-writes 
+returns-clause-writes c =
+    subst (λ old. WritesTo (λ left. left.why) c.args.message old c.put.result
     (managed_with (managed_of c.self.inside) c.put.new.connection c.self.inside.ending c.put.new.tally)) c.self.view_is
-    (put_brings (λ left. left.why) (managed_of c.self.inside) c.args.message c.put.new.connection c.put.new.tally c.put.result
-    (subst (λ old. Gives old (own_fault c.args.message) None) (sym c.self.view_is) c.in_default.ensures)
-    c.put.ensures.written c.put.ensures.refused c.put.ensures.counts)
+    (put_writes (λ left. left.why) (managed_of c.self.inside) c.args.message c.put.new.connection c.put.new.tally c.put.result
+    (subst (λ old. Gives old (own_fault c.args.message) None) (sym c.self.view_is) (c.in_default.ensures c.args.message
+    (c.pending_size-size.ensures ∙ ap (λ estimate. pending_size_of estimate c.args.message) c.estimate.ensures ∙ ap (λ managed. pending_size_of managed.connection.unsent.settings.estimate c.args.message) c.self.view_is)))
+    c.put.ensures.written c.put.ensures.room c.put.ensures.refused c.put.ensures.own c.put.ensures.within c.put.ensures.counts)

@@ -1,39 +1,40 @@
-use Rattle.std.proofs.Common.{subst, sym, false}
-use Rattle.std.specs.Prelude.{None}
+use Rattle.std.proofs.Common.{◌∙◌, ap, subst, sym}
+use Rattle.std.specs.Prelude.{None, Some, Err}
+use Rattle.ob_types.specs.PendingSize.{pending_size_of}
 use Rattle.ob_types.specs.declared.message.Message.TheVariants.{Block}
 use Rattle.ob_lifecycle.specs.Inside.{managed_of, own_fault}
-use Rattle.ob_lifecycle.specs.Managed.{Brings, Gives}
-use Rattle.ob_lifecycle.specs.Writes.{fault_in, fault_of_write, write_happens}
+use Rattle.ob_lifecycle.specs.Managed.{Gives}
+use Rattle.ob_lifecycle.specs.Writes.{WritesTo}
 use Rattle.ob_lifecycle.proofs.Bringing.{managed_with, stands_on}
-use Rattle.ob_lifecycle.proofs.Writing.{first_of_put, may_count, own_brings, put_brings}
+use Rattle.ob_lifecycle.proofs.Writing.{may_count, own_writes, put_brings, put_writes}
 use Rattle.ob_lifecycle.proofs.managed.ManagedConnection.write_copy.Goals as goal
 
-pub returns-in-Some-clause-brings : goal.returns-in-Some-clause-brings
-returns-in-Some-clause-brings c = own_brings c.args.self.now c.in-Some.why
+pub returns-in-Some : goal.returns-in-Some 
+returns-in-Some c =
+    subst (λ old. WritesTo (λ left. left) (Block c.args.bytes.now) old (Err c.in-Some.why) old) c.self.view_is
+    (own_writes (λ left. left) (managed_of c.self.inside) (Block c.args.bytes.now) c.in-Some.why c.self.invariant
+    (subst (λ old. Gives old (own_fault (Block c.args.bytes.now)) (Some c.in-Some.why)) (sym c.self.view_is)
+    (c.in-Some.ensures (Block c.args.bytes.now) (c.pending_size_of_block-size.ensures ∙ ap (λ estimate. pending_size_of estimate (Block c.args.bytes.now)) c.estimate.ensures ∙ ap (λ managed. pending_size_of managed.connection.unsent.settings.estimate (Block c.args.bytes.now)) c.self.view_is))))
 
 pub put_copy-requires : goal.put_copy-requires
 put_copy-requires c =
     may_count (managed_of c.self.inside) (Block c.args.bytes.now) c.self.invariant
-    (subst (λ old. Gives old (own_fault (Block c.args.bytes.now)) None) (sym c.self.view_is) c.in_default.ensures)
+    (subst (λ old. Gives old (own_fault (Block c.args.bytes.now)) None) (sym c.self.view_is) (c.in_default.ensures (Block c.args.bytes.now)
+    (c.pending_size_of_block-size.ensures ∙ ap (λ estimate. pending_size_of estimate (Block c.args.bytes.now)) c.estimate.ensures ∙ ap (λ managed. pending_size_of managed.connection.unsent.settings.estimate (Block c.args.bytes.now)) c.self.view_is)))
 
 pub invariant_of-self : goal.invariant_of-self
 invariant_of-self c =
     stands_on (managed_of c.self.inside) _ _ _ c.self.invariant
     (put_brings (λ left. left) (managed_of c.self.inside) (Block c.args.bytes.now) c.put_copy.new.connection c.put_copy.new.tally c.put_copy.result
-    (subst (λ old. Gives old (own_fault (Block c.args.bytes.now)) None) (sym c.self.view_is) c.in_default.ensures)
+    (subst (λ old. Gives old (own_fault (Block c.args.bytes.now)) None) (sym c.self.view_is) (c.in_default.ensures (Block c.args.bytes.now)
+    (c.pending_size_of_block-size.ensures ∙ ap (λ estimate. pending_size_of estimate (Block c.args.bytes.now)) c.estimate.ensures ∙ ap (λ managed. pending_size_of managed.connection.unsent.settings.estimate (Block c.args.bytes.now)) c.self.view_is)))
     c.put_copy.ensures.written c.put_copy.ensures.refused c.put_copy.ensures.counts)
 
-pub returns-clause-first : goal.returns-clause-first
-returns-clause-first c memory =
-    subst (λ old. Gives old (fault_of_write (Block c.args.bytes.now)) (fault_in (λ left. left) c.put_copy.result)) c.self.view_is
-    (first_of_put (λ left. left) (managed_of c.self.inside) (Block c.args.bytes.now) c.put_copy.new.connection c.put_copy.result
-    (subst (λ old. Gives old (own_fault (Block c.args.bytes.now)) None) (sym c.self.view_is) c.in_default.ensures)
-    c.put_copy.ensures.written c.put_copy.ensures.refused c.put_copy.ensures.own c.put_copy.ensures.within memory)
-
-pub returns-clause-brings : goal.returns-clause-brings
-returns-clause-brings c =
-    subst (λ old. Brings old (write_happens (λ left. left) (Block c.args.bytes.now) c.put_copy.result) false
+pub returns : goal.returns 
+returns c =
+    subst (λ old. WritesTo (λ left. left) (Block c.args.bytes.now) old c.put_copy.result
     (managed_with (managed_of c.self.inside) c.put_copy.new.connection c.self.inside.ending c.put_copy.new.tally)) c.self.view_is
-    (put_brings (λ left. left) (managed_of c.self.inside) (Block c.args.bytes.now) c.put_copy.new.connection c.put_copy.new.tally c.put_copy.result
-    (subst (λ old. Gives old (own_fault (Block c.args.bytes.now)) None) (sym c.self.view_is) c.in_default.ensures)
-    c.put_copy.ensures.written c.put_copy.ensures.refused c.put_copy.ensures.counts)
+    (put_writes (λ left. left) (managed_of c.self.inside) (Block c.args.bytes.now) c.put_copy.new.connection c.put_copy.new.tally c.put_copy.result
+    (subst (λ old. Gives old (own_fault (Block c.args.bytes.now)) None) (sym c.self.view_is) (c.in_default.ensures (Block c.args.bytes.now)
+    (c.pending_size_of_block-size.ensures ∙ ap (λ estimate. pending_size_of estimate (Block c.args.bytes.now)) c.estimate.ensures ∙ ap (λ managed. pending_size_of managed.connection.unsent.settings.estimate (Block c.args.bytes.now)) c.self.view_is)))
+    c.put_copy.ensures.written c.put_copy.ensures.room c.put_copy.ensures.refused c.put_copy.ensures.own c.put_copy.ensures.within c.put_copy.ensures.counts)
