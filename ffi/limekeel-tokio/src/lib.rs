@@ -81,7 +81,7 @@ pub fn split_with<S: AsyncWrite + Unpin>(
     }
     let (connection, transport) = SharedConnection::open(marks, estimate)?;
     let shared = Arc::new(Shared::new(connection, marks, estimate));
-    let pump = Pump::new(stream, transport, Arc::clone(&shared));
+    let pump = Pump::new(stream, transport, &shared);
     Ok((Outbound::new(&shared), pump))
 }
 

@@ -1,4 +1,4 @@
-use crate::gate::Awaited;
+use crate::gate::{Event, Waiting};
 use limekeel::Outcome;
 use std::future::Future;
 use std::pin::Pin;
@@ -23,19 +23,23 @@ use std::task::{Context, Poll};
 /// # }
 /// ```
 #[derive(Debug)]
-pub struct Receipt(pub(crate) Awaited);
+pub struct Receipt {
+    pub(crate) waiting: Waiting,
+    /// How many messages are sent once this one is.
+    pub(crate) count: u64,
+}
 
 impl Receipt {
     /// The number of the message among all of its connection, from 0, in the order in which they are sent.
     #[must_use]
     pub fn id(&self) -> u64 {
-        self.0.id
+        self.count - 1
     }
 
     /// What became of it, if that is known.
     #[must_use]
     pub fn outcome(&self) -> Option<Outcome> {
-        self.0.shared.with(|gate, _| gate.outcome(self.id()))
+        self.waiting.shared.with(|gate| gate.outcome(self.count))
     }
 }
 
@@ -43,6 +47,8 @@ impl Future for Receipt {
     type Output = Outcome;
 
     fn poll(mut self: Pin<&mut Self>, cx: &mut Context<'_>) -> Poll<Outcome> {
-        self.0.poll(cx)
+        let count = self.count;
+        self.waiting
+            .poll(cx, Event::Sent(count), 0, |_, gate, _| gate.outcome(count).map_or(Poll::Pending, Poll::Ready))
     }
 }
