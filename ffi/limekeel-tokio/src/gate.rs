@@ -24,12 +24,19 @@ use crate::errors::WriteError;
 use crate::message::{Message, bytes};
 use limekeel::{Change, Estimate, Look, Marks, Outcome, SharedConnection, Written};
 use std::collections::BTreeMap;
-use std::mem::take;
-use std::sync::{Arc, Mutex, PoisonError};
+use std::hint::spin_loop;
+use std::mem::{replace, take};
+use std::sync::{Arc, Mutex, MutexGuard, PoisonError};
 use std::task::{Context, Poll, Waker, ready};
+
+/// How often the mutex is tried before a thread sleeps on it, each time after twice as long a pause: some tens of
+/// microseconds in all, where it is had for less than one, and a thread is woken in five.
+const SPINS: u32 = 10;
 
 /// What the writers and the pump of a connection have in common.
 #[derive(Debug)]
+// receipts are counted in another cache line
+#[repr(align(128))]
 pub(crate) struct Shared {
     pub(crate) connection: SharedConnection,
     /// What a message counts beside its bytes.
@@ -46,8 +53,8 @@ pub(crate) struct Gate {
     is_stopped: bool,
     /// How much room is kept for those who were woken and have not written yet.
     kept: u64,
-    /// All who wait, by what they wait for, and then in order of arrival.
-    waiting: BTreeMap<Place, Waiter>,
+    /// All who wait, by what they wait for, and then in order of arrival, with how much room is kept when one is woken.
+    waiting: BTreeMap<Place, (u64, Waker)>,
     arrivals: u64,
     /// How many messages were written, and how many of them are sent.
     pub(crate) written: u64,
@@ -77,20 +84,6 @@ pub(crate) enum Event {
 /// What one waits for, and when it arrived.
 type Place = (Event, u64);
 
-#[derive(Debug)]
-struct Waiter {
-    /// How much room is kept for it when it is woken.
-    size: u64,
-    waker: Waker,
-}
-
-/// What the pump does next.
-#[derive(Clone, Copy, Debug, PartialEq, Eq)]
-pub(crate) enum Step {
-    Send,
-    Shut,
-}
-
 impl Shared {
     /// Of a connection that one can write to.
     pub(crate) fn new(connection: SharedConnection, marks: Marks, estimate: Estimate) -> Shared {
@@ -103,12 +96,23 @@ impl Shared {
         bytes(message).len() as u64 + self.overhead
     }
 
+    /// Has the mutex, and tries for a while before it sleeps: else threads that write at once sleep at each message.
+    fn lock(&self) -> MutexGuard<'_, Gate> {
+        for turn in 0..SPINS {
+            match self.gate.try_lock() {
+                Ok(gate) => return gate,
+                Err(_) => (0..1 << turn).for_each(|_| spin_loop()),
+            }
+        }
+        // nothing that panics leaves it half changed
+        self.gate.lock().unwrap_or_else(PoisonError::into_inner)
+    }
+
     /// Does something under the mutex, and then wakes.
     pub(crate) fn with<T>(&self, call: impl FnOnce(&mut Gate) -> T) -> T {
-        // nothing that panics leaves it half changed
-        let mut gate = self.gate.lock().unwrap_or_else(PoisonError::into_inner);
+        let mut gate = self.lock();
         let answer = call(&mut gate);
-        while gate.has_room() && gate.wakes_first(Event::Room, Event::Room) {}
+        while !gate.waiting.is_empty() && gate.has_room() && gate.wakes_first(Event::Room, Event::Room) {}
         let (woken, _old) = (take(&mut gate.woken), gate.old.take());
         drop(gate);
         woken.into_iter().for_each(Waker::wake);
@@ -154,8 +158,7 @@ impl Gate {
 
     /// Has the pump flush what was written.
     pub(crate) fn flush(&mut self) {
-        if take(&mut self.unflushed) {
-            self.wanted = true;
+        if take(&mut self.unflushed) && !replace(&mut self.wanted, true) {
             self.wakes_first(Event::Work, Event::Work);
         }
     }
@@ -172,8 +175,8 @@ impl Gate {
         if count <= self.sent { Some(Outcome::Success) } else { self.end }
     }
 
-    /// What the pump does next, if there is anything, after `sent` messages in all.
-    pub(crate) fn next_step(&mut self, connection: &SharedConnection, sent: u64) -> Poll<Step> {
+    /// How many flushed messages the pump has to send next, after `sent` in all: 0 if there never will be one.
+    pub(crate) fn work(&mut self, connection: &SharedConnection, sent: u64) -> Poll<u64> {
         self.sent = sent;
         while self.wakes_first(Event::Sent(0), Event::Sent(sent)) {}
         if take(&mut self.wanted) {
@@ -182,11 +185,7 @@ impl Gate {
         }
         let Look { total, word, size, .. } = connection.look();
         (self.pending, self.is_stopped) = (total.into(), word != 0);
-        match size {
-            0 if self.is_over => Poll::Ready(Step::Shut),
-            0 => Poll::Pending,
-            _ => Poll::Ready(Step::Send),
-        }
+        if size > 0 || self.is_over { Poll::Ready(size) } else { Poll::Pending }
     }
 
     /// The pump has ended, after `sent` messages in all. It returns how many were written and are not sent.
@@ -198,19 +197,21 @@ impl Gate {
 
     /// Wakes the first of those who wait for these events, if there is one, and keeps room for it.
     fn wakes_first(&mut self, from: Event, to: Event) -> bool {
-        let first = self.waiting.range((from, 0)..=(to, u64::MAX)).next().map(|(place, _)| *place);
-        let waiter = first.and_then(|place| self.waiting.remove(&place));
-        self.kept += waiter.as_ref().map_or(0, |waiter| waiter.size);
-        self.woken.extend(waiter.map(|waiter| waiter.waker));
-        first.is_some()
+        let Some((&place, _)) = self.waiting.range((from, 0)..=(to, u64::MAX)).next() else { return false };
+        let (size, waker) = self.waiting.remove(&place).expect("it stands there");
+        self.kept += size;
+        self.woken.push(waker);
+        true
     }
 
     /// Leaves a place, and returns how much room was kept there, if its waiter was woken.
     fn leaves(&mut self, place: Place, size: u64) -> Option<u64> {
-        self.old = self.waiting.remove(&place).map(|waiter| waiter.waker);
-        let is_woken = self.old.is_none();
-        self.kept -= if is_woken { size } else { 0 };
-        is_woken.then_some(size)
+        if let Some((_, waker)) = self.waiting.remove(&place) {
+            self.old = Some(waker);
+            return None;
+        }
+        self.kept -= size;
+        Some(size)
     }
 }
 
@@ -246,7 +247,7 @@ impl Waiting {
                 gate.arrivals += 1;
                 let place = *place.insert(old.unwrap_or((event, gate.arrivals)));
                 *asked = size;
-                gate.waiting.insert(place, Waiter { size, waker: cx.waker().clone() });
+                gate.waiting.insert(place, (size, cx.waker().clone()));
                 // who waits does not wait for what nobody sends
                 if event != Event::Work {
                     gate.flush();

@@ -6,6 +6,9 @@ use limekeel::{Block, Refusal, SharedConnection, Written};
 /// do not keep all of that.
 const FEW: usize = 2048;
 
+/// Why a message is there.
+const ONCE: &str = "it is written once";
+
 /// What can be written as one message.
 ///
 /// | Type | Its bytes |
@@ -30,7 +33,7 @@ impl AsRef<[u8]> for Static {
 
 /// The bytes of a message that has not moved away.
 pub(crate) fn bytes<M: AsRef<[u8]>>(message: &Option<M>) -> &[u8] {
-    message.as_ref().expect("it is written once").as_ref()
+    message.as_ref().expect(ONCE).as_ref()
 }
 
 mod hidden {
@@ -49,35 +52,34 @@ impl Writes for &[u8] {}
 impl<const N: usize> Writes for &[u8; N] {}
 impl Writes for &str {}
 
-/// Types that have a call of their own.
+/// Types whose values are not copied.
 macro_rules! writes {
-    ($($message:ty: $held:ident, $connection:ident => $write:expr;)*) => {
+    ($($message:ty: $write:expr;)*) => {
         $(impl Writes for $message {
-            fn write_to($held: &mut Option<Self>, $connection: &SharedConnection) -> Result<Written, Refusal> {
-                $write
+            fn write_to(message: &mut Option<Self>, connection: &SharedConnection) -> Result<Written, Refusal> {
+                $write(connection, message)
             }
         })*
     };
 }
 
 writes! {
-    Bytes: message, connection => owned(message, connection);
-    Vec<u8>: message, connection => owned(message, connection);
-    String: message, connection => owned(message, connection);
-    &Block: message, connection => connection.write_block(message.expect("it is written once"));
-    Static: message, connection => connection.write_static(message.expect("it is written once").0);
+    Bytes: write_owned;
+    Vec<u8>: write_owned;
+    String: write_owned;
+    &Block: |connection: &SharedConnection, block: &mut Option<Self>| connection.write_block(block.expect(ONCE));
+    Static: |connection: &SharedConnection, bytes: &mut Option<Self>| connection.write_static(bytes.expect(ONCE).0);
 }
 
 /// Writes an owner, which moves into the connection if it has many bytes.
-fn owned<M: AsRef<[u8]> + Send + 'static>(
-    message: &mut Option<M>,
+fn write_owned<M: AsRef<[u8]> + Send + 'static>(
     connection: &SharedConnection,
+    message: &mut Option<M>,
 ) -> Result<Written, Refusal> {
     if bytes(message).len() <= FEW {
         return connection.write(bytes(message));
     }
-    let owner = message.take().expect("it is written once");
-    connection.write_owned(owner).map_err(|refused| {
+    connection.write_owned(message.take().expect(ONCE)).map_err(|refused| {
         *message = Some(refused.owner);
         refused.refusal
     })

@@ -1,6 +1,6 @@
-use crate::gate::{Event, Shared, Step, Waiting};
+use crate::gate::{Event, Shared, Waiting};
 use crate::{BROKEN, DROPPED};
-use limekeel::{Outcome, Sent, Transport};
+use limekeel::{Outcome, Transport};
 use std::future::Future;
 use std::io::{self, ErrorKind, IoSlice};
 use std::pin::Pin;
@@ -10,9 +10,6 @@ use tokio::io::AsyncWrite;
 
 /// How often the stream is written to before other tasks have their turn.
 const TURNS: usize = 32;
-
-/// How many bytes a stream without vectored writes is given at once, if they do not lie together.
-const JOINED: usize = 16384;
 
 /// The future that sends what is written with an [`crate::Outbound`], for the user to spawn. It ends with its stream.
 ///
@@ -71,16 +68,15 @@ impl<S: AsyncWrite + Unpin> Pump<S> {
         loop {
             let sent = self.sent;
             // who waits for what the last turn sent is woken before the next
-            let step =
-                self.waiting.poll(cx, Event::Work, 0, |shared, gate, _| gate.next_step(&shared.connection, sent));
-            match step {
+            let work = self.waiting.poll(cx, Event::Work, 0, |shared, gate, _| gate.work(&shared.connection, sent));
+            match work {
                 _ if is_blocked => return Poll::Pending,
-                Poll::Ready(Step::Send) if turns.next().is_some() => is_blocked = self.send(cx)?,
-                Poll::Ready(Step::Send) => {
+                Poll::Ready(0) => return self.stream().poll_shutdown(cx),
+                Poll::Ready(_) if turns.next().is_some() => is_blocked = self.send(cx)?,
+                Poll::Ready(_) => {
                     cx.waker().wake_by_ref();
                     return Poll::Pending;
                 }
-                Poll::Ready(Step::Shut) => return self.stream().poll_shutdown(cx),
                 Poll::Pending => {
                     ready!(self.stream().poll_flush(cx))?;
                     return Poll::Pending;
@@ -92,10 +88,9 @@ impl<S: AsyncWrite + Unpin> Pump<S> {
     /// Lets the stream take once of what is flushed, and returns whether it has no room.
     fn send(&mut self, cx: &mut Context<'_>) -> io::Result<bool> {
         let stream = self.stream.as_mut().expect("it has not ended");
-        let sent = self.transport.send_with(|pieces| answered(poll_write_pieces(Pin::new(&mut *stream), cx, pieces)));
-        let Sent { taken, blocked, .. } = sent?;
-        self.sent = taken.promises.end;
-        Ok(blocked)
+        let sent = self.transport.send_with(|pieces| write_pieces(Pin::new(stream), cx, pieces))?;
+        self.sent = sent.taken.promises.end;
+        Ok(sent.blocked)
     }
 
     fn stream(&mut self) -> Pin<&mut S> {
@@ -113,33 +108,16 @@ impl<S> Pump<S> {
     }
 }
 
-/// Lets a stream take once of these pieces, which are joined if it takes one at a time.
-fn poll_write_pieces(
-    stream: Pin<&mut impl AsyncWrite>,
-    cx: &mut Context<'_>,
-    pieces: &[IoSlice<'_>],
-) -> Poll<io::Result<usize>> {
-    if stream.is_write_vectored() {
-        return stream.poll_write_vectored(cx, pieces);
-    }
-    if pieces.len() == 1 || pieces[0].len() >= JOINED {
-        return stream.poll_write(cx, &pieces[0]);
-    }
-    let mut joined = Vec::with_capacity(JOINED);
-    for piece in pieces {
-        joined.extend_from_slice(&piece[..piece.len().min(JOINED - joined.len())]);
-    }
-    let taken = ready!(stream.poll_write(cx, &joined))?;
-    // more than it was given is refused
-    Poll::Ready(Ok(if taken <= joined.len() { taken } else { usize::MAX }))
-}
-
-/// What would block is [`ErrorKind::WouldBlock`], and nothing else is.
-fn answered(answer: Poll<io::Result<usize>>) -> io::Result<usize> {
-    match answer {
+/// How many bytes a stream took of these pieces, or of the first if it takes one at a time. What would block is
+/// [`ErrorKind::WouldBlock`], and nothing else is.
+fn write_pieces(stream: Pin<&mut impl AsyncWrite>, cx: &mut Context<'_>, pieces: &[IoSlice<'_>]) -> io::Result<usize> {
+    let offered = if stream.is_write_vectored() { pieces } else { &pieces[..1] };
+    match stream.poll_write_vectored(cx, offered) {
         Poll::Pending => Err(ErrorKind::WouldBlock.into()),
         // a stream that says this in place of `Pending` wakes nobody
         Poll::Ready(Err(error)) if error.kind() == ErrorKind::WouldBlock => Err(io::Error::other(error)),
+        // more than it was given is refused
+        Poll::Ready(Ok(bytes)) if bytes > offered.iter().map(|piece| piece.len()).sum() => Ok(usize::MAX),
         Poll::Ready(answer) => answer,
     }
 }

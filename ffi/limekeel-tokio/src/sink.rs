@@ -1,6 +1,5 @@
 use crate::errors::WriteError;
-use crate::outbound::{Outbound, sent};
-use crate::receipt::Receipt;
+use crate::outbound::{Outbound, Receipt, sent};
 use bytes::Bytes;
 use futures_sink::Sink;
 use std::future::Future;

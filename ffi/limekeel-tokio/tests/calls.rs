@@ -369,13 +369,13 @@ fn a_stream_that_answers_wrongly_is_broken() {
     assert!(matches!(ByHand::new(pump).poll(), Poll::Ready(ended) if ended.sent == 1));
 }
 
-/// A stream that takes a message, and then says once that it is broken.
+/// A stream that takes three bytes, and then says once that it is broken.
 struct TakesOne(u32);
 
 impl AsyncWrite for TakesOne {
     fn poll_write(mut self: Pin<&mut Self>, _: &mut Context<'_>, bytes: &[u8]) -> Poll<io::Result<usize>> {
         self.0 += 1;
-        if self.0 == 2 { Poll::Ready(Err(ErrorKind::TimedOut.into())) } else { Poll::Ready(Ok(bytes.len())) }
+        if self.0 == 2 { Poll::Ready(Err(ErrorKind::TimedOut.into())) } else { Poll::Ready(Ok(bytes.len().min(3))) }
     }
 
     fn poll_flush(self: Pin<&mut Self>, _: &mut Context<'_>) -> Poll<io::Result<()>> {
@@ -440,11 +440,11 @@ fn owned_shared_and_static_bytes_are_not_copied() {
     drop(outbound.try_write(Static(text.as_bytes())).unwrap());
     drop(outbound.try_write(&block).unwrap());
     drop(outbound.try_write("copied").unwrap());
-    drop(outbound.try_write(String::from("owned")).unwrap());
+    drop(outbound.try_write("c".repeat(3000)).unwrap());
     drop(outbound);
     let Poll::Ready(ended) = ByHand::new(pump).poll() else { panic!("all is sent") };
     let lengths: Vec<_> = ended.stream.0.iter().map(|(_, length)| *length).collect();
-    assert_eq!(lengths, [5000, 5000, 8, 5000, 6, 5]);
+    assert_eq!(lengths, [5000, 5000, 8, 5000, 6, 3000]);
     assert_eq!(ended.stream.0.iter().map(|(place, _)| *place).take(4).collect::<Vec<_>>(), places);
 }
 
@@ -452,7 +452,7 @@ fn owned_shared_and_static_bytes_are_not_copied() {
 fn an_owner_is_dropped_once_its_message_is_sent_or_given_up() {
     for sent in [true, false] {
         let (outbound, mut pump, _) = opened();
-        let owned = Bytes::from(vec![1; 100]);
+        let owned = Bytes::from(vec![1; 2049]);
         let shared = owned.clone();
         drop(outbound.try_write(owned).unwrap());
         if sent {
@@ -464,6 +464,14 @@ fn an_owner_is_dropped_once_its_message_is_sent_or_given_up() {
         let at = shared.as_ptr();
         assert!(BytesAlone::is(shared), "{at:?} is kept, {sent}");
     }
+}
+
+#[test]
+fn few_bytes_of_a_large_buffer_do_not_keep_it() {
+    let (outbound, _pump, _) = opened();
+    let buffer = Bytes::from(vec![1; 100_000]);
+    drop(outbound.try_write(buffer.slice(..2)).unwrap());
+    assert!(BytesAlone::is(buffer));
 }
 
 /// Whether nobody else has these bytes.
@@ -532,9 +540,9 @@ fn those_who_come_back_with_more_are_let_in_one_by_one() {
     let mut write = |at: usize, bytes: &[u8]| AsyncWrite::poll_write(Pin::new(&mut writers[at]), cx, bytes);
     assert!(write(0, b"four").is_pending() && write(1, b"four").is_pending());
     assert!(pump.poll().is_pending());
-    // room for four bytes is kept for both
-    assert!(write(0, &[1; 5000]).is_pending() && write(1, &[1; 5000]).is_pending());
+    // room for four bytes is kept for both, and there is more for the first
     assert!(matches!(write(0, &[1; 5000]), Poll::Ready(Ok(5000))));
+    assert!(write(1, &[1; 5000]).is_pending());
     assert!(write(1, &[1; 5000]).is_pending());
     assert!(pump.poll().is_pending());
     assert!(matches!(write(1, &[1; 5000]), Poll::Ready(Ok(5000))));
