@@ -139,6 +139,17 @@ impl Outbound {
         self.turn.poll(cx, Event::Room, 0, |_, gate, is_turn| gate.enters(is_turn))
     }
 
+    /// Waits as [`Outbound::poll_ready`]: for who makes a message once it may be written, since a task that waits in
+    /// [`Outbound::write`] has one in memory.
+    ///
+    /// # Errors
+    ///
+    /// [`WriteError::Gone`], as of [`Outbound::write`].
+    pub async fn ready(&self) -> Result<(), WriteError> {
+        let mut other = self.clone();
+        poll_fn(|cx| other.poll_ready(cx)).await
+    }
+
     /// Whether a [`Outbound::try_write`] would be accepted now, but for its message.
     #[must_use]
     pub fn is_writable(&self) -> bool {

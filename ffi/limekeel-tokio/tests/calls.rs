@@ -228,6 +228,19 @@ fn an_outbound_that_waits_to_be_ready_can_be_dropped() {
 }
 
 #[test]
+fn who_waits_to_be_ready_is_woken_as_who_writes() {
+    let (outbound, mut pump, _) = filled();
+    let mut ready = ByHand::new(outbound.ready()).waits();
+    let mut write = ByHand::new(outbound.write(b"news")).waits();
+    assert!(pump.poll().is_pending());
+    assert_eq!((ready.woken(), ready.poll()), (1, Poll::Ready(Ok(()))));
+    assert!(write.woken() == 1 && write.poll().is_ready());
+    let mut ready = ByHand::new(outbound.ready()).waits();
+    drop(pump);
+    assert_eq!((ready.woken(), ready.poll()), (1, Poll::Ready(Err(WriteError::Gone))));
+}
+
+#[test]
 fn one_that_was_ready_and_left_alone_takes_no_room() {
     let (outbound, mut pump, _) = filled();
     let mut idle: Vec<_> = (0..10).map(|_| outbound.clone()).collect();
