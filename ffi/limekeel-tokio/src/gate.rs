@@ -22,7 +22,7 @@
 
 use crate::errors::WriteError;
 use crate::message::{Message, bytes};
-use limekeel::{Change, Estimate, Look, Marks, Outcome, SharedConnection, Written};
+use limekeel::{Estimate, Look, Marks, Outcome, SharedConnection, Written};
 use std::collections::BTreeMap;
 use std::hint::spin_loop;
 use std::mem::{replace, take};
@@ -47,9 +47,9 @@ pub(crate) struct Shared {
 #[derive(Debug, Default)]
 pub(crate) struct Gate {
     high: u64,
-    /// How many bytes are pending at most, and whether writers may not go on: as the pump found it last, and with what
-    /// was written since.
+    /// How many bytes are pending at most: as many as the pump found last, and those that were written since.
     pending: u64,
+    /// Whether the pump found last that writers may not go on.
     is_stopped: bool,
     /// How much room is kept for those who were woken and have not written yet.
     kept: u64,
@@ -146,8 +146,8 @@ impl Gate {
     ) -> Poll<Result<u64, WriteError>> {
         ready!(self.enters(is_turn))?;
         let size = shared.size_of(message);
-        let Written { id, change } = M::write_to(message, &shared.connection).map_err(WriteError::Refused)?;
-        self.is_stopped |= change == Some(Change::Unwritable);
+        // above the high mark nobody else writes, until the pump has looked
+        let Written { id, .. } = M::write_to(message, &shared.connection).map_err(WriteError::Refused)?;
         self.pending += size;
         (self.written, self.unflushed) = (id + 1, true);
         if flushes {

@@ -51,6 +51,16 @@ fn a_message_is_written_and_sent() {
 }
 
 #[test]
+fn the_high_mark_is_passed_by_one_message() {
+    let (outbound, _pump, _) = opened();
+    drop(outbound.try_write(b"at ").unwrap());
+    assert_eq!((outbound.pending(), outbound.is_writable()), (99, true));
+    drop(outbound.try_write(&[7; 1000]).unwrap());
+    assert!(!outbound.is_writable());
+    assert!(matches!(outbound.try_write(b""), Err(TryWriteError::Full(_))));
+}
+
+#[test]
 fn who_waits_writes_in_the_order_of_arrival() {
     let (outbound, mut pump, stream) = filled();
     let mut writers: Vec<_> = [b"one ", b"two ", b"drei"].map(|text| ByHand::new(outbound.write(text)).waits()).into();
