@@ -188,11 +188,11 @@ impl Gate {
         if size > 0 || self.is_over { Poll::Ready(size) } else { Poll::Pending }
     }
 
-    /// The pump has ended, after `sent` messages in all. It returns how many were written and are not sent.
-    pub(crate) fn end(&mut self, sent: u64, outcome: Outcome) -> u64 {
-        (self.sent, self.end, self.is_over) = (sent, Some(outcome), true);
+    /// The pump has ended, and has told before what it sent. It returns how many were written and are not sent.
+    pub(crate) fn end(&mut self, outcome: Outcome) -> u64 {
+        (self.end, self.is_over) = (Some(outcome), true);
         while self.wakes_first(Event::Work, Event::Sent(u64::MAX)) {}
-        self.written - sent
+        self.written - self.sent
     }
 
     /// Wakes the first of those who wait for these events, if there is one, and keeps room for it.

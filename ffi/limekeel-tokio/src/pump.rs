@@ -101,7 +101,7 @@ impl<S: AsyncWrite + Unpin> Pump<S> {
 impl<S> Pump<S> {
     /// Gives up what is left, and returns how many messages that were.
     fn ends(&mut self, outcome: Outcome) -> u64 {
-        let lost = self.waiting.shared.with(|gate| gate.end(self.sent, outcome));
+        let lost = self.waiting.shared.with(|gate| gate.end(outcome));
         // it is not closed before this
         let _ = self.transport.give_up(BROKEN);
         lost
