@@ -129,6 +129,7 @@ async fn memory(way: Way) -> f64 {
             let handle = handle.clone();
             tokio::spawn(async move {
                 loop {
+                    handle.ready().await;
                     handle.write(Bytes::from(vec![7; 16384])).await;
                 }
             });

@@ -14,26 +14,49 @@ use tokio_util::codec::{BytesCodec, FramedWrite};
 pub enum Way {
     Limekeel,
     LimekeelCopied,
+    /// A message is made once it may be written.
+    LimekeelReady,
     WriteAll,
+    /// Half of what may wait does so in the channel, and half in the buffer.
     Buffered,
+    /// As much as may wait does so in the channel, and as much again in the buffer.
+    BufferedTwice,
     Framed,
 }
 
-pub const WAYS: [Way; 5] = [Way::Limekeel, Way::LimekeelCopied, Way::WriteAll, Way::Buffered, Way::Framed];
+pub const WAYS: [Way; 7] = [
+    Way::Limekeel,
+    Way::LimekeelCopied,
+    Way::LimekeelReady,
+    Way::WriteAll,
+    Way::Buffered,
+    Way::BufferedTwice,
+    Way::Framed,
+];
 
 /// What tasks write with.
 #[derive(Clone)]
 pub enum Handle {
     Limekeel(Outbound),
     Copied(Outbound),
+    Ready(Outbound),
     Channel(Sender<Bytes>),
 }
 
 impl Handle {
+    /// Waits before a message is made, if it can.
+    pub async fn ready(&self) {
+        if let Handle::Ready(outbound) = self {
+            outbound.ready().await.expect("the client is there");
+        }
+    }
+
     #[inline]
     pub async fn write(&self, message: Bytes) {
         match self {
-            Handle::Limekeel(outbound) => drop(outbound.write(message).await.expect("the client is there")),
+            Handle::Limekeel(outbound) | Handle::Ready(outbound) => {
+                drop(outbound.write(message).await.expect("the client is there"))
+            }
             Handle::Copied(outbound) => drop(outbound.write(&message[..]).await.expect("the client is there")),
             Handle::Channel(sender) => sender.send(message).await.expect("the client is there"),
         }
@@ -43,18 +66,34 @@ impl Handle {
 /// A handle of a client, whose messages have this size. Each way lets about as many wait.
 pub fn open(way: Way, stream: OwnedWriteHalf, size: usize) -> Handle {
     let marks = Marks::default();
-    let (sender, receiver) = channel((marks.high as usize / (size + 96)).max(1));
+    let limekeel = |stream| {
+        let (outbound, pump) = split(stream, marks).expect("there is memory");
+        tokio::spawn(async move { pump.await.into_result().expect("the client is there") });
+        outbound
+    };
+    let most = marks.high as usize;
+    let queue = |bytes: usize| channel((bytes / (size + 96)).max(1));
     match way {
-        Way::Limekeel | Way::LimekeelCopied => {
-            let (outbound, pump) = split(stream, marks).expect("there is memory");
-            tokio::spawn(async move { pump.await.into_result().expect("the client is there") });
-            return if way == Way::Limekeel { Handle::Limekeel(outbound) } else { Handle::Copied(outbound) };
+        Way::Limekeel => Handle::Limekeel(limekeel(stream)),
+        Way::LimekeelCopied => Handle::Copied(limekeel(stream)),
+        Way::LimekeelReady => Handle::Ready(limekeel(stream)),
+        Way::WriteAll => {
+            let (sender, receiver) = queue(most);
+            tokio::spawn(writes_all(receiver, stream));
+            Handle::Channel(sender)
         }
-        Way::WriteAll => drop(tokio::spawn(writes_all(receiver, stream))),
-        Way::Buffered => drop(tokio::spawn(buffers(receiver, stream))),
-        Way::Framed => drop(tokio::spawn(frames(receiver, stream))),
+        Way::Buffered | Way::BufferedTwice => {
+            let each = if way == Way::Buffered { most / 2 } else { most };
+            let (sender, receiver) = queue(each);
+            tokio::spawn(buffers(receiver, BufWriter::with_capacity(each, stream)));
+            Handle::Channel(sender)
+        }
+        Way::Framed => {
+            let (sender, receiver) = queue(most);
+            tokio::spawn(frames(receiver, stream));
+            Handle::Channel(sender)
+        }
     }
-    Handle::Channel(sender)
 }
 
 async fn writes_all(mut receiver: Receiver<Bytes>, mut stream: OwnedWriteHalf) {
@@ -66,8 +105,7 @@ async fn writes_all(mut receiver: Receiver<Bytes>, mut stream: OwnedWriteHalf) {
 }
 
 /// Flushes when no message waits.
-async fn buffers(mut receiver: Receiver<Bytes>, stream: OwnedWriteHalf) {
-    let mut stream = BufWriter::with_capacity(65536, stream);
+async fn buffers(mut receiver: Receiver<Bytes>, mut stream: BufWriter<OwnedWriteHalf>) {
     while let Some(message) = receiver.recv().await {
         if stream.write_all(&message).await.is_err() {
             return;

@@ -57,20 +57,3 @@ impl From<WriteError> for io::Error {
         io::Error::new(kind, error)
     }
 }
-
-/// That of a refusal of the connection below.
-impl From<Refusal> for WriteError {
-    fn from(refusal: Refusal) -> WriteError {
-        if refusal == Refusal::Closed { WriteError::Gone } else { WriteError::Refused(refusal) }
-    }
-}
-
-impl<M> From<TryWriteError<M>> for WriteError {
-    fn from(error: TryWriteError<M>) -> WriteError {
-        match error {
-            TryWriteError::Refused(refusal, _) => WriteError::Refused(refusal),
-            // who waits is never told that it is full
-            TryWriteError::Full(_) | TryWriteError::Gone(_) => WriteError::Gone,
-        }
-    }
-}

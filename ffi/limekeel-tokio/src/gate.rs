@@ -1,365 +1,281 @@
 //! Who may write next, and who is woken.
 //!
 //! All of it is under one mutex, which is had for the calls of the connection that go with it, and over no `await`. So
-//! that a writer finds room and writes is one step. No waker is called or dropped under it: a waker may hold the last
-//! reference to a task, and drop with that what locks it again.
+//! that a writer finds room and writes is one step. No waker is called or dropped under it, and no message is dropped
+//! under it: a waker may hold the last reference to a task, and what is dropped may lock the mutex again.
 //!
-//! Who has to wait to write stands in a queue. As long as the connection is writable and the pending bytes, with the
-//! room that is kept, are not above the high mark, the first in the queue leaves it, with room kept for its message,
-//! and is woken. Nobody else writes while somebody stands in the queue. So the pending bytes with the room that is
+//! All who wait stand in one list: the pump, which waits for work; writers, which wait for room; and those who wait
+//! until messages are sent. **Who is not in the list any more was woken, and the room that it asked for is kept.** A
+//! writer has room if the connection is writable, and the pending bytes with the room that is kept are not above the
+//! high mark. Each step ends with this: as long as there is room, the first writer in the list is woken. So there is no
+//! room while a writer is in the list, and nobody passes one that waits; and the pending bytes with the room that is
 //! kept pass the high mark by one message at most.
 //!
 //! No wake-up is lost:
 //!
-//! - A writer looks and joins the queue in one step. The pump takes messages away first, and looks at the queue in a
-//!   step after that. If that step is before the writer's, the writer sees what was taken away; else the pump sees the
-//!   writer.
-//! - Whoever gives room back that was kept, or joins the queue, looks at the queue in the same step.
-//! - A writer notes that the pump has work, and takes its waker, in one step. The pump looks for that note and leaves
-//!   its waker in one step.
-//! - Who waits for a promise looks and leaves its waker in one step, and the pump settles and wakes in one step.
+//! - Whether there is room hangs on what is kept here alone. The pump takes messages away first, and notes what is
+//!   pending in a step after that, which so wakes whoever is in the list by then; who comes later sees what was noted.
+//! - Who waits looks and joins the list in one step, and whoever brings about what it waits for takes it off the list
+//!   in the step that does so: a flush, a sending, the end.
+//! - Who waits has all flushed that was written before; and who writes after it has waited flushes too. So nobody waits
+//!   for what nobody sends.
 
 use crate::errors::WriteError;
-use crate::message::Message;
-use limekeel::{Change, Estimate, Glance, Look, Marks, Outcome, Refused, SharedConnection, Written};
+use crate::message::{Message, bytes};
+use limekeel::{Estimate, Look, Marks, Outcome, SharedConnection, Written};
 use std::collections::BTreeMap;
-use std::mem::take;
-use std::sync::{Arc, Mutex, PoisonError};
-use std::task::{Context, Poll, Waker};
+use std::hint::spin_loop;
+use std::mem::{replace, take};
+use std::sync::{Arc, Mutex, MutexGuard, PoisonError};
+use std::task::{Context, Poll, Waker, ready};
 
-/// A promise that no message has: it is settled when the pump has ended.
-pub(crate) const END: u64 = u64::MAX;
+/// How often the mutex is tried before a thread sleeps on it, each time after twice as long a pause: some tens of
+/// microseconds in all, where it is had for less than one, and a thread is woken in five.
+const SPINS: u32 = 10;
 
 /// What the writers and the pump of a connection have in common.
 #[derive(Debug)]
-pub(crate) struct Shared(Mutex<Gate>);
-
-#[derive(Debug)]
-pub(crate) struct Gate {
+// receipts are counted in another cache line
+#[repr(align(128))]
+pub(crate) struct Shared {
     pub(crate) connection: SharedConnection,
-    /// Whether a write was told to be the last, and no look has shown since that others may follow. This is the only
-    /// handle that writes, so while this is false the connection is writable, and no more bytes are pending than the
-    /// high mark.
-    is_stopped: bool,
-    /// The high mark, and what a message counts beside its bytes.
-    high: u64,
+    /// What a message counts beside its bytes.
     overhead: u64,
-    /// Who waits to write, in order of arrival.
-    queue: BTreeMap<u64, Writer>,
-    /// For whom room is kept, by arrival, how much, and how much for all.
-    kept: BTreeMap<u64, u64>,
-    all_kept: u64,
-    /// Who waits for promises.
-    awaited: BTreeMap<(u64, u64), Waker>,
+    gate: Mutex<Gate>,
+}
+
+#[derive(Debug, Default)]
+pub(crate) struct Gate {
+    high: u64,
+    /// How many bytes are pending at most: as many as the pump found last, and those that were written since.
+    pending: u64,
+    /// Whether the pump found last that writers may not go on.
+    is_stopped: bool,
+    /// How much room is kept for those who were woken and have not written yet.
+    kept: u64,
+    /// All who wait, by what they wait for, and then in order of arrival, with how much room is kept when one is woken.
+    waiting: BTreeMap<Place, (u64, Waker)>,
     arrivals: u64,
     /// How many messages were written, and how many of them are sent.
-    written: u64,
+    pub(crate) written: u64,
     sent: u64,
-    /// Whether messages were written that nobody asked to flush.
+    /// Whether messages were written that nobody asked to flush, and whether the pump is to flush.
     unflushed: bool,
-    /// Whether the pump is to flush.
     wanted: bool,
-    /// The pump, if it sleeps since there is nothing to send.
-    pump: Option<Waker>,
-    /// How many can write.
-    pub(crate) outbounds: usize,
-    finishing: bool,
-    /// What became of the pump.
+    /// Whether nothing can be written any more, and what became of the pump.
+    pub(crate) is_over: bool,
     end: Option<Outcome>,
-}
-
-/// One that waits to write.
-#[derive(Debug)]
-struct Writer {
-    /// How much its message counts.
-    size: u64,
-    waker: Waker,
-}
-
-/// What is to be done as soon as the mutex is free again.
-#[derive(Default)]
-pub(crate) struct Later {
+    /// Who is woken, and what is only dropped, as soon as the mutex is free again.
     woken: Vec<Waker>,
-    /// Only to be dropped.
     old: Option<Waker>,
 }
 
-/// What the pump does next.
-#[derive(Clone, Copy, Debug, PartialEq, Eq)]
-pub(crate) enum Step {
-    Flush,
-    Send,
-    Sleep,
-    Shut,
+/// What one waits for.
+#[derive(Clone, Copy, Debug, PartialEq, Eq, PartialOrd, Ord)]
+pub(crate) enum Event {
+    /// The pump, until there is something to do.
+    Work,
+    /// A writer, until there is room.
+    Room,
+    /// Until so many messages are sent, or the pump has ended.
+    Sent(u64),
 }
+
+/// What one waits for, and when it arrived.
+type Place = (Event, u64);
 
 impl Shared {
     /// Of a connection that one can write to.
     pub(crate) fn new(connection: SharedConnection, marks: Marks, estimate: Estimate) -> Shared {
-        Shared(Mutex::new(Gate {
-            connection,
-            is_stopped: false,
-            high: marks.high.into(),
-            overhead: estimate.overhead.into(),
-            queue: BTreeMap::new(),
-            kept: BTreeMap::new(),
-            all_kept: 0,
-            awaited: BTreeMap::new(),
-            arrivals: 0,
-            written: 0,
-            sent: 0,
-            unflushed: false,
-            wanted: false,
-            pump: None,
-            outbounds: 1,
-            finishing: false,
-            end: None,
-        }))
+        let gate = Gate { high: marks.high.into(), ..Gate::default() };
+        Shared { connection, overhead: estimate.overhead.into(), gate: Mutex::new(gate) }
+    }
+
+    /// How much a message counts.
+    fn size_of<M: Message>(&self, message: &Option<M>) -> u64 {
+        bytes(message).len() as u64 + self.overhead
+    }
+
+    /// Has the mutex, and tries for a while before it sleeps: else threads that write at once sleep at each message.
+    fn lock(&self) -> MutexGuard<'_, Gate> {
+        for turn in 0..SPINS {
+            match self.gate.try_lock() {
+                Ok(gate) => return gate,
+                Err(_) => (0..1 << turn).for_each(|_| spin_loop()),
+            }
+        }
+        // nothing that panics leaves it half changed
+        self.gate.lock().unwrap_or_else(PoisonError::into_inner)
     }
 
     /// Does something under the mutex, and then wakes.
-    pub(crate) fn with<T>(&self, call: impl FnOnce(&mut Gate, &mut Later) -> T) -> T {
-        let mut later = Later::default();
-        // nothing that panics leaves it half changed
-        let answer = call(&mut self.0.lock().unwrap_or_else(PoisonError::into_inner), &mut later);
-        later.woken.into_iter().for_each(Waker::wake);
+    pub(crate) fn with<T>(&self, call: impl FnOnce(&mut Gate) -> T) -> T {
+        let mut gate = self.lock();
+        let answer = call(&mut gate);
+        while !gate.waiting.is_empty() && gate.has_room() && gate.wakes_first(Event::Room, Event::Room) {}
+        let (woken, _old) = (take(&mut gate.woken), gate.old.take());
+        drop(gate);
+        woken.into_iter().for_each(Waker::wake);
         answer
     }
 }
 
 impl Gate {
-    /// Whether nothing can be written any more.
-    pub(crate) fn is_over(&self) -> bool {
-        self.finishing || self.end.is_some()
-    }
-
     /// Whether one may write that arrives now.
-    pub(crate) fn may_write(&mut self) -> bool {
-        self.queue.is_empty() && self.has_room()
+    pub(crate) fn has_room(&self) -> bool {
+        !self.is_stopped && self.pending + self.kept <= self.high
     }
 
-    /// Whether the connection is writable, and the pending bytes with the room that is kept are not above the high
-    /// mark.
-    fn has_room(&mut self) -> bool {
-        if !self.is_stopped && self.all_kept == 0 {
-            return true;
-        }
-        // since all writes are by this handle, a glance misses at most what the pump took away
-        let Glance { mut word, mut total } = self.connection.glance();
-        if word != 0 || u64::from(total) + self.all_kept > self.high {
-            Look { word, total, .. } = self.connection.look();
-        }
-        self.is_stopped = word != 0;
-        !self.is_stopped && u64::from(total) + self.all_kept <= self.high
-    }
-
-    /// Keeps room for those who wait to write, in order of arrival, while there is some.
-    fn admits(&mut self, later: &mut Later) {
-        while !self.queue.is_empty() && self.has_room() {
-            let Some((arrived, writer)) = self.queue.pop_first() else { break };
-            self.kept.insert(arrived, writer.size);
-            self.all_kept += writer.size;
-            later.woken.push(writer.waker);
+    /// Ready if one may write: since its turn has come, or there is room.
+    pub(crate) fn enters(&self, is_turn: bool) -> Poll<Result<(), WriteError>> {
+        match self.is_over {
+            true => Poll::Ready(Err(WriteError::Gone)),
+            false if is_turn || self.has_room() => Poll::Ready(Ok(())),
+            false => Poll::Pending,
         }
     }
 
-    /// Writes a message, and returns its promise.
-    pub(crate) fn write<M: Message>(&mut self, message: M, flush: bool, later: &mut Later) -> Result<u64, Refused<M>> {
-        let Written { id, change } = message.write_to(&self.connection)?;
-        self.is_stopped |= change == Some(Change::Unwritable);
-        self.written = id + 1;
-        self.unflushed = true;
-        // who waits for room does not wait for what nobody sends
-        if flush || !self.queue.is_empty() {
-            self.flush(later);
+    /// Writes a message if one may, and returns its promise. The message is left to the caller unless it has moved into
+    /// the connection.
+    pub(crate) fn write<M: Message>(
+        &mut self,
+        shared: &Shared,
+        message: &mut Option<M>,
+        flushes: bool,
+        is_turn: bool,
+    ) -> Poll<Result<u64, WriteError>> {
+        ready!(self.enters(is_turn))?;
+        let size = shared.size_of(message);
+        // above the high mark nobody else writes, until the pump has looked
+        let Written { id, .. } = M::write_to(message, &shared.connection).map_err(WriteError::Refused)?;
+        self.pending += size;
+        (self.written, self.unflushed) = (id + 1, true);
+        if flushes {
+            self.flush();
         }
-        Ok(id)
+        Poll::Ready(Ok(id))
     }
 
     /// Has the pump flush what was written.
-    pub(crate) fn flush(&mut self, later: &mut Later) {
-        if take(&mut self.unflushed) {
-            self.wanted = true;
-            later.woken.extend(self.pump.take());
-        }
-    }
-
-    /// What became of a promise, if that is known.
-    pub(crate) fn outcome(&self, id: u64) -> Option<Outcome> {
-        if id < self.sent { Some(Outcome::Success) } else { self.end }
-    }
-
-    /// The last promise that was given, if it is not settled.
-    pub(crate) fn last(&self) -> Option<u64> {
-        self.written.checked_sub(1).filter(|last| *last >= self.sent)
-    }
-
-    /// One that can write fewer. After the last all that was written is sent.
-    pub(crate) fn part(&mut self, later: &mut Later) {
-        self.outbounds -= 1;
-        if self.outbounds == 0 {
-            self.flush(later);
-            later.woken.extend(self.pump.take());
+    pub(crate) fn flush(&mut self) {
+        if take(&mut self.unflushed) && !replace(&mut self.wanted, true) {
+            self.wakes_first(Event::Work, Event::Work);
         }
     }
 
     /// Lets nobody write any more. All that was written is sent.
-    pub(crate) fn finish(&mut self, later: &mut Later) {
-        self.finishing = true;
-        self.flush(later);
-        later.woken.extend(self.pump.take());
-        later.woken.extend(take(&mut self.queue).into_values().map(|writer| writer.waker));
+    pub(crate) fn finish(&mut self) {
+        self.is_over = true;
+        self.flush();
+        while self.wakes_first(Event::Work, Event::Room) {}
     }
 
-    /// What the pump does next, after `sent` messages in all, if flushed messages are left (`more`) or not.
-    pub(crate) fn next_step(&mut self, sent: u64, more: bool, waker: &Waker, later: &mut Later) -> Step {
-        self.settle(sent, later);
-        self.admits(later);
-        later.old = self.pump.take();
-        if take(&mut self.wanted) {
-            Step::Flush
-        } else if more {
-            Step::Send
-        } else if self.finishing || self.outbounds == 0 {
-            Step::Shut
-        } else {
-            self.pump = Some(waker.clone());
-            Step::Sleep
-        }
+    /// What became of the last of this many messages, if that is known.
+    pub(crate) fn outcome(&self, count: u64) -> Option<Outcome> {
+        if count <= self.sent { Some(Outcome::Success) } else { self.end }
     }
 
-    fn settle(&mut self, sent: u64, later: &mut Later) {
+    /// How many flushed messages the pump has to send next, after `sent` in all: 0 if there never will be one.
+    pub(crate) fn work(&mut self, connection: &SharedConnection, sent: u64) -> Poll<u64> {
         self.sent = sent;
-        while let Some(entry) = self.awaited.first_entry().filter(|entry| entry.key().0 < sent) {
-            later.woken.push(entry.remove());
+        while self.wakes_first(Event::Sent(0), Event::Sent(sent)) {}
+        if take(&mut self.wanted) {
+            // it is not closed, and no promise is cancelled
+            let _ = connection.flush();
         }
+        let Look { total, word, size, .. } = connection.look();
+        (self.pending, self.is_stopped) = (total.into(), word != 0);
+        if size > 0 || self.is_over { Poll::Ready(size) } else { Poll::Pending }
     }
 
-    /// The pump has ended, after `sent` messages in all. It returns how many were written and are not sent.
-    pub(crate) fn end(&mut self, sent: u64, outcome: Outcome, later: &mut Later) -> u64 {
-        self.settle(sent, later);
-        self.end = Some(outcome);
-        later.old = self.pump.take();
-        later.woken.extend(take(&mut self.queue).into_values().map(|writer| writer.waker));
-        later.woken.extend(take(&mut self.awaited).into_values());
-        self.written - sent
+    /// The pump has ended, and has told before what it sent. It returns how many were written and are not sent.
+    pub(crate) fn end(&mut self, outcome: Outcome) -> u64 {
+        (self.end, self.is_over) = (Some(outcome), true);
+        while self.wakes_first(Event::Work, Event::Sent(u64::MAX)) {}
+        self.written - self.sent
     }
 
-    /// When one arrives now.
-    fn arrives(&mut self) -> u64 {
-        self.arrivals += 1;
-        self.arrivals
+    /// Wakes the first of those who wait for these events, if there is one, and keeps room for it.
+    fn wakes_first(&mut self, from: Event, to: Event) -> bool {
+        let Some((&place, _)) = self.waiting.range((from, 0)..=(to, u64::MAX)).next() else { return false };
+        let (size, waker) = self.waiting.remove(&place).expect("it stands there");
+        self.kept += size;
+        self.woken.push(waker);
+        true
+    }
+
+    /// Leaves a place, and returns how much room was kept there, if its waiter was woken.
+    fn leaves(&mut self, place: Place, size: u64) -> Option<u64> {
+        if let Some((_, waker)) = self.waiting.remove(&place) {
+            self.old = Some(waker);
+            return None;
+        }
+        self.kept -= size;
+        Some(size)
     }
 }
 
-/// A place in the queue of those who wait to write. It is left when this is dropped.
+/// One that waits, or may come to wait. It waits no more when this is dropped.
 #[derive(Debug)]
-pub(crate) struct Turn {
+pub(crate) struct Waiting {
     pub(crate) shared: Arc<Shared>,
-    /// When it arrived, if it waits.
-    arrived: Option<u64>,
+    /// Where it waits, or was woken, and how much room it asked for.
+    place: Option<Place>,
+    size: u64,
 }
 
-impl Turn {
-    pub(crate) fn new(shared: &Arc<Shared>) -> Turn {
-        Turn { shared: Arc::clone(shared), arrived: None }
+impl Waiting {
+    pub(crate) fn new(shared: &Arc<Shared>) -> Waiting {
+        Waiting { shared: Arc::clone(shared), place: None, size: 0 }
     }
 
-    /// Does something that writes a message of this length, or none, as soon as there is room and it is this one's
-    /// turn.
+    /// Waits for an event, with room of this size, until this call is ready. It is told whether that room was kept.
     pub(crate) fn poll<T>(
         &mut self,
         cx: &mut Context<'_>,
-        bytes: Option<usize>,
-        call: impl FnOnce(&mut Gate, &mut Later) -> T,
-    ) -> Poll<Result<T, WriteError>> {
-        let Turn { shared, arrived } = self;
-        shared.with(|gate, later| {
-            if gate.is_over() {
-                leaves(arrived, gate, later);
-                return Poll::Ready(Err(WriteError::Gone));
+        event: Event,
+        size: u64,
+        call: impl FnOnce(&Shared, &mut Gate, bool) -> Poll<T>,
+    ) -> Poll<T> {
+        let Waiting { shared, place, size: asked } = self;
+        shared.with(|gate| {
+            // nobody sees that the place is empty meanwhile
+            let old = place.take();
+            let kept = old.and_then(|place| gate.leaves(place, *asked));
+            let answer = call(shared, gate, kept.is_some_and(|kept| size <= kept));
+            if answer.is_pending() {
+                gate.arrivals += 1;
+                let place = *place.insert(old.unwrap_or((event, gate.arrivals)));
+                *asked = size;
+                gate.waiting.insert(place, (size, cx.waker().clone()));
+                // who waits does not wait for what nobody sends
+                if event != Event::Work {
+                    gate.flush();
+                }
             }
-            let size = bytes.map_or(0, |bytes| bytes as u64 + gate.overhead);
-            let is_admitted = match arrived {
-                None => gate.may_write(),
-                Some(at) => gate.kept.get(at).is_some_and(|kept| size <= *kept),
-            };
-            if !is_admitted {
-                waits(arrived, size, cx, gate, later);
-                return Poll::Pending;
-            }
-            leaves(arrived, gate, later);
-            let answer = call(gate, later);
-            // it may have written less, or nothing
-            gate.admits(later);
-            Poll::Ready(Ok(answer))
+            answer
+        })
+    }
+
+    /// Writes a message, as soon as there is room and it is this one's turn.
+    pub(crate) fn poll_write<M: Message>(
+        &mut self,
+        cx: &mut Context<'_>,
+        message: &mut Option<M>,
+        flushes: bool,
+    ) -> Poll<Result<u64, WriteError>> {
+        let size = self.shared.size_of(message);
+        self.poll(cx, Event::Room, size, |shared, gate, is_turn| {
+            // others may wait behind it for what nobody else flushes
+            gate.write(shared, message, flushes || is_turn, is_turn)
         })
     }
 }
 
-/// Joins the queue, or stays there, and has all flushed.
-fn waits(arrived: &mut Option<u64>, size: u64, cx: &mut Context<'_>, gate: &mut Gate, later: &mut Later) {
-    let at = *arrived.get_or_insert_with(|| gate.arrives());
-    // a message that has grown waits anew, before those that came later
-    gate.all_kept -= gate.kept.remove(&at).unwrap_or(0);
-    let old = gate.queue.insert(at, Writer { size, waker: cx.waker().clone() });
-    later.old = old.map(|writer| writer.waker);
-    gate.flush(later);
-    gate.admits(later);
-}
-
-fn leaves(arrived: &mut Option<u64>, gate: &mut Gate, later: &mut Later) {
-    if let Some(at) = arrived.take() {
-        later.old = gate.queue.remove(&at).map(|writer| writer.waker);
-        gate.all_kept -= gate.kept.remove(&at).unwrap_or(0);
-    }
-}
-
-impl Drop for Turn {
+impl Drop for Waiting {
     fn drop(&mut self) {
-        let Turn { shared, arrived } = self;
-        if arrived.is_some() {
-            shared.with(|gate, later| {
-                leaves(arrived, gate, later);
-                gate.admits(later);
-            });
-        }
-    }
-}
-
-/// One who waits for what becomes of a promise, or may come to wait.
-#[derive(Debug)]
-pub(crate) struct Awaited {
-    pub(crate) shared: Arc<Shared>,
-    pub(crate) id: u64,
-    arrived: Option<u64>,
-}
-
-impl Awaited {
-    pub(crate) fn new(shared: &Arc<Shared>, id: u64) -> Awaited {
-        Awaited { shared: Arc::clone(shared), id, arrived: None }
-    }
-
-    pub(crate) fn poll(&mut self, cx: &mut Context<'_>) -> Poll<Outcome> {
-        let Awaited { shared, id, arrived } = self;
-        shared.with(|gate, later| {
-            if let Some(outcome) = gate.outcome(*id) {
-                // whoever settled it took the waker
-                *arrived = None;
-                return Poll::Ready(outcome);
-            }
-            let at = *arrived.get_or_insert_with(|| gate.arrives());
-            later.old = gate.awaited.insert((*id, at), cx.waker().clone());
-            gate.flush(later);
-            Poll::Pending
-        })
-    }
-}
-
-impl Drop for Awaited {
-    fn drop(&mut self) {
-        if let Some(at) = self.arrived {
-            self.shared.with(|gate, later| later.old = gate.awaited.remove(&(self.id, at)));
+        if let Some(place) = self.place.take() {
+            self.shared.with(|gate| gate.leaves(place, self.size));
         }
     }
 }

@@ -34,15 +34,13 @@ mod gate;
 mod message;
 mod outbound;
 mod pump;
-mod receipt;
 mod sink;
 
 pub use errors::{TryWriteError, WriteError};
 pub use limekeel::{Block, Estimate, Marks, Outcome, Refusal};
 pub use message::{Message, Static};
-pub use outbound::Outbound;
+pub use outbound::{Outbound, Receipt};
 pub use pump::{Ended, Pump};
-pub use receipt::Receipt;
 pub use sink::OutboundSink;
 
 use gate::Shared;
@@ -81,7 +79,7 @@ pub fn split_with<S: AsyncWrite + Unpin>(
     }
     let (connection, transport) = SharedConnection::open(marks, estimate)?;
     let shared = Arc::new(Shared::new(connection, marks, estimate));
-    let pump = Pump::new(stream, transport, Arc::clone(&shared));
+    let pump = Pump::new(stream, transport, &shared);
     Ok((Outbound::new(&shared), pump))
 }
 

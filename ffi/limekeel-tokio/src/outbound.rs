@@ -1,12 +1,12 @@
 use crate::errors::{TryWriteError, WriteError};
-use crate::gate::{Awaited, END, Gate, Later, Shared, Turn};
+use crate::gate::{Event, Gate, Shared, Waiting};
 use crate::message::Message;
-use crate::receipt::Receipt;
 use crate::sink::OutboundSink;
-use limekeel::{Outcome, Refusal};
-use std::future::poll_fn;
+use limekeel::Outcome;
+use std::future::{Future, poll_fn};
+use std::pin::Pin;
 use std::sync::Arc;
-use std::task::{Context, Poll};
+use std::task::{Context, Poll, ready};
 
 /// What tasks write to one client with. Each has a clone, or a reference to one.
 ///
@@ -18,20 +18,31 @@ use std::task::{Context, Poll};
 #[derive(Debug)]
 pub struct Outbound {
     /// Where `poll_ready` waits.
-    turn: Turn,
+    pub(crate) turn: Waiting,
+    last: Arc<Last>,
+}
+
+/// What is dropped with the last outbound.
+#[derive(Debug)]
+struct Last(Arc<Shared>);
+
+impl Drop for Last {
+    fn drop(&mut self) {
+        self.0.with(Gate::finish);
+    }
 }
 
 impl Outbound {
     pub(crate) fn new(shared: &Arc<Shared>) -> Outbound {
-        Outbound { turn: Turn::new(shared) }
+        Outbound { turn: Waiting::new(shared), last: Arc::new(Last(Arc::clone(shared))) }
     }
 
-    fn with<T>(&self, call: impl FnOnce(&mut Gate, &mut Later) -> T) -> T {
+    fn with<T>(&self, call: impl FnOnce(&mut Gate) -> T) -> T {
         self.turn.shared.with(call)
     }
 
-    fn receipt(&self, id: u64) -> Receipt {
-        Receipt(Awaited::new(&self.turn.shared, id))
+    fn receipt(&self, count: u64) -> Receipt {
+        Receipt { waiting: Waiting::new(&self.turn.shared), count }
     }
 
     /// Waits until it is this one's turn and the connection is writable; then writes a message and flushes.
@@ -58,18 +69,14 @@ impl Outbound {
         self.writes(message, false).await
     }
 
-    async fn writes<M: Message>(&self, message: M, flush: bool) -> Result<Receipt, WriteError> {
-        let mut message = match self.tries(message, flush) {
-            Err(TryWriteError::Full(message)) => Some(message),
-            written => return written.map_err(WriteError::from),
-        };
-        let bytes = message.as_ref().map(|message| message.as_ref().len());
-        let mut turn = Turn::new(&self.turn.shared);
-        let written = poll_fn(|cx| {
-            turn.poll(cx, bytes, |gate, later| gate.write(message.take().expect("it has one turn"), flush, later))
-        });
-        let id = written.await?.map_err(|refused| refused.refusal)?;
-        Ok(self.receipt(id))
+    async fn writes<M: Message>(&self, message: M, flushes: bool) -> Result<Receipt, WriteError> {
+        let mut message = Some(message);
+        if let Poll::Ready(written) = self.tries(&mut message, flushes) {
+            return written;
+        }
+        let mut turn = Waiting::new(&self.turn.shared);
+        let id = poll_fn(|cx| turn.poll_write(cx, &mut message, flushes)).await?;
+        Ok(self.receipt(id + 1))
     }
 
     /// Writes a message and flushes, if the connection is writable and nobody waits for a turn.
@@ -79,7 +86,7 @@ impl Outbound {
     /// Each has the message: [`TryWriteError::Full`] if it would have to wait, [`TryWriteError::Gone`] and
     /// [`TryWriteError::Refused`] as of [`Outbound::write`].
     pub fn try_write<M: Message>(&self, message: M) -> Result<Receipt, TryWriteError<M>> {
-        self.tries(message, true)
+        self.tries_once(message, true)
     }
 
     /// The same without a flush, as of [`Outbound::feed`].
@@ -88,23 +95,33 @@ impl Outbound {
     ///
     /// Those of [`Outbound::try_write`].
     pub fn try_feed<M: Message>(&self, message: M) -> Result<Receipt, TryWriteError<M>> {
-        self.tries(message, false)
+        self.tries_once(message, false)
     }
 
-    fn tries<M: Message>(&self, message: M, flush: bool) -> Result<Receipt, TryWriteError<M>> {
-        let id = self.with(|gate, later| {
-            if gate.is_over() {
-                return Err(TryWriteError::Gone(message));
-            }
-            if !gate.may_write() {
-                return Err(TryWriteError::Full(message));
-            }
-            gate.write(message, flush, later).map_err(|refused| match refused.refusal {
-                Refusal::Closed => TryWriteError::Gone(refused.owner),
-                refusal => TryWriteError::Refused(refusal, refused.owner),
-            })
-        })?;
-        Ok(self.receipt(id))
+    fn tries_once<M: Message>(&self, message: M, flushes: bool) -> Result<Receipt, TryWriteError<M>> {
+        let mut held = Some(message);
+        let error = match self.tries(&mut held, flushes) {
+            Poll::Ready(Ok(receipt)) => return Ok(receipt),
+            Poll::Ready(Err(error)) => Some(error),
+            Poll::Pending => None,
+        };
+        let message = held.expect("it was not written");
+        Err(match error {
+            None => TryWriteError::Full(message),
+            Some(WriteError::Gone) => TryWriteError::Gone(message),
+            Some(WriteError::Refused(refusal)) => TryWriteError::Refused(refusal, message),
+        })
+    }
+
+    /// Writes a message, if one may that arrives now.
+    pub(crate) fn tries<M: Message>(
+        &self,
+        message: &mut Option<M>,
+        flushes: bool,
+    ) -> Poll<Result<Receipt, WriteError>> {
+        let shared = &self.turn.shared;
+        let id = ready!(shared.with(|gate| gate.write(shared, message, flushes, false)))?;
+        Poll::Ready(Ok(self.receipt(id + 1)))
     }
 
     /// Has all sent that was written so far, by whomever.
@@ -119,36 +136,36 @@ impl Outbound {
     ///
     /// [`WriteError::Gone`], as of [`Outbound::write`].
     pub fn poll_ready(&mut self, cx: &mut Context<'_>) -> Poll<Result<(), WriteError>> {
-        self.turn.poll(cx, None, |_, _| ())
+        self.turn.poll(cx, Event::Room, 0, |_, gate, is_turn| gate.enters(is_turn))
     }
 
-    /// Writes a message of this length and does not flush, when it is this one's turn.
-    pub(crate) fn poll_feed<M: Message>(
-        &mut self,
-        cx: &mut Context<'_>,
-        bytes: usize,
-        message: impl FnOnce() -> M,
-    ) -> Poll<Result<(), WriteError>> {
-        let written = self.turn.poll(cx, Some(bytes), |gate, later| gate.write(message(), false, later))?;
-        written.map(|written| written.map(drop).map_err(|refused| refused.refusal.into()))
+    /// Waits as [`Outbound::poll_ready`]: for who makes a message once it may be written, since a task that waits in
+    /// [`Outbound::write`] has one in memory.
+    ///
+    /// # Errors
+    ///
+    /// [`WriteError::Gone`], as of [`Outbound::write`].
+    pub async fn ready(&self) -> Result<(), WriteError> {
+        let mut other = self.clone();
+        poll_fn(|cx| other.poll_ready(cx)).await
     }
 
     /// Whether a [`Outbound::try_write`] would be accepted now, but for its message.
     #[must_use]
     pub fn is_writable(&self) -> bool {
-        self.with(|gate, _| !gate.is_over() && gate.may_write())
+        self.with(|gate| gate.enters(false) == Poll::Ready(Ok(())))
     }
 
     /// Whether nothing can be written any more.
     #[must_use]
     pub fn is_gone(&self) -> bool {
-        self.with(|gate, _| gate.is_over())
+        self.with(|gate| gate.is_over)
     }
 
     /// How many bytes were written and are not sent, with those that each message counts beside its own.
     #[must_use]
     pub fn pending(&self) -> u32 {
-        self.with(|gate, _| gate.connection.look().total)
+        self.turn.shared.connection.look().total
     }
 
     /// Flushes, and waits until all is sent that was written so far, by whomever: the stream took it.
@@ -157,15 +174,12 @@ impl Outbound {
     ///
     /// [`WriteError::Gone`] if a message of those was given up.
     pub async fn drained(&self) -> Result<(), WriteError> {
-        match self.last() {
-            Some(last) => sent(last.await),
-            None => Ok(()),
-        }
+        sent(self.all_written().await)
     }
 
-    /// The receipt of the last message, if that is not settled.
-    pub(crate) fn last(&self) -> Option<Receipt> {
-        self.with(|gate, _| gate.last()).map(|last| self.receipt(last))
+    /// The receipt of all that was written so far.
+    pub(crate) fn all_written(&self) -> Receipt {
+        self.receipt(self.with(|gate| gate.written))
     }
 
     /// Lets nobody write any more, not even those who wait, and waits until all is sent that was written, and the
@@ -176,7 +190,8 @@ impl Outbound {
     /// [`WriteError::Gone`] if the pump ended otherwise.
     pub async fn finish(&self) -> Result<(), WriteError> {
         self.with(Gate::finish);
-        sent(self.receipt(END).await)
+        // no message has this promise, so it is that of the end
+        sent(self.receipt(u64::MAX).await)
     }
 
     /// A [`futures_sink::Sink`] and a [`tokio::io::AsyncWrite`] over this one.
@@ -188,18 +203,60 @@ impl Outbound {
 
 impl Clone for Outbound {
     fn clone(&self) -> Outbound {
-        self.with(|gate, _| gate.outbounds += 1);
-        Outbound::new(&self.turn.shared)
-    }
-}
-
-impl Drop for Outbound {
-    fn drop(&mut self) {
-        self.with(Gate::part);
+        Outbound { turn: Waiting::new(&self.turn.shared), last: Arc::clone(&self.last) }
     }
 }
 
 /// Whether what became of a promise is what its writer wished.
 pub(crate) fn sent(outcome: Outcome) -> Result<(), WriteError> {
     if outcome == Outcome::Success { Ok(()) } else { Err(WriteError::Gone) }
+}
+
+/// The promise of one message: a future of what became of it.
+///
+/// [`Outcome::Success`] comes when the stream took its last byte, and [`Outcome::Failed`] with [`crate::BROKEN`] or
+/// [`crate::DROPPED`] if it was given up. Who awaits it has all flushed that was written so far. It can be dropped at
+/// any time, which changes nothing for the message.
+///
+/// ```
+/// # #[tokio::main(flavor = "current_thread")]
+/// # async fn main() -> Result<(), Box<dyn std::error::Error>> {
+/// use limekeel_tokio::{Marks, Outcome, split};
+///
+/// let (outbound, pump) = split(tokio::io::sink(), Marks::default())?;
+/// tokio::spawn(pump);
+/// let receipt = outbound.write(b"is it sent?").await?;
+/// assert_eq!((receipt.id(), receipt.await), (0, Outcome::Success));
+/// # Ok(())
+/// # }
+/// ```
+#[derive(Debug)]
+pub struct Receipt {
+    waiting: Waiting,
+    /// How many messages are sent once this one is.
+    count: u64,
+}
+
+impl Receipt {
+    /// The number of the message among all of its connection, from 0, in the order in which they are sent.
+    #[must_use]
+    pub fn id(&self) -> u64 {
+        self.count - 1
+    }
+
+    /// What became of it, if that is known.
+    #[must_use]
+    pub fn outcome(&self) -> Option<Outcome> {
+        self.waiting.shared.with(|gate| gate.outcome(self.count))
+    }
+}
+
+impl Future for Receipt {
+    type Output = Outcome;
+
+    fn poll(mut self: Pin<&mut Self>, cx: &mut Context<'_>) -> Poll<Outcome> {
+        let count = self.count;
+        self.waiting
+            .poll(cx, Event::Sent(count), 0, |_, gate, _| gate.outcome(count).map_or(Poll::Pending, Poll::Ready))
+    }
 }

@@ -1,6 +1,6 @@
-use crate::gate::{Shared, Step};
+use crate::gate::{Event, Shared, Waiting};
 use crate::{BROKEN, DROPPED};
-use limekeel::{Outcome, Sent, Transport};
+use limekeel::{Outcome, Transport};
 use std::future::Future;
 use std::io::{self, ErrorKind, IoSlice};
 use std::pin::Pin;
@@ -26,16 +26,10 @@ pub struct Pump<S> {
     /// None once it has ended.
     stream: Option<S>,
     transport: Transport,
-    shared: Arc<Shared>,
+    /// Where it waits for something to do.
+    waiting: Waiting,
     /// How many messages were sent.
     sent: u64,
-    /// Whether flushed messages are left.
-    more: bool,
-    /// Whether the stream took bytes that it was not told to flush.
-    unflushed: bool,
-    /// How the stream broke, if that came behind bytes that it took.
-    broken: Option<io::Error>,
-    shuts: bool,
 }
 
 /// What became of a [`Pump`].
@@ -64,71 +58,39 @@ impl<S> Ended<S> {
 }
 
 impl<S: AsyncWrite + Unpin> Pump<S> {
-    pub(crate) fn new(stream: S, transport: Transport, shared: Arc<Shared>) -> Pump<S> {
-        let stream = Some(stream);
-        Pump { stream, transport, shared, sent: 0, more: false, unflushed: false, broken: None, shuts: false }
+    pub(crate) fn new(stream: S, transport: Transport, shared: &Arc<Shared>) -> Pump<S> {
+        Pump { stream: Some(stream), transport, waiting: Waiting::new(shared), sent: 0 }
     }
 
     /// Ready when all is sent that can come, and the stream is shut down.
     fn poll_all(&mut self, cx: &mut Context<'_>) -> Poll<io::Result<()>> {
-        if !self.shuts {
-            ready!(self.poll_sent(cx))?;
-            self.shuts = true;
-        }
-        self.stream().poll_shutdown(cx)
-    }
-
-    /// Ready when all is sent that can come.
-    fn poll_sent(&mut self, cx: &mut Context<'_>) -> Poll<io::Result<()>> {
-        let (mut turns, mut blocked) = (0, false);
+        let (mut turns, mut is_blocked) = (0..TURNS, false);
         loop {
+            let sent = self.sent;
             // who waits for what the last turn sent is woken before the next
-            let (sent, more) = (self.sent, self.more);
-            match self.shared.with(|gate, later| gate.next_step(sent, more, cx.waker(), later)) {
-                Step::Flush => {
-                    // it is not closed, and no promise is cancelled
-                    let _ = self.transport.flush();
-                    self.more = true;
+            let work = self.waiting.poll(cx, Event::Work, 0, |shared, gate, _| gate.work(&shared.connection, sent));
+            match work {
+                _ if is_blocked => return Poll::Pending,
+                Poll::Ready(0) => return self.stream().poll_shutdown(cx),
+                Poll::Ready(_) if turns.next().is_some() => is_blocked = self.send(cx)?,
+                Poll::Ready(_) => {
+                    cx.waker().wake_by_ref();
+                    return Poll::Pending;
                 }
-                Step::Send => {}
-                Step::Sleep => return self.poll_flushed(cx),
-                Step::Shut => return Poll::Ready(Ok(())),
+                Poll::Pending => {
+                    ready!(self.stream().poll_flush(cx))?;
+                    return Poll::Pending;
+                }
             }
-            if blocked {
-                return Poll::Pending;
-            }
-            if turns == TURNS {
-                cx.waker().wake_by_ref();
-                return Poll::Pending;
-            }
-            turns += 1;
-            blocked = self.send(cx)?;
         }
     }
 
     /// Lets the stream take once of what is flushed, and returns whether it has no room.
     fn send(&mut self, cx: &mut Context<'_>) -> io::Result<bool> {
-        let Pump { stream, transport, broken, .. } = self;
-        let stream = stream.as_mut().expect("it has not ended");
-        let Sent { bytes, taken, blocked, more } = transport.send_with(|pieces| match broken.take() {
-            Some(error) => Err(error),
-            None => write_pieces(stream, cx, pieces, broken),
-        })?;
-        if taken.count > 0 {
-            self.sent = taken.promises.end;
-        }
-        self.unflushed |= bytes > 0;
-        self.more = more;
-        Ok(blocked)
-    }
-
-    /// Pending in any case, unless the stream is broken: it is flushed while there is nothing to send.
-    fn poll_flushed(&mut self, cx: &mut Context<'_>) -> Poll<io::Result<()>> {
-        if self.unflushed {
-            ready!(self.stream().poll_flush(cx))?;
-            self.unflushed = false;
-        }
-        Poll::Pending
+        let stream = self.stream.as_mut().expect("it has not ended");
+        let sent = self.transport.send_with(|pieces| write_pieces(Pin::new(stream), cx, pieces))?;
+        self.sent = sent.taken.promises.end;
+        Ok(sent.blocked)
     }
 
     fn stream(&mut self) -> Pin<&mut S> {
@@ -139,50 +101,23 @@ impl<S: AsyncWrite + Unpin> Pump<S> {
 impl<S> Pump<S> {
     /// Gives up what is left, and returns how many messages that were.
     fn ends(&mut self, outcome: Outcome) -> u64 {
-        let lost = self.shared.with(|gate, later| gate.end(self.sent, outcome, later));
+        let lost = self.waiting.shared.with(|gate| gate.end(outcome));
         // it is not closed before this
         let _ = self.transport.give_up(BROKEN);
         lost
     }
 }
 
-/// How many bytes of these pieces a stream took. What would block is [`ErrorKind::WouldBlock`], and nothing else is.
-fn write_pieces<S: AsyncWrite + Unpin>(
-    stream: &mut S,
-    cx: &mut Context<'_>,
-    pieces: &[IoSlice<'_>],
-    broken: &mut Option<io::Error>,
-) -> io::Result<usize> {
-    if stream.is_write_vectored() {
-        return answered(Pin::new(stream).poll_write_vectored(cx, pieces));
-    }
-    let mut bytes = 0;
-    for piece in pieces {
-        match answered(Pin::new(&mut *stream).poll_write(cx, piece)) {
-            // more than it was given, which is refused below
-            Ok(n) if n > piece.len() => return Ok(usize::MAX),
-            Ok(n) => {
-                bytes += n;
-                if n < piece.len() {
-                    break;
-                }
-            }
-            Err(error) if bytes == 0 => return Err(error),
-            Err(error) => {
-                // it is asked again, but for a fault, which may be told once only
-                *broken = Some(error).filter(|error| error.kind() != ErrorKind::WouldBlock);
-                break;
-            }
-        }
-    }
-    Ok(bytes)
-}
-
-fn answered(answer: Poll<io::Result<usize>>) -> io::Result<usize> {
-    match answer {
+/// How many bytes a stream took of these pieces, or of the first if it takes one at a time. What would block is
+/// [`ErrorKind::WouldBlock`], and nothing else is.
+fn write_pieces(stream: Pin<&mut impl AsyncWrite>, cx: &mut Context<'_>, pieces: &[IoSlice<'_>]) -> io::Result<usize> {
+    let offered = if stream.is_write_vectored() { pieces } else { &pieces[..1] };
+    match stream.poll_write_vectored(cx, offered) {
         Poll::Pending => Err(ErrorKind::WouldBlock.into()),
         // a stream that says this in place of `Pending` wakes nobody
         Poll::Ready(Err(error)) if error.kind() == ErrorKind::WouldBlock => Err(io::Error::other(error)),
+        // more than it was given is refused
+        Poll::Ready(Ok(bytes)) if bytes > offered.iter().map(|piece| piece.len()).sum() => Ok(usize::MAX),
         Poll::Ready(answer) => answer,
     }
 }

@@ -1,6 +1,5 @@
-use crate::errors::{TryWriteError, WriteError};
-use crate::outbound::{Outbound, sent};
-use crate::receipt::Receipt;
+use crate::errors::WriteError;
+use crate::outbound::{Outbound, Receipt, sent};
 use bytes::Bytes;
 use futures_sink::Sink;
 use std::future::Future;
@@ -43,21 +42,20 @@ pub struct OutboundSink {
     outbound: Option<Outbound>,
     kept: Option<Bytes>,
     /// What a flush waits for.
-    last: Option<Receipt>,
+    flushed: Option<Receipt>,
 }
 
 impl OutboundSink {
     pub(crate) fn new(outbound: Outbound) -> OutboundSink {
-        OutboundSink { outbound: Some(outbound), kept: None, last: None }
+        OutboundSink { outbound: Some(outbound), kept: None, flushed: None }
     }
 
     /// Writes what is kept, and returns what to write with then.
     fn poll_kept(&mut self, cx: &mut Context<'_>) -> Poll<Result<&mut Outbound, WriteError>> {
-        let OutboundSink { outbound: Some(outbound), kept, .. } = self else {
-            return Poll::Ready(Err(WriteError::Gone));
-        };
-        if let Some(bytes) = kept.as_ref().map(Bytes::len) {
-            ready!(outbound.poll_feed(cx, bytes, || kept.take().expect("one is kept")))?;
+        let outbound = self.outbound.as_mut().ok_or(WriteError::Gone)?;
+        if self.kept.is_some() {
+            ready!(outbound.turn.poll_write(cx, &mut self.kept, false))?;
+            self.kept = None;
         }
         Poll::Ready(Ok(outbound))
     }
@@ -71,22 +69,19 @@ impl Sink<Bytes> for OutboundSink {
     }
 
     fn start_send(mut self: Pin<&mut Self>, message: Bytes) -> Result<(), WriteError> {
-        match self.outbound.as_ref().ok_or(WriteError::Gone)?.try_feed(message) {
-            Err(TryWriteError::Full(message)) => self.kept = Some(message),
-            written => drop(written?),
+        let mut message = Some(message);
+        match self.outbound.as_ref().ok_or(WriteError::Gone)?.tries(&mut message, false) {
+            Poll::Ready(written) => drop(written?),
+            Poll::Pending => self.kept = message,
         }
         Ok(())
     }
 
     fn poll_flush(mut self: Pin<&mut Self>, cx: &mut Context<'_>) -> Poll<Result<(), WriteError>> {
-        let newest = ready!(self.poll_kept(cx))?.last();
-        // a flush that is under way waits for what was the last when it began
-        if self.last.is_none() {
-            self.last = newest;
-        }
-        let Some(last) = &mut self.last else { return Poll::Ready(Ok(())) };
-        let outcome = ready!(Pin::new(last).poll(cx));
-        self.last = None;
+        let all = ready!(self.poll_kept(cx))?.all_written();
+        // a flush that is under way waits for what was written when it began
+        let outcome = ready!(Pin::new(self.flushed.get_or_insert(all)).poll(cx));
+        self.flushed = None;
         Poll::Ready(sent(outcome))
     }
 
@@ -103,7 +98,7 @@ impl AsyncWrite for OutboundSink {
     fn poll_write(mut self: Pin<&mut Self>, cx: &mut Context<'_>, bytes: &[u8]) -> Poll<io::Result<usize>> {
         let bytes = &bytes[..bytes.len().min(MOST)];
         if !bytes.is_empty() {
-            ready!(ready!(self.poll_kept(cx))?.poll_feed(cx, bytes.len(), || bytes))?;
+            ready!(ready!(self.poll_kept(cx))?.turn.poll_write(cx, &mut Some(bytes), false))?;
         }
         Poll::Ready(Ok(bytes.len()))
     }

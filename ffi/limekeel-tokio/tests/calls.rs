@@ -51,6 +51,16 @@ fn a_message_is_written_and_sent() {
 }
 
 #[test]
+fn the_high_mark_is_passed_by_one_message() {
+    let (outbound, _pump, _) = opened();
+    drop(outbound.try_write(b"at ").unwrap());
+    assert_eq!((outbound.pending(), outbound.is_writable()), (99, true));
+    drop(outbound.try_write(&[7; 1000]).unwrap());
+    assert!(!outbound.is_writable());
+    assert!(matches!(outbound.try_write(b""), Err(TryWriteError::Full(_))));
+}
+
+#[test]
 fn who_waits_writes_in_the_order_of_arrival() {
     let (outbound, mut pump, stream) = filled();
     let mut writers: Vec<_> = [b"one ", b"two ", b"drei"].map(|text| ByHand::new(outbound.write(text)).waits()).into();
@@ -228,6 +238,19 @@ fn an_outbound_that_waits_to_be_ready_can_be_dropped() {
 }
 
 #[test]
+fn who_waits_to_be_ready_is_woken_as_who_writes() {
+    let (outbound, mut pump, _) = filled();
+    let mut ready = ByHand::new(outbound.ready()).waits();
+    let mut write = ByHand::new(outbound.write(b"news")).waits();
+    assert!(pump.poll().is_pending());
+    assert_eq!((ready.woken(), ready.poll()), (1, Poll::Ready(Ok(()))));
+    assert!(write.woken() == 1 && write.poll().is_ready());
+    let mut ready = ByHand::new(outbound.ready()).waits();
+    drop(pump);
+    assert_eq!((ready.woken(), ready.poll()), (1, Poll::Ready(Err(WriteError::Gone))));
+}
+
+#[test]
 fn one_that_was_ready_and_left_alone_takes_no_room() {
     let (outbound, mut pump, _) = filled();
     let mut idle: Vec<_> = (0..10).map(|_| outbound.clone()).collect();
@@ -256,6 +279,20 @@ fn what_is_fed_is_sent_when_somebody_waits() {
         assert!(pump.poll().is_pending());
         assert_eq!(stream.with(|within| within.got.clone()), b"full");
     }
+}
+
+#[test]
+fn what_is_fed_is_not_sent_before_a_flush() {
+    let (outbound, mut pump, stream) = opened();
+    drop(outbound.try_feed(b"fed ").unwrap());
+    // polled for nothing, before it sleeps and after that
+    for _ in 0..3 {
+        assert!(pump.poll().is_pending());
+    }
+    assert_eq!((pump.woken(), outbound.pending()), (0, 100));
+    outbound.flush();
+    assert!(pump.poll().is_pending());
+    assert_eq!(stream.with(|within| within.got.clone()), b"fed ");
 }
 
 #[test]
@@ -369,13 +406,13 @@ fn a_stream_that_answers_wrongly_is_broken() {
     assert!(matches!(ByHand::new(pump).poll(), Poll::Ready(ended) if ended.sent == 1));
 }
 
-/// A stream that takes a message, and then says once that it is broken.
+/// A stream that takes three bytes, and then says once that it is broken.
 struct TakesOne(u32);
 
 impl AsyncWrite for TakesOne {
     fn poll_write(mut self: Pin<&mut Self>, _: &mut Context<'_>, bytes: &[u8]) -> Poll<io::Result<usize>> {
         self.0 += 1;
-        if self.0 == 2 { Poll::Ready(Err(ErrorKind::TimedOut.into())) } else { Poll::Ready(Ok(bytes.len())) }
+        if self.0 == 2 { Poll::Ready(Err(ErrorKind::TimedOut.into())) } else { Poll::Ready(Ok(bytes.len().min(3))) }
     }
 
     fn poll_flush(self: Pin<&mut Self>, _: &mut Context<'_>) -> Poll<io::Result<()>> {
@@ -440,11 +477,11 @@ fn owned_shared_and_static_bytes_are_not_copied() {
     drop(outbound.try_write(Static(text.as_bytes())).unwrap());
     drop(outbound.try_write(&block).unwrap());
     drop(outbound.try_write("copied").unwrap());
-    drop(outbound.try_write(String::from("owned")).unwrap());
+    drop(outbound.try_write("c".repeat(3000)).unwrap());
     drop(outbound);
     let Poll::Ready(ended) = ByHand::new(pump).poll() else { panic!("all is sent") };
     let lengths: Vec<_> = ended.stream.0.iter().map(|(_, length)| *length).collect();
-    assert_eq!(lengths, [5000, 5000, 8, 5000, 6, 5]);
+    assert_eq!(lengths, [5000, 5000, 8, 5000, 6, 3000]);
     assert_eq!(ended.stream.0.iter().map(|(place, _)| *place).take(4).collect::<Vec<_>>(), places);
 }
 
@@ -452,7 +489,7 @@ fn owned_shared_and_static_bytes_are_not_copied() {
 fn an_owner_is_dropped_once_its_message_is_sent_or_given_up() {
     for sent in [true, false] {
         let (outbound, mut pump, _) = opened();
-        let owned = Bytes::from(vec![1; 100]);
+        let owned = Bytes::from(vec![1; 2049]);
         let shared = owned.clone();
         drop(outbound.try_write(owned).unwrap());
         if sent {
@@ -464,6 +501,14 @@ fn an_owner_is_dropped_once_its_message_is_sent_or_given_up() {
         let at = shared.as_ptr();
         assert!(BytesAlone::is(shared), "{at:?} is kept, {sent}");
     }
+}
+
+#[test]
+fn few_bytes_of_a_large_buffer_do_not_keep_it() {
+    let (outbound, _pump, _) = opened();
+    let buffer = Bytes::from(vec![1; 100_000]);
+    drop(outbound.try_write(buffer.slice(..2)).unwrap());
+    assert!(BytesAlone::is(buffer));
 }
 
 /// Whether nobody else has these bytes.
@@ -532,9 +577,9 @@ fn those_who_come_back_with_more_are_let_in_one_by_one() {
     let mut write = |at: usize, bytes: &[u8]| AsyncWrite::poll_write(Pin::new(&mut writers[at]), cx, bytes);
     assert!(write(0, b"four").is_pending() && write(1, b"four").is_pending());
     assert!(pump.poll().is_pending());
-    // room for four bytes is kept for both
-    assert!(write(0, &[1; 5000]).is_pending() && write(1, &[1; 5000]).is_pending());
+    // room for four bytes is kept for both, and there is more for the first
     assert!(matches!(write(0, &[1; 5000]), Poll::Ready(Ok(5000))));
+    assert!(write(1, &[1; 5000]).is_pending());
     assert!(write(1, &[1; 5000]).is_pending());
     assert!(pump.poll().is_pending());
     assert!(matches!(write(1, &[1; 5000]), Poll::Ready(Ok(5000))));
