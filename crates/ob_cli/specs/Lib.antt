@@ -1,10 +1,5 @@
 pub mod Cli
-pub mod Draw
 pub mod Drive
 pub mod Outcome
-pub mod Reading
 pub mod Run
-pub mod Summary
-pub mod Traces
-pub mod Tracing
 pub mod Turns

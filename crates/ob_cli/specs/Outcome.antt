@@ -1,61 +1,30 @@
--- How a run ends.
-use Rattle.std.specs.Prelude.{ℕ, Option, None, Some, Result, Ok, Err}
-use Rattle.ob_cli.specs.declared.reading.fault.LineFault.{LineFault}
-use Rattle.ob_cli.specs.declared.script_fault.ScriptFault.{ScriptFault}
-use Rattle.ob_cli.specs.declared.script_fault.ScriptFault.TheVariants.{Line, Read, TooLong, Write, NoMemory, Drive}
+-- How a request ends.
+use Rattle.std.specs.Prelude.{◌≡◌, ℕ, Result, Ok, Err}
+use Rattle.ob_script.specs.declared.script_fault.ScriptFault.{ScriptFault}
+use Rattle.ob_script.specs.declared.script_fault.ScriptFault.TheVariants.{Line, Read, TooLong, Write, NoMemory}
+use Rattle.ob_cli.specs.declared.request_fault.RequestFault.{RequestFault}
+use Rattle.ob_cli.specs.declared.request_fault.RequestFault.TheVariants.{Script, Drive}
 
--- the fault of a line that a run tells, with the line's number
-abbrev pub fault_told : {T : Type 0} → Result T ScriptFault → Option (ℕ × LineFault)
-fault_told (Ok done) = None
-fault_told (Err (Line number fault)) = Some (number, fault)
-fault_told (Err Read) = None
-fault_told (Err TooLong) = None
-fault_told (Err Write) = None
-fault_told (Err NoMemory) = None
-fault_told (Err (Drive fault)) = None
-
--- a run went through the script to its end, or to its first faulty line
-abbrev pub WentThrough : {T : Type 0} → Result T ScriptFault → Type 0
-WentThrough (Ok done) = Unit {0}
-WentThrough (Err (Line number fault)) = Unit {0}
-WentThrough (Err Read) = ⊥
-WentThrough (Err TooLong) = ⊥
-WentThrough (Err Write) = ⊥
-WentThrough (Err NoMemory) = ⊥
-WentThrough (Err (Drive fault)) = ⊥
-
--- a fault of reading a script
-abbrev pub IsReadingFault : ScriptFault → Type 0
-IsReadingFault (Line number fault) = ⊥
-IsReadingFault Read = Unit {0}
-IsReadingFault TooLong = Unit {0}
-IsReadingFault Write = ⊥
-IsReadingFault NoMemory = Unit {0}
-IsReadingFault (Drive fault) = ⊥
+-- of what came of the script this holds; of a drive that came to no report nothing is said
+abbrev pub OfScript : {T : Type 0} → Result T RequestFault → (Result T ScriptFault → Type 0) → Type 0
+OfScript (Ok done) Holds = Holds (Ok done)
+OfScript (Err (Script fault)) Holds = Holds (Err fault)
+OfScript (Err (Drive fault)) Holds = Unit {0}
 
 -- a fault of driving what was read
-abbrev pub IsFaultOfDrive : ScriptFault → Type 0
-IsFaultOfDrive (Line number fault) = ⊥
-IsFaultOfDrive Read = ⊥
-IsFaultOfDrive TooLong = ⊥
-IsFaultOfDrive Write = ⊥
-IsFaultOfDrive NoMemory = Unit {0}
+abbrev pub IsFaultOfDrive : RequestFault → Type 0
+IsFaultOfDrive (Script fault) = fault ≡ NoMemory
 IsFaultOfDrive (Drive fault) = Unit {0}
 
--- a fault of writing a text
-abbrev pub IsWritingFault : ScriptFault → Type 0
-IsWritingFault (Line number fault) = ⊥
-IsWritingFault Read = ⊥
-IsWritingFault TooLong = ⊥
-IsWritingFault Write = Unit {0}
-IsWritingFault NoMemory = Unit {0}
-IsWritingFault (Drive fault) = ⊥
+-- the status with which the program ends after a fault of a script
+abbrev pub script_status : ScriptFault → ℕ
+script_status (Line number fault) = 2
+script_status Read = 3
+script_status TooLong = 3
+script_status Write = 3
+script_status NoMemory = 4
 
--- the status with which the program ends after a fault of a run
-abbrev pub status_of : ScriptFault → ℕ
-status_of (Line number fault) = 2
-status_of Read = 3
-status_of TooLong = 3
-status_of Write = 3
-status_of NoMemory = 4
+-- the status with which the program ends after a fault of a request
+abbrev pub status_of : RequestFault → ℕ
+status_of (Script fault) = script_status fault
 status_of (Drive fault) = 5

@@ -11,12 +11,13 @@ ghost use Rattle.ob_cli.specs.Drive.Report.{ComesTo, WritesReport};
 ghost use Rattle.ob_cli.specs.Drive.Script.{drive_grammar, plans_in, plans_of};
 ghost use Rattle.ob_cli.specs.Drive.Session.{HasKept};
 ghost use Rattle.ob_cli.specs.Drive.Text.{report_text};
-ghost use Rattle.ob_cli.specs.Reading.Ending.{ReadingEnds};
-ghost use Rattle.ob_cli.specs.Tracing.Interprets.{GoesThrough};
+ghost use Rattle.ob_script.specs.Reading.Ending.{ReadingEnds};
+ghost use Rattle.ob_script.specs.Tracing.Interprets.{GoesThrough};
 ghost use Rattle.ob_cli.specs.Cli.Options.{first_history};
-ghost use Rattle.ob_cli.specs.Outcome.{IsFaultOfDrive, IsWritingFault};
-ghost use Rattle.ob_cli.specs.Reading.Script.{greatest_script, script_lines};
-ghost use Rattle.ob_cli.specs.declared.script_fault.ScriptFault.TheVariants.{Drive};
+ghost use Rattle.ob_script.specs.Outcome.{IsWritingFault};
+ghost use Rattle.ob_cli.specs.Outcome.{IsFaultOfDrive, OfScript};
+ghost use Rattle.ob_script.specs.Reading.Script.{greatest_script, script_lines};
+ghost use Rattle.ob_cli.specs.declared.request_fault.RequestFault.TheVariants.{Drive, Script};
 
 pub mod line;
 pub mod more;
@@ -31,13 +32,9 @@ use crate::drive::offers::{CountingSink, Offers};
 use crate::drive::plans::make_plans;
 use crate::drive::session::DriveSession;
 use crate::drive::text::push_report;
-use crate::reading::cursor::Cursor;
-use crate::reading::fault::LineFault;
-use crate::reading::script::read_script;
-use crate::script_fault::ScriptFault;
-use crate::tracing::interpret::MAX_READS;
-use crate::tracing::write::write_text;
+use crate::request_fault::RequestFault;
 use ob_pool::{Config, OpenGate, Report, drive};
+use ob_script::{Cursor, LineFault, ScriptFault, read_script, write_text};
 use ob_transport::Limits;
 use std::alloc::Global;
 use std::io::{Read, Write};
@@ -72,12 +69,12 @@ pub fn drive_script<H: AllocGlobal + Threads + Wait + Clock + Sync, R: Read, W: 
     reader: &mut R,
     writer: &mut W,
     options: &Options,
-) -> Result<Driven, ScriptFault>
+) -> Result<Driven, RequestFault>
     // What was read has plans without a fault, and the text of a report on a drive of them is written and nothing else.
     ensures report { OnOk result (IfSome (R.remaining reader.old) (λ script.
         WritesReport options.now (plans_of (script_lines drive_grammar script))
         (W.contents writer.old) (W.contents writer.new))) }
-    ensures through { GoesThrough drive_grammar (R.remaining reader.old) (R.remaining reader.new) result }
+    ensures through { OfScript result (GoesThrough drive_grammar (R.remaining reader.old) (R.remaining reader.new)) }
 
     // The history that is answered is one of a single thread, with the options' marks and sizes.
     ensures legal { IfOk result (λ driven.
@@ -89,10 +86,10 @@ pub fn drive_script<H: AllocGlobal + Threads + Wait + Clock + Sync, R: Read, W: 
         ComesTo options.now (plans_of (script_lines drive_grammar script)) fault) }
 
     // Without a report nothing is written, unless the writer fails.
-    ensures unwritten { IfErr result (λ fault. fault ≢ ScriptFault.Write
+    ensures unwritten { IfErr result (λ fault. fault ≢ Script ScriptFault.Write
         → Keeps (W.contents writer.old) (W.contents writer.new)) }
 {
-    let script = read_script(rt.alloc(), reader, MAX_READS)?;
+    let script = read_script(rt.alloc(), reader)?;
     let session = read_lines(rt.alloc(), script)?;
     let driven = drive_session(rt, session, options)?;
     match write_report(rt.alloc(), &driven.report, writer) {
@@ -100,7 +97,7 @@ pub fn drive_script<H: AllocGlobal + Threads + Wait + Clock + Sync, R: Read, W: 
         Err(fault) => {
             // by one call, since the end of the scope is followed field by field
             drop(driven);
-            Err(fault)
+            Err(RequestFault::Script(fault))
         }
     }
 }
@@ -127,7 +124,7 @@ fn drive_session<H: AllocGlobal + Threads + Wait + Clock + Sync>(
     rt: &H,
     session: DriveSession,
     options: &Options,
-) -> Result<Driven, ScriptFault>
+) -> Result<Driven, RequestFault>
     ensures told { IfOk result (λ driven.
         TellsOf (first_history options.now) (plans_in session.writers.items) driven.report) }
     ensures few { IfOk result (λ driven. length driven.report.recorded.records ≤ most_records) }
@@ -147,7 +144,7 @@ fn drive_session<H: AllocGlobal + Threads + Wait + Clock + Sync>(
             time: milliseconds_since(rt, begun),
             offers: sink.offers,
         }),
-        Err(fault) => Err(ScriptFault::Drive(fault)),
+        Err(fault) => Err(RequestFault::Drive(fault)),
     }
 }
 

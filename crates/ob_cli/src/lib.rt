@@ -3,14 +3,9 @@
 #![tactic(auto)]
 
 mod cli;
-mod draw;
 mod drive;
-mod reading;
+mod request_fault;
 mod run;
-mod script_fault;
-mod summary;
-mod traces;
-mod tracing;
 mod turns;
 
 pub use cli::entry::entry;

@@ -1,6 +1,6 @@
 //! The subcommand `run`: commands to one buffer, whose calls are recorded.
 
-ghost use Rattle.ob_cli.specs.Tracing.Interprets.{Interprets};
+ghost use Rattle.ob_script.specs.Tracing.Interprets.{Interprets};
 ghost use Rattle.ob_cli.specs.Cli.Options.{first_history};
 ghost use Rattle.ob_cli.specs.Run.Script.{run_language};
 
@@ -12,8 +12,7 @@ pub mod words;
 
 use crate::cli::options::Options;
 use crate::run::session::RunSession;
-use crate::script_fault::ScriptFault;
-use crate::tracing::interpret::interpret;
+use ob_script::{ScriptFault, interpret};
 use std::alloc::Global;
 use std::io::{Read, Write};
 

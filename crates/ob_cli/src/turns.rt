@@ -1,16 +1,15 @@
 //! The subcommand `core`: the turns of lanes. A module of its name would hide the library `core`.
 
 ghost use Rattle.ob_cli.specs.Turns.Script.{core_language};
-ghost use Rattle.ob_cli.specs.Tracing.Interprets.{Interprets};
+ghost use Rattle.ob_script.specs.Tracing.Interprets.{Interprets};
 
 pub mod line;
 pub mod session;
 pub mod text;
 pub mod words;
 
-use crate::script_fault::ScriptFault;
-use crate::tracing::interpret::interpret;
 use crate::turns::session::CoreSession;
+use ob_script::{ScriptFault, interpret};
 use ob_types::WaterMark;
 use std::alloc::Global;
 use std::io::{Read, Write};

@@ -4,7 +4,7 @@ use Rattle.std.specs.Io.KnownBytes.{Appends, Keeps}
 use Rattle.ob_cli.specs.Cli.Request.{WritesRequested, requested_trace_of_first, requested_fault}
 use Rattle.ob_cli.specs.Outcome.{status_of}
 use Rattle.ob_cli.specs.declared.cli.fault.EntryFault.{EntryFault}
-use Rattle.ob_cli.specs.declared.reading.fault.LineFault.{LineFault}
+use Rattle.ob_script.specs.declared.reading.fault.LineFault.{LineFault}
 use Rattle.ob_cli.specs.declared.cli.request.Request.{Request}
 use Rattle.ob_cli.specs.declared.cli.fault.EntryFault.TheVariants.{CommandLine, NoSubcommand, ListAsked, BadMarks, NoMemory, Run}
 

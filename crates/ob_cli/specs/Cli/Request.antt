@@ -6,13 +6,13 @@ use Rattle.ob_cli.specs.Drive.Report.{WritesReport}
 use Rattle.ob_cli.specs.Drive.Script.{drive_grammar, plans_of}
 use Rattle.ob_cli.specs.Cli.Options.{first_history}
 use Rattle.ob_cli.specs.Run.Script.{run_grammar, run_language}
-use Rattle.ob_cli.specs.Reading.Script.{script_fault, script_lines}
-use Rattle.ob_cli.specs.Draw.Picture.{TellsPicture}
-use Rattle.ob_cli.specs.Summary.Text.{TellsSummary}
-use Rattle.ob_cli.specs.Traces.Line.{trace_grammar}
-use Rattle.ob_cli.specs.Traces.Telling.{WritesOfTrace}
-use Rattle.ob_cli.specs.Tracing.Trace.{trace_of, trace_of_first}
-use Rattle.ob_cli.specs.declared.reading.fault.LineFault.{LineFault}
+use Rattle.ob_script.specs.Reading.Script.{script_fault, script_lines}
+use Rattle.ob_traces.specs.Draw.Picture.{TellsPicture}
+use Rattle.ob_traces.specs.Summary.Text.{TellsSummary}
+use Rattle.ob_traces.specs.Traces.Line.{trace_grammar}
+use Rattle.ob_traces.specs.Traces.Telling.{WritesOfTrace}
+use Rattle.ob_script.specs.Tracing.Trace.{trace_of, trace_of_first}
+use Rattle.ob_script.specs.declared.reading.fault.LineFault.{LineFault}
 use Rattle.ob_cli.specs.declared.cli.options.Options.{Options}
 use Rattle.ob_cli.specs.declared.cli.request.Request.{Request}
 use Rattle.ob_cli.specs.declared.cli.request.Request.TheVariants.{Run, Core, Drive, Summary, Draw}

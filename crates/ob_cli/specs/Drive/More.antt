@@ -12,12 +12,12 @@ use Rattle.ob_history.specs.Accepted.{accepted_commands}
 use Rattle.ob_history.specs.declared.record.Record.{Record}
 use Rattle.ob_pool.specs.declared.report.Report.{Report}
 use Rattle.ob_cli.specs.Drive.Offers.{Offers}
-use Rattle.ob_cli.specs.Summary.Text.{levels_text}
-use Rattle.ob_cli.specs.Tracing.Text.{number_line}
-use Rattle.ob_cli.specs.declared.summary.make.Summary.{Summary}
-use Rattle.ob_cli.specs.declared.traces.line.Told.{Told}
-use Rattle.ob_cli.specs.declared.traces.line.Told.TheVariants as told
-use Rattle.ob_cli.specs.declared.traces.line.TraceLine.{TraceLine}
+use Rattle.ob_traces.specs.Summary.Text.{levels_text}
+use Rattle.ob_script.specs.Tracing.Text.{number_line}
+use Rattle.ob_traces.specs.declared.summing.make.Summary.{Summary}
+use Rattle.ob_traces.specs.declared.traces.line.Told.{Told}
+use Rattle.ob_traces.specs.declared.traces.line.Told.TheVariants as told
+use Rattle.ob_traces.specs.declared.traces.line.TraceLine.{TraceLine}
 
 -- what a reply tells, and its change of writability
 abbrev pub told_by_reply : Result Reply Refusal → Told

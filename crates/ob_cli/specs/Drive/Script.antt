@@ -8,8 +8,8 @@ use Rattle.ob_types.specs.declared.message.Message.TheVariants as message
 use Rattle.ob_seq.specs.Effect.{greatest}
 use Rattle.ob_transport.specs.declared.script.SinkStep.{SinkStep}
 use Rattle.ob_cli.specs.Drive.Table.{drive_table}
-use Rattle.ob_cli.specs.Reading.Grammar.{Grammar}
-use Rattle.ob_cli.specs.Reading.Line.{line_reading}
+use Rattle.ob_script.specs.Reading.Grammar.{Grammar}
+use Rattle.ob_script.specs.Reading.Line.{line_reading}
 use Rattle.ob_cli.specs.declared.drive.line.DriveLine.{DriveLine}
 use Rattle.ob_cli.specs.declared.drive.line.DriveLine.TheVariants as line
 use Rattle.ob_cli.specs.declared.drive.line.WriterAction.{WriterAction}

@@ -5,10 +5,10 @@ use Rattle.ob_types.specs.declared.command.Command.{Command}
 use Rattle.ob_types.specs.declared.command.Command.TheVariants as command
 use Rattle.ob_types.specs.declared.message.Message.TheVariants as message
 use Rattle.ob_transport.specs.declared.script.SinkStep.TheVariants as step
-use Rattle.ob_cli.specs.Reading.Numbers.{any_32, any_64, any_mark, up_to}
+use Rattle.ob_script.specs.Reading.Numbers.{any_32, any_64, any_mark, up_to}
 use Rattle.ob_cli.specs.Run.Table.{marks_line}
-use Rattle.ob_cli.specs.Reading.Table.{LineKind, Table, row, row_if}
-use Rattle.ob_cli.specs.declared.reading.range.Range.{Range}
+use Rattle.ob_script.specs.Reading.Table.{LineKind, Table, row, row_if}
+use Rattle.ob_script.specs.declared.reading.range.Range.{Range}
 use Rattle.ob_cli.specs.declared.drive.words.DriveWord.{DriveWord}
 use Rattle.ob_cli.specs.declared.drive.words.DriveWord.TheVariants as word
 use Rattle.ob_cli.specs.declared.drive.line.DriveLine.{DriveLine}

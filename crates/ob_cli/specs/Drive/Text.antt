@@ -2,9 +2,9 @@
 use Rattle.std.specs.Prelude.{ℕ, List, [], ◌∷◌, ◌++◌, codes}
 use Rattle.std.specs.Fmt.{decimal}
 use Rattle.ob_pool.specs.declared.report.Report.{Report}
-use Rattle.ob_cli.specs.Summary.Text.{settlements_text}
-use Rattle.ob_cli.specs.Tracing.Text.{eight_hex, number_line}
-use Rattle.ob_cli.specs.declared.summary.settlements.Settlements.{Settlements}
+use Rattle.ob_traces.specs.Summary.Text.{settlements_text}
+use Rattle.ob_script.specs.Tracing.Text.{eight_hex, number_line}
+use Rattle.ob_traces.specs.declared.summing.settlements.Settlements.{Settlements}
 
 -- the lines of what the writers did
 abbrev pub commands_text : Report → List ℕ

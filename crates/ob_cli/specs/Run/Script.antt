@@ -11,9 +11,9 @@ use Rattle.ob_history.specs.Call.{history_after}
 use Rattle.ob_history.specs.History.{History}
 use Rattle.ob_history.specs.Seen.{seen_now}
 use Rattle.ob_cli.specs.Run.Call.{told_after}
-use Rattle.ob_cli.specs.Tracing.Language.{Language, Texts}
-use Rattle.ob_cli.specs.Reading.Grammar.{Grammar}
-use Rattle.ob_cli.specs.Reading.Line.{line_reading}
+use Rattle.ob_script.specs.Tracing.Language.{Language, Texts}
+use Rattle.ob_script.specs.Reading.Grammar.{Grammar}
+use Rattle.ob_script.specs.Reading.Line.{line_reading}
 use Rattle.ob_cli.specs.Run.Table.{run_table}
 use Rattle.ob_cli.specs.Run.Text.{command_text, gathered_text, look_text}
 use Rattle.ob_cli.specs.declared.run.line.RunLine.{RunLine}

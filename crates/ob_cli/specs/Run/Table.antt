@@ -6,8 +6,8 @@ use Rattle.ob_types.specs.declared.command.Command.{Command}
 use Rattle.ob_types.specs.declared.command.Command.TheVariants as command
 use Rattle.ob_types.specs.declared.message.Message.TheVariants as message
 use Rattle.ob_types.specs.declared.refusal.Refusal.{Refusal}
-use Rattle.ob_cli.specs.Reading.Numbers.{any_32, any_64, any_mark, up_to}
-use Rattle.ob_cli.specs.Reading.Table.{LineKind, Table, row, row_if}
+use Rattle.ob_script.specs.Reading.Numbers.{any_32, any_64, any_mark, up_to}
+use Rattle.ob_script.specs.Reading.Table.{LineKind, Table, row, row_if}
 use Rattle.ob_cli.specs.declared.run.words.RunWord.{RunWord}
 use Rattle.ob_cli.specs.declared.run.words.RunWord.TheVariants as word
 use Rattle.ob_cli.specs.declared.run.line.RunLine.{RunLine}

@@ -12,7 +12,7 @@ use Rattle.ob_types.specs.declared.reply.Answer.{Answer}
 use Rattle.ob_types.specs.declared.reply.Answer.TheVariants.{Id, Count, Yes, Done}
 use Rattle.ob_types.specs.declared.refusal.Refusal.{Refusal}
 use Rattle.ob_seq.specs.declared.look.Look.{Look}
-use Rattle.ob_cli.specs.Tracing.Text.{change_text, words_text}
+use Rattle.ob_script.specs.Tracing.Text.{change_text, words_text}
 
 -- the pending bytes and the word of a look
 abbrev pub levels_text : Look → List ℕ

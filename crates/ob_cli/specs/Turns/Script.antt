@@ -10,9 +10,9 @@ use Rattle.ob_core.specs.declared.ask.Turn.{Turn}
 use Rattle.ob_core.specs.declared.lane_start.LaneStart.{LaneStart}
 use Rattle.ob_cli.specs.Turns.Table.{core_table}
 use Rattle.ob_cli.specs.Turns.Text.{turn_text, lane_text, end_text}
-use Rattle.ob_cli.specs.Tracing.Language.{Language, Texts}
-use Rattle.ob_cli.specs.Reading.Grammar.{Grammar}
-use Rattle.ob_cli.specs.Reading.Line.{line_reading}
+use Rattle.ob_script.specs.Tracing.Language.{Language, Texts}
+use Rattle.ob_script.specs.Reading.Grammar.{Grammar}
+use Rattle.ob_script.specs.Reading.Line.{line_reading}
 use Rattle.ob_cli.specs.declared.turns.line.CoreLine.{CoreLine}
 use Rattle.ob_cli.specs.declared.turns.line.CoreLine.TheVariants as line
 

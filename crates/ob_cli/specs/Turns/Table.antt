@@ -2,8 +2,8 @@
 use Rattle.std.specs.Prelude.{ℕ, ◌==◌, List, [], ◌∷◌, codes}
 use Rattle.ob_core.specs.declared.ask.Ask.{Ask}
 use Rattle.ob_core.specs.declared.ask.Ask.TheVariants as ask
-use Rattle.ob_cli.specs.Reading.Numbers.{any_32, up_to}
-use Rattle.ob_cli.specs.Reading.Table.{LineKind, Table, row}
+use Rattle.ob_script.specs.Reading.Numbers.{any_32, up_to}
+use Rattle.ob_script.specs.Reading.Table.{LineKind, Table, row}
 use Rattle.ob_cli.specs.declared.turns.words.CoreWord.{CoreWord}
 use Rattle.ob_cli.specs.declared.turns.words.CoreWord.TheVariants as word
 use Rattle.ob_cli.specs.declared.turns.line.CoreLine.{CoreLine}

@@ -6,7 +6,7 @@ use Rattle.ob_core.specs.AskFault.{number_of}
 use Rattle.ob_core.specs.declared.event.Event.{Event}
 use Rattle.ob_core.specs.declared.event.Event.TheVariants.{Added, Subtracted, BitSet, BitCleared}
 use Rattle.ob_core.specs.declared.event.Event.TheVariants.{ReadWord, ReadTotal, Nothing, Refused}
-use Rattle.ob_cli.specs.Tracing.Text.{change_text, words_text}
+use Rattle.ob_script.specs.Tracing.Text.{change_text, words_text}
 
 -- an event of a turn
 abbrev pub event_text : Event → List ℕ

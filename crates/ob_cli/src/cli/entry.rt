@@ -6,9 +6,11 @@ ghost use Rattle.ob_history.specs.Legal.{IsLegal};
 ghost use Rattle.ob_cli.specs.Cli.Options.{first_history};
 ghost use Rattle.ob_cli.specs.Drive.Report.{WritesReport};
 ghost use Rattle.ob_cli.specs.Drive.Script.{drive_grammar, plans_of};
-ghost use Rattle.ob_cli.specs.Reading.Script.{script_lines};
-ghost use Rattle.ob_cli.specs.Tracing.Interprets.{GoesThrough};
-ghost use Rattle.ob_cli.specs.Outcome.{WentThrough, fault_told, status_of};
+ghost use Rattle.ob_script.specs.Reading.Script.{script_lines};
+ghost use Rattle.ob_script.specs.Tracing.Interprets.{GoesThrough};
+ghost use Rattle.ob_script.specs.Outcome.{WentThrough, fault_told};
+ghost use Rattle.ob_cli.specs.Outcome.{OfScript, status_of};
+ghost use Rattle.ob_cli.specs.declared.request_fault.RequestFault.TheVariants.{Script};
 ghost use Rattle.ob_cli.specs.Cli.Request.{WritesRequested, requested_fault, requested_trace_of_first};
 ghost use Rattle.ob_cli.specs.Cli.Entry.{Leaves, status_after};
 
@@ -16,13 +18,13 @@ use crate::cli::command_line::request_of;
 use crate::cli::fault::EntryFault;
 use crate::cli::options::Options;
 use crate::cli::request::Request;
-use crate::draw::draw;
 use crate::drive::more::{summary_of, write_more};
 use crate::drive::{Driven, drive_script};
+use crate::request_fault::RequestFault;
 use crate::run::run;
-use crate::script_fault::ScriptFault;
-use crate::summary::summary;
 use crate::turns::core;
+use ob_script::ScriptFault;
+use ob_traces::{draw, summary};
 use std::alloc::Global;
 use std::convert::AsStr;
 use std::io::{Read, Write};
@@ -99,24 +101,24 @@ fn carry_out<H: AllocGlobal + Threads + Wait + Clock + Sync, R: Read, W: Write, 
     errors: &mut E,
     request: Request,
     verbose: bool,
-) -> Result<(), ScriptFault>
+) -> Result<(), RequestFault>
     ensures quiet { verbose ≡ false → Keeps (E.contents errors.old) (E.contents errors.new) }
-    ensures written { WentThrough result → IfSome (R.remaining reader.old) (λ script.
-        WritesRequested request script (fault_told result) (W.contents writer.old) (W.contents writer.new)) }
-    ensures fault { WentThrough result
-        → IfSome (R.remaining reader.old) (λ script. fault_told result ≡ requested_fault request script) }
-    ensures no_memory { IsErrOf result ScriptFault.NoMemory → IfSome (R.remaining reader.old) (λ script.
+    ensures written { OfScript result (λ ended. WentThrough ended → IfSome (R.remaining reader.old) (λ script.
+        WritesRequested request script (fault_told ended) (W.contents writer.old) (W.contents writer.new))) }
+    ensures fault { OfScript result (λ ended. WentThrough ended
+        → IfSome (R.remaining reader.old) (λ script. fault_told ended ≡ requested_fault request script)) }
+    ensures no_memory { IsErrOf result (Script ScriptFault.NoMemory) → IfSome (R.remaining reader.old) (λ script.
         (count : ℕ) × Appends (W.contents writer.old) (W.contents writer.new)
         (requested_trace_of_first count request script)) }
     ensures undriven { IfErr result (λ fault. status_of fault ≡ 5
         → Keeps (W.contents writer.old) (W.contents writer.new)) }
 {
     match request {
-        Request::Run(options) => run(rt.alloc(), reader, writer, options),
-        Request::Core(marks) => core(rt.alloc(), reader, writer, marks),
+        Request::Run(options) => Ok(run(rt.alloc(), reader, writer, options)?),
+        Request::Core(marks) => Ok(core(rt.alloc(), reader, writer, marks)?),
         Request::Drive(options) => drive(rt, reader, writer, errors, &options, verbose),
-        Request::Summary => summary(rt.alloc(), reader, writer),
-        Request::Draw(marks) => draw(rt.alloc(), reader, writer, marks),
+        Request::Summary => Ok(summary(rt.alloc(), reader, writer)?),
+        Request::Draw(marks) => Ok(draw(rt.alloc(), reader, writer, marks)?),
     }
 }
 
@@ -128,13 +130,13 @@ fn drive<H: AllocGlobal + Threads + Wait + Clock + Sync, R: Read, W: Write, E: W
     errors: &mut E,
     options: &Options,
     verbose: bool,
-) -> Result<(), ScriptFault>
+) -> Result<(), RequestFault>
     ensures quiet { verbose ≡ false → Keeps (E.contents errors.old) (E.contents errors.new) }
     ensures report { OnOk result (IfSome (R.remaining reader.old) (λ script.
         WritesReport options.now (plans_of (script_lines drive_grammar script))
         (W.contents writer.old) (W.contents writer.new))) }
-    ensures through { GoesThrough drive_grammar (R.remaining reader.old) (R.remaining reader.new) result }
-    ensures unwritten { IfErr result (λ fault. fault ≢ ScriptFault.Write
+    ensures through { OfScript result (GoesThrough drive_grammar (R.remaining reader.old) (R.remaining reader.new)) }
+    ensures unwritten { IfErr result (λ fault. fault ≢ Script ScriptFault.Write
         → Keeps (W.contents writer.old) (W.contents writer.new)) }
 {
     let driven = drive_script(rt, reader, writer, options)?;

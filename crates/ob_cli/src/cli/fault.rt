@@ -1,6 +1,6 @@
 use crate::cli::request::Kind;
 use crate::cli::words::{NO_MEMORY, write_list, write_words};
-use crate::script_fault::ScriptFault;
+use crate::request_fault::RequestFault;
 use clap::error::ErrorKind;
 use std::alloc::AllocError;
 use std::io::{self, Write};
@@ -33,7 +33,7 @@ pub enum EntryFault {
     NoMemory,
     /// What was asked for ended before the end of its script.
     #[error("{fault}")]
-    Run { kind: Kind, fault: ScriptFault },
+    Run { kind: Kind, fault: RequestFault },
 }
 
 impl EntryFault {

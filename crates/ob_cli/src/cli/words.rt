@@ -2,9 +2,9 @@
 //! line with the word or the line, and `ob_tool faults` lists all.
 
 use crate::cli::request::Kind;
-use crate::reading::fault::LineFault;
-use crate::script_fault::ScriptFault;
+use crate::request_fault::RequestFault;
 use ob_pool::DriveFault;
+use ob_script::{LineFault, ScriptFault};
 use std::io::{self, Write};
 
 /// Of a faulty line, from fault 1 on. What fault 7 says goes by the kind of script.
@@ -127,13 +127,13 @@ fn write_numbered<E: Write>(errors: &mut E, told: &str, words: &[&str]) -> io::R
 }
 
 /// Writes what a fault says that ended a request of this kind, in one line.
-pub fn write_words<E: Write>(errors: &mut E, kind: Kind, fault: &ScriptFault) -> io::Result<()> {
+pub fn write_words<E: Write>(errors: &mut E, kind: Kind, fault: &RequestFault) -> io::Result<()> {
     match (kind, fault) {
-        (Kind::Drive { limit }, ScriptFault::Drive(DriveFault::Refused { .. })) => writeln!(
+        (Kind::Drive { limit }, RequestFault::Drive(DriveFault::Refused { .. })) => writeln!(
             errors,
             "a writer met the limit of {limit} records: raise --limit, or let the writers give fewer commands"
         ),
-        (_, ScriptFault::Line { line, fault }) => {
+        (_, RequestFault::Script(ScriptFault::Line { line, fault })) => {
             writeln!(errors, "{}: {line}", of_line(kind, *fault))
         }
         _ => writeln!(errors, "{}", words_of(kind, fault)),
@@ -141,14 +141,21 @@ pub fn write_words<E: Write>(errors: &mut E, kind: Kind, fault: &ScriptFault) ->
 }
 
 /// What a fault says that ended a request of this kind.
-fn words_of(kind: Kind, fault: &ScriptFault) -> &'static str {
+fn words_of(kind: Kind, fault: &RequestFault) -> &'static str {
+    match fault {
+        RequestFault::Script(fault) => words_of_script(kind, fault),
+        RequestFault::Drive(fault) => of_number(&OF_DRIVES, fault.number()),
+    }
+}
+
+/// What a fault of a script of this kind says.
+fn words_of_script(kind: Kind, fault: &ScriptFault) -> &'static str {
     match fault {
         ScriptFault::Line { fault, .. } => of_line(kind, *fault),
         ScriptFault::Read => NO_READ,
         ScriptFault::TooLong => TOO_LONG,
         ScriptFault::Write => NO_WRITE,
         ScriptFault::NoMemory => NO_MEMORY,
-        ScriptFault::Drive(fault) => of_number(&OF_DRIVES, fault.number()),
     }
 }
 

@@ -6,9 +6,7 @@ ghost use Rattle.ob_cli.specs.declared.drive.line.DriveLine.{DriveLine};
 
 use crate::drive::line::{DriveLine, WriterLine};
 use crate::drive::words::DriveWord;
-use crate::reading::fault::LineFault;
-use crate::reading::grammar::Grammar;
-use crate::reading::line::read_line;
+use ob_script::{Grammar, LineFault, read_line};
 use ob_transport::{ScriptSink, SinkStep};
 use std::alloc::{AllocError, Global};
 

@@ -1,10 +1,9 @@
 ghost use Rattle.std.specs.Prelude.{◌≡◌, ◌++◌, OnOk, string_bytes};
 ghost use Rattle.ob_cli.specs.Drive.Text.{commands_text, hand_text, messages_text, report_text, settled_in};
 
-use crate::summary::settlements::Settlements;
-use crate::summary::text::push_settlements;
-use crate::tracing::text::push_number_line;
 use ob_pool::Report;
+use ob_script::push_number_line;
+use ob_traces::{Settlements, push_settlements};
 use std::alloc::AllocError;
 
 /// Adds the lines of a report.

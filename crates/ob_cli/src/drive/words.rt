@@ -2,8 +2,7 @@ ghost use Rattle.std.specs.Prelude.{◌≡◌};
 ghost use Rattle.ob_cli.specs.Drive.Table.{drive_table};
 
 use crate::drive::line::{DriveLine, WriterAction, WriterLine};
-use crate::reading::first_word::FirstWord;
-use crate::reading::range::{ANY_32, ANY_64, BIT_INDEX, BLOCK_BYTES, FLAG, MARK, Range};
+use ob_script::{ANY_32, ANY_64, BIT_INDEX, BLOCK_BYTES, FLAG, FirstWord, MARK, Range};
 use ob_transport::SinkStep;
 use ob_types::{Command, Message, PromiseId, WaterMark};
 

@@ -8,15 +8,12 @@ ghost use Rattle.ob_cli.specs.Run.Script.{block_write, call_text, history_after_
 ghost use Rattle.ob_cli.specs.Run.Script.{run_grammar, run_texts};
 
 use crate::cli::options::Options;
-use crate::reading::fault::LineFault;
-use crate::reading::grammar::Grammar;
-use crate::reading::line::read_line;
 use crate::run::blocks::Blocks;
 use crate::run::line::RunLine;
 use crate::run::text::{push_gathered, push_look, push_refusal, push_reply};
 use crate::run::words::RunWord;
-use crate::tracing::interpreter::Interpreter;
 use ob_history::Recorded;
+use ob_script::{Grammar, Interpreter, LineFault, read_line};
 use ob_seq::Look;
 use ob_types::{Command, Message, Refusal};
 use std::alloc::{AllocError, Global};

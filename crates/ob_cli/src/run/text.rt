@@ -4,8 +4,8 @@ ghost use Rattle.std.specs.List.{flat_map};
 ghost use Rattle.ob_cli.specs.Run.Text.{answer_text, command_text, gathered_text, length_text, levels_text};
 ghost use Rattle.ob_cli.specs.Run.Text.{look_text, outcome_text, settlement_text};
 
-use crate::tracing::text::{push_change, push_number, push_words};
 use bytes::Bytes;
+use ob_script::{push_change, push_number, push_words};
 use ob_seq::Look;
 use ob_types::{Answer, Outcome, PromiseId, Refusal, Reply};
 use std::alloc::AllocError;

@@ -1,8 +1,7 @@
 ghost use Rattle.ob_cli.specs.Run.Table.{run_table};
 
-use crate::reading::first_word::FirstWord;
-use crate::reading::range::{ANY_32, ANY_64, BIT_INDEX, BLOCK_BYTES, FLAG, MARK, Range};
 use crate::run::line::RunLine;
+use ob_script::{ANY_32, ANY_64, BIT_INDEX, BLOCK_BYTES, FLAG, FirstWord, MARK, Range};
 use ob_types::{Cause, Command, Message, PromiseId, WaterMark};
 
 /// The first word of a line of `run`.

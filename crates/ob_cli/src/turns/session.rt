@@ -7,14 +7,11 @@ ghost use Rattle.ob_cli.specs.Turns.Script.{core_grammar, core_texts, turn_trace
 ghost use Rattle.ob_cli.specs.Turns.Session.{HasPlayed};
 ghost use Rattle.ob_cli.specs.Turns.Text.{lane_text};
 
-use crate::reading::fault::LineFault;
-use crate::reading::grammar::Grammar;
-use crate::reading::line::read_line;
-use crate::tracing::interpreter::Interpreter;
 use crate::turns::line::CoreLine;
 use crate::turns::text::{push_end, push_lane, push_turn};
 use crate::turns::words::CoreWord;
 use ob_core::{LaneStart, Turn, World, WorldFault};
+use ob_script::{Grammar, Interpreter, LineFault, read_line};
 use ob_types::WaterMark;
 use std::alloc::{AllocError, Global};
 

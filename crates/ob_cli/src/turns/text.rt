@@ -1,8 +1,8 @@
 ghost use Rattle.std.specs.Prelude.{◌≡◌, ◌++◌, OnOk, string_bytes};
 ghost use Rattle.ob_cli.specs.Turns.Text.{end_text, event_text, lane_text, turn_text};
 
-use crate::tracing::text::{push_change, push_words};
 use ob_core::Event;
+use ob_script::{push_change, push_words};
 use ob_types::Change;
 use std::alloc::AllocError;
 

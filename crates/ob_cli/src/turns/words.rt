@@ -2,10 +2,9 @@ ghost use Rattle.std.specs.Prelude.{◌≡◌};
 ghost use Rattle.ob_cli.specs.Turns.Table.{core_table};
 ghost use Rattle.ob_cli.specs.declared.turns.line.CoreLine.TheVariants as line;
 
-use crate::reading::first_word::FirstWord;
-use crate::reading::range::{ANY_32, BIT_INDEX, FLAG, Range};
 use crate::turns::line::CoreLine;
 use ob_core::{Ask, LaneStart, Turn};
+use ob_script::{ANY_32, BIT_INDEX, FLAG, FirstWord, Range};
 
 /// The first word of a line of `core`.
 #[derive(Clone, Copy)]

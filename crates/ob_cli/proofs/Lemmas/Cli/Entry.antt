@@ -3,21 +3,23 @@ use Rattle.std.proofs.Common.{◌≡◌, ◌≤◌, ℕ, arith, List, Option, No
 use Rattle.std.specs.Prelude.{IsErrOf}
 use Rattle.std.specs.Io.KnownBytes.{Appends}
 use Rattle.ob_cli.specs.Cli.Entry.{WritesTraceOfFirst, WritesWhole}
-use Rattle.ob_cli.specs.Outcome.{WentThrough, fault_told, status_of}
+use Rattle.ob_script.specs.Outcome.{WentThrough, fault_told}
+use Rattle.ob_cli.specs.Outcome.{OfScript, status_of}
+use Rattle.ob_cli.specs.declared.request_fault.RequestFault.{RequestFault}
+use Rattle.ob_cli.specs.declared.request_fault.RequestFault.TheVariants.{Script, Drive}
 use Rattle.ob_cli.specs.Cli.Request.{WritesRequested, requested_fault, requested_trace_of_first}
-use Rattle.ob_cli.specs.declared.reading.fault.LineFault.{LineFault}
+use Rattle.ob_script.specs.declared.reading.fault.LineFault.{LineFault}
 use Rattle.ob_cli.specs.declared.cli.request.Request.{Request}
 use Rattle.ob_cli.specs.declared.cli.request.Request.TheVariants.{Core}
-use Rattle.ob_cli.specs.declared.script_fault.ScriptFault.{ScriptFault}
-use Rattle.ob_cli.specs.declared.script_fault.ScriptFault.TheVariants.{Line, Read, TooLong, Write, NoMemory, Drive}
+use Rattle.ob_script.specs.declared.script_fault.ScriptFault.TheVariants.{Line, Read, TooLong, Write, NoMemory}
 
--- no fault of a run has a status below 2
-pub two_at_least : (fault : ScriptFault) → 2 ≤ status_of fault
-two_at_least (Line number fault) = omega arith
-two_at_least Read = omega arith
-two_at_least TooLong = omega arith
-two_at_least Write = omega arith
-two_at_least NoMemory = omega arith
+-- no fault of a request has a status below 2
+pub two_at_least : (fault : RequestFault) → 2 ≤ status_of fault
+two_at_least (Script (Line number fault)) = omega arith
+two_at_least (Script Read) = omega arith
+two_at_least (Script TooLong) = omega arith
+two_at_least (Script Write) = omega arith
+two_at_least (Script NoMemory) = omega arith
 two_at_least (Drive fault) = omega arith
 
 -- a run to the end of its script writes all that it was asked for
@@ -29,27 +31,28 @@ whole request None old new written told = tt
 whole request (Some script) old new written told = (request, written, sym told)
 
 -- the status 2 comes of a faulty line alone, up to which all is written
-cut_short_at : (request : Request) (fault : ScriptFault) (script : List ℕ) (old new : Option (List ℕ))
+cut_short_at : (request : Request) (fault : RequestFault) (script : List ℕ) (old new : Option (List ℕ))
     → status_of fault ≡ 2
-    → (WentThrough {T = Unit {0}} (Err fault)
-    → WritesRequested request script (fault_told {T = Unit {0}} (Err fault)) old new)
-    → (WentThrough {T = Unit {0}} (Err fault) → fault_told {T = Unit {0}} (Err fault) ≡ requested_fault request script)
+    → OfScript {T = Unit {0}} (Err fault) (λ ended. WentThrough ended
+    → WritesRequested request script (fault_told ended) old new)
+    → OfScript {T = Unit {0}} (Err fault) (λ ended. WentThrough ended
+    → fault_told ended ≡ requested_fault request script)
     → (told : ℕ × LineFault) × WritesWhole script (Some told) old new
-cut_short_at request (Line number fault) script old new status written told =
+cut_short_at request (Script (Line number fault)) script old new status written told =
     ((number, fault), (request, written tt, sym (told tt)))
-cut_short_at request Read script old new status written told = absurd cc
-cut_short_at request TooLong script old new status written told = absurd cc
-cut_short_at request Write script old new status written told = absurd cc
-cut_short_at request NoMemory script old new status written told = absurd cc
+cut_short_at request (Script Read) script old new status written told = absurd cc
+cut_short_at request (Script TooLong) script old new status written told = absurd cc
+cut_short_at request (Script Write) script old new status written told = absurd cc
+cut_short_at request (Script NoMemory) script old new status written told = absurd cc
 cut_short_at request (Drive fault) script old new status written told = absurd cc
 
 -- and so if the script is known
-pub cut_short : (request : Request) (fault : ScriptFault) (read : Option (List ℕ)) (old new : Option (List ℕ))
+pub cut_short : (request : Request) (fault : RequestFault) (read : Option (List ℕ)) (old new : Option (List ℕ))
     → status_of fault ≡ 2
-    → (WentThrough {T = Unit {0}} (Err fault)
-    → IfSome read (λ script. WritesRequested request script (fault_told {T = Unit {0}} (Err fault)) old new))
-    → (WentThrough {T = Unit {0}} (Err fault)
-    → IfSome read (λ script. fault_told {T = Unit {0}} (Err fault) ≡ requested_fault request script))
+    → OfScript {T = Unit {0}} (Err fault) (λ ended. WentThrough ended
+    → IfSome read (λ script. WritesRequested request script (fault_told ended) old new))
+    → OfScript {T = Unit {0}} (Err fault) (λ ended. WentThrough ended
+    → IfSome read (λ script. fault_told ended ≡ requested_fault request script))
     → IfSome read (λ script. (told : ℕ × LineFault) × WritesWhole script (Some told) old new)
 cut_short request fault None old new status written told = tt
 cut_short request fault (Some script) old new status written told =
@@ -65,22 +68,23 @@ untraced None held = tt
 untraced (Some script) held = untraced_at script held
 
 -- the status 4 comes of want of memory alone, up to which the trace of some first lines is written
-out_of_memory_at : (request : Request) (fault : ScriptFault) (script : List ℕ) (old new : Option (List ℕ))
+out_of_memory_at : (request : Request) (fault : RequestFault) (script : List ℕ) (old new : Option (List ℕ))
     → status_of fault ≡ 4
-    → (IsErrOf {T = Unit {0}} (Err fault) NoMemory
+    → (IsErrOf {T = Unit {0}} (Err fault) (Script NoMemory)
     → (count : ℕ) × Appends old new (requested_trace_of_first count request script))
     → WritesTraceOfFirst script old new
-out_of_memory_at request NoMemory script old new status traced = let told = traced refl in (request, told.0, told.1)
-out_of_memory_at request (Line number fault) script old new status traced = absurd cc
-out_of_memory_at request Read script old new status traced = absurd cc
-out_of_memory_at request TooLong script old new status traced = absurd cc
-out_of_memory_at request Write script old new status traced = absurd cc
+out_of_memory_at request (Script NoMemory) script old new status traced =
+    let told = traced refl in (request, told.0, told.1)
+out_of_memory_at request (Script (Line number fault)) script old new status traced = absurd cc
+out_of_memory_at request (Script Read) script old new status traced = absurd cc
+out_of_memory_at request (Script TooLong) script old new status traced = absurd cc
+out_of_memory_at request (Script Write) script old new status traced = absurd cc
 out_of_memory_at request (Drive fault) script old new status traced = absurd cc
 
 -- and so if the script is known
-pub out_of_memory : (request : Request) (fault : ScriptFault) (read : Option (List ℕ)) (old new : Option (List ℕ))
+pub out_of_memory : (request : Request) (fault : RequestFault) (read : Option (List ℕ)) (old new : Option (List ℕ))
     → status_of fault ≡ 4
-    → (IsErrOf {T = Unit {0}} (Err fault) NoMemory
+    → (IsErrOf {T = Unit {0}} (Err fault) (Script NoMemory)
     → IfSome read (λ script. (count : ℕ) × Appends old new (requested_trace_of_first count request script)))
     → IfSome read (λ script. WritesTraceOfFirst script old new)
 out_of_memory request fault None old new status traced = tt

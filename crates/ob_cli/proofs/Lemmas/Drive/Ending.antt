@@ -1,12 +1,11 @@
 -- What a script is said to be where its report comes to a fault of writing: nothing, since it was read.
 use Rattle.std.proofs.Common.{ℕ, List, Option, Err}
 use Rattle.std.specs.Prelude.{IsErrOf}
-use Rattle.ob_pool.specs.declared.fault.DriveFault.{DriveFault}
-use Rattle.ob_cli.specs.Outcome.{IsWritingFault, WentThrough}
-use Rattle.ob_cli.specs.Reading.Grammar.{Grammar}
-use Rattle.ob_cli.specs.Tracing.Interprets.{GoesThrough}
-use Rattle.ob_cli.specs.declared.script_fault.ScriptFault.{ScriptFault}
-use Rattle.ob_cli.specs.declared.script_fault.ScriptFault.TheVariants.{Line, Read, TooLong, Write, NoMemory, Drive}
+use Rattle.ob_script.specs.Outcome.{IsWritingFault, WentThrough}
+use Rattle.ob_script.specs.Reading.Grammar.{Grammar}
+use Rattle.ob_script.specs.Tracing.Interprets.{GoesThrough}
+use Rattle.ob_script.specs.declared.script_fault.ScriptFault.{ScriptFault}
+use Rattle.ob_script.specs.declared.script_fault.ScriptFault.TheVariants.{Line, Read, TooLong, Write, NoMemory}
 
 -- a fault that comes of no line, nor of the script's length
 cut_short : {T L : Type 0} (grammar : Grammar L) (had left : Option (List ℕ)) (fault : ScriptFault)
@@ -26,14 +25,3 @@ unwritten grammar had left NoMemory writing = cut_short grammar had left NoMemor
 unwritten grammar had left (Line number fault) writing = absurd writing
 unwritten grammar had left Read writing = absurd writing
 unwritten grammar had left TooLong writing = absurd writing
-unwritten grammar had left (Drive fault) writing = absurd writing
-
--- nor is it one of the drive
-pub undriven : {T P : Type 0} (told : ScriptFault) (fault : DriveFault)
-    → IsWritingFault told → IsErrOf {T = T} (Err told) (Drive fault) → P
-undriven Write fault writing is = absurd cc
-undriven NoMemory fault writing is = absurd cc
-undriven (Line number other) fault writing is = absurd writing
-undriven Read fault writing is = absurd writing
-undriven TooLong fault writing is = absurd writing
-undriven (Drive other) fault writing is = absurd writing

@@ -6,9 +6,9 @@ use Rattle.ob_types.specs.declared.command.Command.TheVariants.{Write, Flush, Ca
 use Rattle.ob_types.specs.declared.message.Message.TheVariants.{Block, Region, Other}
 use Rattle.ob_cli.specs.Drive.Script.{drive_grammar, most_after, most_passes, plans_of, steps_of}
 use Rattle.ob_cli.specs.Drive.Text.{hand_text}
-use Rattle.ob_cli.specs.Tracing.Text.{number_line}
-use Rattle.ob_cli.specs.Reading.Script.{script_fault, script_lines}
-use Rattle.ob_cli.specs.declared.reading.fault.LineFault.TheVariants.{Misplaced, OutOfRange}
+use Rattle.ob_script.specs.Tracing.Text.{number_line}
+use Rattle.ob_script.specs.Reading.Script.{script_fault, script_lines}
+use Rattle.ob_script.specs.declared.reading.fault.LineFault.TheVariants.{Misplaced, OutOfRange}
 
 -- a script with a line of each word, and a writer without lines
 abbrev script : List ℕ

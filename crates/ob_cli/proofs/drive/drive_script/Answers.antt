@@ -1,7 +1,7 @@
 use Rattle.std.proofs.Common.{rules, subst}
 use Rattle.ob_history.specs.Legal.{IsLegal}
 use Rattle.ob_cli.specs.Drive.Script.{drive_grammar}
-use Rattle.ob_cli.proofs.Lemmas.Drive.Ending.{undriven, unwritten}
+use Rattle.ob_cli.proofs.Lemmas.Drive.Ending.{unwritten}
 use Rattle.ob_cli.proofs.drive.drive_script.Goals as goal
 
 -- Named for the must-fail edits that fail here: `search` finds it unasked (CONTRIBUTING.md).
@@ -17,6 +17,3 @@ pub returns-in-Err-clause-through : goal.returns-in-Err-clause-through
 returns-in-Err-clause-through g c =
     unwritten drive_grammar (g.R.Read.remaining c.args.reader.now) (g.R.Read.remaining c.read_script.new.reader)
     c.in-Err.fault c.in-Err.ensures.faults
-
-pub returns-in-Err-clause-drive : goal.returns-in-Err-clause-drive
-returns-in-Err-clause-drive g c = λ fault is. undriven c.in-Err.fault fault c.in-Err.ensures.faults is

@@ -8,7 +8,7 @@ use Rattle.ob_pool.specs.declared.config.Config.{Config}
 use Rattle.ob_pool.specs.declared.fault.DriveFault.{DriveFault}
 use Rattle.ob_cli.specs.Drive.Report.{ComesTo}
 use Rattle.ob_cli.specs.Drive.Script.{plans_in}
-use Rattle.ob_cli.specs.declared.script_fault.ScriptFault.TheVariants.{Drive}
+use Rattle.ob_cli.specs.declared.request_fault.RequestFault.TheVariants.{Drive}
 use Rattle.ob_cli.proofs.drive.drive_session.Goals as goal
 
 -- what comes to a report was not refused for a fault of its plans

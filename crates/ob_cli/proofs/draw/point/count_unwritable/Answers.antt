@@ -1,6 +1,0 @@
-use Rattle.std.proofs.Common.{sym}
-use Rattle.ob_cli.proofs.Lemmas.Reading.Lines.{position-None}
-use Rattle.ob_cli.proofs.draw.point.count_unwritable.Goals as goal
-
-pub returns-in-None-clause-count : goal.returns-in-None-clause-count
-returns-in-None-clause-count c = position-None _ _ (sym c.in-None.ensures)

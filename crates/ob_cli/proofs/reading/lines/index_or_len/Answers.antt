@@ -1,6 +1,0 @@
-use Rattle.std.proofs.Common.{sym}
-use Rattle.ob_cli.proofs.Lemmas.Reading.Lines.{position-None}
-use Rattle.ob_cli.proofs.reading.lines.index_or_len.Goals as goal
-
-pub returns-in-None-clause-place : goal.returns-in-None-clause-place
-returns-in-None-clause-place c = position-None _ _ (sym c.in-None.ensures)

@@ -1,6 +1,0 @@
-use Rattle.std.proofs.Common.{◌≡◌, take}
-use Rattle.ob_cli.specs.Summary.Lines.{pending_behind}
-use Rattle.ob_cli.proofs.summary.count.pending.Given as goal
-
-abbrev pub invariant-loop-line : goal.invariant-loop-line
-invariant-loop-line l = l.pending ≡ pending_behind (take l.line-index l.lines)
