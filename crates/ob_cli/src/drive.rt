@@ -138,7 +138,7 @@ fn drive_session<H: AllocGlobal + Threads + Wait + Clock + Sync>(
     let config = config(options, session.most_passes());
     let mut sink = CountingSink::new(session.into_sink());
     let begun = Instant::now(rt).ok();
-    match drive(rt, rt.alloc(), &OpenGate, plans, &mut sink, config) {
+    match drive(rt, &OpenGate, plans, &mut sink, config) {
         Ok(report) => Ok(Driven {
             report,
             time: milliseconds_since(rt, begun),

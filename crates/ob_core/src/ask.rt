@@ -18,7 +18,7 @@ pub enum Ask {
     Word,
     /// Reads the total.
     Total,
-    /// Goes on with the call that the lane is in the middle of. It is in the middle of none, so this is refused.
+    /// Goes on with the call that the lane is in the middle of: always refused with `NotInside`, as `World` says.
     Go,
 }
 

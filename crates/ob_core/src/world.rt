@@ -19,7 +19,11 @@ use std::marker::Model;
 ///
 /// A schedule gives the lanes their turns. In a turn a lane makes one atomic step on the one word, so what holds of a
 /// `World` under every schedule holds of every interleaving. It is our own machine for what Netty does with
-/// `totalPendingSize` and `unwritable`.
+/// `totalPendingSize` and `unwritable`, and the oracle of the lanes on threads: these step by its definitions, and are
+/// asked the same beside it. No program runs on it but `ob_tool core`.
+///
+/// A call of a lane is one turn, so no lane is ever in the middle of one: `quiet` is always true, and `Ask::Go` is always
+/// refused. Both are for callers that give turns to machines of which that is not so.
 #[derive(Debug, Drop)]
 pub struct World {
     marks: WaterMark,
@@ -66,9 +70,8 @@ impl World {
 
     /// Gives a lane its turn, and returns what it did. It does not allocate.
     ///
-    /// A refused ask changes nothing but that there is no last change then. `Go` is refused with `NotInside` by every
-    /// lane there is, since each call is one step. A charge of 0 and its discharge do not touch the word, and the lane
-    /// counts as owing in between.
+    /// A refused ask changes nothing but that there is no last change then. A charge of 0 and its discharge do not touch
+    /// the word, and the lane counts as owing in between.
     pub fn turn(&mut self, turn: Turn) -> Event
         ensures event { result ≡ event_of self.old.core turn }
         ensures core { self.new.core ≡ core_after self.old.core turn }

@@ -3,4 +3,5 @@ pub mod AcceptedCounts
 pub mod CountedRecords
 pub mod Ending
 pub mod Quiet
+pub mod Receipts
 pub mod Settled

@@ -1,4 +1,3 @@
 -- What a pass of the transport leaves, and what its receipts tell.
-pub mod LoggedReceipts
 pub mod Passing
 pub mod Taking

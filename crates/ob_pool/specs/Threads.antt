@@ -1,4 +1,3 @@
 -- What the threads of a drive begin with, keep and come to. No public clause cites these modules.
 pub mod Job
 pub mod Sending
-pub mod ReceiptLog

@@ -12,19 +12,17 @@ ghost use Rattle.ob_pool.specs.Planning.PlansFault.{plans_fault};
 ghost use Rattle.ob_pool.specs.Report.TellsOf.{TellsOf, TellsOfSink};
 ghost use Rattle.ob_pool.specs.declared.fault.DriveFault.TheVariants.{Refused};
 
-use crate::both::both;
 use crate::config::Config;
 use crate::fault::DriveFault;
 use crate::gate::Gate;
-use crate::opening::open;
+use crate::opening::{Opened, open};
 use crate::plan::Plan;
 use crate::planning::{CheckedPlans, check};
 use crate::report::{Report, into_report};
-use crate::threads::{Context, run};
+use crate::threads::{Context, Start, Writers, run};
 use ob_lanes::lanes;
 use ob_shared::{Named, Opening};
 use ob_transport::Sink;
-use std::alloc::Global;
 use std::marker::Brand;
 use std::sync::Wait;
 use std::sync::atomic::AtomicBool;
@@ -48,9 +46,8 @@ use std::time::Clock;
 /// was full; `Transport` if a pass came to no end; `Finish` if the buffer could not be finished. The least writer's
 /// fault comes first, and writers' before the transport's. What the sink took before a fault stands; with one of the
 /// first three it was not asked.
-pub fn drive<R: Threads + Wait + Clock + Sync, G: Gate + Sync, S: Sink + Send>(
+pub fn drive<R: AllocGlobal + Threads + Wait + Clock + Sync, G: Gate + Sync, S: Sink + Send>(
     rt: &R,
-    alloc: Global,
     gate: &G,
     plans: Vec<Plan>,
     sink: &mut S,
@@ -76,47 +73,67 @@ pub fn drive<R: Threads + Wait + Clock + Sync, G: Gate + Sync, S: Sink + Send>(
         Err(fault) => return Err(fault),
     };
     let callers = checked.plans.len() as u32 + 1;
-    match Opening::new(alloc, config.marks, config.estimate, config.limit, callers) {
-        Ok(opening) => drive_open::<Brand, R, G, S>(
-            rt, alloc, gate, checked, sink, config, opening,
-        ),
+    match Opening::new(
+        rt.alloc(),
+        config.marks,
+        config.estimate,
+        config.limit,
+        callers,
+    ) {
+        Ok(opening) => {
+            let ready = Ready {
+                checked,
+                opening,
+                config,
+            };
+            drive_open::<Brand, R, G, S>(rt, gate, ready, sink)
+        }
         Err(_) => Err(DriveFault::NoMemory),
     }
+}
+
+/// A drive that is ready to begin: its plans, the shared buffer that they need, and what else it is given.
+#[derive(Drop)]
+struct Ready {
+    checked: CheckedPlans,
+    opening: Opening,
+    config: Config,
 }
 
 /// A drive over a shared buffer of this name.
 fn drive_open<
     L: Named + Send + Sync,
-    R: Threads + Wait + Clock + Sync,
+    R: AllocGlobal + Threads + Wait + Clock + Sync,
     G: Gate + Sync,
     S: Sink + Send,
->(
-    rt: &R,
-    alloc: Global,
-    gate: &G,
-    checked: CheckedPlans,
-    sink: &mut S,
-    config: Config,
-    opening: Opening,
-) -> Result<Report, DriveFault>
-    requires name { IsNameOf opening L.opened L.name L.parts }
-    requires config { AreWithin config }
-    requires checked { AreChecked checked }
-    requires settings { opening.settings ≡ (first_history config).settings }
-    requires limit { opening.limit ≡ config.limit }
-    requires callers { opening.callers ≡ length checked.plans + 1 }
-    ensures planned { IfErr result (ComesOfWork (length checked.plans)) }
-    ensures report { IfOk result (TellsOf (first_history config) checked.plans) }
+>(rt: &R, gate: &G, ready: Ready, sink: &mut S) -> Result<Report, DriveFault>
+    requires name { IsNameOf ready.opening L.opened L.name L.parts }
+    requires config { AreWithin ready.config }
+    requires checked { AreChecked ready.checked }
+    requires settings { ready.opening.settings ≡ (first_history ready.config).settings }
+    requires limit { ready.opening.limit ≡ ready.config.limit }
+    requires callers { ready.opening.callers ≡ length ready.checked.plans + 1 }
+    ensures planned { IfErr result (ComesOfWork (length ready.checked.plans)) }
+    ensures report { IfOk result (TellsOf (first_history ready.config) ready.checked.plans) }
     ensures sink { IfOk result (TellsOfSink (S.content sink.old) (S.content sink.new)) }
 {
+    let Ready {
+        checked,
+        opening,
+        config,
+    } = ready;
+    let alloc = rt.alloc();
     let writers = checked.plans.len() as u32;
     let (estimate, task, room) = (checked.estimate, checked.task, checked.room);
     let opened = open::<L>(alloc, checked, opening)?;
     let Ok((words, lane)) = lanes(alloc, config.marks, room, 0) else {
-        drop(opened);
         return Err(DriveFault::NoMemory);
     };
-    let (shared, jobs, share) = opened;
+    let Opened {
+        shared,
+        jobs,
+        share,
+    } = opened;
     let context = Context {
         alloc,
         shared,
@@ -124,18 +141,19 @@ fn drive_open<
         estimate,
         task,
         heed: config.heed,
+        limits: config.limits,
+        turns: config.turns,
         writers,
         begun: AtomicBool::new(false),
         stopped: AtomicBool::new(false),
         ended: AtomicBool::new(false),
     };
-    let ((lane, dones), transported) = run(rt, gate, &context, lane, jobs, share, sink, config);
-    match both(dones, transported) {
-        Ok((dones, done)) => into_report(context, lane, dones, done),
-        Err(fault) => {
-            drop(context);
-            drop(lane);
-            Err(fault)
-        }
+    let start = Start {
+        writers: Writers { lane, jobs },
+        share,
+    };
+    match run(rt, gate, &context, start, sink) {
+        Ok(ended) => into_report(context, ended),
+        Err(fault) => { Err(fault) }
     }
 }

@@ -4,7 +4,6 @@
 //! hands that to the buffer. `drive` carries all plans out, and answers the finished history with its numbers.
 #![tactic(auto)]
 
-mod both;
 mod config;
 mod driving;
 mod fault;

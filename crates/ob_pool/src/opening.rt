@@ -13,34 +13,43 @@ use crate::threads::Job;
 use ob_shared::{Named, Opening, Share, SharedBuffer};
 use std::alloc::Global;
 
-/// The shared buffer of an opening, each plan with a share of it, and the share that is left for the transport.
+/// A shared buffer that was opened for a drive, each plan with a share of it, and the share that is left for the transport.
+#[derive(Drop)]
+pub struct Opened<L: Named> {
+    pub shared: SharedBuffer<L>,
+    pub jobs: Vec<Job<L>>,
+    pub share: Share<L>,
+}
+
+/// Opens the shared buffer of checked plans.
 pub fn open<L: Named>(
     alloc: Global,
     checked: CheckedPlans,
     opening: Opening,
-) -> Result<(SharedBuffer<L>, Vec<Job<L>>, Share<L>), DriveFault>
+) -> Result<Opened<L>, DriveFault>
     requires name { IsNameOf opening L.opened L.name L.parts }
     requires callers { opening.callers ≡ length checked.plans + 1 }
     requires rooms { HaveRooms checked }
     ensures no_memory { IsOkUnless result DriveFault.NoMemory }
-    ensures asked { IfOk result (λ opened. map asked opened.1.items ≡ work_from 0 checked.plans) }
-    ensures roomy { IfOk result (λ opened. All (IsRoomy checked.estimate checked.task) opened.1.items) }
-    ensures room { IfOk result (λ opened. room_for opened.1.items ≡ checked.room) }
-    ensures share { IfOk result (λ opened. opened.2 ≡ new_share (length checked.plans)) }
+    ensures asked { IfOk result (λ opened. map asked opened.jobs.items ≡ work_from 0 checked.plans) }
+    ensures roomy { IfOk result (λ opened. All (IsRoomy checked.estimate checked.task) opened.jobs.items) }
+    ensures room { IfOk result (λ opened. room_for opened.jobs.items ≡ checked.room) }
+    ensures share { IfOk result (λ opened. opened.share ≡ new_share (length checked.plans)) }
 {
     let Ok((shared, mut shares)) = opening.begin::<L>() else {
         return Err(DriveFault::NoMemory);
     };
     let Some(share) = shares.pop() else {
+        // an opening of a drive has a share for each writer, and one more
         unreachable!()
     };
     match jobs_of(alloc, checked, shares) {
-        Ok(jobs) => Ok((shared, jobs, share)),
-        Err(fault) => {
-            drop(shared);
-            drop(share);
-            Err(fault)
-        }
+        Ok(jobs) => Ok(Opened {
+            shared,
+            jobs,
+            share,
+        }),
+        Err(fault) => { Err(fault) }
     }
 }
 
@@ -65,6 +74,7 @@ fn jobs_of<L: Named>(
     let mut shares = shares.into_iter();
     for plan in checked.plans {
         let Some(share) = shares.next() else {
+            // there are as many shares as plans
             unreachable!()
         };
         let room = rooms[jobs.len()];

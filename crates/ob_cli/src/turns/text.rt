@@ -29,7 +29,7 @@ pub fn push_turn(
     text.push('\n')
 }
 
-/// Adds the last line, by the sum owed. No lane is ever in the middle of a call, so the core is quiet.
+/// Adds the last line, by the sum owed. A core is always quiet.
 pub fn push_end(text: &mut String, owed: u32) -> Result<(), AllocError>
     ensures { OnOk result (string_bytes text.new ≡ string_bytes text.old ++ end_text owed) }
 {

@@ -34,8 +34,7 @@ impl World {
         add_debts(&self.lanes) as u32
     }
 
-    /// Whether no lane is in the middle of a call. None ever is, since each call is one step, so this is always true.
-    /// It does not allocate.
+    /// Whether no lane is in the middle of a call: always, as `World` says. It does not allocate.
     pub fn quiet(&self) -> bool
         ensures { result ≡ true }
     {

@@ -17,7 +17,7 @@ use Rattle.ob_history.specs.declared.record.Record.{Record}
 use Rattle.ob_shared.specs.Finished.{HandsInAll}
 use Rattle.ob_shared.specs.Handed.{Handed, made_by}
 use Rattle.ob_pool.specs.Report.HandedIn.{HaveHandedIn}
-use Rattle.ob_pool.specs.Threads.ReceiptLog.{failings_in}
+use Rattle.ob_pool.specs.Threads.Sending.{failings_in}
 use Rattle.ob_pool.specs.Report.CarriedOut.{AreCarriedOut, commands_of}
 use Rattle.ob_pool.specs.Report.Counts.{failings_of, is_failing}
 use Rattle.ob_pool.specs.Threads.Job.{Work, commands_in, work_from, done_by}
@@ -263,7 +263,6 @@ pub record HaveEnded (records : List Record) (dones : List Handed) (done : Hande
   pub same : map done_by dones ≡ work_from 0 plans
   pub handed : HaveHandedIn records (dones ++ done ∷ [])
   pub last : done.maker.caller ≡ length plans
-  pub made : done.maker.made ≡ length done.receipts
 
 module _ (records : List Record) (dones : List Handed) (done : Handed) (plans : List (List Command))
     (ended : HaveEnded records dones done plans) where
@@ -285,7 +284,8 @@ module _ (records : List Record) (dones : List Handed) (done : Handed) (plans : 
       omega (
         arith,
         ended.handed.counted,
-        ended.made,
+        All-contains (λ (one : Handed). one.maker.made ≡ length one.receipts) (dones ++ done ∷ []) done
+            ended.handed.made (Contains-push dones done),
         as_many_made dones plans ended.same,
         sum_by_push (λ (one : Handed). one.maker.made) dones done,
         length-map done.receipts (λ (receipt : Receipt). receipt.command),

@@ -1,27 +1,27 @@
 -- What a sink took of what receipts send.
 use Rattle.std.proofs.Common.{◌≡◌, ℕ, ◌+◌, ◌<◌, ◌≤◌, Bool, true, false, List, [], ◌∷◌, ◌++◌, length, map, take, cond}
-use Rattle.std.proofs.Common.{append-nil, eqb, refl, sym, ap, ◌∙◌, subst, append_assoc, arith, length-append, get_or}
-use Rattle.std.specs.Option.{ok_or}
-use Rattle.std.specs.Prelude.{Ok, Option, None, Some, is_ok, slice_get, sum_by}
+use Rattle.std.proofs.Common.{append-nil, ap₂, eq-eqb, eqb, refl, sym, ap, ◌∙◌, subst, append_assoc, arith, length-append, get_or}
+use Rattle.std.specs.Prelude.{IfOk, IsOkAnd, Result, Ok, Err, Some, count_by, drop, is_ok, slice_get, sum_by}
 use Rattle.std.specs.List.{All, flat_map}
+use Rattle.std.proofs.Math.Seq.{drop-append_seam}
 use Rattle.std.proofs.lemmas.Grind.{flat_map-append}
-use Rattle.std.proofs.lemmas.List.{append_cancel_left, take-append-le}
+use Rattle.std.proofs.lemmas.List.{append_cancel_left, map-append, take-append-le}
 use Rattle.std.proofs.lemmas.List.Concat.{flat_map-cons}
 use Rattle.std.proofs.lemmas.List.Elements.{All-append, All-head, All-map, All-nil, All-cons, All-tail, All-weaker}
 use Rattle.std.proofs.lemmas.List.Folds.{flat_map-map}
 use Rattle.std.proofs.lemmas.List.Sums.{sum_by-append, sum_by-cons}
+use Rattle.std.proofs.lemmas.Result.{IfOk-at_ok}
 use Rattle.ob_seq.specs.Effect.{rows_after}
 use Rattle.ob_seq.specs.Rows.{Settings}
 use Rattle.ob_history.specs.Accepted.{accepted_commands}
 use Rattle.ob_history.specs.Beginning.{IsBeginning}
 use Rattle.ob_history.specs.History.{History}
 use Rattle.ob_history.specs.Legal.{IsLegal}
-use Rattle.ob_history.specs.Own.{records_of}
+use Rattle.ob_history.specs.Own.{receipts_since, records_of}
 use Rattle.ob_history.specs.Receipt.{receipt_of, record_of}
 use Rattle.ob_history.specs.declared.receipt.Receipt.{Receipt}
 use Rattle.ob_history.specs.declared.record.Record.{Record}
 use Rattle.ob_shared.specs.Handed.{Handed}
-use Rattle.ob_shared.specs.Held.{Held}
 use Rattle.ob_shared.specs.Maker.{Maker}
 use Rattle.ob_shared.specs.Share.{ShareValue}
 use Rattle.ob_transport.specs.Content.{Content}
@@ -32,8 +32,9 @@ use Rattle.ob_transport.specs.SentIn.{sent_in}
 use Rattle.ob_transport.specs.SentUnits.{sent_units}
 use Rattle.ob_transport.specs.Standing.{standing}
 use Rattle.ob_transport.proofs.Records.{at_seam, bytes_by_records, units_by_records}
-use Rattle.ob_pool.specs.Threads.ReceiptLog.{LogStart, HasTransported, LoggedSince, failings_in}
-use Rattle.ob_pool.specs.Threads.Sending.{HasTakenOf, sent_at}
+use Rattle.ob_pool.specs.Report.Counts.{failings_of, is_failing}
+use Rattle.ob_pool.specs.Threads.Job.{commands_in}
+use Rattle.ob_pool.specs.Threads.Sending.{GrowsBy, HasTakenOf, HasTransported, failings_in, sent_at}
 
 -- two ways to send that agree on each of a list send the same together
 bytes_agree : {X : Type 0} (one other : X → Sent) (xs : List X) → All (λ x. one x ≡ other x) xs →
@@ -234,27 +235,77 @@ module _ (settings : Settings) where
       )
 
   -- a pass between two histories that were kept as they were opened, whose receipts are kept
-  pub pass_taken : (before after : History) (log_start : LogStart) (held : Held) (receipts kept : List Receipt)
+  pub pass_taken : (before after : History) (more : List Record) (receipts kept : List Receipt)
       (start old new : Content) → before.settings ≡ settings → after.settings ≡ settings →
-      IsLegal settings before.records → IsLegal settings after.records → held.history.records ≡ after.records →
-      LoggedSince log_start held kept → log_start.records ≡ before.records → log_start.receipts ≡ receipts →
+      IsLegal settings before.records → IsLegal settings after.records → after.records ≡ before.records ++ more →
+      kept ≡ receipts ++ map receipt_of more →
       GrowAlike (standing before old) (standing after new) → HasTakenOf settings before.records receipts start old →
       HasTakenOf settings after.records kept start new
-  pass_taken before after log_start held receipts kept start old new its_settings its was legal here since records own alike
-      taken =
-      let more = since.more in
-      let is : after.records ≡ before.records ++ more =
-      sym here ∙ since.records ∙ ap (λ (first : List Record). first ++ more) records in
+  pass_taken before after more receipts kept start old new its_settings its was legal is receipts_are alike taken =
       let legally = subst (IsLegal settings) is legal in
       let bytes = ap (sent_bytes settings) (sym is) ∙ ap (λ its. sent_bytes its after.records) (sym its)
       ∙ alike.bytes.2 ∙ ap (λ its. sent_bytes its before.records ++ alike.bytes.0) its_settings in
       let units = ap (sent_units settings) (sym is) ∙ ap (λ its. sent_units its after.records) (sym its)
       ∙ alike.units.2 ∙ ap (λ its. sent_units its before.records + alike.units.0) its_settings in
-      let receipts_are = since.kept ∙ ap (λ (first : List Receipt). first ++ map receipt_of more) own in
       subst (λ (all : List Record). HasTakenOf settings all kept start new) (sym is)
       (subst (λ (all : List Receipt). HasTakenOf settings (before.records ++ more) all start new) (sym receipts_are)
       (taken_more before.records more was legally receipts start old new alike.bytes.0 alike.units.0 alike.bytes.1 bytes
       alike.units.1 units taken))
+
+-- of records that a caller alone has made all are its own
+own_records : (caller : ℕ) (more : List Record) → All (λ one. one.caller ≡ caller) more → records_of caller more ≡ more
+own_records caller [] own = refl
+own_records caller (one ∷ more) own =
+    let its = eq-eqb one.caller caller (All-head (λ (its : Record). its.caller ≡ caller) one more own) in
+    ap (λ own. cond own (one ∷ records_of caller more) (records_of caller more)) its
+    ∙ ap (λ rest. one ∷ rest) (own_records caller more (All-tail (λ (its : Record). its.caller ≡ caller) one more own))
+
+-- so the receipts since then are those of what it has made
+pub receipts_of_own : (caller : ℕ) (before after : List Record) (grown : GrowsBy caller before after) →
+    receipts_since caller (length before) after ≡ map receipt_of grown.more
+receipts_of_own caller before after grown =
+    ap (λ records. map receipt_of (records_of caller (drop (length before) records))) grown.grown
+    ∙ ap (λ records. map receipt_of (records_of caller records)) (drop-append_seam before grown.more)
+    ∙ ap (map receipt_of) (own_records caller grown.more grown.own)
+
+-- and the kept receipts are those before, and these
+pub kept_of_pass : (caller its place : ℕ) (before after : List Record) (grown : GrowsBy caller before after)
+    (receipts own kept : List Receipt) → its ≡ caller → place ≡ length before → own ≡ receipts_since its place after →
+    kept ≡ receipts ++ own → kept ≡ receipts ++ map receipt_of grown.more
+kept_of_pass caller its place before after grown receipts own kept same at since is =
+    is
+    ∙ ap (λ rest. receipts ++ rest)
+    (since ∙ ap₂ (λ who from. receipts_since who from after) same at ∙ receipts_of_own caller before after grown)
+
+-- what follows of a pass and of its receipts, if both are there
+pub if_kept : {A E V F : Type 0} (kept next : Result A E) (own : Result V F) (Given Follows : A → Type 0)
+    (Kept : V → Type 0) → IfOk kept (λ then. next ≡ Ok then) → IfOk kept (λ then. IsOkAnd own Kept) → IfOk next Given →
+    ((then : A) (value : V) → own ≡ Ok value → Kept value → Given then → Follows then) → IfOk kept Follows
+if_kept (Ok then) next (Ok value) Given Follows Kept is kept given follow =
+    follow then value refl kept (IfOk-at_ok Given is given)
+if_kept (Ok then) next (Err error) Given Follows Kept is kept given follow = absurd kept
+if_kept (Err error) next own Given Follows Kept is kept given follow = tt
+
+-- the receipts of records fail as often as these
+failings_of_receipts : (records : List Record) → failings_in (map receipt_of records) ≡ failings_of records
+failings_of_receipts [] = refl
+failings_of_receipts (one ∷ records) =
+    sum_by-cons (λ command. cond (is_failing command) 1 0) one.command (commands_in (map receipt_of records))
+    ∙ ap (λ rest. cond (is_failing one.command) 1 0 + rest) (failings_of_receipts records)
+    ∙ sym (sum_by-cons (λ (one : Record). cond (is_failing one.command) 1 0) one records)
+
+-- what failed since then is told alike by the records and by the receipts
+pub failings_since : (before after more : List Record) (receipts kept : List Receipt) → after ≡ before ++ more →
+    kept ≡ receipts ++ map receipt_of more →
+    failings_in kept + failings_of before ≡ failings_in receipts + failings_of after
+failings_since before after more receipts kept grown are =
+    let of_receipts = ap failings_in are
+    ∙ ap (count_by is_failing) (map-append (λ (receipt : Receipt). receipt.command) receipts (map receipt_of more))
+    ∙ sum_by-append (λ command. cond (is_failing command) 1 0) (commands_in receipts)
+    (commands_in (map receipt_of more)) in
+    let of_records = ap failings_of grown
+    ∙ sum_by-append (λ (one : Record). cond (is_failing one.command) 1 0) before more in
+    omega (arith, of_receipts, of_records, failings_of_receipts more)
 
 -- what a transport hands in with this share and these receipts
 abbrev pub handed_of : ShareValue → List Receipt → Handed
@@ -266,7 +317,6 @@ pub nothing_transported : (settings : Settings) (share : ShareValue) (content : 
     HasTransported settings share.maker content content (handed_of share [])
 nothing_transported settings share content = record {
   caller = refl;
-  made = omega arith;
   failings = omega arith;
   taken = record {
     places = All-nil (λ (receipt : Receipt). receipt.place < length share.sight.seen);
@@ -280,20 +330,13 @@ pub one_more_pass : (settings : Settings) (maker its : Maker) (share left : Shar
     (receipts kept : List Receipt) (before old new : Content) →
     HasTransported settings maker before old (handed_of share receipts) → its ≡ share.maker →
     IsBeginning share.sight.seen records → left.maker.caller ≡ its.caller →
-    left.maker.made + length receipts ≡ its.made + length kept →
     failings_in kept + old.failures ≡ failings_in receipts + new.failures →
     ((start : Content) → HasTakenOf settings records receipts start old →
     HasTakenOf settings left.sight.seen kept start new) →
     HasTransported settings maker before new (handed_of left kept)
-one_more_pass settings maker its share left records receipts kept before old new carried same part caller made fails
+one_more_pass settings maker its share left records receipts kept before old new carried same part caller fails
     takes = record {
       caller = caller ∙ ap (λ (m : Maker). m.caller) same ∙ carried.caller;
-      made = omega (arith, made, ap (λ (m : Maker). m.made) same, carried.made);
       failings = omega (arith, fails, carried.failings);
       taken = takes before (taken_further settings share.sight.seen records receipts before old part carried.taken);
     }
-
--- what an option has that gives a value in place of an error
-pub was_some : {X E : Type 0} (found : Option X) (error : E) (x : X) → ok_or found error ≡ Ok x → found ≡ Some x
-was_some None error x is = absurd (cc is)
-was_some (Some y) error x is = cc is

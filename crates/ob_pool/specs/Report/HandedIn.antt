@@ -11,10 +11,11 @@ use Rattle.ob_pool.specs.Report.Counted.{IsCounted}
 use Rattle.ob_pool.specs.Report.TellsOf.{AreAtRest}
 use Rattle.ob_pool.specs.declared.report.Report.{Report}
 
--- callers have handed in a whole history: each has handed in all its records, they made as many as there are, and what
--- each had seen begins them
+-- callers have handed in a whole history: each has handed in all its records, with a receipt of each that it made; they
+-- made as many as there are, and what each had seen begins them
 pub record HaveHandedIn (records : List Record) (handed : List Handed) : Type 0 where
   pub own : All (HandsInAll records) handed
+  pub made : All (λ one. one.maker.made ≡ length one.receipts) handed
   pub counted : length records ≡ made_by handed
   pub saw : All (λ one. IsBeginning one.sight.seen records) handed
 

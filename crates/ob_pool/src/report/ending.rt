@@ -10,24 +10,18 @@ ghost use Rattle.ob_pool.specs.Report.HandedIn.{TellsEnd};
 use crate::fault::DriveFault;
 use crate::report::Report;
 use crate::report::counting::report_of;
-use crate::threads::Context;
+use crate::threads::{Context, Ended};
 use ob_history::Recorded;
-use ob_lanes::Lane;
 use ob_shared::{Done, Named, SharedBuffer};
 
 /// The report of a drive whose threads have ended, with what its writers and its transport hand in.
-pub fn into_report<L: Named>(
-    context: Context<L>,
-    lane: Lane,
-    dones: Vec<Done<L>>,
-    done: Done<L>,
-) -> Result<Report, DriveFault>
-    requires words { lane.words ≡ context.words }
-    requires whole { context.words.grant.room ≤ lane.lane.room }
+pub fn into_report<L: Named>(context: Context<L>, ended: Ended<L>) -> Result<Report, DriveFault>
+    requires words { ended.lane.words ≡ context.words }
+    requires whole { context.words.grant.room ≤ ended.lane.lane.room }
     requires no_bit { context.words.grant.bits ≡ 0 }
     ensures fault { IfErr result (ComesOfWork 0) }
     ensures ended { IfOk result
-        (TellsEnd L.opened context.words.grant.marks context.writers (dones.items ++ done ∷ [])) }
+        (TellsEnd L.opened context.words.grant.marks context.writers (ended.dones.items ++ ended.done ∷ [])) }
 {
     let Context {
         shared,
@@ -35,16 +29,16 @@ pub fn into_report<L: Named>(
         writers,
         ..
     } = context;
+    let Ended { lane, dones, done } = ended;
     let recorded = match finished(shared, dones, done) {
         Ok(recorded) => recorded,
         Err(fault) => {
-            drop(words);
-            drop(lane);
             return Err(fault);
         }
     };
     match lane.finish(words) {
         Ok(hand) => Ok(report_of(recorded, writers, hand)),
+        // the lane is back with all the room of the words, and owes nothing
         Err(_) => unreachable!(),
     }
 }
@@ -59,12 +53,12 @@ fn finished<L: Named>(
     ensures opened { IfOk result (λ recorded. IsAsOpened L.opened recorded) }
     ensures own { IfOk result (λ recorded. All (HandsInAll recorded.records) (dones.items ++ done ∷ [])) }
     ensures counted { IfOk result (λ recorded. length recorded.records ≡ made_by (dones.items ++ done ∷ [])) }
+    ensures made { IfOk result (λ recorded.
+        All (λ one. one.maker.made ≡ length one.receipts) (dones.items ++ done ∷ [])) }
     ensures saw { IfOk result (λ recorded.
         All (λ one. IsBeginning one.sight.seen recorded.records) (dones.items ++ done ∷ [])) }
 {
     if dones.reserve(1).is_err() {
-        drop(shared);
-        drop(done);
         return Err(DriveFault::NoMemory);
     }
     dones.push_reserved(done);
@@ -72,7 +66,6 @@ fn finished<L: Named>(
         Ok(end) => Ok(end.recorded),
         Err(unfinished) => {
             let fault = unfinished.fault;
-            drop(unfinished);
             Err(DriveFault::Finish(fault))
         }
     }

@@ -1,5 +1,6 @@
 use ob_lanes::Words;
 use ob_shared::{Named, SharedBuffer};
+use ob_transport::Limits;
 use ob_types::Estimate;
 use std::alloc::Global;
 use std::sync::atomic::AtomicBool;
@@ -15,6 +16,10 @@ pub struct Context<L: Named> {
     pub task: u32,
     /// Whether a writer waits, before it writes, while writers are stopped.
     pub heed: bool,
+    /// How much a pass of the transport offers at once.
+    pub limits: Limits,
+    /// The most passes of the transport.
+    pub turns: u64,
     /// How many writers there are.
     pub writers: u32,
     /// Whether the transport has begun.

@@ -35,6 +35,35 @@ impl<L: Named> Model for Job<L> {
     ghost view = { λ job. record { maker = job.share.maker; plan = job.plan; room = job.room } };
 }
 
+/// What a job comes to: its lane, with all its room, and what its writer hands in, or the fault that ended it.
+#[derive(Drop)]
+pub struct JobEnd<L: Named> {
+    pub lane: Lane,
+    pub done: Result<Done<L>, DriveFault>,
+}
+
+/// What a writer has at work: its share, and the receipts of its calls, with a place for each that is still to come.
+#[derive(Drop)]
+struct SoFar<L: Named> {
+    share: Share<L>,
+    receipts: Vec<Receipt>,
+}
+
+/// What a step of a writer begins with: its lane, what it has so far, and the command.
+#[derive(Drop)]
+struct Step<L: Named> {
+    lane: Lane,
+    so_far: SoFar<L>,
+    command: Command,
+}
+
+/// What a step of a writer comes to: its lane, with all its room, and what it has then, or the fault that ended it.
+#[derive(Drop)]
+struct StepEnd<L: Named> {
+    lane: Lane,
+    so_far: Result<SoFar<L>, DriveFault>,
+}
+
 impl<L: Named> Job<L> {
     /// Carries the plan out with a lane that has room for it, and gives the lane back. What it hands in has a receipt
     /// of each command, in order. Before each command it reads whether the buffer is writable, and asks its gate; if the
@@ -45,14 +74,14 @@ impl<L: Named> Job<L> {
         gate: &G,
         context: &Context<L>,
         lane: Lane,
-    ) -> (Lane, Result<Done<L>, DriveFault>)
+    ) -> JobEnd<L>
         requires words { lane.words ≡ context.now.words }
         requires roomy { IsRoomy context.now.estimate context.now.task self }
         requires numbered { IsNumbered context.now.writers self }
         requires room { self.room ≤ lane.lane.room }
-        ensures lane { IsBack lane result.0 }
-        ensures done { IfOk result.1 (λ done. done_by done ≡ asked self) }
-        ensures fault { IfErr result.1 (ComesOfWork context.now.writers) }
+        ensures lane { IsBack lane result.lane }
+        ensures done { IfOk result.done (λ done. done_by done ≡ asked self) }
+        ensures fault { IfErr result.done (ComesOfWork context.now.writers) }
     {
         let Job {
             share,
@@ -61,37 +90,56 @@ impl<L: Named> Job<L> {
         } = self;
         let mut receipts = Vec::new(context.alloc);
         if receipts.reserve(plan.commands.len()).is_err() {
-            drop(share);
-            drop(plan);
-            return (lane, Err(DriveFault::NoMemory));
+            return JobEnd {
+                lane,
+                done: Err(DriveFault::NoMemory),
+            };
         }
         let writer = share.caller();
         let mut lane = lane;
-        let mut share = share;
+        let mut so_far = SoFar { share, receipts };
         'steps: for command in plan.commands {
-            share = heed(rt, context, share, &command);
+            let SoFar { share, receipts } = so_far;
+            let share = heed(rt, context, share, &command);
             let step = receipts.len();
             if gate.before(rt, writer, step).is_err() {
-                drop(share);
-                drop(command);
-                return (lane, Err(DriveFault::Stuck { writer }));
+                return JobEnd {
+                    lane,
+                    done: Err(DriveFault::Stuck { writer }),
+                };
             }
-            let kept = &mut receipts;
-            let (same, end) = one_step(rt, gate, context, lane, share, step, command, kept);
+            let begin = Step {
+                lane,
+                so_far: SoFar { share, receipts },
+                command,
+            };
+            let StepEnd {
+                lane: same,
+                so_far: end,
+            } = one_step(rt, gate, context, begin);
             lane = same;
             match end {
-                Ok(counted) => share = counted,
-                Err(fault) => return (lane, Err(fault)),
+                Ok(after) => so_far = after,
+                Err(fault) => {
+                    return JobEnd {
+                        lane,
+                        done: Err(fault),
+                    };
+                }
             }
             gate.after(rt, writer, step);
         }
+        let SoFar { share, receipts } = so_far;
         let done = Done {
             share,
             receipts,
             told: Vec::new(context.alloc),
             seen: Vec::new(context.alloc),
         };
-        (lane, Ok(done))
+        JobEnd {
+            lane,
+            done: Ok(done),
+        }
     }
 }
 
@@ -101,60 +149,67 @@ fn one_step<L: Named, R: Wait + Clock, G: Gate>(
     rt: &R,
     gate: &G,
     context: &Context<L>,
-    lane: Lane,
-    share: Share<L>,
-    step: usize,
-    command: Command,
-    receipts: &mut Vec<Receipt>,
-) -> (Lane, Result<Share<L>, DriveFault>)
-    requires words { lane.words ≡ context.now.words }
-    requires room { charge_for context.now.estimate context.now.task command ≤ lane.lane.room }
-    requires numbered { share.maker.caller < context.now.writers }
-    requires read { HasRead share }
-    requires place { vec_len receipts.old < vec_capacity receipts.old }
-    ensures lane { IsBack lane result.0 }
-    ensures call { IfOk result.1 (IsOneCall share command receipts.old.items receipts.new.items) }
-    ensures count { IfOk result.1 (λ share. vec_len receipts.new ≡ vec_len receipts.old + 1) }
-    ensures places { vec_capacity receipts.new ≡ vec_capacity receipts.old }
-    ensures fault { IfErr result.1 (ComesOfWork context.now.writers) }
+    begin: Step<L>,
+) -> StepEnd<L>
+    requires words { begin.lane.words ≡ context.now.words }
+    requires room { charge_for context.now.estimate context.now.task begin.command ≤ begin.lane.lane.room }
+    requires numbered { begin.so_far.share.maker.caller < context.now.writers }
+    requires read { HasRead begin.so_far.share }
+    requires place { vec_len begin.so_far.receipts < vec_capacity begin.so_far.receipts }
+    ensures lane { IsBack begin.lane result.lane }
+    ensures call { IfOk result.so_far (λ after. IsOneCall begin.so_far.share begin.command
+        begin.so_far.receipts.items after.receipts.items after.share) }
+    ensures count { IfOk result.so_far (λ after. vec_len after.receipts ≡ vec_len begin.so_far.receipts + 1) }
+    ensures places { IfOk result.so_far (λ after. vec_capacity after.receipts ≡ vec_capacity begin.so_far.receipts) }
+    ensures fault { IfErr result.so_far (ComesOfWork context.now.writers) }
 {
+    let Step {
+        lane,
+        so_far,
+        command,
+    } = begin;
     if !matches!(command, Command::Write(_)) {
-        return (lane, one_call(rt, context, share, command, receipts));
+        return StepEnd {
+            lane,
+            so_far: one_call(rt, context, so_far, command),
+        };
     }
-    let writer = share.caller();
+    let writer = so_far.share.caller();
+    let step = so_far.receipts.len();
     let charge = charge_for(context.estimate, context.task, &command) as u32;
     let mut charged = match lane.charge(rt, &context.words, charge) {
         Ok((charged, _change)) => charged,
+        // a lane with room for its plan that owes nothing can be charged with each of its writes
         Err(_) => unreachable!(),
     };
     let total = charged.total(&context.words);
-    let end = match gate.during(rt, writer, step, total) {
-        Ok(()) => one_call(rt, context, share, command, receipts),
-        Err(Stuck) => {
-            drop(share);
-            drop(command);
-            Err(DriveFault::Stuck { writer })
-        }
+    let so_far = match gate.during(rt, writer, step, total) {
+        Ok(()) => one_call(rt, context, so_far, command),
+        Err(Stuck) => { Err(DriveFault::Stuck { writer }) }
     };
     let (lane, _change) = charged.discharge(rt, &context.words);
-    (lane, end)
+    StepEnd { lane, so_far }
 }
 
 /// One call of the shared buffer, from a desk of its own. The receipt goes behind the others.
 fn one_call<L: Named, R: Wait>(
     rt: &R,
     context: &Context<L>,
-    share: Share<L>,
+    so_far: SoFar<L>,
     command: Command,
-    receipts: &mut Vec<Receipt>,
-) -> Result<Share<L>, DriveFault>
-    requires numbered { share.maker.caller < context.now.writers }
-    requires place { vec_len receipts.old < vec_capacity receipts.old }
-    ensures call { IfOk result (IsOneCall share command receipts.old.items receipts.new.items) }
-    ensures count { IfOk result (λ share. vec_len receipts.new ≡ vec_len receipts.old + 1) }
-    ensures places { vec_capacity receipts.new ≡ vec_capacity receipts.old }
+) -> Result<SoFar<L>, DriveFault>
+    requires numbered { so_far.share.maker.caller < context.now.writers }
+    requires place { vec_len so_far.receipts < vec_capacity so_far.receipts }
+    ensures call { IfOk result (λ after.
+        IsOneCall so_far.share command so_far.receipts.items after.receipts.items after.share) }
+    ensures count { IfOk result (λ after. vec_len after.receipts ≡ vec_len so_far.receipts + 1) }
+    ensures places { IfOk result (λ after. vec_capacity after.receipts ≡ vec_capacity so_far.receipts) }
     ensures fault { IfErr result (ComesOfWork context.now.writers) }
 {
+    let SoFar {
+        share,
+        mut receipts,
+    } = so_far;
     let writer = share.caller();
     let mut desk = context.shared.desk(rt, share);
     let answer = desk.call(command);
@@ -162,15 +217,9 @@ fn one_call<L: Named, R: Wait>(
     match answer {
         Ok(receipt) => {
             receipts.push_reserved(receipt);
-            Ok(share)
+            Ok(SoFar { share, receipts })
         }
-        Err(Refusal::NoMemory) => {
-            drop(share);
-            Err(DriveFault::NoMemory)
-        }
-        Err(refusal) => {
-            drop(share);
-            Err(DriveFault::Refused { writer, refusal })
-        }
+        Err(Refusal::NoMemory) => { Err(DriveFault::NoMemory) }
+        Err(refusal) => { Err(DriveFault::Refused { writer, refusal }) }
     }
 }

@@ -5,19 +5,29 @@ ghost use Rattle.std.specs.Thread.{IsSync};
 ghost use Rattle.ob_pool.specs.DriveFault.{ComesOfWork};
 ghost use Rattle.ob_pool.specs.Threads.Job.{AreDone, JobsHaveEnded, MayBegin, room_for};
 
-use crate::both::both;
 use crate::fault::DriveFault;
 use crate::gate::Gate;
 use crate::threads::context::Context;
-use crate::threads::job::Job;
+use crate::threads::job::{Job, JobEnd};
 use ob_lanes::Lane;
 use ob_shared::{Done, Named};
 use std::sync::Wait;
 use std::thread::{Threads, join};
 use std::time::Clock;
 
+/// Writers that have not begun, with one lane that has room for all.
+#[derive(Drop)]
+pub struct Writers<L: Named> {
+    pub lane: Lane,
+    pub jobs: Vec<Job<L>>,
+}
+
 /// What writers come to: their lane, with all its room, and what they hand in, or the fault of the first of them.
-pub type JobsEnd<L> = (Lane, Result<Vec<Done<L>>, DriveFault>);
+#[derive(Drop)]
+pub struct WritersEnd<L: Named> {
+    pub lane: Lane,
+    pub dones: Result<Vec<Done<L>>, DriveFault>,
+}
 
 /// Lets writers work, each in a thread of its own if one can be made. The list is halved down to one writer, with
 /// the lane split before and joined after.
@@ -26,22 +36,34 @@ pub fn run_all<L: Named + Send + Sync, R: Threads + Wait + Clock + Sync, G: Gate
     rt: &R,
     gate: &G,
     context: &Context<L>,
-    lane: Lane,
-    mut jobs: Vec<Job<L>>,
-) -> JobsEnd<L>
-    requires { MayBegin context.now.words context.now.estimate context.now.task context.now.writers lane jobs.items }
-    ensures { JobsHaveEnded context.now.writers jobs.items lane result.0 result.1 }
+    writers: Writers<L>,
+) -> WritersEnd<L>
+    requires { MayBegin context.now.words context.now.estimate context.now.task context.now.writers
+        writers.lane writers.jobs.items }
+    ensures { JobsHaveEnded context.now.writers writers.jobs.items writers.lane result.lane result.dones }
 {
-    if jobs.len() < 2 {
-        return one_alone(jobs, rt, gate, context, lane);
+    if writers.jobs.len() < 2 {
+        return one_alone(rt, gate, context, writers);
     }
+    let Writers { lane, mut jobs } = writers;
     let Ok(others) = jobs.split_off(jobs.len() / 2) else {
-        return (lane, Err(DriveFault::NoMemory));
+        return WritersEnd {
+            lane,
+            dones: Err(DriveFault::NoMemory),
+        };
     };
     // A room is a word of 32 bits.
     let _most = lane.room();
     match lane.split(&context.words, room_for(&others), 0) {
-        Ok((lane, other)) => both_halves(rt, gate, context, lane, jobs, other, others),
+        Ok((lane, other)) => {
+            let front = Writers { lane, jobs };
+            let back = Writers {
+                lane: other,
+                jobs: others,
+            };
+            both_halves(rt, gate, context, front, back)
+        }
+        // a lane with room for all writers can be split
         Err(_) => unreachable!(),
     }
 }
@@ -52,33 +74,38 @@ fn both_halves<L: Named + Send + Sync, R: Threads + Wait + Clock + Sync, G: Gate
     rt: &R,
     gate: &G,
     context: &Context<L>,
-    lane: Lane,
-    jobs: Vec<Job<L>>,
-    other: Lane,
-    others: Vec<Job<L>>,
-) -> JobsEnd<L>
-    requires some { 0 < vec_len jobs }
-    requires some_other { 0 < vec_len others }
-    requires ready { MayBegin context.now.words context.now.estimate context.now.task context.now.writers lane jobs.items }
-    requires other_ready { MayBegin context.now.words context.now.estimate context.now.task context.now.writers other others.items }
-    requires whole { lane.lane.room + other.lane.room ≤ lane.words.grant.room }
-    ensures words { result.0.words ≡ lane.words }
-    ensures room { result.0.lane.room ≡ lane.lane.room + other.lane.room }
-    ensures done { IfOk result.1 (λ dones. AreDone (jobs.items ++ others.items) dones.items) }
-    ensures fault { IfErr result.1 (ComesOfWork context.now.writers) }
+    front: Writers<L>,
+    back: Writers<L>,
+) -> WritersEnd<L>
+    requires some { 0 < vec_len front.jobs }
+    requires some_other { 0 < vec_len back.jobs }
+    requires ready { MayBegin context.now.words context.now.estimate context.now.task context.now.writers
+        front.lane front.jobs.items }
+    requires other_ready { MayBegin context.now.words context.now.estimate context.now.task context.now.writers
+        back.lane back.jobs.items }
+    requires whole { front.lane.lane.room + back.lane.lane.room ≤ front.lane.words.grant.room }
+    ensures words { result.lane.words ≡ front.lane.words }
+    ensures room { result.lane.lane.room ≡ front.lane.lane.room + back.lane.lane.room }
+    ensures done { IfOk result.dones (λ dones. AreDone (front.jobs.items ++ back.jobs.items) dones.items) }
+    ensures fault { IfErr result.dones (ComesOfWork context.now.writers) }
 {
-    let first = move || -> JobsEnd<L>
+    let first = move || -> WritersEnd<L>
         requires row { IsSync R.row }
-        requires ready { MayBegin context.now.words context.now.estimate context.now.task context.now.writers lane jobs.items }
-        ensures { JobsHaveEnded context.entry.now.writers jobs.items lane result.0 result.1 }
-    { run_all(rt, gate, context, lane, jobs) };
-    let second = move || -> JobsEnd<L>
+        requires ready { MayBegin context.now.words context.now.estimate context.now.task context.now.writers
+            front.lane front.jobs.items }
+        ensures { JobsHaveEnded context.entry.now.writers front.jobs.items front.lane result.lane result.dones }
+    { run_all(rt, gate, context, front) };
+    let second = move || -> WritersEnd<L>
         requires row { IsSync R.row }
-        requires ready { MayBegin context.now.words context.now.estimate context.now.task context.now.writers other others.items }
-        ensures { JobsHaveEnded context.entry.now.writers others.items other result.0 result.1 }
-    { run_all(rt, gate, context, other, others) };
-    let ((lane, dones), (other, more)) = join(rt, first, second);
-    (lane.join(&context.words, other), both_handed(dones, more))
+        requires ready { MayBegin context.now.words context.now.estimate context.now.task context.now.writers
+            back.lane back.jobs.items }
+        ensures { JobsHaveEnded context.entry.now.writers back.jobs.items back.lane result.lane result.dones }
+    { run_all(rt, gate, context, back) };
+    let (ended, more) = join(rt, first, second);
+    WritersEnd {
+        lane: ended.lane.join(&context.words, more.lane),
+        dones: both_handed(ended.dones, more.dones),
+    }
 }
 
 /// What two lists of writers hand in together.
@@ -91,44 +118,54 @@ fn both_handed<L: Named>(
     ensures fault { (writers : ℕ) → IfErr dones (ComesOfWork writers) → IfErr more (ComesOfWork writers)
         → IfErr result (ComesOfWork writers) }
 {
-    match both(dones, more) {
-        Ok((mut dones, mut more)) => match dones.append(&mut more) {
-            Ok(()) => Ok(dones),
-            Err(_) => Err(DriveFault::NoMemory),
-        },
-        Err(fault) => Err(fault),
+    let mut dones = dones?;
+    let mut more = more?;
+    match dones.append(&mut more) {
+        Ok(()) => Ok(dones),
+        Err(_) => Err(DriveFault::NoMemory),
     }
 }
 
 /// Lets one writer work, if there is one.
 fn one_alone<L: Named, R: Wait + Clock, G: Gate>(
-    mut jobs: Vec<Job<L>>,
     rt: &R,
     gate: &G,
     context: &Context<L>,
-    lane: Lane,
-) -> JobsEnd<L>
-    requires few { vec_len jobs < 2 }
-    requires ready { MayBegin context.now.words context.now.estimate context.now.task context.now.writers lane jobs.items }
-    ensures { JobsHaveEnded context.now.writers jobs.items lane result.0 result.1 }
+    writers: Writers<L>,
+) -> WritersEnd<L>
+    requires few { vec_len writers.jobs < 2 }
+    requires ready { MayBegin context.now.words context.now.estimate context.now.task context.now.writers
+        writers.lane writers.jobs.items }
+    ensures { JobsHaveEnded context.now.writers writers.jobs.items writers.lane result.lane result.dones }
 {
+    let Writers { lane, mut jobs } = writers;
     let last = jobs.pop();
-    drop(jobs);
     let Some(job) = last else {
-        return (lane, Ok(Vec::new(context.alloc)));
+        return WritersEnd {
+            lane,
+            dones: Ok(Vec::new(context.alloc)),
+        };
     };
     let mut dones = Vec::new(context.alloc);
     if dones.reserve(1).is_err() {
-        drop(job);
-        return (lane, Err(DriveFault::NoMemory));
+        return WritersEnd {
+            lane,
+            dones: Err(DriveFault::NoMemory),
+        };
     }
-    let (lane, end) = job.run(rt, gate, context, lane);
-    match end {
+    let JobEnd { lane, done } = job.run(rt, gate, context, lane);
+    match done {
         Ok(done) => {
             dones.push_reserved(done);
-            (lane, Ok(dones))
+            WritersEnd {
+                lane,
+                dones: Ok(dones),
+            }
         }
-        Err(fault) => (lane, Err(fault)),
+        Err(fault) => WritersEnd {
+            lane,
+            dones: Err(fault),
+        },
     }
 }
 

@@ -1,6 +1,6 @@
 //! The transport, which takes the desk for one pass at a time.
 
-ghost use Rattle.std.specs.Prelude.{◌≡◌, ◌+◌, length, IfErr, IfOk, IfSome};
+ghost use Rattle.std.specs.Prelude.{◌≡◌, ◌+◌, ◌++◌, Ok, IfErr, IfOk, IsOkAnd};
 ghost use Rattle.ob_shared.specs.Opened.{IsAsOpened};
 ghost use Rattle.ob_transport.specs.Content.{Content};
 ghost use Rattle.ob_transport.specs.GrowAlike.{GrowAlike};
@@ -8,21 +8,16 @@ ghost use Rattle.ob_transport.specs.MayOffer.{MayOffer};
 ghost use Rattle.ob_transport.specs.Standing.{standing};
 ghost use Rattle.ob_pool.specs.Report.Counts.{failings_of};
 ghost use Rattle.ob_pool.specs.DriveFault.{ComesOfWork};
-ghost use Rattle.ob_pool.specs.Threads.ReceiptLog.{HasTransported, failings_in};
-ghost use Rattle.ob_pool.specs.Threads.Sending.{HasTakenOf};
+ghost use Rattle.ob_pool.specs.Threads.Sending.{GrowsBy, HasTakenOf, HasTransported, failings_in};
 
-use crate::both::both;
-use crate::config::Config;
 use crate::fault::DriveFault;
-use crate::threads::receipt_log::{ReceiptLog, Started};
+use crate::threads::context::Context;
 use ob_history::{Booked, Receipt};
-use ob_shared::{Desk, Done, Named, Share, SharedBuffer};
+use ob_shared::{Desk, Done, Named, Share};
 use ob_transport::{Limits, Pass, PassFault, Sink, pass};
-use ob_types::{Cause, Command};
-use std::alloc::Global;
-use std::marker::Brand;
+use ob_types::{Cause, Command, Refusal};
 use std::sync::Wait;
-use std::sync::atomic::{AtomicBool, Ordering};
+use std::sync::atomic::Ordering;
 use std::thread::sleep;
 use std::time::{Clock, Duration};
 
@@ -42,33 +37,26 @@ pub enum AfterPass {
 /// are used. It hands in the receipts of its calls.
 pub fn transport<L: Named, S: Sink, R: Wait + Clock>(
     rt: &R,
-    alloc: Global,
-    shared: &SharedBuffer<L>,
+    context: &Context<L>,
     share: Share<L>,
     sink: &mut S,
-    config: Config,
-    ended: &AtomicBool,
 ) -> Result<Done<L>, DriveFault>
-    requires offers { MayOffer config.limits }
+    requires offers { MayOffer context.now.limits }
     ensures transported { IfOk result
         (HasTransported L.opened.settings share.maker (S.content sink.old) (S.content sink.new)) }
     ensures fault { IfErr result (ComesOfWork 0) }
 {
     let mut share = share;
-    let mut receipts = Vec::new(alloc);
-    'passes: for _ in 0..config.turns {
+    let mut receipts = Vec::new(context.alloc);
+    'passes: for _ in 0..context.turns {
         // Asked before the pass: what was flushed before all writers ended is then found by it.
-        let last = ended.load(Ordering::SeqCst);
-        let desk = shared.desk(rt, share);
-        let (same, kept, end) = one_pass::<L, Brand, S>(desk, receipts, sink, config.limits);
-        share = same;
-        let next = match both(end, kept.ok_or(DriveFault::NoMemory)) {
-            Ok((next, kept)) => {
-                receipts = kept;
-                next
-            }
+        let last = context.ended.load(Ordering::SeqCst);
+        let desk = context.shared.desk(rt, share);
+        let end = one_pass(desk, &mut receipts, sink, context.limits);
+        share = end.share;
+        let next = match end.next {
+            Ok(next) => next,
             Err(fault) => {
-                drop(share);
                 return Err(fault);
             }
         };
@@ -82,43 +70,65 @@ pub fn transport<L: Named, S: Sink, R: Wait + Clock>(
     Ok(Done {
         share,
         receipts,
-        told: Vec::new(alloc),
-        seen: Vec::new(alloc),
+        told: Vec::new(context.alloc),
+        seen: Vec::new(context.alloc),
     })
 }
 
-/// One pass at a desk. It gives back the share and the receipts, with those of its own calls, or no receipts if one
-/// was lost.
-fn one_pass<L: Named, K: Started, S: Sink>(
+/// What a pass comes to: the share of its desk, and what comes next.
+#[derive(Drop)]
+struct PassEnd<L: Named> {
+    share: Share<L>,
+    next: Result<AfterPass, DriveFault>,
+}
+
+/// One pass at a desk. The receipts of its calls go behind the others.
+fn one_pass<L: Named, S: Sink>(
     desk: Desk<'_, L>,
-    receipts: Vec<Receipt>,
+    receipts: &mut Vec<Receipt>,
     sink: &mut S,
     limits: Limits,
-) -> (
-    Share<L>,
-    Option<Vec<Receipt>>,
-    Result<AfterPass, DriveFault>,
-)
-    requires records { K.start.records ≡ desk.history.records }
-    requires start_made { K.start.made ≡ desk.maker.made }
-    requires start_receipts { K.start.receipts ≡ receipts.items }
+) -> PassEnd<L>
     requires opened { IsAsOpened L.opened desk.history }
     requires offers { MayOffer limits }
-    ensures caller { result.0.maker.caller ≡ desk.entry.maker.caller }
-    ensures made { IfSome result.1 (λ kept.
-        result.0.maker.made + length receipts.items ≡ desk.entry.maker.made + length kept.items) }
-    ensures taken { IfOk result.2 (λ next. IfSome result.1 (λ kept. (start : Content) →
-        HasTakenOf L.opened.settings desk.entry.history.records receipts.items start (S.content sink.old)
-        → HasTakenOf L.opened.settings result.0.sight.seen kept.items start (S.content sink.new))) }
-    ensures failings { IfOk result.2 (λ next. IfSome result.1 (λ kept.
-        failings_in kept.items + (S.content sink.old).failures
-        ≡ failings_in receipts.items + (S.content sink.new).failures)) }
-    ensures fault { IfErr result.2 (ComesOfWork 0) }
+    ensures caller { result.share.maker.caller ≡ desk.entry.maker.caller }
+    ensures taken { IfOk result.next (λ next. (start : Content) →
+        HasTakenOf L.opened.settings desk.entry.history.records receipts.old.items start (S.content sink.old)
+        → HasTakenOf L.opened.settings result.share.sight.seen receipts.new.items start (S.content sink.new)) }
+    ensures failings { IfOk result.next (λ next.
+        failings_in receipts.new.items + (S.content sink.old).failures
+        ≡ failings_in receipts.old.items + (S.content sink.new).failures) }
+    ensures fault { IfErr result.next (ComesOfWork 0) }
 {
-    let mut log = ReceiptLog::<L, K>::new(desk, receipts);
-    let end = pass_or_fail(&mut log, sink, limits);
-    let (share, receipts) = log.leave();
-    (share, receipts, end)
+    let mut desk = desk;
+    let begun = desk.look().place;
+    let next = pass_or_fail(&mut desk, sink, limits);
+    let own = desk.receipts_since(begun);
+    let share = desk.leave();
+    PassEnd {
+        share,
+        next: keep(next, own, receipts),
+    }
+}
+
+/// Keeps the receipts of a pass behind the others, if memory allows.
+fn keep(
+    next: Result<AfterPass, DriveFault>,
+    own: Result<Vec<Receipt>, Refusal>,
+    receipts: &mut Vec<Receipt>,
+) -> Result<AfterPass, DriveFault>
+    ensures next { IfOk result (λ then. next ≡ Ok then) }
+    ensures kept { IfOk result (λ then. IsOkAnd own (λ own. receipts.new.items ≡ receipts.old.items ++ own.items)) }
+    ensures fault { IfErr next (ComesOfWork 0) → IfErr result (ComesOfWork 0) }
+{
+    let next = next?;
+    let Ok(mut own) = own else {
+        return Err(DriveFault::NoMemory);
+    };
+    match receipts.append(&mut own) {
+        Ok(()) => Ok(next),
+        Err(_) => Err(DriveFault::NoMemory),
+    }
 }
 
 /// One pass. If the sink fails, all that is flushed fails with its number as the cause, and with notice.
@@ -129,6 +139,7 @@ fn pass_or_fail<B: Booked, S: Sink>(
 ) -> Result<AfterPass, DriveFault>
     requires offers { MayOffer limits }
     ensures caller { B.caller booked.new ≡ B.caller booked.old }
+    ensures own { GrowsBy (B.caller booked.old) (B.history booked.old).records (B.history booked.new).records }
     ensures alike { IfOk result (λ next. GrowAlike
         (standing (B.history booked.old) (S.content sink.old))
         (standing (B.history booked.new) (S.content sink.new))) }

@@ -205,10 +205,7 @@ impl Driven {
     ) -> Result<(), NoAnswer> {
         let config = config(self.options, self.given.turns)?;
         let plans = std::mem::replace(&mut self.given.plans, Vec::new(rt.alloc()));
-        drop(
-            self.end
-                .replace(drive(rt, rt.alloc(), gate, plans, sink, config)),
-        );
+        drop(self.end.replace(drive(rt, gate, plans, sink, config)));
         Ok(())
     }
 

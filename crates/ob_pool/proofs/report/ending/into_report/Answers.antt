@@ -8,10 +8,11 @@ pub returns-clause-ended : goal.returns-clause-ended
 returns-clause-ended g c = record {
   opened = search rules;
   handed =
-      subst (λ (history : History). HaveHandedIn history.records (c.args.dones.items ++ c.args.done ∷ []))
+      subst (λ (history : History). HaveHandedIn history.records (c.args.ended.dones.items ++ c.args.ended.done ∷ []))
       (sym c.report_of.ensures.recorded)
       (record {
         own = c.in-Ok.ensures.own;
+        made = c.in-Ok.ensures.made;
         counted = c.in-Ok.ensures.counted;
         saw = c.in-Ok.ensures.saw;
       });

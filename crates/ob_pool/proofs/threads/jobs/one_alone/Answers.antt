@@ -6,23 +6,23 @@ use Rattle.ob_pool.proofs.threads.jobs.one_alone.Goals as goal
 
 pub run-lane-requires-clause-roomy : goal.run-lane-requires-clause-roomy
 run-lane-requires-clause-roomy g c =
-    last_holds (IsRoomy c.args.context.now.estimate c.args.context.now.task) c.args.jobs.items c.pop-last.new.self.items
+    last_holds (IsRoomy c.args.context.now.estimate c.args.context.now.task) c.args.writers.jobs.items c.pop-last.new.self.items
     c.in-Some.job c.in-Some.ensures.items c.requires.ready.roomy
 
 pub run-lane-requires-clause-numbered : goal.run-lane-requires-clause-numbered
 run-lane-requires-clause-numbered g c =
-    last_holds (IsNumbered c.args.context.now.writers) c.args.jobs.items c.pop-last.new.self.items c.in-Some.job
+    last_holds (IsNumbered c.args.context.now.writers) c.args.writers.jobs.items c.pop-last.new.self.items c.in-Some.job
     c.in-Some.ensures.items c.requires.ready.numbered
 
 pub run-lane-requires-clause-room : goal.run-lane-requires-clause-room
 run-lane-requires-clause-room g c =
-    last_room c.args.jobs.items c.pop-last.new.self.items c.in-Some.job c.args.lane.lane.room c.in-Some.ensures.items
+    last_room c.args.writers.jobs.items c.pop-last.new.self.items c.in-Some.job c.args.writers.lane.lane.room c.in-Some.ensures.items
     c.requires.ready.room
 
 pub returns-in-Ok : goal.returns-in-Ok
 returns-in-Ok g c = record {
   lane_back = c.run-lane.ensures.lane;
-  done = one_done c.args.jobs c.pop-last.new.self.items c.in-Some.job c.reserve.new.self.items
+  done = one_done c.args.writers.jobs c.pop-last.new.self.items c.in-Some.job c.reserve.new.self.items
       c.push_reserved.new.self.items c.in-Ok.done c.requires.few c.in-Some.ensures.items
       (c.reserve.ensures.items ∙ c.new-dones.ensures.items) c.push_reserved.ensures.items
       (IfOk-at_ok (λ done. done_by done ≡ asked c.in-Some.job) c.in-Ok.is c.run-lane.ensures.done);

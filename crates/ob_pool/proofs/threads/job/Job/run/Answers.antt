@@ -1,14 +1,13 @@
-use Rattle.std.proofs.Common.{◌≡◌, ◌+◌, ◌∷◌, ap, ◌∙◌, rules}
+use Rattle.std.proofs.Common.{◌≡◌, ◌∷◌, ap, ◌∙◌, rules}
 use Rattle.std.specs.Prelude.{vec_capacity, vec_len}
 use Rattle.std.proofs.lemmas.Result.{IfOk-at_ok}
 use Rattle.ob_shared.specs.Maker.{Maker}
-use Rattle.ob_pool.specs.Threads.Job.{IsOneCall}
 use Rattle.ob_pool.proofs.Jobs.Steps.{commands_rest, made_more, numbered_still, place_next, places_rest, room_rest}
 use Rattle.ob_pool.proofs.threads.job.Job.run.Goals as goal
 
 pub one_step-same-requires-clause-numbered : goal.one_step-same-requires-clause-numbered
 one_step-same-requires-clause-numbered g c =
-    numbered_still c.heed-share.result.maker.caller c.steps.share.maker.caller c.args.self.maker.caller
+    numbered_still c.heed-share.result.maker.caller c.steps.so_far.share.maker.caller c.args.self.maker.caller
     c.args.context.now.writers (ap (λ (maker : Maker). maker.caller) c.heed-share.ensures.maker)
     c.steps.invariant.caller c.requires.numbered
 
@@ -16,7 +15,7 @@ pub one_step-same-requires-clause-place : goal.one_step-same-requires-clause-pla
 one_step-same-requires-clause-place g c =
     let rest = c.next.new.self.rest.items in
     let begin : c.steps.command-iterator.rest.items ≡ c.in-Some.command ∷ rest = search rules in
-    place_next (vec_len c.steps.receipts) (vec_capacity c.steps.receipts) c.in-Some.command
+    place_next (vec_len c.steps.so_far.receipts) (vec_capacity c.steps.so_far.receipts) c.in-Some.command
     c.steps.command-iterator.rest.items rest c.steps.invariant.places begin
 
 pub steps-preserved : goal.steps-preserved
@@ -25,23 +24,22 @@ steps-preserved g c =
     let command = c.in-Some.command in
     let plan = c.steps.command-iterator.rest.items in
     let rest = c.next.new.self.rest.items in
-    let receipts = c.one_step-same.new.receipts in
+    let receipts = c.in-Ok.after.receipts in
     let step = c.one_step-same.ensures in
     let same = c.heed-share.ensures.maker in
     let begin : plan ≡ command ∷ rest = search rules in
-    let count : vec_len receipts ≡ vec_len c.steps.receipts + 1 =
-    IfOk-at_ok (λ share. vec_len receipts ≡ vec_len c.steps.receipts + 1) c.in-Ok.is step.count in
-    let called = IfOk-at_ok (IsOneCall c.heed-share.result command c.steps.receipts.items receipts.items) c.in-Ok.is
-    step.call in
+    let count = IfOk-at_ok _ c.in-Ok.is step.count in
+    let called = IfOk-at_ok _ c.in-Ok.is step.call in
+    let places = IfOk-at_ok _ c.in-Ok.is step.places in
     record {
       lane = record { words = step.lane.words ∙ kept.lane.words; room = step.lane.room ∙ kept.lane.room };
       roomy = room_rest c.args.context.now.estimate c.args.context.now.task command plan rest c.args.self.room kept.roomy begin;
       caller = ap (λ (maker : Maker). maker.caller) called.made ∙ ap (λ (maker : Maker). maker.caller) same ∙ kept.caller;
-      made = made_more c.in-Ok.counted.maker.made c.heed-share.result.maker.made c.steps.share.maker.made
-          c.args.self.maker.made (vec_len c.steps.receipts) (vec_len receipts)
+      made = made_more c.in-Ok.after.share.maker.made c.heed-share.result.maker.made c.steps.so_far.share.maker.made
+          c.args.self.maker.made (vec_len c.steps.so_far.receipts) (vec_len receipts)
           (ap (λ (maker : Maker). maker.made) called.made) (ap (λ (maker : Maker). maker.made) same) kept.made count;
-      commands = commands_rest c.steps.receipts.items receipts.items command plan rest c.args.self.plan kept.commands begin
+      commands = commands_rest c.steps.so_far.receipts.items receipts.items command plan rest c.args.self.plan kept.commands begin
           called.commands;
-      places = places_rest (vec_len c.steps.receipts) (vec_len receipts) (vec_capacity c.steps.receipts)
-          (vec_capacity receipts) command plan rest kept.places begin count step.places;
+      places = places_rest (vec_len c.steps.so_far.receipts) (vec_len receipts) (vec_capacity c.steps.so_far.receipts)
+          (vec_capacity receipts) command plan rest kept.places begin count places;
     }

@@ -8,8 +8,8 @@ abbrev pub invariant-steps : goal.invariant-steps
 invariant-steps g l = record {
   lane : IsBack l.fn.lane l.lane;
   roomy : room_of l.context.estimate l.context.task l.command-iterator.rest.items ≤ l.fn.self.room;
-  caller : l.share.maker.caller ≡ l.fn.self.maker.caller;
-  made : l.share.maker.made ≡ l.fn.self.maker.made + vec_len l.receipts;
-  commands : commands_in l.receipts.items ++ l.command-iterator.rest.items ≡ l.fn.self.plan;
-  places : vec_len l.receipts + length l.command-iterator.rest.items ≤ vec_capacity l.receipts;
+  caller : l.so_far.share.maker.caller ≡ l.fn.self.maker.caller;
+  made : l.so_far.share.maker.made ≡ l.fn.self.maker.made + vec_len l.so_far.receipts;
+  commands : commands_in l.so_far.receipts.items ++ l.command-iterator.rest.items ≡ l.fn.self.plan;
+  places : vec_len l.so_far.receipts + length l.command-iterator.rest.items ≤ vec_capacity l.so_far.receipts;
 }
