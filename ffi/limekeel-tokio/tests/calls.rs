@@ -81,6 +81,16 @@ fn who_waits_writes_in_the_order_of_arrival() {
 }
 
 #[test]
+fn who_is_polled_for_nothing_keeps_its_place() {
+    let (outbound, mut pump, _) = filled();
+    let mut first = ByHand::new(outbound.write(b"one ")).waits();
+    let second = ByHand::new(outbound.write(b"two ")).waits();
+    assert!(first.poll().is_pending());
+    assert!(pump.poll().is_pending());
+    assert_eq!((first.woken(), second.woken()), (1, 0));
+}
+
+#[test]
 fn room_is_kept_for_those_who_were_woken() {
     let stream = Memory::new(Within { vectored: true, ..Within::default() });
     let marks = Marks { low: 150, high: 350 };
