@@ -293,16 +293,22 @@ fn what_is_fed_is_sent_when_somebody_waits() {
 
 #[test]
 fn what_is_fed_is_not_sent_before_a_flush() {
-    let (outbound, mut pump, stream) = opened();
-    drop(outbound.try_feed(b"fed ").unwrap());
-    // polled for nothing, before it sleeps and after that
-    for _ in 0..3 {
+    for waits in [false, true] {
+        let (outbound, mut pump, stream) = opened();
+        if waits {
+            assert!(ByHand::new(outbound.feed(b"fed ")).poll().is_ready());
+        } else {
+            drop(outbound.try_feed(b"fed ").unwrap());
+        }
+        // polled for nothing, before it sleeps and after that
+        for _ in 0..3 {
+            assert!(pump.poll().is_pending());
+        }
+        assert_eq!((pump.woken(), outbound.pending()), (0, 100));
+        outbound.flush();
         assert!(pump.poll().is_pending());
+        assert_eq!(stream.with(|within| within.got.clone()), b"fed ");
     }
-    assert_eq!((pump.woken(), outbound.pending()), (0, 100));
-    outbound.flush();
-    assert!(pump.poll().is_pending());
-    assert_eq!(stream.with(|within| within.got.clone()), b"fed ");
 }
 
 #[test]
