@@ -562,6 +562,23 @@ fn a_sink_keeps_one_message_and_a_close_lets_go() {
 }
 
 #[test]
+fn a_flush_waits_for_what_was_written_when_it_began() {
+    // a byte at a time, and 32 before the others have their turn
+    let stream = Memory::new(Within { dice: Some(common::Dice(7)), most: 1, vectored: true, ..Within::default() });
+    let (outbound, pump) = split(stream, Marks::default()).unwrap();
+    let mut pump = ByHand::new(pump);
+    let mut sink = outbound.clone().into_sink();
+    let cx = &mut Context::from_waker(Waker::noop());
+    assert!(matches!(AsyncWrite::poll_write(Pin::new(&mut sink), cx, &[1; 20]), Poll::Ready(Ok(20))));
+    assert!(Sink::poll_flush(Pin::new(&mut sink), cx).is_pending());
+    drop(outbound.try_write(&[2; 100]).unwrap());
+    assert!(Sink::poll_flush(Pin::new(&mut sink), cx).is_pending());
+    assert!(pump.poll().is_pending());
+    assert!(outbound.pending() > 0);
+    assert_eq!(Sink::poll_flush(Pin::new(&mut sink), cx), Poll::Ready(Ok(())));
+}
+
+#[test]
 fn a_writer_takes_no_more_than_it_has_room_kept_for() {
     let (outbound, mut pump, stream) = filled();
     let mut writer = outbound.clone().into_sink();
