@@ -576,6 +576,8 @@ fn a_flush_waits_for_what_was_written_when_it_began() {
     assert!(pump.poll().is_pending());
     assert!(outbound.pending() > 0);
     assert_eq!(Sink::poll_flush(Pin::new(&mut sink), cx), Poll::Ready(Ok(())));
+    // and the next one for the rest
+    assert!(Sink::poll_flush(Pin::new(&mut sink), cx).is_pending());
 }
 
 #[test]
