@@ -148,6 +148,17 @@ fn a_refused_message_comes_back() {
     assert_eq!(outbound.try_feed(&message[..]).unwrap_err(), TryWriteError::Gone(&message[..]));
 }
 
+#[test]
+fn a_message_that_is_too_large_comes_back() {
+    let (outbound, _pump, _) = opened();
+    // nobody touches these pages
+    let Err(TryWriteError::Refused(refusal, message)) = outbound.try_write(vec![0; 2_200_000_000]) else {
+        panic!("it is refused");
+    };
+    assert_eq!((refusal, message.len()), (Refusal::Oversize, 2_200_000_000));
+    assert!(outbound.is_writable() && outbound.pending() == 0);
+}
+
 /// A full connection, and all who may wait for it.
 struct Waiting<A, B, C, D> {
     receipt: ByHand<A>,
