@@ -61,6 +61,23 @@ fn the_high_mark_is_passed_by_one_message() {
 }
 
 #[test]
+fn writers_go_on_below_the_low_mark() {
+    // a byte at a time, and 32 before the others have their turn
+    let stream = Memory::new(Within { dice: Some(common::Dice(7)), most: 1, vectored: true, ..Within::default() });
+    let (outbound, pump) = split(stream, Marks { low: 150, high: 400 }).unwrap();
+    let mut pump = ByHand::new(pump);
+    for _ in 0..3 {
+        drop(outbound.try_write(&[1; 40]).unwrap());
+    }
+    let write = ByHand::new(outbound.write(b"next")).waits();
+    assert!(pump.poll().is_pending() && pump.poll().is_pending());
+    // below the high mark alone
+    assert_eq!((outbound.pending(), outbound.is_writable(), write.woken()), (272, false, 0));
+    assert!(pump.poll().is_pending());
+    assert_eq!((outbound.pending(), write.woken()), (136, 1));
+}
+
+#[test]
 fn who_waits_writes_in_the_order_of_arrival() {
     let (outbound, mut pump, stream) = filled();
     let mut writers: Vec<_> = [b"one ", b"two ", b"drei"].map(|text| ByHand::new(outbound.write(text)).waits()).into();
