@@ -14,7 +14,7 @@ use tokio_util::codec::{BytesCodec, FramedWrite};
 pub enum Way {
     Limekeel,
     LimekeelCopied,
-    /// A message is made once it may be written.
+    /// A message is made once it may be written, and made again if another was quicker.
     LimekeelReady,
     WriteAll,
     /// Half of what may wait does so in the channel, and half in the buffer.
@@ -54,9 +54,8 @@ impl Handle {
     #[inline]
     pub async fn write(&self, message: Bytes) {
         match self {
-            Handle::Limekeel(outbound) | Handle::Ready(outbound) => {
-                drop(outbound.write(message).await.expect("the client is there"))
-            }
+            Handle::Ready(outbound) => drop(outbound.try_write(message)),
+            Handle::Limekeel(outbound) => drop(outbound.write(message).await.expect("the client is there")),
             Handle::Copied(outbound) => drop(outbound.write(&message[..]).await.expect("the client is there")),
             Handle::Channel(sender) => sender.send(message).await.expect("the client is there"),
         }

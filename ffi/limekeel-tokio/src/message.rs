@@ -14,7 +14,7 @@ const ONCE: &str = "it is written once";
 /// | Type | Its bytes |
 /// |---|---|
 /// | `&[u8]`, `&[u8; N]`, `&str` | are copied |
-/// | `Bytes`, `Vec<u8>`, `String` | are copied up to 2048 bytes; more stay where they are, and are dropped once they are sent or given up |
+/// | `Bytes`, `Vec<u8>`, `String` | are copied up to 2048 bytes; more stay where they are, until sent or given up |
 /// | `&Block` | are shared, by as many connections and messages as you like |
 /// | [`Static`] | stay where they are, and nothing is kept for them |
 pub trait Message: Writes {}

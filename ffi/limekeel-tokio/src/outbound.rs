@@ -140,7 +140,8 @@ impl Outbound {
     }
 
     /// Waits as [`Outbound::poll_ready`]: for who makes a message once it may be written, since a task that waits in
-    /// [`Outbound::write`] has one in memory.
+    /// [`Outbound::write`] has one in memory. It keeps no room either: make the message, try to write it, and if it is
+    /// `Full`, drop it and wait again.
     ///
     /// # Errors
     ///

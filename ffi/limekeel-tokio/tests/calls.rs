@@ -61,6 +61,23 @@ fn the_high_mark_is_passed_by_one_message() {
 }
 
 #[test]
+fn writers_go_on_below_the_low_mark() {
+    // a byte at a time, and 32 before the others have their turn
+    let stream = Memory::new(Within { dice: Some(common::Dice(7)), most: 1, vectored: true, ..Within::default() });
+    let (outbound, pump) = split(stream, Marks { low: 150, high: 400 }).unwrap();
+    let mut pump = ByHand::new(pump);
+    for _ in 0..3 {
+        drop(outbound.try_write(&[1; 40]).unwrap());
+    }
+    let write = ByHand::new(outbound.write(b"next")).waits();
+    assert!(pump.poll().is_pending() && pump.poll().is_pending());
+    // below the high mark alone
+    assert_eq!((outbound.pending(), outbound.is_writable(), write.woken()), (272, false, 0));
+    assert!(pump.poll().is_pending());
+    assert_eq!((outbound.pending(), write.woken()), (136, 1));
+}
+
+#[test]
 fn who_waits_writes_in_the_order_of_arrival() {
     let (outbound, mut pump, stream) = filled();
     let mut writers: Vec<_> = [b"one ", b"two ", b"drei"].map(|text| ByHand::new(outbound.write(text)).waits()).into();
@@ -78,6 +95,16 @@ fn who_waits_writes_in_the_order_of_arrival() {
     }
     assert!(pump.poll().is_pending());
     assert_eq!(stream.with(|within| within.got.clone()), b"fullone two drei");
+}
+
+#[test]
+fn who_is_polled_for_nothing_keeps_its_place() {
+    let (outbound, mut pump, _) = filled();
+    let mut first = ByHand::new(outbound.write(b"one ")).waits();
+    let second = ByHand::new(outbound.write(b"two ")).waits();
+    assert!(first.poll().is_pending());
+    assert!(pump.poll().is_pending());
+    assert_eq!((first.woken(), second.woken()), (1, 0));
 }
 
 #[test]
@@ -136,6 +163,17 @@ fn a_refused_message_comes_back() {
     drop(pump);
     assert_eq!(outbound.try_write(message.clone()).unwrap_err(), TryWriteError::Gone(message.clone()));
     assert_eq!(outbound.try_feed(&message[..]).unwrap_err(), TryWriteError::Gone(&message[..]));
+}
+
+#[test]
+fn a_message_that_is_too_large_comes_back() {
+    let (outbound, _pump, _) = opened();
+    // nobody touches these pages
+    let Err(TryWriteError::Refused(refusal, message)) = outbound.try_write(vec![0; 2_200_000_000]) else {
+        panic!("it is refused");
+    };
+    assert_eq!((refusal, message.len()), (Refusal::Oversize, 2_200_000_000));
+    assert!(outbound.is_writable() && outbound.pending() == 0);
 }
 
 /// A full connection, and all who may wait for it.
@@ -283,16 +321,22 @@ fn what_is_fed_is_sent_when_somebody_waits() {
 
 #[test]
 fn what_is_fed_is_not_sent_before_a_flush() {
-    let (outbound, mut pump, stream) = opened();
-    drop(outbound.try_feed(b"fed ").unwrap());
-    // polled for nothing, before it sleeps and after that
-    for _ in 0..3 {
+    for waits in [false, true] {
+        let (outbound, mut pump, stream) = opened();
+        if waits {
+            assert!(ByHand::new(outbound.feed(b"fed ")).poll().is_ready());
+        } else {
+            drop(outbound.try_feed(b"fed ").unwrap());
+        }
+        // polled for nothing, before it sleeps and after that
+        for _ in 0..3 {
+            assert!(pump.poll().is_pending());
+        }
+        assert_eq!((pump.woken(), outbound.pending()), (0, 100));
+        outbound.flush();
         assert!(pump.poll().is_pending());
+        assert_eq!(stream.with(|within| within.got.clone()), b"fed ");
     }
-    assert_eq!((pump.woken(), outbound.pending()), (0, 100));
-    outbound.flush();
-    assert!(pump.poll().is_pending());
-    assert_eq!(stream.with(|within| within.got.clone()), b"fed ");
 }
 
 #[test]
@@ -543,6 +587,25 @@ fn a_sink_keeps_one_message_and_a_close_lets_go() {
     assert_eq!(Pin::new(&mut sink).start_send(Bytes::new()), Err(WriteError::Gone));
     assert_eq!(stream.with(|within| within.got.clone()), b"fullkept");
     assert!(!outbound.is_gone());
+}
+
+#[test]
+fn a_flush_waits_for_what_was_written_when_it_began() {
+    // a byte at a time, and 32 before the others have their turn
+    let stream = Memory::new(Within { dice: Some(common::Dice(7)), most: 1, vectored: true, ..Within::default() });
+    let (outbound, pump) = split(stream, Marks::default()).unwrap();
+    let mut pump = ByHand::new(pump);
+    let mut sink = outbound.clone().into_sink();
+    let cx = &mut Context::from_waker(Waker::noop());
+    assert!(matches!(AsyncWrite::poll_write(Pin::new(&mut sink), cx, &[1; 20]), Poll::Ready(Ok(20))));
+    assert!(Sink::poll_flush(Pin::new(&mut sink), cx).is_pending());
+    drop(outbound.try_write(&[2; 100]).unwrap());
+    assert!(Sink::poll_flush(Pin::new(&mut sink), cx).is_pending());
+    assert!(pump.poll().is_pending());
+    assert!(outbound.pending() > 0);
+    assert_eq!(Sink::poll_flush(Pin::new(&mut sink), cx), Poll::Ready(Ok(())));
+    // and the next one for the rest
+    assert!(Sink::poll_flush(Pin::new(&mut sink), cx).is_pending());
 }
 
 #[test]
