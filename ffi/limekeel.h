@@ -64,7 +64,7 @@ extern "C" {
 
 /* A number of the structs, functions and numbers of this header. limekeel_open says LIMEKEEL_OTHER_VERSION to an archive of
  * another. Before 1.0 each version may have another. */
-#define LIMEKEEL_EDGE 1509890235u
+#define LIMEKEEL_EDGE 3285330309u
 
 /* What may tell a change of writability is not to be dropped. */
 #if (defined(__cplusplus) && __cplusplus >= 201703L) || (defined(__STDC_VERSION__) && __STDC_VERSION__ >= 202311L)
@@ -545,6 +545,9 @@ static inline uint32_t limekeel_managed_open(struct limekeel_managed *managed, u
 
 /* Frees it with all that waits in it. Promises that wait are not reported: give it up before. */
 uint32_t limekeel_managed_free(struct limekeel_managed *managed);
+
+/* Keeps memory for what waits and for no more, as limekeel_shrink_to_fit. */
+uint32_t limekeel_managed_shrink_to_fit(struct limekeel_managed *managed);
 
 /* Asks for the end: from now on each write is LIMEKEEL_FINISHING, and all else goes on. It `holds` if the end is reached by that,
  * since nothing is left of what was accepted; else the call that takes the last of it away says `finished`. Either is said once.

@@ -60,6 +60,7 @@ static void holds_nothing(void)
     struct limekeel_piece piece = {NULL, 7};
     uint32_t statuses[] = {
         limekeel_managed_free(&none),
+        limekeel_managed_shrink_to_fit(&none),
         limekeel_managed_finish(&none).status,
         limekeel_managed_tick(&none, 1).status,
         limekeel_managed_write(&none, "x", 1).status,
@@ -120,6 +121,7 @@ static void ends_in_order(void)
     struct limekeel_told_removed removed = limekeel_managed_remove(&managed);
     expect("the last", removed.removed.any && removed.removed.settled && removed.removed.id == 1 && removed.finished);
     expect("told once", !limekeel_managed_finish(&managed).holds && !limekeel_managed_take_sent(&managed, 0).finished);
+    expect("it gives memory back", limekeel_managed_shrink_to_fit(&managed) == LIMEKEEL_OK);
     state = limekeel_managed_state(&managed);
     expect("and it is seen", state.finished && state.empty);
     expect("closing tells no end again", !limekeel_managed_close(&managed, 1).finished && limekeel_managed_state(&managed).closed);

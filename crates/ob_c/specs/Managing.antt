@@ -8,7 +8,7 @@ use Rattle.ob_types.specs.declared.message.Message.TheVariants.{Block as AsBlock
 use Rattle.ob_types.specs.declared.refusal.Refusal.{Refusal}
 use Rattle.ob_seq.specs.Rows.{Settings}
 use Rattle.ob_seq.specs.State.{writable_after, closed_after, empty_after}
-use Rattle.ob_connection.specs.Connected.{Connected, Gives as ConnectionGives}
+use Rattle.ob_connection.specs.Connected.{Connected, Shrinks, Gives as ConnectionGives}
 use Rattle.ob_connection.specs.Obeying.{done_reply}
 use Rattle.ob_connection.specs.declared.replies.Written.{Written as WrittenReply}
 use Rattle.ob_lifecycle.specs.Events.{Event, Finishing, Ticked, happens}
@@ -53,6 +53,13 @@ OpensManaged None (Err refused) limits now status new = (status ≡ refused) × 
 OpensManaged None (Ok settings) limits now status None = status ≡ no_memory
 OpensManaged None (Ok settings) limits now status (Some new) =
     (status ≡ done) × (opened_as new ≡ record { settings = settings; limits = limits; now = now }) × StandsFor new []
+
+-- C is told whether there is a connection, which keeps room for what waits, and stands for what it did
+abbrev pub ShrinksManaged : Option Managed → ℕ → Option Managed → Type 0
+ShrinksManaged None status new = (status ≡ not_open) × (new ≡ None)
+ShrinksManaged (Some old) status new =
+    (status ≡ done) × (after : Managed) × (new ≡ Some after) × Shrinks old.connection after.connection
+    × ((events : List Event) → StandsFor old events → StandsFor after events) × (opened_as after ≡ opened_as old)
 
 -- the status of a write that was refused
 abbrev pub fault_number : WriteFault → ℕ

@@ -2,7 +2,7 @@
 
 ghost use Rattle.std.specs.Prelude.{◌≡◌, nat_eq};
 ghost use Rattle.ob_c.specs.Blocks.{IsLetGo};
-ghost use Rattle.ob_c.specs.Managing.{OpensManaged};
+ghost use Rattle.ob_c.specs.Managing.{OpensManaged, ShrinksManaged};
 ghost use Rattle.ob_c.specs.Opening.{settings_for, settings_of};
 
 use crate::managed::Managed;
@@ -60,6 +60,20 @@ pub extern "C" fn limekeel_managed_open_for(
         }
         Err(_) => NO_MEMORY,
     }
+}
+
+/// Keeps memory for what waits and for no more, as `limekeel_shrink_to_fit`.
+///
+/// The status is 13 if there is no connection.
+#[unsafe(no_mangle)]
+pub extern "C" fn limekeel_managed_shrink_to_fit(managed: &mut Managed) -> u32
+    ensures { ShrinksManaged managed.old.value result managed.new.value }
+{
+    if !managed.is_open() {
+        return NOT_OPEN;
+    }
+    managed.reach().shrink_to_fit();
+    DONE
 }
 
 /// Frees a managed connection and all that it holds; the struct holds none then.

@@ -23,7 +23,7 @@ mod heap;
 pub const PIECES: usize = 1024;
 
 /// A number of these declarations, which `limekeel_open_for` compares with the archive's.
-pub const EDGE: u32 = 1509890235;
+pub const EDGE: u32 = 3285330309;
 
 macro_rules! numbers {
     ($($name:ident = $number:literal),* $(,)?) => {
@@ -237,6 +237,7 @@ unsafe extern "C" {
         least_bytes: u64,
         now: u64,
     ) -> u32;
+    pub fn limekeel_managed_shrink_to_fit(managed: *mut Managed) -> u32;
     pub fn limekeel_managed_free(managed: *mut Managed) -> u32;
     pub fn limekeel_managed_finish(managed: *mut Managed) -> Truth;
     pub fn limekeel_managed_tick(managed: *mut Managed, now: u64) -> Truth;

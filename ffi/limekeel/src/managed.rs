@@ -200,6 +200,11 @@ impl ManagedConnection {
         self.taken(told)
     }
 
+    /// As [`crate::Connection::shrink_to_fit`].
+    pub fn shrink_to_fit(&mut self) {
+        self.handle.shrink_to_fit();
+    }
+
     /// As [`crate::Connection::user_bit`].
     pub fn user_bit(&mut self, index: u32, writable: bool) -> Result<Told<Option<Change>>, Refusal> {
         let told = self.handle.user_bit(index, writable);

@@ -45,6 +45,7 @@ impl Managed {
     }
 
     commands! {
+        shrink_to_fit() -> u32 = limekeel_managed_shrink_to_fit;
         free() -> u32 = limekeel_managed_free;
         finish() -> sys::Truth = limekeel_managed_finish;
         tick(now: u64) -> sys::Truth = limekeel_managed_tick;
