@@ -8,7 +8,7 @@ use Rattle.ob_lifecycle.proofs.Bringing.{managed_with, stands_on}
 use Rattle.ob_lifecycle.proofs.Writing.{may_count, own_writes, put_brings, put_writes}
 use Rattle.ob_lifecycle.proofs.managed.ManagedConnection.write.Goals as goal
 
-pub returns-in-Some-clause-writes : goal.returns-in-Some-clause-writes 
+pub returns-in-Some-clause-writes : goal.returns-in-Some-clause-writes
 returns-in-Some-clause-writes c =
     subst (λ old. WritesTo (λ left. left.why) c.args.message old (Err (record { why = c.in-Some.why; message = c.args.message })) old) c.self.view_is
     (own_writes (λ left. left.why) (managed_of c.self.inside) c.args.message (record { why = c.in-Some.why; message = c.args.message }) c.self.invariant
@@ -29,7 +29,7 @@ invariant_of-self c =
     (c.pending_size-size.ensures ∙ ap (λ estimate. pending_size_of estimate c.args.message) c.estimate.ensures ∙ ap (λ managed. pending_size_of managed.connection.unsent.settings.estimate c.args.message) c.self.view_is)))
     c.put.ensures.written c.put.ensures.refused c.put.ensures.counts)
 
-pub returns-clause-writes : goal.returns-clause-writes 
+pub returns-clause-writes : goal.returns-clause-writes
 returns-clause-writes c =
     subst (λ old. WritesTo (λ left. left.why) c.args.message old c.put.result
     (managed_with (managed_of c.self.inside) c.put.new.connection c.self.inside.ending c.put.new.tally)) c.self.view_is

@@ -9,7 +9,7 @@ use Rattle.ob_lifecycle.proofs.Bringing.{managed_with, stands_on}
 use Rattle.ob_lifecycle.proofs.Writing.{may_count, own_writes, put_brings, put_writes}
 use Rattle.ob_lifecycle.proofs.managed.ManagedConnection.write_copy.Goals as goal
 
-pub returns-in-Some : goal.returns-in-Some 
+pub returns-in-Some : goal.returns-in-Some
 returns-in-Some c =
     subst (λ old. WritesTo (λ left. left) (Block c.args.bytes.now) old (Err c.in-Some.why) old) c.self.view_is
     (own_writes (λ left. left) (managed_of c.self.inside) (Block c.args.bytes.now) c.in-Some.why c.self.invariant
@@ -30,7 +30,7 @@ invariant_of-self c =
     (c.pending_size_of_block-size.ensures ∙ ap (λ estimate. pending_size_of estimate (Block c.args.bytes.now)) c.estimate.ensures ∙ ap (λ managed. pending_size_of managed.connection.unsent.settings.estimate (Block c.args.bytes.now)) c.self.view_is)))
     c.put_copy.ensures.written c.put_copy.ensures.refused c.put_copy.ensures.counts)
 
-pub returns : goal.returns 
+pub returns : goal.returns
 returns c =
     subst (λ old. WritesTo (λ left. left) (Block c.args.bytes.now) old c.put_copy.result
     (managed_with (managed_of c.self.inside) c.put_copy.new.connection c.self.inside.ending c.put_copy.new.tally)) c.self.view_is
