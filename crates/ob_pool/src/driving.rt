@@ -154,6 +154,6 @@ fn drive_open<
     };
     match run(rt, gate, &context, start, sink) {
         Ok(ended) => into_report(context, ended),
-        Err(fault) => { Err(fault) }
+        Err(fault) => Err(fault)
     }
 }

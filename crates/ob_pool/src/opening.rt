@@ -49,7 +49,7 @@ pub fn open<L: Named>(
             jobs,
             share,
         }),
-        Err(fault) => { Err(fault) }
+        Err(fault) => Err(fault)
     }
 }
 
