@@ -1,8 +1,8 @@
 """Clients that misbehave, and what a server that lives with them has to make of each.
 
 A server is started with HIGH MOST WINDOW LEAST DRAIN, and prints the ports of its echo and of its numbers. Beside clients that
-behave, of which each byte has to come back, one reads nothing, one reads a byte a second, one resets, one ends its half, and
-one floods. At SIGTERM it ends in order: what was heard is sent, and the numbers add up.
+behave, of which each byte has to come back, one reads nothing, one reads a byte a second, one resets, one ends its half,
+one does so while bytes wait for it, and one floods. At SIGTERM it ends in order: what was heard is sent, and the numbers add up.
 """
 
 import contextlib
@@ -47,6 +47,7 @@ class Client(threading.Thread):
 
     def __init__(self, port, behaves, room=None):
         super().__init__(daemon=True)
+        self.of_numbers = None
         self.port, self.behaves, self.room, self.fault, self.came = port, behaves, room, None, 0
 
     def run(self):
@@ -114,6 +115,22 @@ def ends_its_half(client, link):
     if client.wants(link, sent, pause=0.002) and link.recv(1):
         client.fault = "more came than was sent"
     sender.join(SECONDS)
+
+
+def ends_over_what_waits(client, link):
+    """Reads nothing, sends until something waits for it in the server, and ends its half at once; only then it reads. A server
+    that goes away when it hears the end takes with it what waits."""
+    sent, step = 0, 1 << 15
+    while sent < 64 << 20:
+        link.sendall(pattern(sent, step))
+        sent += step
+        time.sleep(0.01)
+        if numbers_in(scraped(client.of_numbers))["bytes pending"]:
+            break
+    link.shutdown(socket.SHUT_WR)
+    time.sleep(0.3)
+    if client.wants(link, sent) and link.recv(1):
+        client.fault = "more came than was sent"
 
 
 def resets(client, link):
@@ -185,6 +202,7 @@ def among(command, most, window, some, wanted):
         port, of_numbers = (int(server.stdout.readline().rpartition(":")[2]) for _ in range(2))
         clients = {name: Client(port, *how) for name, how in some.items()}
         for client in clients.values():
+            client.of_numbers = of_numbers
             client.start()
         for client in clients.values():
             client.join(SECONDS)
@@ -230,6 +248,13 @@ def of_numbers_told(page, out, most, wanted):
     failed += [] if 0 < last.get("peak_pending_bytes", 0) <= most else ["more was pending than may be"]
     failed += [f"{cause}: {out}" for cause, least in wanted.items() if last.get(f"given_up_total {cause}", 0) < least]
     failed += [] if last.get("given_up_total late", 1) == 0 else [f"nobody is late: {out}"]
+    # who stalls is stopped for about a window, who floods past the limit is refused, and no other call is
+    stalled, full = wanted.get("stalled", 0), wanted.get("full", 0)
+    failed += [] if last.get("stops_total", -1) >= stalled else [f"{stalled} were stopped: {out}"]
+    failed += [] if last.get("stopped_milliseconds_total", -1) >= stalled * WINDOW * 0.8 else [f"for how long: {out}"]
+    reasons = {name.partition(" ")[2]: number for name, number in last.items() if name.startswith("refusals_total")}
+    failed += [] if len(reasons) == 12 and reasons.get("full", -1) >= full else [f"the refusals: {out}"]
+    failed += [f"refused: {out}" for reason, number in reasons.items() if number and reason not in ("full", "finishing", "closed")]
     return failed
 
 
@@ -246,5 +271,6 @@ def served(command):
     # above the high mark no more is read, so that what may be pending is reached only if it is less
     runs = [among(command, 200_000, WINDOW, talk | misbehave, {"stalled": 3, "broken": 1}),
             among(command, 30_000, WINDOW, talk | {"a client that floods": (floods, 1 << 14)}, {"full": 1}),
+            among(command, 200_000, SECONDS * 1000, {"a client that ends over what waits": (ends_over_what_waits, 1 << 14)}, {}),
             among(command, 200_000, SECONDS * 1000, {}, {})]
     return [text for failed, _ in runs for text in failed], sum(count for _, count in runs)

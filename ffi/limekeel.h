@@ -64,7 +64,7 @@ extern "C" {
 
 /* A number of the structs, functions and numbers of this header. limekeel_open says LIMEKEEL_OTHER_VERSION to an archive of
  * another. Before 1.0 each version may have another. */
-#define LIMEKEEL_EDGE 3285330309u
+#define LIMEKEEL_EDGE 836637042u
 
 /* What may tell a change of writability is not to be dropped. */
 #if (defined(__cplusplus) && __cplusplus >= 201703L) || (defined(__STDC_VERSION__) && __STDC_VERSION__ >= 202311L)
@@ -343,6 +343,22 @@ struct limekeel_count {
     uint64_t bytes;
 };
 
+/* How often calls were refused, by the reason: each as the status of its name. */
+struct limekeel_refusals {
+    uint64_t closed;
+    uint64_t finishing;
+    uint64_t oversize;
+    uint64_t full;
+    uint64_t too_much;
+    uint64_t no_memory;
+    uint64_t nothing_flushed;
+    uint64_t too_far;
+    uint64_t too_many_bytes;
+    uint64_t bad_index;
+    uint64_t flushed_left;
+    uint64_t unknown_promise;
+};
+
 /* What was accepted is what was sent, failed, was cancelled and is pending, at each moment. */
 struct limekeel_numbers {
     uint32_t status;
@@ -351,7 +367,10 @@ struct limekeel_numbers {
     struct limekeel_count failed;    /* by a close, a giving up or a failing */
     struct limekeel_count cancelled; /* from the flush on that voided it */
     struct limekeel_count pending;
-    uint64_t peak; /* the most bytes that were pending at any moment */
+    uint64_t peak;    /* the most bytes that were pending at any moment */
+    uint64_t stops;   /* how often it became unwritable */
+    uint64_t stopped; /* for how long it was, all together, in the caller's units: time goes on at ticks alone */
+    struct limekeel_refusals refusals;
 };
 
 /* The layout that the archive was compiled with. */
@@ -391,7 +410,8 @@ LIMEKEEL_LAYOUT(limekeel_told_cancelled, 12, finished, 8);
 LIMEKEEL_LAYOUT(limekeel_told_changed, 12, finished, 8);
 LIMEKEEL_LAYOUT(limekeel_state, 12, finished, 8);
 LIMEKEEL_LAYOUT(limekeel_count, 16, bytes, 8);
-LIMEKEEL_LAYOUT(limekeel_numbers, 96, peak, 88);
+LIMEKEEL_LAYOUT(limekeel_refusals, 96, unknown_promise, 88);
+LIMEKEEL_LAYOUT(limekeel_numbers, 208, refusals, 112);
 LIMEKEEL_LAYOUT(limekeel_shared, 8, at, 0);
 LIMEKEEL_LAYOUT(limekeel_transport, 8, at, 0);
 LIMEKEEL_LAYOUT(limekeel_glance, 12, total, 8);

@@ -54,7 +54,6 @@ static uint64_t now(void)
 
 static void note(struct client *client, uint32_t change)
 {
-    gone.stops += change == LIMEKEEL_UNWRITABLE;
     if (change != LIMEKEEL_UNCHANGED)
         client->may_write = change == LIMEKEEL_WRITABLE;
 }

@@ -151,7 +151,9 @@ static void is_full(void)
     expect("texts", strcmp(limekeel_strstatus(LIMEKEEL_FULL), "more would be pending than the connection may hold") == 0 &&
                         strcmp(limekeel_strstatus(LIMEKEEL_FINISHING), "the connection is finishing") == 0);
     adds_up(&managed);
-    expect("the peak", limekeel_managed_numbers(&managed).peak == 250);
+    struct limekeel_numbers numbers = limekeel_managed_numbers(&managed);
+    expect("the peak", numbers.peak == 250);
+    expect("four were past the limit", numbers.refusals.full == 4 && numbers.refusals.no_memory == 0);
     expect("freed", limekeel_managed_free(&managed) == LIMEKEEL_OK && limekeel_block_free(&block) == LIMEKEEL_OK);
 }
 
@@ -175,6 +177,32 @@ static void stalls(void)
     expect("its end was not asked for", !left.finished);
     struct limekeel_numbers numbers = limekeel_managed_numbers(&managed);
     expect("one failed", same(numbers.accepted, 1, 126) && same(numbers.failed, 1, 126) && same(numbers.sent, 0, 0));
+    expect("freed", limekeel_managed_free(&managed) == LIMEKEEL_OK);
+}
+
+/* How often writers were stopped, for how long by the clock, and why calls were refused. */
+static void stops(void)
+{
+    struct limekeel_managed managed = opened(10000, 30, 0, 100);
+    static const uint8_t bytes[400];
+    is_written(limekeel_managed_write(&managed, bytes, sizeof(bytes)), 0);
+    expect("flushed", limekeel_managed_flush(&managed).flushed.change == LIMEKEEL_UNCHANGED);
+    expect("it is named by no tick", !limekeel_managed_tick(&managed, 110).holds && !limekeel_managed_tick(&managed, 125).holds);
+    expect("sent", limekeel_managed_take_sent(&managed, sizeof(bytes)).taken.change == LIMEKEEL_WRITABLE);
+    expect("writers go on", !limekeel_managed_tick(&managed, 900).holds);
+    expect("too many", limekeel_managed_take_sent(&managed, 1).taken.status == LIMEKEEL_TOO_MANY_BYTES);
+    expect("nothing is flushed", limekeel_managed_progress(&managed, 1).status == LIMEKEEL_NOTHING_FLUSHED);
+    expect("no such bit", limekeel_managed_user_bit(&managed, 0, true).changed.status == LIMEKEEL_BAD_INDEX);
+    expect("no such promise", limekeel_managed_cancel(&managed, 1).cancelled.status == LIMEKEEL_UNKNOWN_PROMISE);
+    expect("closed", limekeel_managed_close(&managed, 1).taken.status == LIMEKEEL_OK);
+    expect("twice", limekeel_managed_flush(&managed).flushed.status == LIMEKEEL_CLOSED);
+    struct limekeel_numbers n = limekeel_managed_numbers(&managed);
+    expect("stopped once, for 25", n.stops == 1 && n.stopped == 25);
+    expect("each refusal", n.refusals.too_many_bytes == 1 && n.refusals.nothing_flushed == 1 && n.refusals.bad_index == 1 &&
+                               n.refusals.unknown_promise == 1 && n.refusals.closed == 1);
+    expect("and no other", n.refusals.finishing == 0 && n.refusals.oversize == 0 && n.refusals.full == 0 &&
+                               n.refusals.too_much == 0 && n.refusals.no_memory == 0 && n.refusals.too_far == 0 &&
+                               n.refusals.flushed_left == 0);
     expect("freed", limekeel_managed_free(&managed) == LIMEKEEL_OK);
 }
 
@@ -259,6 +287,7 @@ int main(void)
     ends_in_order();
     is_full();
     stalls();
+    stops();
     counts();
     sends();
     puts("a managed connection: the end once, the limit, a stall, and numbers that add up");

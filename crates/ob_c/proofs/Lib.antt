@@ -6,7 +6,6 @@ pub mod Holders
 pub mod Keeping
 pub mod Listing
 pub mod Loosened
-pub mod Managing
 pub mod Putting
 pub mod Reaching
 pub mod Steps

@@ -23,6 +23,7 @@ use Rattle.ob_lifecycle.specs.declared.fault.WriteFault.{WriteFault}
 use Rattle.ob_lifecycle.specs.declared.fault.WriteFault.TheVariants.{Refused, Finishing as IsFinishing, Full}
 use Rattle.ob_lifecycle.specs.declared.limits.Limits.{Limits}
 use Rattle.ob_lifecycle.specs.declared.numbers.Numbers.{Numbers as NumbersReply}
+use Rattle.ob_lifecycle.specs.declared.refusals.Refusals.{Refusals as RefusalsReply}
 use Rattle.ob_c.specs.Numbers.{accepted, already_open, done, finishing, full, no_block, no_memory, not_open, status_in_c}
 use Rattle.ob_c.specs.Obeying.{ObeysFrugally, Relays}
 use Rattle.ob_c.specs.Replies.{cancelled_in_c, changed_in_c, flushed_in_c, removed_in_c, taken_in_c, written_in_c}
@@ -32,6 +33,7 @@ use Rattle.ob_connection.specs.declared.replies.Taken.{Taken as TakenReply}
 use Rattle.ob_types.specs.declared.reply.Change.{Change}
 use Rattle.ob_c.specs.declared.managed_looks.Count.{Count}
 use Rattle.ob_c.specs.declared.managed_looks.Numbers.{Numbers}
+use Rattle.ob_c.specs.declared.managed_looks.Refusals.{Refusals}
 use Rattle.ob_c.specs.declared.managed_looks.State.{State}
 use Rattle.ob_c.specs.declared.replies.Written.{Written}
 use Rattle.ob_c.specs.declared.told.ToldCancelled.{ToldCancelled}
@@ -170,6 +172,40 @@ count_in_c count = record { messages = count.messages; bytes = count.bytes }
 abbrev pub none : Count
 none = record { messages = 0; bytes = 0 }
 
+-- how often calls were refused, by the reason
+abbrev pub refusals_in_c : RefusalsReply → Refusals
+refusals_in_c refusals = record {
+  closed = refusals.closed;
+  finishing = refusals.finishing;
+  oversize = refusals.oversize;
+  full = refusals.full;
+  too_much = refusals.too_much;
+  no_memory = refusals.no_memory;
+  nothing_flushed = refusals.nothing_flushed;
+  too_far = refusals.too_far;
+  too_many_bytes = refusals.too_many_bytes;
+  bad_index = refusals.bad_index;
+  flushed_left = refusals.flushed_left;
+  unknown_promise = refusals.unknown_promise;
+}
+
+-- no refusals
+abbrev pub none_refused : Refusals
+none_refused = record {
+  closed = 0;
+  finishing = 0;
+  oversize = 0;
+  full = 0;
+  too_much = 0;
+  no_memory = 0;
+  nothing_flushed = 0;
+  too_far = 0;
+  too_many_bytes = 0;
+  bad_index = 0;
+  flushed_left = 0;
+  unknown_promise = 0;
+}
+
 -- what was written, and how it ended
 abbrev pub numbers_in_c : Option NumbersReply → Numbers
 numbers_in_c None = record {
@@ -180,6 +216,9 @@ numbers_in_c None = record {
   cancelled = none;
   pending = none;
   peak = 0;
+  stops = 0;
+  stopped = 0;
+  refusals = none_refused;
 }
 numbers_in_c (Some numbers) = record {
   status = done;
@@ -189,4 +228,7 @@ numbers_in_c (Some numbers) = record {
   cancelled = count_in_c numbers.cancelled;
   pending = count_in_c numbers.pending;
   peak = numbers.peak;
+  stops = numbers.stops;
+  stopped = numbers.stopped;
+  refusals = refusals_in_c numbers.refusals;
 }

@@ -4,7 +4,7 @@ ghost use Rattle.std.specs.Prelude.{◌≡◌, drop, length};
 ghost use Rattle.ob_connection.specs.Looks.{Shows, IsFrontPromise, Tells as TellsOf};
 ghost use Rattle.ob_c.specs.Gathering.{Gathers};
 ghost use Rattle.ob_c.specs.Looks.{Tells, IsLeft, current_in_c, front_in_c, look_in_c, promise_in_c};
-ghost use Rattle.ob_c.specs.Managing.{ShowsNumbers, StandsSo, connection_of, count_in_c, numbers_in_c, state_in_c};
+ghost use Rattle.ob_c.specs.Managing.{ShowsNumbers, StandsSo, connection_of, count_in_c, none_refused, numbers_in_c, refusals_in_c, state_in_c};
 
 use crate::gather::{Gathered, fill};
 use crate::managed::Managed;
@@ -35,6 +35,78 @@ impl Count {
     }
 }
 
+/// How often calls of a connection were refused, by the reason.
+#[repr(C)]
+#[derive(Clone, Copy)]
+pub struct Refusals {
+    /// A call of a closed connection.
+    pub closed: u64,
+    /// A write once the end was asked for.
+    pub finishing: u64,
+    /// A message too large to be counted.
+    pub oversize: u64,
+    /// A write past the limit.
+    pub full: u64,
+    /// A write with which more than 4294967295 bytes would be pending.
+    pub too_much: u64,
+    /// A write for which there was no memory.
+    pub no_memory: u64,
+    /// Progress while no message is flushed.
+    pub nothing_flushed: u64,
+    /// Progress past 9223372036854775807.
+    pub too_far: u64,
+    /// A removal of more bytes than the flushed blocks in front hold.
+    pub too_many_bytes: u64,
+    /// A user bit outside 1 to 31.
+    pub bad_index: u64,
+    /// A close while flushed messages are left.
+    pub flushed_left: u64,
+    /// A cancellation of a promise under which nothing was written.
+    pub unknown_promise: u64,
+}
+
+impl Refusals {
+    /// What C gets for these.
+    fn of(refusals: ob_lifecycle::Refusals) -> Refusals
+        ensures { result ≡ refusals_in_c refusals }
+    {
+        Refusals {
+            closed: refusals.closed,
+            finishing: refusals.finishing,
+            oversize: refusals.oversize,
+            full: refusals.full,
+            too_much: refusals.too_much,
+            no_memory: refusals.no_memory,
+            nothing_flushed: refusals.nothing_flushed,
+            too_far: refusals.too_far,
+            too_many_bytes: refusals.too_many_bytes,
+            bad_index: refusals.bad_index,
+            flushed_left: refusals.flushed_left,
+            unknown_promise: refusals.unknown_promise,
+        }
+    }
+
+    /// What C gets if there is no connection.
+    fn none() -> Refusals
+        ensures { result ≡ none_refused }
+    {
+        Refusals {
+            closed: 0,
+            finishing: 0,
+            oversize: 0,
+            full: 0,
+            too_much: 0,
+            no_memory: 0,
+            nothing_flushed: 0,
+            too_far: 0,
+            too_many_bytes: 0,
+            bad_index: 0,
+            flushed_left: 0,
+            unknown_promise: 0,
+        }
+    }
+}
+
 /// What was written, and how it ended: what was accepted is what was sent, failed, was cancelled and is pending.
 #[repr(C)]
 #[derive(Clone, Copy)]
@@ -53,6 +125,12 @@ pub struct Numbers {
     pub pending: Count,
     /// The most bytes that were pending at any moment.
     pub peak: u64,
+    /// How often it became unwritable.
+    pub stops: u64,
+    /// For how long it was unwritable, all together, in units of the caller: time goes on at ticks alone.
+    pub stopped: u64,
+    /// How often calls were refused, by the reason.
+    pub refusals: Refusals,
 }
 
 impl Numbers {
@@ -73,6 +151,9 @@ impl Numbers {
                 cancelled: none,
                 pending: none,
                 peak: 0,
+                stops: 0,
+                stopped: 0,
+                refusals: Refusals::none(),
             },
             Some(numbers) => Numbers {
                 status: DONE,
@@ -82,6 +163,9 @@ impl Numbers {
                 cancelled: Count::of(numbers.cancelled),
                 pending: Count::of(numbers.pending),
                 peak: numbers.peak,
+                stops: numbers.stops,
+                stopped: numbers.stopped,
+                refusals: Refusals::of(numbers.refusals),
             },
         }
     }

@@ -15,7 +15,7 @@ use crate::replies::Written;
 use crate::writes::lent;
 use bytes::Bytes;
 use ob_lifecycle::{ManagedConnection, WriteFault};
-use ob_types::{Message, Refusal};
+use ob_types::Message;
 
 /// Writes a copy of these bytes.
 #[unsafe(no_mangle)]
@@ -41,7 +41,7 @@ pub extern "C" fn limekeel_managed_write_block(managed: &mut Managed, block: &mu
         return Written::of(Err(NO_BLOCK));
     }
     let bytes: &Bytes = block.reach();
-    Written::of(managed.write(|connection| write_shared(connection, bytes)))
+    Written::of(managed.write(|connection| connection.write_shared(bytes)))
 }
 
 /// Writes these bytes where they lie: the message is lent their memory, as by `limekeel_write_lent_bytes`.
@@ -69,22 +69,6 @@ pub extern "C" fn limekeel_managed_write_other(managed: &mut Managed, value: u32
     ensures { WritesFor managed.old.value (AsOther value) result managed.new.value }
 {
     Written::of(managed.write(|connection| write(connection, Message::Other(value))))
-}
-
-/// Writes these bytes, which the message shares.
-fn write_shared(
-    connection: &mut ManagedConnection,
-    bytes: &Bytes,
-) -> Result<ob_connection::Written, WriteFault>
-    ensures { WritesTo (λ why. why) (AsBlock bytes.now) connection.old result connection.new }
-{
-    if let Some(why) = connection.fault_of_block(bytes.as_slice()) {
-        return Err(why);
-    }
-    match bytes.clone() {
-        Ok(shared) => write(connection, Message::Block(shared)),
-        Err(_) => Err(WriteFault::Refused(Refusal::NoMemory)),
-    }
 }
 
 /// Writes a message, of which a refusal tells the reason alone: the caller of C has what it is made of.

@@ -1,5 +1,5 @@
 -- What the calls bring that are more than one command, or none.
-use Rattle.std.proofs.Common.{◌≡◌, ℕ, Bool, true, false, List, [], ◌∷◌, ◌++◌, ◌||◌, ◌&&◌, map, length, not, sym, refl, ap, ◌∙◌, subst, append_assoc, append-nil, arith}
+use Rattle.std.proofs.Common.{◌≡◌, ◌≤◌, ◌+◌, ◌-◌, max, ℕ, Bool, true, false, List, [], ◌∷◌, ◌++◌, ◌||◌, ◌&&◌, map, length, not, sym, refl, ap, ◌∙◌, subst, append_assoc, append-nil, arith}
 use Rattle.std.specs.Prelude.{Result, Ok, Err, IfOk, OnErr, Option, ◌==◌, is_err}
 use Rattle.std.proofs.lemmas.List.Sums.{fold-append}
 use Rattle.ob_types.specs.declared.command.Command.{Command}
@@ -19,12 +19,18 @@ use Rattle.ob_connection.specs.declared.replies.SentTurns.{SentTurns}
 use Rattle.ob_connection.specs.declared.replies.Taken.{Taken}
 use Rattle.ob_lifecycle.specs.Events.{Event, Accepted, Refused, Finishing, Ticked, Opened, commands_in}
 use Rattle.ob_lifecycle.specs.Finish.{is_finishing, is_over, was_over}
-use Rattle.ob_lifecycle.specs.Managed.{Managed, StandsFor, Brings, Gives, opened_as}
+use Rattle.ob_lifecycle.specs.Managed.{Managed, StandsFor, StandsForSome, Brings, Gives, opened_as}
 use Rattle.ob_lifecycle.specs.Sendings.{sending_happens, giving_up_happens}
 use Rattle.std.specs.Prelude.{is_ok, if◌then◌else◌}
 use Rattle.ob_seq.specs.State.{empty_after}
 use Rattle.ob_lifecycle.specs.Stalls.{names_by, rested, told_time, ticked, watch_after, watched, watched_by}
 use Rattle.ob_lifecycle.specs.declared.watch.Watch.{Watch}
+use Rattle.ob_lifecycle.specs.Strain.{change_in, strain_after, strained}
+use Rattle.ob_lifecycle.specs.declared.strain.Strain.{Strain}
+use Rattle.ob_types.specs.declared.reply.Change.{Change}
+use Rattle.ob_seq.specs.State.{writable_after}
+use Rattle.ob_lifecycle.proofs.Stalling.{now_empty}
+use Rattle.ob_lifecycle.proofs.Straining.{pass_fits, strain_asked, strains_refused, strains_ticked, strains_up}
 use Rattle.ob_lifecycle.proofs.Watching.{watch_more}
 use Rattle.ob_lifecycle.specs.declared.ending.Ending.{Ending}
 use Rattle.ob_lifecycle.specs.declared.fault.WriteFault.TheVariants.{Refused as Declined}
@@ -39,14 +45,14 @@ pub brings_finish : (old : Managed) (asked ending : Ending) (waiting : ℕ) (fin
     → ConnectionGives old.connection waiting_count_after waiting → asked ≡ record old.ending { asked = true }
     → ending ≡ record asked { over = asked.over || (asked.asked && (waiting == 0)) }
     → finished ≡ (ending.over && not asked.over)
-    → Brings old (Finishing ∷ []) finished (managed_with old old.connection ending old.tally)
+    → Brings old (Finishing ∷ []) finished (managed_with old old.connection ending old.tally old.strain)
 brings_finish old asked ending waiting finished waits asks is told =
     let all : ending ≡ record { asked = true; over = old.ending.over || (waiting == 0); watch = old.ending.watch } =
     is ∙ ap (λ (a : Ending). record a { over = a.over || (a.asked && (waiting == 0)) }) asks in
     let follows : (commands : List Command) → ConnectionStandsFor old.connection commands
     → ConnectionStandsFor old.connection (commands ++ commands_in (Finishing ∷ [])) =
     λ commands stands. subst (λ c. ConnectionStandsFor old.connection c) (sym (append-nil commands)) stands in
-    brings_one old old.connection ending old.tally Finishing finished (record {
+    brings_one old old.connection ending old.tally old.strain Finishing finished (record {
       settings = refl;
       stands = follows;
       asked = ap (λ e. e.asked) all ∙ sym (or_true old.ending.asked);
@@ -55,6 +61,7 @@ brings_finish old asked ending waiting finished waits asks is told =
       told = told ∙ ap (λ a. ending.over && not a.over) asks;
       watch = λ events stands. ap (λ e. e.watch) all ∙ stands.watch ∙ sym (watch_more (opened_as old) events Finishing);
       counts = uncounted old Finishing old.tally refl refl;
+      strained = λ events stands. stands.strain ∙ sym (strain_asked (opened_as old) events);
       messages = λ events stands. stands.messages;
       bytes = λ events stands. stands.bytes;
     })
@@ -64,22 +71,26 @@ sent_quietly old tally n result =
     quiet old tally (RemoveBytes n) result refl refl (λ commands. refl) (λ commands. refl) (λ commands. cancels_step commands (RemoveBytes n))
 
 pub brings_once : (max_count max_bytes : ℕ) (before after : Option (List ℕ)) (old : Managed) (connection : Connected)
-    (ending : Ending) (result : Result Sent SendFault) (bytes waiting : ℕ) (watch : Watch) (empty finished : Bool)
+    (ending : Ending) (strain : Strain) (change : Option Change)
+    (result : Result Sent SendFault) (bytes waiting : ℕ) (watch : Watch) (empty finished : Bool)
     → IfOk result (λ done. Sends max_count max_bytes old.connection before done connection after) → is_err result ≡ false
     → IfOk result (λ done. bytes ≡ done.bytes) → ConnectionGives connection waiting_count_after waiting
     → ConnectionGives connection empty_after empty
     → watch ≡ watched_by old.limits.least_bytes (RemoveBytes bytes) empty old.ending.watch
     → ending ≡ record old.ending { over = old.ending.over || (old.ending.asked && (waiting == 0)); watch = watch }
     → finished ≡ (ending.over && not old.ending.over)
-    → Brings old (sending_happens (λ done. done.bytes) result) finished (managed_with old connection ending old.tally)
-brings_once max_count max_bytes before after old connection ending (Ok done) bytes waiting watch empty finished sends went same waits empties watches is told =
-    brings_command old connection ending old.tally watch (RemoveBytes done.bytes) taken_reply (as_result done.taken) waiting empty finished
+    → IfOk result (λ done. change ≡ done.taken.change) → strain ≡ strained (Ok change) old.strain
+    → Brings old (sending_happens (λ done. done.bytes) result) finished (managed_with old connection ending old.tally strain)
+brings_once max_count max_bytes before after old connection ending strain change (Ok done) bytes waiting watch empty finished sends went same waits empties watches is told changes strains =
+    brings_command old connection ending old.tally strain watch (RemoveBytes done.bytes) taken_reply (λ taken. taken.change) (as_result done.taken) waiting empty finished
     sends.obeys waits empties (watches ∙ ap (λ n. watched_by old.limits.least_bytes (RemoveBytes n) empty old.ending.watch) same) is told (sent_quietly old.connection old.tally done.bytes (as_result done.taken)) refl
-brings_once max_count max_bytes before after old connection ending (Err fault) bytes waiting watch empty finished sends went same waits empties watches is told =
+    (λ promises taken. refl) (strains ∙ ap (λ c. strained (Ok c) old.strain) changes)
+brings_once max_count max_bytes before after old connection ending strain change (Err fault) bytes waiting watch empty finished sends went same waits empties watches is told changes strains =
     absurd (cc)
 
 pub brings_turns : (max_turns max_bytes : ℕ) (before after : Option (List ℕ)) (calls_before calls_after : Option (List Call))
-    (old : Managed) (connection : Connected) (ending : Ending) (result : Result SentTurns SendFault) (bytes waiting : ℕ) (watch : Watch) (empty finished : Bool)
+    (old : Managed) (connection : Connected) (ending : Ending) (strain : Strain) (change : Option Change)
+    (result : Result SentTurns SendFault) (bytes waiting : ℕ) (watch : Watch) (empty finished : Bool)
     → IfOk result (λ done. SendsInTurns max_turns max_bytes old.connection before calls_before done connection after calls_after)
     → is_err result ≡ false
     → IfOk result (λ done. bytes ≡ done.bytes) → ConnectionGives connection waiting_count_after waiting
@@ -87,11 +98,13 @@ pub brings_turns : (max_turns max_bytes : ℕ) (before after : Option (List ℕ)
     → watch ≡ watched_by old.limits.least_bytes (RemoveBytes bytes) empty old.ending.watch
     → ending ≡ record old.ending { over = old.ending.over || (old.ending.asked && (waiting == 0)); watch = watch }
     → finished ≡ (ending.over && not old.ending.over)
-    → Brings old (sending_happens (λ done. done.bytes) result) finished (managed_with old connection ending old.tally)
-brings_turns max_turns max_bytes before after calls_before calls_after old connection ending (Ok done) bytes waiting watch empty finished sends went same waits empties watches is told =
-    brings_command old connection ending old.tally watch (RemoveBytes done.bytes) taken_reply (as_result done.taken) waiting empty finished
+    → IfOk result (λ done. change ≡ done.taken.change) → strain ≡ strained (Ok change) old.strain
+    → Brings old (sending_happens (λ done. done.bytes) result) finished (managed_with old connection ending old.tally strain)
+brings_turns max_turns max_bytes before after calls_before calls_after old connection ending strain change (Ok done) bytes waiting watch empty finished sends went same waits empties watches is told changes strains =
+    brings_command old connection ending old.tally strain watch (RemoveBytes done.bytes) taken_reply (λ taken. taken.change) (as_result done.taken) waiting empty finished
     sends.obeys waits empties (watches ∙ ap (λ n. watched_by old.limits.least_bytes (RemoveBytes n) empty old.ending.watch) same) is told (sent_quietly old.connection old.tally done.bytes (as_result done.taken)) refl
-brings_turns max_turns max_bytes before after calls_before calls_after old connection ending (Err fault) bytes waiting watch empty finished sends went same waits empties watches is told =
+    (λ promises taken. refl) (strains ∙ ap (λ c. strained (Ok c) old.strain) changes)
+brings_turns max_turns max_bytes before after calls_before calls_after old connection ending strain change (Err fault) bytes waiting watch empty finished sends went same waits empties watches is told changes strains =
     absurd (cc)
 
 -- a close leaves nothing that waits
@@ -202,17 +215,19 @@ watched_up old connection watch cause taken empty gives empties is events stands
     ∙ sym (watch_more opened one (Accepted (Close cause)))
     ∙ ap (watch_after opened) (append_assoc events (Accepted fails ∷ []) (Accepted (Close cause) ∷ []))
 
-given_up : (old : Managed) (connection : Connected) (ending : Ending) (tally : Tally) (cause : Cause) (taken : Taken) (waiting : ℕ) (watch : Watch) (empty finished : Bool)
+given_up : (old : Managed) (connection : Connected) (ending : Ending) (tally : Tally) (strain : Strain) (cause : Cause) (taken : Taken) (waiting : ℕ) (watch : Watch) (empty finished : Bool)
     → GivesUp old.connection cause taken connection → ConnectionGives connection waiting_count_after waiting
     → ConnectionGives connection empty_after empty → watch ≡ watched_by old.limits.least_bytes (Close cause) empty old.ending.watch
     → ending ≡ record old.ending { over = old.ending.over || (old.ending.asked && (waiting == 0)); watch = watch }
     → finished ≡ (ending.over && not old.ending.over)
     → CountsGivingUp {E = Refusal} old.connection old.tally cause (Ok taken) tally
-    → Brings old (Accepted (FailFlushed cause false) ∷ Accepted (Close cause) ∷ []) finished (managed_with old connection ending tally)
-given_up old connection ending tally cause taken waiting watch empty finished gives waits empties watches is told counts =
+    → strain ≡ strained (Ok taken.change) old.strain
+    → Brings old (Accepted (FailFlushed cause false) ∷ Accepted (Close cause) ∷ []) finished (managed_with old connection ending tally strain)
+given_up old connection ending tally strain cause taken waiting watch empty finished gives waits empties watches is told counts strains =
     let both = Accepted (FailFlushed cause false) ∷ Accepted (Close cause) ∷ [] in
     let settings = gives.closes.settings ∙ gives.fails.settings in
-    let opened : opened_as (managed_with old connection ending tally) ≡ opened_as old = opened_alike old connection ending tally settings in
+    let opened : opened_as (managed_with old connection ending tally strain) ≡ opened_as old =
+    opened_alike old connection ending tally strain settings in
     let follows : (commands : List Command) → ConnectionStandsFor old.connection commands
     → ConnectionStandsFor connection ((commands ++ FailFlushed cause false ∷ []) ++ Close cause ∷ []) =
     λ commands stands. gives.closes.stands (commands ++ FailFlushed cause false ∷ []) (gives.fails.stands commands stands) in
@@ -235,6 +250,8 @@ given_up old connection ending tally cause taken waiting watch empty finished gi
         watch = ap (λ e. e.watch) is ∙ watched_up old connection watch cause taken empty gives empties watches events stands
             ∙ ap (λ o. watch_after o (events ++ both)) (sym opened);
         tally = counted_up old tally cause taken counts events stands ∙ ap (λ o. tally_after o (events ++ both)) (sym opened);
+        strain = strains_up old connection cause taken strain gives strains events stands
+            ∙ ap (λ o. strain_after o (events ++ both)) (sym opened);
         messages = omega (arith, ap (λ t. t.accepted.messages) (counts (commands_in events) stands.commands (fits_of old events stands)), stands.messages);
         bytes = omega (arith, ap (λ t. t.accepted.bytes) (counts (commands_in events) stands.commands (fits_of old events stands)), stands.bytes);
       };
@@ -243,7 +260,7 @@ given_up old connection ending tally cause taken waiting watch empty finished gi
     }
 
 -- a connection that is given up
-pub brings_give_up : (old : Managed) (connection : Connected) (ending : Ending) (tally : Tally) (cause : Cause)
+pub brings_give_up : (old : Managed) (connection : Connected) (ending : Ending) (tally : Tally) (strain : Strain) (cause : Cause)
     (result : Result Taken Refusal) (waiting : ℕ) (watch : Watch) (empty finished : Bool)
     → IfOk result (λ taken. GivesUp old.connection cause taken connection) → OnErr result (connection ≡ old.connection)
     → ConnectionGives connection waiting_count_after waiting
@@ -252,15 +269,17 @@ pub brings_give_up : (old : Managed) (connection : Connected) (ending : Ending) 
     → ending ≡ record old.ending { over = old.ending.over || (old.ending.asked && (waiting == 0)); watch = watch }
     → finished ≡ (ending.over && not old.ending.over)
     → CountsGivingUp old.connection old.tally cause result tally
-    → Brings old (giving_up_happens cause result) finished (managed_with old connection ending tally)
-brings_give_up old connection ending tally cause (Ok taken) waiting watch empty finished gives kept waits empties watches is told counts =
-    given_up old connection ending tally cause taken waiting watch empty finished gives waits empties watches is told counts
-brings_give_up old connection ending tally cause (Err refusal) waiting watch empty finished gives kept waits empties watches is told counts =
-    brings_one old connection ending tally (Refused (Declined refusal)) finished
-    (left_by_reach old connection ending tally watch (Refused (Declined refusal)) waiting finished (ap (λ c. c.unsent.settings) kept)
+    → strain ≡ strained (change_in (λ taken. taken.change) (λ refusal. Declined refusal) result) old.strain
+    → Brings old (giving_up_happens cause result) finished (managed_with old connection ending tally strain)
+brings_give_up old connection ending tally strain cause (Ok taken) waiting watch empty finished gives kept waits empties watches is told counts strains =
+    given_up old connection ending tally strain cause taken waiting watch empty finished gives waits empties watches is told counts strains
+brings_give_up old connection ending tally strain cause (Err refusal) waiting watch empty finished gives kept waits empties watches is told counts strains =
+    brings_one old connection ending tally strain (Refused (Declined refusal)) finished
+    (left_by_reach old connection ending tally strain watch (Refused (Declined refusal)) waiting finished (ap (λ c. c.unsent.settings) kept)
     (λ commands stands. subst (λ c. ConnectionStandsFor c (commands ++ [])) (sym kept)
     (subst (λ c. ConnectionStandsFor old.connection c) (sym (append-nil commands)) stands))
     waits refl is told (λ events stands. watches ∙ stands.watch ∙ sym (watch_more (opened_as old) events (Refused (Declined refusal)))) (uncounted old (Refused (Declined refusal)) tally refl counts)
+    (strains_refused old (Declined refusal) strain strains)
     (λ events stands. omega (arith, ap (λ t. t.accepted.messages) counts, stands.messages))
     (λ events stands. omega (arith, ap (λ t. t.accepted.bytes) counts, stands.bytes)))
 
@@ -273,12 +292,27 @@ ticks_to old watch empty now empties is events stands =
     else ticked old.limits (told_time now old.ending.watch).since (told_time now old.ending.watch)) (empties (commands_in events) stands.commands)
     ∙ ap (watched (opened_as old) events (Ticked now)) stands.watch ∙ sym (watch_more (opened_as old) events (Ticked now))
 
--- a tick
-pub brings_tick : (old : Managed) (watch : Watch) (empty : Bool) (now : ℕ) → ConnectionGives old.connection empty_after empty
+-- the clock after a tick
+pub ticks_on : (old : Managed) (watch : Watch) (empty : Bool) (now : ℕ)
     → watch ≡ (if empty then rested (told_time now old.ending.watch)
     else ticked old.limits (told_time now old.ending.watch).since (told_time now old.ending.watch))
-    → Brings old (Ticked now ∷ []) false (managed_with old old.connection (record old.ending { watch = watch }) old.tally)
-brings_tick old watch empty now empties is = brings_one old old.connection (record old.ending { watch = watch }) old.tally (Ticked now) false (record {
+    → watch.now ≡ max old.ending.watch.now now
+ticks_on old watch empty now is = ap (λ w. w.now) is ∙ now_empty old.limits empty (told_time now old.ending.watch)
+
+pub tick_fits : (old : Managed) (watch : Watch) (empty : Bool) (now : ℕ) → StandsForSome old
+    → watch ≡ (if empty then rested (told_time now old.ending.watch)
+    else ticked old.limits (told_time now old.ending.watch).since (told_time now old.ending.watch))
+    → old.strain.stopped + (watch.now - old.ending.watch.now) ≤ watch.now
+tick_fits old watch empty now some is = pass_fits old now watch.now some.0 some.1 (ticks_on old watch empty now is)
+
+-- a tick
+pub brings_tick : (old : Managed) (watch : Watch) (strain : Strain) (empty writable : Bool) (now : ℕ) → ConnectionGives old.connection empty_after empty
+    → watch ≡ (if empty then rested (told_time now old.ending.watch)
+    else ticked old.limits (told_time now old.ending.watch).since (told_time now old.ending.watch))
+    → ConnectionGives old.connection writable_after writable
+    → strain ≡ record old.strain { stopped = old.strain.stopped + (if writable then 0 else watch.now - old.ending.watch.now) }
+    → Brings old (Ticked now ∷ []) false (managed_with old old.connection (record old.ending { watch = watch }) old.tally strain)
+brings_tick old watch strain empty writable now empties is goes strains = brings_one old old.connection (record old.ending { watch = watch }) old.tally strain (Ticked now) false (record {
   settings = refl;
   stands = λ commands stands. subst (λ c. ConnectionStandsFor old.connection c) (sym (append-nil commands)) stands;
   asked = sym (or_none old.ending.asked);
@@ -286,6 +320,7 @@ brings_tick old watch empty now empties is = brings_one old old.connection (reco
   told = and_not old.ending.over;
   watch = λ events stands. ticks_to old watch empty now empties is events stands;
   counts = uncounted old (Ticked now) old.tally refl refl;
+  strained = λ events stands. strains_ticked old now watch.now writable strain goes (ticks_on old watch empty now is) strains events stands;
   messages = λ events stands. stands.messages;
   bytes = λ events stands. stands.bytes;
 })
@@ -318,7 +353,7 @@ shrunk_settings old new shrinks = ap (λ unsent. unsent.settings) shrinks.unsent
 pub shrunk_opened : (old : Managed) (connection : Connected) → Shrinks old.connection connection
     → opened_as (record old { connection = connection }) ≡ opened_as old
 shrunk_opened old connection shrinks =
-    opened_alike old connection old.ending old.tally (shrunk_settings old.connection connection shrinks)
+    opened_alike old connection old.ending old.tally old.strain (shrunk_settings old.connection connection shrinks)
 
 pub shrunk_stands : (old : Managed) (connection : Connected) → Shrinks old.connection connection → (events : List Event)
     → StandsFor old events → StandsFor (record old { connection = connection }) events
@@ -329,6 +364,7 @@ shrunk_stands old connection shrinks events stands =
       over = stands.over ∙ ap (λ opened. was_over opened events) (sym same);
       watch = stands.watch ∙ ap (λ opened. watch_after opened events) (sym same);
       tally = stands.tally ∙ ap (λ opened. tally_after opened events) (sym same);
+      strain = stands.strain ∙ ap (λ opened. strain_after opened events) (sym same);
       messages = stands.messages;
       bytes = stands.bytes;
     }

@@ -2,6 +2,7 @@ pub mod Steps
 pub mod Ages
 pub mod Balance
 pub mod Tallies
+pub mod Straining
 pub mod Showing
 pub mod Pending
 pub mod Watching

@@ -10,12 +10,16 @@ use Rattle.ob_lifecycle.proofs.Balance.{bytes_balanced, messages_balanced}
 use Rattle.ob_lifecycle.proofs.Tallies.{count_like}
 
 numbers_like : (one other : Numbers) → one.accepted ≡ other.accepted → one.sent ≡ other.sent → one.failed ≡ other.failed
-    → one.cancelled ≡ other.cancelled → one.pending ≡ other.pending → one.peak ≡ other.peak → one ≡ other
-numbers_like one other accepted sent failed cancelled pending peak =
+    → one.cancelled ≡ other.cancelled → one.pending ≡ other.pending → one.peak ≡ other.peak
+    → one.stops ≡ other.stops → one.stopped ≡ other.stopped → one.refusals ≡ other.refusals → one ≡ other
+numbers_like one other accepted sent failed cancelled pending peak stops stopped refusals =
     ap (λ a. record one { accepted = a }) accepted ∙ ap (λ a. record one { accepted = other.accepted; sent = a }) sent
     ∙ ap (λ a. record one { accepted = other.accepted; sent = other.sent; failed = a }) failed
-    ∙ ap (λ a. record other { cancelled = a; pending = one.pending; peak = one.peak }) cancelled
-    ∙ ap (λ a. record other { pending = a; peak = one.peak }) pending ∙ ap (λ a. record other { peak = a }) peak
+    ∙ ap (λ a. record one { accepted = other.accepted; sent = other.sent; failed = other.failed; cancelled = a }) cancelled
+    ∙ ap (λ a. record other { pending = a; peak = one.peak; stops = one.stops; stopped = one.stopped; refusals = one.refusals }) pending
+    ∙ ap (λ a. record other { peak = a; stops = one.stops; stopped = one.stopped; refusals = one.refusals }) peak
+    ∙ ap (λ a. record other { stops = a; stopped = one.stopped; refusals = one.refusals }) stops
+    ∙ ap (λ a. record other { stopped = a; refusals = one.refusals }) stopped ∙ ap (λ a. record other { refusals = a }) refusals
 
 -- what ended otherwise and what is pending is no more than was accepted
 pub rest_messages : (managed : Managed) (events : List Event) (pending : Count) → StandsFor managed events
@@ -57,6 +61,9 @@ shown managed pending = record {
   cancelled = managed.tally.cancelled;
   pending = pending;
   peak = managed.tally.peak;
+  stops = managed.strain.stops;
+  stopped = managed.strain.stopped;
+  refusals = managed.strain.refusals;
 }
 
 pub numbers_shown : (managed : Managed) (events : List Event) (pending : Count) → StandsFor managed events
@@ -84,3 +91,4 @@ numbers_shown managed events pending stands is =
       ap (λ p. p.bytes) is,
     )))
     (ap (λ t. t.failed) stands.tally) (ap (λ t. t.cancelled) stands.tally) is (ap (λ t. t.peak) stands.tally)
+    (ap (λ s. s.stops) stands.strain) (ap (λ s. s.stopped) stands.strain) (ap (λ s. s.refusals) stands.strain)

@@ -155,7 +155,7 @@ now_command watch true empty taken = refl
 now_command watch false true taken = refl
 now_command watch false false taken = refl
 
-now_empty : (limits : Limits) (empty : Bool) (watch : Watch) → (if empty then rested watch else ticked limits watch.since watch).now ≡ watch.now
+pub now_empty : (limits : Limits) (empty : Bool) (watch : Watch) → (if empty then rested watch else ticked limits watch.since watch).now ≡ watch.now
 now_empty limits true watch = refl
 now_empty limits false watch = now_ticked limits watch.since watch
 

@@ -1,7 +1,7 @@
 -- Why a write is refused, and what it brings.
-use Rattle.std.proofs.Common.{◌≡◌, ℕ, ◌+◌, ◌-◌, ◌≤◌, max, arith, Bool, true, false, List, [], ◌∷◌, ◌++◌, ◌||◌, ◌&&◌, sym, refl, ap, ◌∙◌, subst, append-nil}
+use Rattle.std.proofs.Common.{◌≡◌, ℕ, ◌+◌, ◌≤◌, max, arith, Bool, true, false, List, [], ◌∷◌, ◌++◌, ◌||◌, ◌&&◌, sym, refl, ap, ◌∙◌, subst, append-nil}
 use Rattle.ob_types.specs.PendingSize.{counted_bytes, is_oversize}
-use Rattle.std.specs.Prelude.{Result, Ok, Err, IfOk, IfErr, OnOk, Option, Some, None, option_map, if◌then◌else◌, ◌==◌, is_ok}
+use Rattle.std.specs.Prelude.{Result, Ok, Err, IfOk, IfErr, OnOk, Option, Some, None, option_map, if◌then◌else◌, ◌==◌, is_ok, is_some}
 use Rattle.ob_types.specs.declared.command.Command.TheVariants.{Write}
 use Rattle.ob_types.specs.declared.message.Message.{Message}
 use Rattle.ob_types.specs.declared.refusal.Refusal.{Refusal}
@@ -16,41 +16,28 @@ use Rattle.ob_connection.specs.Obeying.{Accepts, Obeys, written_reply}
 use Rattle.ob_connection.specs.declared.replies.Written.{Written}
 use Rattle.ob_lifecycle.specs.Events.{Event, Accepted, Refused as WasRefused, commands_in}
 use Rattle.ob_lifecycle.specs.Finish.{is_finishing}
-use Rattle.ob_lifecycle.specs.Inside.{own_fault, own_fault_by}
+use Rattle.ob_lifecycle.specs.Inside.{FitsIn, HasRoom, own_fault, own_fault_by}
 use Rattle.ob_lifecycle.specs.Managed.{Managed, StandsFor, Brings, Gives, opened_as}
-use Rattle.ob_lifecycle.specs.Writes.{IsNotWritten, WritesTo, accepted, declined, fault_in, fault_of_write, is_past_the_cap, write_happens}
+use Rattle.ob_lifecycle.specs.Writes.{IsNotWritten, WritesTo, accepted, declined, fault_in, fault_of_write, write_happens}
 use Rattle.ob_lifecycle.specs.declared.fault.WriteFault.{WriteFault}
 use Rattle.ob_lifecycle.specs.declared.fault.WriteFault.TheVariants.{Refused, Finishing, Full}
 use Rattle.std.proofs.lemmas.Bool.Decides.{nat_tests}
 use Rattle.ob_types.specs.declared.command.Command.{Command}
 use Rattle.ob_connection.specs.Looks.{Shows}
 use Rattle.ob_connection.specs.declared.look.Look.{Look}
-use Rattle.ob_lifecycle.specs.Counts.{is_untold, most_told, pending_after, plus, tally_by, Counts, Fits}
-use Rattle.ob_lifecycle.specs.Inside.{MayCount}
+use Rattle.ob_lifecycle.specs.Counts.{is_untold, most_told, pending_after, tally_by, Counts}
 use Rattle.ob_lifecycle.specs.Managed.{StandsForSome}
 use Rattle.ob_lifecycle.specs.declared.count.Count.{Count}
 use Rattle.ob_lifecycle.specs.declared.tally.Tally.{Tally}
-use Rattle.ob_lifecycle.proofs.Balance.{written_bytes}
+use Rattle.ob_lifecycle.specs.Strain.{change_in, strained}
+use Rattle.ob_lifecycle.specs.declared.strain.Strain.{Strain}
+use Rattle.ob_lifecycle.proofs.Straining.{strains_accepted, strains_refused}
 use Rattle.ob_lifecycle.proofs.Watching.{watch_more}
 use Rattle.ob_lifecycle.proofs.Bringing.{and_not, unmoved_over, brings_one, counted, managed_with, uncounted}
 use Rattle.ob_lifecycle.proofs.Steps.{finishing_more, or_none}
 use Rattle.ob_lifecycle.proofs.Tallies.{cancels_step, fits_of, plus_none, tally_like}
 
--- the fault of a write of ours is its first
-own_first : (closed finishing oversize past : Bool) (rest : Option Refusal) (why : WriteFault)
-    → Some why ≡ own_fault_by closed finishing oversize past
-    → Some why
-    ≡ (if closed then Some (Refused Closed)
-    else (if finishing then Some Finishing
-    else (if oversize then Some (Refused Oversize)
-    else (if past then Some Full else option_map (λ refusal. Refused refusal) (if oversize then Some Oversize else rest)))))
-own_first true finishing oversize past rest why is = absurd (cc)
-own_first false true oversize past rest why is = is
-own_first false false true past rest why is = absurd (cc)
-own_first false false false true rest why is = is
-own_first false false false false rest why is = absurd (cc)
-
--- and if there is none of ours, the first is the connection's
+-- if there is no fault of ours, the first is the connection's
 others_first : (closed finishing oversize past : Bool) (rest : Option Refusal)
     → None ≡ own_fault_by closed finishing oversize past
     → option_map (λ refusal. Refused refusal) (if closed then Some Closed else (if oversize then Some Oversize else rest))
@@ -63,10 +50,6 @@ others_first false true oversize past rest is = absurd (cc)
 others_first false false true past rest is = refl
 others_first false false false true rest is = absurd (cc)
 others_first false false false false rest is = refl
-
-pub first_of_own : (managed : Managed) (message : Message) (why : WriteFault) → Gives managed (own_fault message) (Some why)
-    → Gives managed (fault_of_write message) (Some why)
-first_of_own managed message why own events stands = own_first _ _ _ _ _ why (own events stands)
 
 -- what the connection's answer says of its first refusal
 accepted_says : (refusal : Option Refusal) (told reply : Reply) → Ok told ≡ unless_refused refusal reply → None ≡ refusal
@@ -142,33 +125,6 @@ ok_of_none (Some refusal) reply is = absurd (cc)
 pub accepts_of_none : (old : Connected) (message : Message) → Refuses old (Write message) None → Accepts old (Write message)
 accepts_of_none old message first commands stands = ok_of_none _ _ (first commands stands)
 
-refusal_is_not_ours : (closed finishing oversize past : Bool) (refusal : Refusal)
-    → Some (Refused refusal) ≡ own_fault_by closed finishing oversize past → ⊥
-refusal_is_not_ours true finishing oversize past refusal own = cc
-refusal_is_not_ours false true oversize past refusal own = cc
-refusal_is_not_ours false false true past refusal own = cc
-refusal_is_not_ours false false false true refusal own = cc
-refusal_is_not_ours false false false false refusal own = cc
-
-not_refused : (managed : Managed) (message : Message) (refusal : Refusal) (events : List Event) → StandsFor managed events
-    → Gives managed (own_fault message) (Some (Refused refusal)) → ⊥
-not_refused managed message refusal events stands own =
-    refusal_is_not_ours (is_closed (commands_in events)) (is_finishing events) (is_oversize (opened_as managed).settings.estimate message)
-    (is_past_the_cap (opened_as managed) events (counted_bytes (opened_as managed).settings.estimate message)) refusal (own events stands)
-
--- a fault of ours leaves the connection, and is not that memory is out
-own_unwritten : (managed : Managed) (message : Message) (why : WriteFault) → StandsForSome managed
-    → Gives managed (own_fault message) (Some why) → IsNotWritten managed.connection message why managed.connection
-own_unwritten managed message (Refused refusal) some own = absurd (not_refused managed message refusal some.0 some.1 own)
-own_unwritten managed message Finishing some own = refl
-own_unwritten managed message Full some own = refl
-
-memory_last_of_own : (managed : Managed) (message : Message) (why : WriteFault) → Gives managed (own_fault message) (Some why)
-    → Some why ≡ Some (Refused NoMemory) → Gives managed (fault_of_write message) None
-memory_last_of_own managed message (Refused refusal) own is events stands = absurd (not_refused managed message refusal events stands own)
-memory_last_of_own managed message Finishing own is events stands = absurd (cc)
-memory_last_of_own managed message Full own is events stands = absurd (cc)
-
 -- the fault of a write that the connection was asked for is its first
 pub first_of_put : {E : Type 0} (why : E → WriteFault) (managed : Managed) (message : Message) (new : Connected) (result : Result Written E)
     → Gives managed (own_fault message) None
@@ -184,9 +140,10 @@ first_of_put why managed message new (Err left) own wrote refused no_end no_cap 
     first_of_fault managed message new events stands (own events stands) (why left) refused no_end no_cap memory
 
 -- a write that was refused
-refused_brings : (old : Managed) (connection : Connected) (why : WriteFault) → connection ≡ old.connection
-    → Brings old (WasRefused why ∷ []) false (managed_with old connection old.ending old.tally)
-refused_brings old connection why same = brings_one old connection old.ending old.tally (WasRefused why) false (record {
+pub refused_brings : (old : Managed) (connection : Connected) (strain : Strain) (why : WriteFault) → connection ≡ old.connection
+    → strain ≡ strained (Err why) old.strain
+    → Brings old (WasRefused why ∷ []) false (managed_with old connection old.ending old.tally strain)
+refused_brings old connection strain why same strains = brings_one old connection old.ending old.tally strain (WasRefused why) false (record {
   settings = ap (λ c. c.unsent.settings) same;
   stands = λ commands stands. subst (λ c. ConnectionStandsFor c (commands ++ [])) (sym same)
       (subst (λ c. ConnectionStandsFor old.connection c) (sym (append-nil commands)) stands);
@@ -195,12 +152,10 @@ refused_brings old connection why same = brings_one old connection old.ending ol
   told = and_not old.ending.over;
   watch = λ events stands. stands.watch ∙ sym (watch_more (opened_as old) events (WasRefused why));
   counts = uncounted old (WasRefused why) old.tally refl refl;
+  strained = strains_refused old why strain strains;
   messages = λ events stands. stands.messages;
   bytes = λ events stands. stands.bytes;
 })
-
-pub own_brings : (old : Managed) (why : WriteFault) → Brings old (WasRefused why ∷ []) false old
-own_brings old why = refused_brings old old.connection why refl
 
 -- an open connection with no fault of ours was not asked to end
 open_by : (closed : Bool) (rest : Option Refusal) → None ≡ (if closed then Some Closed else rest) → closed ≡ false
@@ -259,51 +214,40 @@ or_right : (a b : Bool) → (a || b) ≡ false → b ≡ false
 or_right true b is = absurd (cc)
 or_right false b is = is
 
-pub may_count : (managed : Managed) (message : Message) → StandsForSome managed → Gives managed (own_fault message) None
-    → MayCount managed.connection managed.tally message
+may_count : (managed : Managed) (message : Message) → StandsForSome managed → Gives managed (own_fault message) None
+    → (commands : List Command) → ConnectionStandsFor managed.connection commands → is_closed commands ≡ false
+    → is_oversize managed.connection.unsent.settings.estimate message ≡ false
+    → is_untold managed.tally.accepted (counted_bytes managed.connection.unsent.settings.estimate message) ≡ false
 may_count managed message some own commands stands unclosed fine =
     let same : is_closed (commands_in some.0) ≡ false = sym some.1.commands.leaves.closed ∙ stands.leaves.closed ∙ unclosed in
     let size = counted_bytes managed.connection.unsent.settings.estimate message in
     ap (λ t. is_untold t.accepted size) some.1.tally
     ∙ or_right _ _ (past_by _ _ _ _ (own some.0 some.1) same fine)
 
--- what is pending grows by what the message counts
-pub put_grows : (old new : Connected) (message : Message) (written : Written) (before after : Look) (commands : List Command)
-    → ConnectionStandsFor old commands → Obeys old (Write message) written_reply (accepted written) new → Shows old before
-    → Shows new after → after.total ≡ before.total + counted_bytes old.unsent.settings.estimate message
-put_grows old new message written before after commands stands wrote shows shown =
+-- a message is counted by what was accepted in all with it, and by what is pending then
+pub put_counted : (old new : Connected) (message : Message) (written : Written) (after : Look) (bytes pending : ℕ) (tally : Tally)
+    → Obeys old (Write message) written_reply (accepted written) new → Shows new after → pending ≡ after.total
+    → bytes ≡ tally.accepted.bytes + counted_bytes old.unsent.settings.estimate message
+    → Counts {E = Refusal} old tally (Write message) (Ok written)
+    (record tally { accepted = record { messages = tally.accepted.messages + 1; bytes = bytes }; peak = max tally.peak pending })
+put_counted old new message written after bytes pending tally wrote shown same is commands stands fits =
     let settings = old.unsent.settings in
-    let was : before.total ≡ (pending_after settings commands).bytes = ap (λ look. look.total) (shows commands stands) in
-    let now : after.total ≡ (pending_after settings (commands ++ Write message ∷ [])).bytes =
-    ap (λ look. look.total) (shown _ (wrote.stands commands stands))
-    ∙ ap (λ s. (pending_after s (commands ++ Write message ∷ [])).bytes) wrote.settings in
-    omega (arith, was, now, written_bytes settings commands message)
-
-pub put_counted : (old new : Connected) (message : Message) (written : Written) (before after : Look) (size : ℕ) (tally : Tally)
-    → Obeys old (Write message) written_reply (accepted written) new → Shows old before → Shows new after
-    → size ≡ after.total - before.total → (commands : List Command) → ConnectionStandsFor old commands
-    → Fits old.unsent.settings commands tally
-    → record tally { accepted = plus tally.accepted (record { messages = 1; bytes = size }); peak = max tally.peak after.total }
-    ≡ tally_by old.unsent.settings commands (Write message) tally
-put_counted old new message written before after size tally wrote shows shown is commands stands fits =
-    let settings = old.unsent.settings in
-    let counts : size ≡ counted_bytes settings.estimate message =
-    omega (arith, is, put_grows old new message written before after commands stands wrote shows shown) in
-    let now : after.total ≡ (pending_after settings (commands ++ Write message ∷ [])).bytes =
-    ap (λ look. look.total) (shown _ (wrote.stands commands stands))
+    let now : pending ≡ (pending_after settings (commands ++ Write message ∷ [])).bytes =
+    same ∙ ap (λ look. look.total) (shown _ (wrote.stands commands stands))
     ∙ ap (λ s. (pending_after s (commands ++ Write message ∷ [])).bytes) wrote.settings in
     tally_like _ (tally_by settings commands (Write message) tally)
-    (ap (λ n. plus tally.accepted (record { messages = 1; bytes = n })) counts) (sym (plus_none tally.failed))
+    (ap (λ n. record { messages = tally.accepted.messages + 1; bytes = n }) is) (sym (plus_none tally.failed))
     (sym (plus_none tally.cancelled)) (ap (max tally.peak) now) (fits.cancels ∙ sym (cancels_step commands (Write message)))
 
-pub put_brings : {E : Type 0} (why : E → WriteFault) (old : Managed) (message : Message) (new : Connected) (tally : Tally)
+pub put_brings : {E : Type 0} (why : E → WriteFault) (old : Managed) (message : Message) (new : Connected) (tally : Tally) (strain : Strain)
     (result : Result Written E) → Gives old (own_fault message) None
     → IfOk result (λ written. Obeys old.connection (Write message) written_reply (accepted written) new)
     → IfErr result (λ left. IsNotWritten old.connection message (why left) new)
     → Counts old.connection old.tally (Write message) result tally
-    → Brings old (write_happens why message result) false (managed_with old new old.ending tally)
-put_brings {E = E} why old message new tally (Ok written) own wrote refused counts =
-    brings_one old new old.ending tally (Accepted (Write message)) false (record {
+    → strain ≡ strained (change_in (λ written. written.change) why result) old.strain
+    → Brings old (write_happens why message result) false (managed_with old new old.ending tally strain)
+put_brings {E = E} why old message new tally strain (Ok written) own wrote refused counts strains =
+    brings_one old new old.ending tally strain (Accepted (Write message)) false (record {
       settings = wrote.settings;
       stands = wrote.stands;
       asked = sym (or_none old.ending.asked);
@@ -316,6 +260,7 @@ put_brings {E = E} why old message new tally (Ok written) own wrote refused coun
       told = and_not old.ending.over;
       watch = λ events stands. stands.watch ∙ sym (watch_more (opened_as old) events (Accepted (Write message)));
       counts = counted E old (Write message) written tally counts;
+      strained = strains_accepted old new (Write message) written_reply written written.change strain (λ promises. refl) wrote strains;
       messages = λ events stands.
           let room = may_count old message (events, stands) own (commands_in events) stands.commands
           (written_open old.connection new message written (commands_in events) stands.commands wrote)
@@ -327,49 +272,111 @@ put_brings {E = E} why old message new tally (Ok written) own wrote refused coun
           (written_fine old.connection new message written (commands_in events) stands.commands wrote) in
           omega (arith, told_bytes old.tally.accepted _ room, ap (λ t. t.accepted.bytes) (counts (commands_in events) stands.commands (fits_of old events stands)));
     })
-put_brings why old message new tally (Err left) own wrote refused counts =
-    subst (λ t. Brings old (WasRefused (why left) ∷ []) false (managed_with old new old.ending t)) (sym counts)
-    (refused_brings old new (why left) (not_put old.connection new message (why left) refused))
+put_brings why old message new tally strain (Err left) own wrote refused counts strains =
+    subst (λ t. Brings old (WasRefused (why left) ∷ []) false (managed_with old new old.ending t strain)) (sym counts)
+    (refused_brings old new strain (why left) (not_put old.connection new message (why left) refused) strains)
 
--- a write that is refused by us
-pub own_writes : {E : Type 0} (why : E → WriteFault) (old : Managed) (message : Message) (left : E) → StandsForSome old
-    → Gives old (own_fault message) (Some (why left)) → WritesTo why message old (Err left) old
-own_writes why old message left some own = record {
+-- what was refused in one form is so in another
+pub refused_alike : {E : Type 0} (why : E → WriteFault) (message : Message) (old new : Managed) (left : E)
+    → WritesTo (λ why. why) message old (Err (why left)) new → WritesTo why message old (Err left) new
+refused_alike why message old new left it = record {
   written = tt;
   room = tt;
-  refused = own_unwritten old message (why left) some own;
-  first = λ other. first_of_own old message (why left) own;
-  memory_last = memory_last_of_own old message (why left) own;
-  brings = own_brings old (why left);
+  refused = it.refused;
+  first = it.first;
+  memory_last = it.memory_last;
+  brings = it.brings;
 }
 
 -- a write for which the connection is asked
-pub put_writes : {E : Type 0} (why : E → WriteFault) (old : Managed) (message : Message) (new : Connected) (tally : Tally)
+pub put_writes : {E : Type 0} (why : E → WriteFault) (old : Managed) (message : Message) (new : Connected) (tally : Tally) (strain : Strain)
     (result : Result Written E) → Gives old (own_fault message) None
     → IfOk result (λ written. Obeys old.connection (Write message) written_reply (accepted written) new)
     → OnOk result (room_in new ≡ room_for_one_more old.connection.unsent)
     → IfErr result (λ left. IsNotWritten old.connection message (why left) new)
     → ¬ (fault_in why result ≡ Some Finishing) → ¬ (fault_in why result ≡ Some Full)
     → Counts old.connection old.tally (Write message) result tally
-    → WritesTo why message old result (managed_with old new old.ending tally)
-put_writes why old message new tally result own wrote room refused no_end no_cap counts = record {
+    → strain ≡ strained (change_in (λ written. written.change) why result) old.strain
+    → WritesTo why message old result (managed_with old new old.ending tally strain)
+put_writes why old message new tally strain result own wrote room refused no_end no_cap counts strains = record {
   written = wrote;
   room = room;
   refused = refused;
   first = first_of_put why old message new result own wrote refused no_end no_cap;
   memory_last = memory_last_of_put why old message new result own refused;
-  brings = put_brings why old message new tally result own wrote refused counts;
+  brings = put_brings why old message new tally strain result own wrote refused counts strains;
 }
 
 -- a write that the connection would refuse
-pub refusing_writes : (managed : Managed) (message : Message) (refusal : Refusal) → Gives managed (own_fault message) None
+pub refusing_writes : (managed : Managed) (message : Message) (refusal : Refusal)
     → Refuses managed.connection (Write message) (Some refusal) → ¬ (Some refusal ≡ Some NoMemory)
-    → WritesTo (λ why. why) message managed (Err (Refused refusal)) managed
-refusing_writes managed message refusal own first other = record {
+    → IsNotWritten managed.connection message (Refused refusal) managed.connection
+refusing_writes managed message refusal first other = refusing_obeys managed.connection message refusal first other
+
+-- a block that is not shared, since a write of it would be refused
+pub unshared_writes : (old : Managed) (strain : Strain) (message : Message) (why : WriteFault)
+    → Gives old (fault_of_write message) (Some why) → IsNotWritten old.connection message why old.connection
+    → ¬ (Some why ≡ Some (Refused NoMemory)) → strain ≡ strained (Err why) old.strain
+    → WritesTo (λ why. why) message old (Err why) (record old { strain = strain })
+unshared_writes old strain message why first left other strains = record {
   written = tt;
   room = tt;
-  refused = refusing_obeys managed.connection message refusal first other;
-  first = λ memory. none_of_both managed message (Some refusal) own first;
-  memory_last = λ is. absurd (other (cc));
-  brings = own_brings managed (Refused refusal);
+  refused = left;
+  first = λ memory. first;
+  memory_last = λ is. absurd (other is);
+  brings = refused_brings old old.connection strain why refl strains;
 }
+
+-- and since there is no memory
+pub without_memory : (old : Managed) (strain : Strain) (message : Message) → Gives old (fault_of_write message) None
+    → Accepts old.connection (Write message) → strain ≡ strained (Err (Refused NoMemory)) old.strain
+    → WritesTo (λ why. why) message old (Err (Refused NoMemory)) (record old { strain = strain })
+without_memory old strain message none accepts strains = record {
+  written = tt;
+  room = tt;
+  refused = record {
+    answer = λ other. absurd (other refl);
+    stands = λ commands stands. stands;
+    settings = refl;
+    refused = refl;
+    no_memory_last = λ is. accepts;
+  };
+  first = λ other. absurd (other refl);
+  memory_last = λ is. none;
+  brings = refused_brings old old.connection strain (Refused NoMemory) refl strains;
+}
+
+-- a write that the connection accepted, while there was room
+pub wrote_writes : {E : Type 0} (why : E → WriteFault) (old : Managed) (message : Message) (new : Connected) (written : Written) (after : Look)
+    (bytes pending : ℕ) (tally : Tally) (strain : Strain) → HasRoom message old bytes
+    → Obeys old.connection (Write message) written_reply (accepted written) new
+    → room_in new ≡ room_for_one_more old.connection.unsent → Shows new after → pending ≡ after.total
+    → tally ≡ record old.tally { accepted = record { messages = old.tally.accepted.messages + 1; bytes = bytes }; peak = max old.tally.peak pending }
+    → strain ≡ strained (Ok written.change) old.strain
+    → WritesTo why message old (Ok written) (managed_with old new old.ending tally strain)
+wrote_writes why old message new written after bytes pending tally strain has wrote room shown same tallied strains =
+    put_writes why old message new tally strain (Ok written) has.own wrote room tt (λ is. cc) (λ is. cc)
+    (subst (λ t. Counts {E = Refusal} old.connection old.tally (Write message) (Ok written) t) (sym tallied)
+    (put_counted old.connection new message written after bytes pending old.tally wrote shown same has.bytes)) strains
+
+-- and one that it refused
+pub declined_writes : {E : Type 0} (why : E → WriteFault) (old : Managed) (message : Message) (new : Connected) (left : E) (refusal : Refusal)
+    (strain : Strain) → why left ≡ Refused refusal → Gives old (own_fault message) None
+    → Obeys old.connection (Write message) written_reply (declined refusal) new
+    → strain ≡ strained (Err (Refused refusal)) old.strain
+    → WritesTo why message old (Err left) (managed_with old new old.ending old.tally strain)
+declined_writes why old message new left refusal strain same own obeys strains =
+    put_writes why old message new old.tally strain (Err left) own tt tt
+    (subst (λ fault. IsNotWritten old.connection message fault new) (sym same) obeys) (λ is. cc) (λ is. cc) refl
+    (strains ∙ ap (λ fault. strained (Err fault) old.strain) (sym same))
+
+-- whether there is room for a message
+pub fits_none : (message : Message) (managed : Managed) (fits : Option ℕ) → is_some fits ≡ false → FitsIn message managed fits
+    → FitsIn message managed None
+fits_none message managed None is fits = fits
+fits_none message managed (Some bytes) is fits = absurd (cc)
+
+pub fits_own : (message : Message) (managed : Managed) (fits : Option ℕ) → is_some fits ≡ true → FitsIn message managed fits
+    → Gives managed (own_fault message) None
+fits_own message managed None is fits = absurd (cc)
+fits_own message managed (Some bytes) is fits = fits.own

@@ -1,18 +1,16 @@
 -- How a managed connection is kept. No public clause cites it.
-use Rattle.std.specs.Prelude.{◌≡◌, Bool, false, List, Option, Some, None, if◌then◌else◌}
+use Rattle.std.specs.Prelude.{◌≡◌, ◌<◌, ◌+◌, ℕ, Bool, true, false, List, Option, Some, None, if◌then◌else◌}
 use Rattle.ob_types.specs.PendingSize.{counted_bytes, is_oversize}
 use Rattle.ob_types.specs.declared.message.Message.{Message}
 use Rattle.ob_seq.specs.State.{is_closed}
-use Rattle.ob_types.specs.declared.command.Command.{Command}
-use Rattle.ob_connection.specs.Connected.{Connected, StandsFor}
-use Rattle.ob_lifecycle.specs.Counts.{is_untold}
+use Rattle.ob_types.specs.declared.refusal.Refusal.TheVariants.{NoMemory}
+use Rattle.ob_lifecycle.specs.Counts.{most_told}
 use Rattle.ob_lifecycle.specs.Events.{Event, Opened, commands_in}
 use Rattle.ob_lifecycle.specs.Finish.{is_finishing}
-use Rattle.ob_lifecycle.specs.Managed.{Managed}
-use Rattle.ob_lifecycle.specs.Writes.{is_past_the_cap}
+use Rattle.ob_lifecycle.specs.Managed.{Gives, Managed, StandsFor, opened_as}
+use Rattle.ob_lifecycle.specs.Writes.{IsNotWritten, fault_of_write, is_past_the_cap}
 use Rattle.ob_lifecycle.specs.declared.fault.WriteFault.{WriteFault}
-use Rattle.ob_lifecycle.specs.declared.fault.WriteFault.TheVariants.{Finishing, Full}
-use Rattle.ob_lifecycle.specs.declared.tally.Tally.{Tally}
+use Rattle.ob_lifecycle.specs.declared.fault.WriteFault.TheVariants.{Refused, Finishing, Full}
 use Rattle.ob_lifecycle.specs.declared.managed.ManagedConnection.TheInside.{Inside}
 
 -- what a contract sees of what is kept
@@ -23,6 +21,7 @@ managed_of inside = record {
   opened = inside.opened;
   ending = inside.ending;
   tally = inside.tally;
+  strain = inside.strain;
 }
 
 -- why a write is refused before the connection is asked, by whether it is closed, its end was asked for, the message is too
@@ -38,8 +37,24 @@ own_fault message opened events =
     own_fault_by (is_closed (commands_in events)) (is_finishing events) (is_oversize opened.settings.estimate message)
     (is_past_the_cap opened events (counted_bytes opened.settings.estimate message))
 
--- if a message is no larger than can be counted, and the connection is open, the numbers have room for it
-abbrev pub MayCount : Connected → Tally → Message → Type 0
-MayCount connection tally message = (commands : List Command) → StandsFor connection commands → is_closed commands ≡ false
-    → is_oversize connection.unsent.settings.estimate message ≡ false
-    → is_untold tally.accepted (counted_bytes connection.unsent.settings.estimate message) ≡ false
+-- there is room for a message: nothing of ours refuses a write of it, the numbers can tell it, and with it this many bytes
+-- were accepted in all
+pub record HasRoom (message : Message) (managed : Managed) (sum : ℕ) : Type 0 where
+  pub own : Gives managed (own_fault message) None
+  pub messages : managed.tally.accepted.messages < most_told
+  pub bytes : sum ≡ managed.tally.accepted.bytes + counted_bytes managed.connection.unsent.settings.estimate message
+
+-- the bytes of all that was accepted with a message, if there is room for it; if there is none, a connection that goes on is
+-- past its cap with it, unless it is too large to be counted
+abbrev pub FitsIn : Message → Managed → Option ℕ → Type 0
+FitsIn message managed (Some bytes) = HasRoom message managed bytes
+FitsIn message managed None =
+    (events : List Event) → StandsFor managed events → is_finishing events ≡ false
+    → is_oversize managed.connection.unsent.settings.estimate message ≡ false
+    → is_past_the_cap (opened_as managed) events (counted_bytes managed.connection.unsent.settings.estimate message) ≡ true
+
+-- a write of a message is refused for this reason, which is not that memory is out, and nothing is written
+pub record IsRefusedAs (message : Message) (managed : Managed) (why : WriteFault) : Type 0 where
+  pub first : Gives managed (fault_of_write message) (Some why)
+  pub left : IsNotWritten managed.connection message why managed.connection
+  pub other : ¬ (Some why ≡ Some (Refused NoMemory))

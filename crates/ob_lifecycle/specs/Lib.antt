@@ -1,6 +1,7 @@
 pub mod Events
 pub mod Finish
 pub mod Counts
+pub mod Strain
 pub mod Numbers
 pub mod Stalls
 pub mod Writes

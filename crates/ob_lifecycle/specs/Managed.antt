@@ -5,8 +5,10 @@ use Rattle.ob_lifecycle.specs.Counts.{most_told, tally_after}
 use Rattle.ob_lifecycle.specs.Events.{Event, Opened, commands_in}
 use Rattle.ob_lifecycle.specs.Finish.{finishes, is_finishing, was_over}
 use Rattle.ob_lifecycle.specs.Stalls.{watch_after}
+use Rattle.ob_lifecycle.specs.Strain.{strain_after}
 use Rattle.ob_lifecycle.specs.declared.ending.Ending.{Ending}
 use Rattle.ob_lifecycle.specs.declared.limits.Limits.{Limits}
+use Rattle.ob_lifecycle.specs.declared.strain.Strain.{Strain}
 use Rattle.ob_lifecycle.specs.declared.tally.Tally.{Tally}
 
 -- a connection, its limits, the time at which it was opened, and what is kept of its life
@@ -16,6 +18,7 @@ pub record Managed : Type 0 where
   pub opened : ℕ
   pub ending : Ending
   pub tally : Tally
+  pub strain : Strain
 
 -- what it was opened with
 abbrev pub opened_as : Managed → Opened
@@ -30,6 +33,7 @@ pub record StandsFor (managed : Managed) (events : List Event) : Type 0 where
   pub over : managed.ending.over ≡ was_over (opened_as managed) events
   pub watch : managed.ending.watch ≡ watch_after (opened_as managed) events
   pub tally : managed.tally ≡ tally_after (opened_as managed) events
+  pub strain : managed.strain ≡ strain_after (opened_as managed) events
   pub messages : managed.tally.accepted.messages ≤ most_told
   pub bytes : managed.tally.accepted.bytes ≤ most_told
 

@@ -3,10 +3,12 @@ use Rattle.std.specs.Prelude.{◌≡◌, ℕ, Bool, true, false, List, [], ◌�
 use Rattle.ob_types.specs.declared.command.Command.TheVariants.{Write, Flush, Remove, RemoveBytes, Cancel, FailFlushed, Close}
 use Rattle.ob_types.specs.declared.message.Message.TheVariants.{Block, Region}
 use Rattle.ob_types.specs.declared.refusal.Refusal.TheVariants.{Closed, Oversize}
-use Rattle.ob_lifecycle.specs.Events.{Event, Accepted, Finishing as Asked, Opened}
+use Rattle.ob_lifecycle.specs.Events.{Event, Accepted, Refused as WasRefused, Finishing as Asked, Ticked, Opened}
 use Rattle.ob_lifecycle.specs.Finish.{finishes}
 use Rattle.ob_lifecycle.specs.Numbers.{numbers_after}
+use Rattle.ob_lifecycle.specs.Strain.{refusals_after, stopped_after, stops_after}
 use Rattle.ob_lifecycle.specs.Writes.{fault_of_write}
+use Rattle.ob_lifecycle.specs.declared.refusals.Refusals.{Refusals}
 use Rattle.ob_lifecycle.specs.declared.fault.WriteFault.TheVariants.{Refused, Finishing, Full}
 
 -- marks of 200 and 400, this many bytes for each entry and 8 for an unknown message, and at most 250 bytes pending
@@ -15,6 +17,23 @@ counting overhead = record {
   settings = record { marks = record { low = 200; high = 400 }; estimate = record { overhead = overhead; unknown = 8 } };
   limits = record { most_pending = 250; window = 30; least_bytes = 10 };
   now = 0;
+}
+
+-- no refusals
+abbrev pub none_refused : Refusals
+none_refused = record {
+  closed = 0;
+  finishing = 0;
+  oversize = 0;
+  full = 0;
+  too_much = 0;
+  no_memory = 0;
+  nothing_flushed = 0;
+  too_far = 0;
+  too_many_bytes = 0;
+  bad_index = 0;
+  flushed_left = 0;
+  unknown_promise = 0;
 }
 
 -- an accepted write of a block of *n* bytes
@@ -94,6 +113,9 @@ OneOfEach =
       cancelled = record { messages = 1; bytes = 100 };
       pending = record { messages = 0; bytes = 0 };
       peak = 200;
+      stops = 0;
+      stopped = 0;
+      refusals = none_refused;
     }
 
 -- a cancelled message is pending until a flush voids it, and one that is sent in part until it is sent whole
@@ -101,3 +123,18 @@ abbrev pub StillPending : Type 0
 StillPending =
     (numbers_after (counting 96) (block 4 ∷ Accepted Flush ∷ Accepted (RemoveBytes 3) ∷ block 4 ∷ Accepted (Cancel (record { 0 = 1 })) ∷ [])).pending
     ≡ record { messages = 2; bytes = 200 }
+
+-- with four blocks of 100 bytes it is at its high mark, and with a fifth above it: writers are stopped at 10, by the clock,
+-- and once 200 bytes are gone still at 30, since 300 are not below the low mark; the removal that lets them go on comes at
+-- 45, and a tick behind the last tells nothing
+abbrev pub StoppedOnce : Type 0
+StoppedOnce =
+    let events = block 4 ∷ block 4 ∷ block 4 ∷ block 4 ∷ Ticked 10 ∷ block 4 ∷ Accepted Flush ∷ Ticked 25 ∷ Accepted (RemoveBytes 8)
+    ∷ Ticked 30 ∷ Ticked 20 ∷ Ticked 45 ∷ Accepted (RemoveBytes 8) ∷ Ticked 60 ∷ [] in
+    (stops_after (counting 96) events ≡ 1) × (stopped_after (counting 96) events ≡ 35)
+
+-- each refusal counts under its reason, and no other event under any
+abbrev pub RefusedByReason : Type 0
+RefusedByReason =
+    refusals_after (block 4 ∷ WasRefused Full ∷ WasRefused (Refused Oversize) ∷ WasRefused Full ∷ Asked ∷ WasRefused Finishing ∷ [])
+    ≡ record none_refused { full = 2; oversize = 1; finishing = 1 }

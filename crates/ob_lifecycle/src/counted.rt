@@ -56,6 +56,8 @@ pub fn flush(connection: &mut Connection, tally: &mut Tally) -> Result<Flushed, 
 }
 
 /// A flush that may void messages.
+#[cold]
+#[inline(never)]
 fn flush_cancelled(connection: &mut Connection, tally: &mut Tally) -> Result<Flushed, Refusal>
     requires { FitsSome connection.old tally.old }
     ensures obeys { Obeys connection.old Flush flushed_reply result connection.new }

@@ -1,6 +1,7 @@
 //! Connections with a life: an end in order that is told once, a cap, numbers that add up, and peers that stall.
 #![tactic(auto)]
 
+mod changes;
 mod count;
 mod counted;
 mod ending;
@@ -9,6 +10,8 @@ mod laws;
 mod limits;
 mod managed;
 mod numbers;
+mod refusals;
+mod strain;
 mod tally;
 mod watch;
 mod worked;
@@ -22,3 +25,4 @@ pub use laws::{
 pub use limits::Limits;
 pub use managed::ManagedConnection;
 pub use numbers::Numbers;
+pub use refusals::Refusals;

@@ -15,6 +15,7 @@ mod write;
 
 use crate::ending::Ending;
 use crate::limits::Limits;
+use crate::strain::Strain;
 use crate::tally::Tally;
 use crate::watch::Watch;
 use ob_connection::Connection;
@@ -34,6 +35,7 @@ pub struct ManagedConnection {
     opened: u64,
     ending: Ending,
     tally: Tally,
+    strain: Strain,
 }
 
 /// It stands for some list of events.
@@ -74,6 +76,7 @@ impl ManagedConnection {
                 watch: Watch::new(now),
             },
             tally: Tally::new(),
+            strain: Strain::new(),
         }
     }
 

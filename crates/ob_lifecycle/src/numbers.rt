@@ -1,4 +1,5 @@
 use crate::count::Count;
+use crate::refusals::Refusals;
 
 /// What was written to a connection, and how it ended: what was accepted is what was sent, failed, was cancelled and is
 /// pending, at each moment.
@@ -16,4 +17,10 @@ pub struct Numbers {
     pub pending: Count,
     /// The most bytes that were pending at any moment.
     pub peak: u64,
+    /// How often writers were stopped: how often the connection became unwritable.
+    pub stops: u64,
+    /// For how long it was unwritable, all together, in units of the caller: time goes on at ticks alone.
+    pub stopped: u64,
+    /// How often calls were refused, by the reason.
+    pub refusals: Refusals,
 }

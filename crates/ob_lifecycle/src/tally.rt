@@ -1,4 +1,4 @@
-ghost use Rattle.std.specs.Prelude.{◌≡◌, ◌≤◌, ◌+◌, max, not, true, false};
+ghost use Rattle.std.specs.Prelude.{◌≡◌, ◌≤◌, ◌<◌, ◌+◌, max, false, None, Some, if◌then◌else◌};
 ghost use Rattle.ob_lifecycle.specs.Counts.{beyond, is_untold, most_told, none, plus};
 
 use crate::count::Count;
@@ -32,28 +32,32 @@ impl Tally {
         }
     }
 
-    /// Whether one more message of this size can be counted.
+    /// The bytes of all that was accepted with one more message of this size, if it can be counted.
     #[inline(always)]
-    pub fn has_room(&self, size: u64) -> bool
-        ensures { result ≡ not (is_untold self.now.accepted size) }
+    pub fn bytes_with(&self, size: u64) -> Option<u64>
+        ensures { result ≡ (if is_untold self.now.accepted size then None else Some (self.now.accepted.bytes + size)) }
     {
-        size <= u64::MAX - self.accepted.bytes && self.accepted.messages < u64::MAX
+        if self.accepted.messages == u64::MAX {
+            return None;
+        }
+        self.accepted.bytes.checked_add(size)
     }
 
-    /// Counts a message of this size, with which this many bytes are pending.
+    /// Counts a message, with which this many bytes were accepted in all, and this many are pending.
+    // The peak is written only if it grows, which few messages make it do.
     #[inline(always)]
-    pub fn accept(&mut self, size: u64, pending: u64)
-        requires { is_untold self.old.accepted size ≡ false }
+    pub fn accept(&mut self, bytes: u64, pending: u64)
+        requires { self.old.accepted.messages < most_told }
         ensures { self.new ≡ record self.old {
-          accepted = plus self.old.accepted (record { messages = 1; bytes = size });
+          accepted = record { messages = self.old.accepted.messages + 1; bytes = bytes };
           peak = max self.old.peak pending;
         } }
     {
-        self.accepted = Count {
-            messages: self.accepted.messages + 1,
-            bytes: self.accepted.bytes + size,
-        };
-        self.peak = self.peak.max(pending);
+        self.accepted.messages += 1;
+        self.accepted.bytes = bytes;
+        if pending > self.peak {
+            self.peak = pending;
+        }
     }
 
     /// Counts as failed what was pending before and is not after.

@@ -1,7 +1,7 @@
 //! The definitions, computed on small lists of events.
 
 ghost use Rattle.ob_lifecycle.specs.Worked.{TheLastByte, NothingLeft, ARegionLeft, AnUnflushedLeft, AVoidedLeft};
-ghost use Rattle.ob_lifecycle.specs.Worked.{GivenUp, AtTheCap, InThatOrder, OneOfEach, StillPending};
+ghost use Rattle.ob_lifecycle.specs.Worked.{GivenUp, AtTheCap, InThatOrder, OneOfEach, StillPending, StoppedOnce, RefusedByReason};
 
 fn worked_ends()
     ensures the_last_byte { TheLastByte }
@@ -20,4 +20,10 @@ fn worked_faults()
 fn worked_numbers()
     ensures one_of_each { OneOfEach }
     ensures still_pending { StillPending }
+    ensures refused_by_reason { RefusedByReason }
+{}
+
+#[tactic(auto, unfolding(ob_seq::specs::Word::user_bits))]
+fn worked_stops()
+    ensures { StoppedOnce }
 {}

@@ -34,9 +34,10 @@ fn write(connection: &mut ManagedConnection) -> Result<(), WriteFault> {
     put(connection, Message::Block(Bytes::from_static(b"four")))
 }
 
-/// Writes a message, or says why not. If memory was refused, nothing may have changed, and it is written again.
+/// Writes a message, or says why not. If memory was refused, no more than that may be told, and it is written again.
 fn put(connection: &mut ManagedConnection, message: Message) -> Result<(), WriteFault> {
-    let before = connection.numbers();
+    let mut before = connection.numbers();
+    before.refusals.no_memory = before.refusals.no_memory.saturating_add(1);
     let Err(refused) = connection.write(message) else {
         return Ok(());
     };

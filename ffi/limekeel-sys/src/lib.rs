@@ -23,7 +23,7 @@ mod heap;
 pub const PIECES: usize = 1024;
 
 /// A number of these declarations, which `limekeel_open_for` compares with the archive's.
-pub const EDGE: u32 = 3285330309;
+pub const EDGE: u32 = 836637042;
 
 macro_rules! numbers {
     ($($name:ident = $number:literal),* $(,)?) => {
@@ -167,10 +167,16 @@ plain! {
     }
     /// `struct limekeel_count`.
     Count 16 { messages at 0: u64, bytes at 8: u64 }
+    /// `struct limekeel_refusals`.
+    Refusals 96 {
+        closed at 0: u64, finishing at 8: u64, oversize at 16: u64, full at 24: u64, too_much at 32: u64,
+        no_memory at 40: u64, nothing_flushed at 48: u64, too_far at 56: u64, too_many_bytes at 64: u64,
+        bad_index at 72: u64, flushed_left at 80: u64, unknown_promise at 88: u64,
+    }
     /// `struct limekeel_numbers`.
-    Numbers 96 {
+    Numbers 208 {
         status at 0: u32, accepted at 8: Count, sent at 24: Count, failed at 40: Count, cancelled at 56: Count,
-        pending at 72: Count, peak at 88: u64,
+        pending at 72: Count, peak at 88: u64, stops at 96: u64, stopped at 104: u64, refusals at 112: Refusals,
     }
 }
 

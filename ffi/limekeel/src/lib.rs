@@ -106,7 +106,7 @@ mod raw;
 
 pub use block::Block;
 pub use connection::{Connection, Estimate, Marks};
-pub use managed::{Count, Limits, ManagedConnection, Numbers, Told};
+pub use managed::{Count, Limits, ManagedConnection, Numbers, Refusals, Told};
 pub use raw::Pieces;
 pub use replies::{Change, Flushed, Outcome, Refusal, Refused, Removed, Settled, Taken, Written, WrittenAndFlushed};
 pub use room::Room;

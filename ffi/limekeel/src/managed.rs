@@ -41,6 +41,35 @@ pub struct Count {
     pub bytes: u64,
 }
 
+/// How often calls were refused, by the reason: each as the [`Refusal`] of its name.
+#[derive(Clone, Copy, Debug, Default, PartialEq, Eq)]
+pub struct Refusals {
+    /// A call of a closed connection.
+    pub closed: u64,
+    /// A write once the end was asked for.
+    pub finishing: u64,
+    /// A message too large to be counted.
+    pub oversize: u64,
+    /// A write past the limit.
+    pub full: u64,
+    /// A write with which more than 4294967295 bytes would be pending.
+    pub too_much: u64,
+    /// A write for which there was no memory.
+    pub no_memory: u64,
+    /// Progress while no message is flushed.
+    pub nothing_flushed: u64,
+    /// Progress past 9223372036854775807.
+    pub too_far: u64,
+    /// A removal of more bytes than the flushed blocks in front hold.
+    pub too_many_bytes: u64,
+    /// A user bit outside 1 to 31.
+    pub bad_index: u64,
+    /// A close while flushed messages are left.
+    pub flushed_left: u64,
+    /// A cancellation of a promise under which nothing was written.
+    pub unknown_promise: u64,
+}
+
 /// What was written, and how it ended: what was accepted is what was sent, failed, was cancelled and is pending.
 #[derive(Clone, Copy, Debug, Default, PartialEq, Eq)]
 pub struct Numbers {
@@ -56,6 +85,31 @@ pub struct Numbers {
     pub pending: Count,
     /// The most bytes that were pending at any moment.
     pub peak: u64,
+    /// How often it became unwritable.
+    pub stops: u64,
+    /// For how long it was unwritable, all together, in units of the caller: time goes on at ticks alone.
+    pub stopped: u64,
+    /// How often calls were refused, by the reason.
+    pub refusals: Refusals,
+}
+
+impl Refusals {
+    fn of(told: sys::Refusals) -> Refusals {
+        Refusals {
+            closed: told.closed,
+            finishing: told.finishing,
+            oversize: told.oversize,
+            full: told.full,
+            too_much: told.too_much,
+            no_memory: told.no_memory,
+            nothing_flushed: told.nothing_flushed,
+            too_far: told.too_far,
+            too_many_bytes: told.too_many_bytes,
+            bad_index: told.bad_index,
+            flushed_left: told.flushed_left,
+            unknown_promise: told.unknown_promise,
+        }
+    }
 }
 
 impl Count {
@@ -82,7 +136,9 @@ impl Count {
 /// assert!(!connection.tick(100) && connection.tick(130)); // the peer took nothing for a window
 /// let told = connection.send_to(&mut Vec::new())?;
 /// assert!(told.finished);
-/// assert_eq!(connection.numbers().sent, connection.numbers().accepted);
+/// let numbers = connection.numbers();
+/// assert_eq!(numbers.sent, numbers.accepted);
+/// assert_eq!((numbers.refusals.full, numbers.refusals.finishing), (1, 1));
 /// # Ok::<(), Box<dyn std::error::Error>>(())
 /// ```
 #[derive(Debug)]
@@ -248,6 +304,9 @@ impl ManagedConnection {
             cancelled: Count::of(told.cancelled),
             pending: Count::of(told.pending),
             peak: told.peak,
+            stops: told.stops,
+            stopped: told.stopped,
+            refusals: Refusals::of(told.refusals),
         }
     }
 

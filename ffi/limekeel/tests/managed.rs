@@ -2,7 +2,7 @@
 
 use limekeel::{
     Block, Change, Count, Current, Ending, Estimate, Front, Limits, ManagedConnection, Marks, Numbers, Outcome,
-    Promise, Refusal,
+    Promise, Refusal, Refusals,
 };
 use std::io::{self, ErrorKind, IoSlice, Read, Write};
 use std::os::unix::net::UnixStream;
@@ -15,7 +15,7 @@ fn open(most_pending: u32, window: u64, least_bytes: u64, now: u64) -> ManagedCo
 }
 
 fn adds_up(connection: &ManagedConnection) {
-    let Numbers { accepted, sent, failed, cancelled, pending, peak } = connection.numbers();
+    let Numbers { accepted, sent, failed, cancelled, pending, peak, .. } = connection.numbers();
     let ended = [sent, failed, cancelled, pending];
     assert_eq!(accepted.messages, ended.iter().map(|count| count.messages).sum::<u64>());
     assert_eq!(accepted.bytes, ended.iter().map(|count| count.bytes).sum::<u64>());
@@ -59,6 +59,7 @@ fn what_is_past_the_limit_is_refused() {
     let _ = connection.write(&[0; 29]).expect("250 may be pending");
     assert_eq!(connection.write_region(1), Err(Refusal::Full), "a region counts its overhead");
     assert_eq!((connection.look().total, connection.numbers().peak), (250, 250));
+    assert_eq!(connection.numbers().refusals, Refusals { full: 4, ..Refusals::default() });
     assert_eq!((connection.promise(1), connection.promise(2)), (Some(Promise::Waiting), None));
     assert_eq!(Refusal::Full.to_string(), "more would be pending than the connection may hold");
     assert_eq!(Refusal::Finishing.to_string(), "the connection is finishing");
@@ -97,7 +98,8 @@ fn each_end_is_counted_and_those_left_fail_at_a_deadline() {
     assert_eq!(connection.pieces::<4>(u32::MAX).front(), Front::Region);
     assert_eq!(connection.remove_with(9).expect("it is open").answer.settled, Some((2, Outcome::Failed(9))));
     assert_eq!(connection.user_bit(3, false).expect("it is one").answer, Some(Change::Unwritable));
-    assert!(!connection.is_writable());
+    assert!(!connection.is_writable() && !connection.tick(8));
+    assert_eq!((connection.numbers().stops, connection.numbers().stopped), (1, 8));
     assert_eq!(connection.set_marks(Marks { low: 5, high: 4 }).map(|told| told.finished), Err(Refusal::BadMarks));
     let _ = connection.set_marks(Marks { low: 1, high: 2 }).expect("they are marks");
     let _ = connection.write(b"last").expect("it is accepted");

@@ -11,8 +11,8 @@ ghost use Rattle.ob_lifecycle.specs.Events.{happens};
 ghost use Rattle.ob_lifecycle.specs.Managed.{Brings};
 
 use super::ManagedConnection;
-use crate::counted;
 use crate::fault::Told;
+use crate::{changes, counted};
 use ob_connection::{Flushed, Removed, Taken};
 use ob_types::{Cause, Change, Refusal, WaterMark};
 
@@ -24,10 +24,39 @@ impl ManagedConnection {
         ensures room { KeepsRoom self.old.connection self.new.connection }
         ensures brings { Brings self.old (happens Flush result.answer) result.finished self.new }
     {
+        if self.ending.asked || self.tally.cancels {
+            return self.flush_at_length();
+        }
+        match self.connection.flush() {
+            Ok(flushed) => {
+                self.ending.watch.after(true, 0, self.connection.is_empty());
+                self.strain.changed(flushed.change);
+                Told {
+                    answer: Ok(flushed),
+                    finished: false,
+                }
+            }
+            Err(refusal) => Told {
+                answer: Err(self.strain.declined(refusal)),
+                finished: false,
+            },
+        }
+    }
+
+    /// A flush that may void messages, or reach the end.
+    #[cold]
+    #[inline(never)]
+    fn flush_at_length(&mut self) -> Told<Result<Flushed, Refusal>>
+        ensures obeys { Obeys self.old.connection Flush flushed_reply result.answer self.new.connection }
+        ensures frugal { ¬ IsErrOf result.answer Refusal.NoMemory }
+        ensures room { KeepsRoom self.old.connection self.new.connection }
+        ensures brings { Brings self.old (happens Flush result.answer) result.finished self.new }
+    {
         let answer = counted::flush(&mut self.connection, &mut self.tally);
         self.ending
             .watch
             .after(answer.is_ok(), 0, self.connection.is_empty());
+        self.strain.told(changes::of_flush(&answer));
         let finished = self.ending.reach(self.connection.waiting_count());
         Told { answer, finished }
     }
@@ -45,6 +74,7 @@ impl ManagedConnection {
             self.limits.least_bytes,
             self.connection.is_empty(),
         );
+        self.strain.told(changes::of_removal(&answer));
         let finished = self.ending.reach(self.connection.waiting_count());
         Told { answer, finished }
     }
@@ -60,6 +90,7 @@ impl ManagedConnection {
         self.ending
             .watch
             .after(answer.is_ok(), 0, self.connection.is_empty());
+        self.strain.told(changes::of_removal(&answer));
         let finished = self.ending.reach(self.connection.waiting_count());
         Told { answer, finished }
     }
@@ -76,6 +107,7 @@ impl ManagedConnection {
         self.ending
             .watch
             .after(answer.is_ok(), n, self.connection.is_empty());
+        self.strain.told(changes::of_taking(&answer));
         let finished = self.ending.reach(self.connection.waiting_count());
         Told { answer, finished }
     }
@@ -91,6 +123,7 @@ impl ManagedConnection {
         self.ending
             .watch
             .after(answer.is_ok(), n, self.connection.is_empty());
+        self.strain.told(changes::of_done(&answer));
         let finished = self.ending.reach(self.connection.waiting_count());
         Told { answer, finished }
     }
@@ -106,6 +139,7 @@ impl ManagedConnection {
         self.ending
             .watch
             .after(answer.is_ok(), 0, self.connection.is_empty());
+        self.strain.told(changes::of_cancel(&answer));
         let finished = self.ending.reach(self.connection.waiting_count());
         Told { answer, finished }
     }
@@ -123,6 +157,7 @@ impl ManagedConnection {
         self.ending
             .watch
             .after(answer.is_ok(), 0, self.connection.is_empty());
+        self.strain.told(changes::of_taking(&answer));
         let finished = self.ending.reach(self.connection.waiting_count());
         Told { answer, finished }
     }
@@ -140,6 +175,7 @@ impl ManagedConnection {
         self.ending
             .watch
             .after(answer.is_ok(), 0, self.connection.is_empty());
+        self.strain.told(changes::of_taking(&answer));
         let finished = self.ending.reach(self.connection.waiting_count());
         Told { answer, finished }
     }
@@ -155,6 +191,7 @@ impl ManagedConnection {
         self.ending
             .watch
             .after(answer.is_ok(), 0, self.connection.is_empty());
+        self.strain.told(changes::of_bit(&answer));
         let finished = self.ending.reach(self.connection.waiting_count());
         Told { answer, finished }
     }
@@ -170,6 +207,7 @@ impl ManagedConnection {
         self.ending
             .watch
             .after(answer.is_ok(), 0, self.connection.is_empty());
+        self.strain.told(changes::of_done(&answer));
         let finished = self.ending.reach(self.connection.waiting_count());
         Told { answer, finished }
     }

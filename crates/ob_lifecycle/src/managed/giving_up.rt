@@ -6,8 +6,8 @@ ghost use Rattle.ob_lifecycle.specs.Managed.{Brings};
 ghost use Rattle.ob_lifecycle.specs.Sendings.{giving_up_happens};
 
 use super::ManagedConnection;
-use crate::counted;
 use crate::fault::Told;
+use crate::{changes, counted};
 use ob_connection::Taken;
 use ob_types::{Cause, Refusal};
 
@@ -26,6 +26,7 @@ impl ManagedConnection {
         self.ending
             .watch
             .after(answer.is_ok(), 0, self.connection.is_empty());
+        self.strain.told(changes::of_taking(&answer));
         let finished = self.ending.reach(self.connection.waiting_count());
         Told { answer, finished }
     }

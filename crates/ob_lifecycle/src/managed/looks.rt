@@ -33,7 +33,7 @@ impl ManagedConnection {
         self.ending.over
     }
 
-    /// What was written, and how it ended. It goes over the flushed messages, and does not allocate.
+    /// What was written, how it ended, how often and for how long writers were stopped, and the refusals. It goes over the flushed messages, and does not allocate.
     pub fn numbers(&self) -> Numbers
         ensures { Gives self.now numbers_after result }
     {
@@ -51,6 +51,9 @@ impl ManagedConnection {
             cancelled: tally.cancelled,
             pending,
             peak: tally.peak,
+            stops: self.strain.stops,
+            stopped: self.strain.stopped,
+            refusals: self.strain.refusals,
         }
     }
 }

@@ -8,6 +8,7 @@ ghost use Rattle.ob_lifecycle.specs.Managed.{Brings};
 ghost use Rattle.ob_lifecycle.specs.Sendings.{sending_happens};
 
 use super::ManagedConnection;
+use crate::changes;
 use crate::fault::Told;
 use ob_connection::{SendFault, Sent, SentTurns, Socket};
 
@@ -38,6 +39,7 @@ impl ManagedConnection {
         self.ending
             .watch
             .after(true, bytes, self.connection.is_empty());
+        self.strain.changed(changes::of_once(&answer));
         let finished = self.ending.reach(self.connection.waiting_count());
         Told { answer, finished }
     }
@@ -73,6 +75,7 @@ impl ManagedConnection {
         self.ending
             .watch
             .after(true, bytes, self.connection.is_empty());
+        self.strain.changed(changes::of_turns(&answer));
         let finished = self.ending.reach(self.connection.waiting_count());
         Told { answer, finished }
     }

@@ -14,8 +14,12 @@ impl ManagedConnection {
         ensures connection { self.new.connection ≡ self.old.connection }
         ensures brings { Brings self.old (Ticked now ∷ []) false self.new }
     {
-        self.ending
+        let before = self.ending.watch.now;
+        let named = self
+            .ending
             .watch
-            .tick(self.limits, now, self.connection.is_empty())
+            .tick(self.limits, now, self.connection.is_empty());
+        self.strain.pass(self.connection.is_writable(), before, self.ending.watch.now);
+        named
     }
 }

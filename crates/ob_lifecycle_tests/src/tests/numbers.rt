@@ -63,6 +63,9 @@ fn each_end_is_counted(rt: HostRuntime) -> Result<(), Fail> {
         cancelled: count(1, 100),
         pending: count(0, 0),
         peak: 400,
+        stops: 0,
+        stopped: 0,
+        refusals: connection.numbers().refusals,
     };
     assert_eq!(rt; connection.numbers(), expected);
     Ok(())
@@ -84,7 +87,9 @@ fn what_is_sent_in_part_is_pending(rt: HostRuntime) -> Result<(), Fail> {
 }
 
 #[test]
-fn refusals_change_no_number(rt: HostRuntime) -> Result<(), Fail> {
+fn refusals_are_counted_by_the_reason_and_change_no_other_number(
+    rt: HostRuntime,
+) -> Result<(), Fail> {
     let mut connection = opened(rt.alloc(), 96)?;
     write(&mut connection)?;
     let before = connection.numbers();
@@ -94,6 +99,31 @@ fn refusals_change_no_number(rt: HostRuntime) -> Result<(), Fail> {
     assert!(rt; connection.user_bit(0, true).answer.is_err());
     assert!(rt; !connection.finish());
     assert!(rt; write(&mut connection).is_err());
-    assert_eq!(rt; connection.numbers(), before);
+    assert!(rt; write(&mut connection).is_err());
+    let mut expected = before;
+    expected.refusals.nothing_flushed = 1;
+    expected.refusals.unknown_promise = 1;
+    expected.refusals.too_many_bytes = 1;
+    expected.refusals.bad_index = 1;
+    expected.refusals.finishing = 2;
+    assert_eq!(rt; connection.numbers(), expected);
+    Ok(())
+}
+
+#[test]
+fn writers_are_stopped_by_the_clock(rt: HostRuntime) -> Result<(), Fail> {
+    let mut connection = opened(rt.alloc(), 96)?;
+    assert!(rt; !connection.tick(7));
+    for _ in 0..5u32 {
+        write(&mut connection)?;
+    }
+    assert!(rt; connection.flush().answer.is_ok());
+    assert!(rt; !connection.tick(17));
+    assert!(rt; connection.take_sent(12).answer.is_ok());
+    assert!(rt; !connection.tick(21));
+    assert!(rt; connection.take_sent(4).answer.is_ok());
+    assert!(rt; !connection.tick(50));
+    let numbers = connection.numbers();
+    assert_eq!(rt; (numbers.stops, numbers.stopped), (1, 14));
     Ok(())
 }

@@ -43,7 +43,6 @@ struct Client {
     socket: TcpStream,
     connection: ManagedConnection,
     /// How often writers were to stop, and whether they may go on, as the last change said.
-    stops: u64,
     may_write: bool,
     /// The socket has no room.
     blocked: bool,
@@ -55,12 +54,11 @@ struct Client {
 
 impl Client {
     fn new(key: u64, socket: TcpStream, connection: ManagedConnection) -> Client {
-        let (stops, may_write, blocked, heard_all, said_all, given_up) = (0, true, false, false, None, None);
-        Client { key, socket, connection, stops, may_write, blocked, heard_all, said_all, given_up }
+        let (may_write, blocked, heard_all, said_all, given_up) = (true, false, false, None, None);
+        Client { key, socket, connection, may_write, blocked, heard_all, said_all, given_up }
     }
 
     fn note(&mut self, change: Option<Change>) {
-        self.stops += u64::from(change == Some(Change::Unwritable));
         self.may_write = change.map_or(self.may_write, |change| change == Change::Writable);
     }
 

@@ -1,27 +1,30 @@
 use Rattle.std.proofs.Common.{refl, subst, ap, ◌∙◌}
-use Rattle.std.specs.Prelude.{if◌then◌else◌}
+use Rattle.std.specs.Prelude.{if◌then◌else◌, None}
 use Rattle.ob_lifecycle.specs.Stalls.{watched_by}
 use Rattle.ob_types.specs.declared.command.Command.TheVariants.{Cancel}
 use Rattle.ob_connection.specs.Obeying.{cancelled_reply}
 use Rattle.ob_lifecycle.specs.Events.{happens}
 use Rattle.ob_lifecycle.specs.Inside.{managed_of}
 use Rattle.ob_lifecycle.specs.Managed.{Brings}
+use Rattle.ob_lifecycle.specs.Strain.{strained}
 use Rattle.ob_lifecycle.proofs.Bringing.{brings_command, stands_on, managed_with}
 use Rattle.ob_lifecycle.proofs.managed.ManagedConnection.cancel.Goals as goal
 
 pub invariant_of-self : goal.invariant_of-self
 invariant_of-self c =
     stands_on (managed_of c.self.inside) _ _ _ c.self.invariant
-    (brings_command (managed_of c.self.inside) c.cancel-answer.new.connection c.reach-finished.new.self c.cancel-answer.new.tally c.after.new.self (Cancel (record { 0 = c.args.id })) (cancelled_reply c.args.id)
+    (brings_command (managed_of c.self.inside) c.cancel-answer.new.connection c.reach-finished.new.self c.cancel-answer.new.tally c.told.new.self c.after.new.self (Cancel (record { 0 = c.args.id })) (cancelled_reply c.args.id) (λ in_time. None)
     c.cancel-answer.result c.waiting_count.result c.is_empty.result c.reach-finished.result c.cancel-answer.ensures.obeys c.waiting_count.ensures c.is_empty.ensures
     (c.after.ensures ∙ ap (λ b. if b then watched_by c.self.inside.limits.least_bytes (Cancel (record { 0 = c.args.id })) c.is_empty.result c.self.inside.ending.watch else c.self.inside.ending.watch) c.is_ok.ensures.value)
-    c.reach-finished.ensures.reached c.reach-finished.ensures.told c.cancel-answer.ensures.counts refl)
+    c.reach-finished.ensures.reached c.reach-finished.ensures.told c.cancel-answer.ensures.counts refl
+    (λ promises value. refl) (c.told.ensures ∙ ap (λ told. strained told c.self.inside.strain) c.of_cancel.ensures))
 
 pub returns-clause-brings : goal.returns-clause-brings
 returns-clause-brings c =
     subst (λ old. Brings old (happens (Cancel (record { 0 = c.args.id })) c.cancel-answer.result) c.reach-finished.result
-    (managed_with (managed_of c.self.inside) c.cancel-answer.new.connection c.reach-finished.new.self c.cancel-answer.new.tally)) c.self.view_is
-    (brings_command (managed_of c.self.inside) c.cancel-answer.new.connection c.reach-finished.new.self c.cancel-answer.new.tally c.after.new.self (Cancel (record { 0 = c.args.id })) (cancelled_reply c.args.id)
+    (managed_with (managed_of c.self.inside) c.cancel-answer.new.connection c.reach-finished.new.self c.cancel-answer.new.tally c.told.new.self)) c.self.view_is
+    (brings_command (managed_of c.self.inside) c.cancel-answer.new.connection c.reach-finished.new.self c.cancel-answer.new.tally c.told.new.self c.after.new.self (Cancel (record { 0 = c.args.id })) (cancelled_reply c.args.id) (λ in_time. None)
     c.cancel-answer.result c.waiting_count.result c.is_empty.result c.reach-finished.result c.cancel-answer.ensures.obeys c.waiting_count.ensures c.is_empty.ensures
     (c.after.ensures ∙ ap (λ b. if b then watched_by c.self.inside.limits.least_bytes (Cancel (record { 0 = c.args.id })) c.is_empty.result c.self.inside.ending.watch else c.self.inside.ending.watch) c.is_ok.ensures.value)
-    c.reach-finished.ensures.reached c.reach-finished.ensures.told c.cancel-answer.ensures.counts refl)
+    c.reach-finished.ensures.reached c.reach-finished.ensures.told c.cancel-answer.ensures.counts refl
+    (λ promises value. refl) (c.told.ensures ∙ ap (λ told. strained told c.self.inside.strain) c.of_cancel.ensures))

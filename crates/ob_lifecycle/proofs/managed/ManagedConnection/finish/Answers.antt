@@ -15,6 +15,6 @@ invariant_of-self c =
 pub returns-clause-brings : goal.returns-clause-brings
 returns-clause-brings c =
     subst (λ old. Brings old (Finishing ∷ []) c.reach.result
-    (managed_with (managed_of c.self.inside) c.self.inside.connection c.reach.new.self c.self.inside.tally)) c.self.view_is
+    (managed_with (managed_of c.self.inside) c.self.inside.connection c.reach.new.self c.self.inside.tally c.self.inside.strain)) c.self.view_is
     (brings_finish (managed_of c.self.inside) c.ask.new.self c.reach.new.self c.waiting_count.result c.reach.result
     c.waiting_count.ensures c.ask.ensures c.reach.ensures.reached c.reach.ensures.told)

@@ -9,12 +9,14 @@ use Rattle.ob_lifecycle.specs.Sendings.{sending_happens}
 pub invariant_of-self-2 : goal.invariant_of-self-2
 invariant_of-self-2 g c =
     stands_on (managed_of c.self.inside) _ _ _ c.self.invariant
-    (brings_turns _ _ _ _ _ _ (managed_of c.self.inside) c.send_until_blocked-answer.new.self c.reach-finished.new.self
-    c.send_until_blocked-answer.result c.bytes_of_turns-bytes.result c.waiting_count.result c.after.new.self c.is_empty.result c.reach-finished.result c.send_until_blocked-answer.ensures.sends (cc) c.bytes_of_turns-bytes.ensures c.waiting_count.ensures c.is_empty.ensures c.after.ensures c.reach-finished.ensures.reached c.reach-finished.ensures.told)
+    (brings_turns _ _ _ _ _ _ (managed_of c.self.inside) c.send_until_blocked-answer.new.self c.reach-finished.new.self c.changed.new.self c.of_turns.result
+    c.send_until_blocked-answer.result c.bytes_of_turns-bytes.result c.waiting_count.result c.after.new.self c.is_empty.result c.reach-finished.result c.send_until_blocked-answer.ensures.sends (cc) c.bytes_of_turns-bytes.ensures c.waiting_count.ensures c.is_empty.ensures c.after.ensures c.reach-finished.ensures.reached c.reach-finished.ensures.told
+    c.of_turns.ensures c.changed.ensures)
 
 pub returns-clause-brings : goal.returns-clause-brings
 returns-clause-brings g c =
     subst (λ old. Brings old (sending_happens (λ done. done.bytes) c.send_until_blocked-answer.result) c.reach-finished.result
-    (managed_with (managed_of c.self.inside) c.send_until_blocked-answer.new.self c.reach-finished.new.self c.self.inside.tally)) c.self.view_is
-    (brings_turns _ _ _ _ _ _ (managed_of c.self.inside) c.send_until_blocked-answer.new.self c.reach-finished.new.self
-    c.send_until_blocked-answer.result c.bytes_of_turns-bytes.result c.waiting_count.result c.after.new.self c.is_empty.result c.reach-finished.result c.send_until_blocked-answer.ensures.sends (cc) c.bytes_of_turns-bytes.ensures c.waiting_count.ensures c.is_empty.ensures c.after.ensures c.reach-finished.ensures.reached c.reach-finished.ensures.told)
+    (managed_with (managed_of c.self.inside) c.send_until_blocked-answer.new.self c.reach-finished.new.self c.self.inside.tally c.changed.new.self)) c.self.view_is
+    (brings_turns _ _ _ _ _ _ (managed_of c.self.inside) c.send_until_blocked-answer.new.self c.reach-finished.new.self c.changed.new.self c.of_turns.result
+    c.send_until_blocked-answer.result c.bytes_of_turns-bytes.result c.waiting_count.result c.after.new.self c.is_empty.result c.reach-finished.result c.send_until_blocked-answer.ensures.sends (cc) c.bytes_of_turns-bytes.ensures c.waiting_count.ensures c.is_empty.ensures c.after.ensures c.reach-finished.ensures.reached c.reach-finished.ensures.told
+    c.of_turns.ensures c.changed.ensures)

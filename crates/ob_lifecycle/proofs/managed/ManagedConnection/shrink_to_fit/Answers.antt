@@ -1,4 +1,4 @@
-use Rattle.std.proofs.Common.{List, ap, subst, ◌≡◌}
+use Rattle.std.proofs.Common.{List, subst, ◌≡◌}
 use Rattle.ob_lifecycle.specs.Events.{Event}
 use Rattle.ob_lifecycle.specs.Inside.{managed_of}
 use Rattle.ob_lifecycle.specs.Managed.{StandsFor, opened_as}

@@ -1,40 +1,53 @@
 use Rattle.std.proofs.Common.{◌∙◌, ap, subst, sym}
-use Rattle.std.specs.Prelude.{None, Some, Err}
+use Rattle.std.specs.Prelude.{Ok, Err, is_ok}
 use Rattle.ob_types.specs.PendingSize.{pending_size_of}
 use Rattle.ob_types.specs.declared.message.Message.TheVariants.{Block}
-use Rattle.ob_lifecycle.specs.Inside.{managed_of, own_fault}
-use Rattle.ob_lifecycle.specs.Managed.{Gives}
+use Rattle.ob_lifecycle.specs.Inside.{HasRoom, managed_of}
 use Rattle.ob_lifecycle.specs.Writes.{WritesTo}
 use Rattle.ob_lifecycle.proofs.Bringing.{managed_with, stands_on}
-use Rattle.ob_lifecycle.proofs.Writing.{may_count, own_writes, put_brings, put_writes}
+use Rattle.ob_lifecycle.proofs.Writing.{declined_writes, wrote_writes}
 use Rattle.ob_lifecycle.proofs.managed.ManagedConnection.write_copy.Goals as goal
 
-pub returns-in-Some : goal.returns-in-Some
-returns-in-Some c =
-    subst (λ old. WritesTo (λ left. left) (Block c.args.bytes.now) old (Err c.in-Some.why) old) c.self.view_is
-    (own_writes (λ left. left) (managed_of c.self.inside) (Block c.args.bytes.now) c.in-Some.why c.self.invariant
-    (subst (λ old. Gives old (own_fault (Block c.args.bytes.now)) (Some c.in-Some.why)) (sym c.self.view_is)
-    (c.in-Some.ensures (Block c.args.bytes.now) (c.pending_size_of_block-size.ensures ∙ ap (λ estimate. pending_size_of estimate (Block c.args.bytes.now)) c.estimate.ensures ∙ ap (λ managed. pending_size_of managed.connection.unsent.settings.estimate (Block c.args.bytes.now)) c.self.view_is))))
+pub returns-in_default : goal.returns-in_default
+returns-in_default c =
+    c.refuse.ensures (Block c.args.bytes.now) (c.is_ok.ensures.value ∙ ap is_ok (c.pending_size_of_block-size.ensures ∙ ap (λ estimate. pending_size_of estimate (Block c.args.bytes.now)) c.estimate.ensures ∙ ap (λ managed. pending_size_of managed.connection.unsent.settings.estimate (Block c.args.bytes.now)) c.self.view_is))
+    (c.in_default.ensures (Block c.args.bytes.now) (c.pending_size_of_block-size.ensures ∙ ap (λ estimate. pending_size_of estimate (Block c.args.bytes.now)) c.estimate.ensures ∙ ap (λ managed. pending_size_of managed.connection.unsent.settings.estimate (Block c.args.bytes.now)) c.self.view_is))
 
-pub put_copy-requires : goal.put_copy-requires
-put_copy-requires c =
-    may_count (managed_of c.self.inside) (Block c.args.bytes.now) c.self.invariant
-    (subst (λ old. Gives old (own_fault (Block c.args.bytes.now)) None) (sym c.self.view_is) (c.in_default.ensures (Block c.args.bytes.now)
-    (c.pending_size_of_block-size.ensures ∙ ap (λ estimate. pending_size_of estimate (Block c.args.bytes.now)) c.estimate.ensures ∙ ap (λ managed. pending_size_of managed.connection.unsent.settings.estimate (Block c.args.bytes.now)) c.self.view_is)))
+pub accept-requires : goal.accept-requires
+accept-requires c =
+    (subst (λ old. HasRoom (Block c.args.bytes.now) old c.in-Some.sum) (sym c.self.view_is) (c.in-Some.ensures (Block c.args.bytes.now)
+    (c.pending_size_of_block-size.ensures ∙ ap (λ estimate. pending_size_of estimate (Block c.args.bytes.now)) c.estimate.ensures ∙ ap (λ managed. pending_size_of managed.connection.unsent.settings.estimate (Block c.args.bytes.now)) c.self.view_is))).messages
 
 pub invariant_of-self : goal.invariant_of-self
 invariant_of-self c =
     stands_on (managed_of c.self.inside) _ _ _ c.self.invariant
-    (put_brings (λ left. left) (managed_of c.self.inside) (Block c.args.bytes.now) c.put_copy.new.connection c.put_copy.new.tally c.put_copy.result
-    (subst (λ old. Gives old (own_fault (Block c.args.bytes.now)) None) (sym c.self.view_is) (c.in_default.ensures (Block c.args.bytes.now)
+    (wrote_writes (λ why. why) (managed_of c.self.inside) (Block c.args.bytes.now) c.write_copy.new.self c.in-Ok.written c.look-pending.result c.in-Some.sum c.from.result
+    c.accept.new.self c.changed.new.self (subst (λ old. HasRoom (Block c.args.bytes.now) old c.in-Some.sum) (sym c.self.view_is) (c.in-Some.ensures (Block c.args.bytes.now)
     (c.pending_size_of_block-size.ensures ∙ ap (λ estimate. pending_size_of estimate (Block c.args.bytes.now)) c.estimate.ensures ∙ ap (λ managed. pending_size_of managed.connection.unsent.settings.estimate (Block c.args.bytes.now)) c.self.view_is)))
-    c.put_copy.ensures.written c.put_copy.ensures.refused c.put_copy.ensures.counts)
+    c.in-Ok.ensures.obeys c.in-Ok.ensures.room c.look-pending.ensures c.from.ensures c.accept.ensures c.changed.ensures).brings
 
-pub returns : goal.returns
-returns c =
-    subst (λ old. WritesTo (λ left. left) (Block c.args.bytes.now) old c.put_copy.result
-    (managed_with (managed_of c.self.inside) c.put_copy.new.connection c.self.inside.ending c.put_copy.new.tally)) c.self.view_is
-    (put_writes (λ left. left) (managed_of c.self.inside) (Block c.args.bytes.now) c.put_copy.new.connection c.put_copy.new.tally c.put_copy.result
-    (subst (λ old. Gives old (own_fault (Block c.args.bytes.now)) None) (sym c.self.view_is) (c.in_default.ensures (Block c.args.bytes.now)
+pub returns-in-Ok : goal.returns-in-Ok
+returns-in-Ok c =
+    subst (λ old. WritesTo (λ why. why) (Block c.args.bytes.now) old (Ok c.in-Ok.written)
+    (managed_with (managed_of c.self.inside) c.write_copy.new.self c.self.inside.ending c.accept.new.self c.changed.new.self)) c.self.view_is
+    (wrote_writes (λ why. why) (managed_of c.self.inside) (Block c.args.bytes.now) c.write_copy.new.self c.in-Ok.written c.look-pending.result c.in-Some.sum c.from.result
+    c.accept.new.self c.changed.new.self (subst (λ old. HasRoom (Block c.args.bytes.now) old c.in-Some.sum) (sym c.self.view_is) (c.in-Some.ensures (Block c.args.bytes.now)
     (c.pending_size_of_block-size.ensures ∙ ap (λ estimate. pending_size_of estimate (Block c.args.bytes.now)) c.estimate.ensures ∙ ap (λ managed. pending_size_of managed.connection.unsent.settings.estimate (Block c.args.bytes.now)) c.self.view_is)))
-    c.put_copy.ensures.written c.put_copy.ensures.room c.put_copy.ensures.refused c.put_copy.ensures.own c.put_copy.ensures.within c.put_copy.ensures.counts)
+    c.in-Ok.ensures.obeys c.in-Ok.ensures.room c.look-pending.ensures c.from.ensures c.accept.ensures c.changed.ensures)
+
+pub invariant_of-self-in-Err : goal.invariant_of-self-in-Err
+invariant_of-self-in-Err c =
+    stands_on (managed_of c.self.inside) _ _ _ c.self.invariant
+    (declined_writes (λ why. why) (managed_of c.self.inside) (Block c.args.bytes.now) c.write_copy.new.self c.refused.result c.in-Err.refusal c.refused.new.self
+    c.refused.ensures.same (subst (λ old. HasRoom (Block c.args.bytes.now) old c.in-Some.sum) (sym c.self.view_is) (c.in-Some.ensures (Block c.args.bytes.now)
+    (c.pending_size_of_block-size.ensures ∙ ap (λ estimate. pending_size_of estimate (Block c.args.bytes.now)) c.estimate.ensures ∙ ap (λ managed. pending_size_of managed.connection.unsent.settings.estimate (Block c.args.bytes.now)) c.self.view_is))).own
+    c.in-Err.ensures.obeys c.refused.ensures.counted).brings
+
+pub returns-in-Err : goal.returns-in-Err
+returns-in-Err c =
+    subst (λ old. WritesTo (λ why. why) (Block c.args.bytes.now) old (Err c.refused.result)
+    (managed_with (managed_of c.self.inside) c.write_copy.new.self c.self.inside.ending c.self.inside.tally c.refused.new.self)) c.self.view_is
+    (declined_writes (λ why. why) (managed_of c.self.inside) (Block c.args.bytes.now) c.write_copy.new.self c.refused.result c.in-Err.refusal c.refused.new.self
+    c.refused.ensures.same (subst (λ old. HasRoom (Block c.args.bytes.now) old c.in-Some.sum) (sym c.self.view_is) (c.in-Some.ensures (Block c.args.bytes.now)
+    (c.pending_size_of_block-size.ensures ∙ ap (λ estimate. pending_size_of estimate (Block c.args.bytes.now)) c.estimate.ensures ∙ ap (λ managed. pending_size_of managed.connection.unsent.settings.estimate (Block c.args.bytes.now)) c.self.view_is))).own
+    c.in-Err.ensures.obeys c.refused.ensures.counted)

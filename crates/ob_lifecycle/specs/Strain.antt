@@ -1,0 +1,132 @@
+-- How often and for how long writers were stopped, and how often calls were refused, each read off all that happened.
+use Rattle.std.specs.Prelude.{ℕ, ◌+◌, ◌-◌, ◌==◌, Bool, true, false, not, ◌&&◌, List, [], ◌∷◌, ◌++◌, Option, Some, None, count_by, sum_by}
+use Rattle.std.specs.Prelude.{filter_map, min, if◌then◌else◌, Result, Ok, Err}
+use Rattle.ob_types.specs.Refusal.{number_of}
+use Rattle.ob_types.specs.declared.refusal.Refusal.{Refusal}
+use Rattle.ob_types.specs.declared.refusal.Refusal.TheVariants.{Oversize, TooMuch, Closed, NothingFlushed, TooFar, TooManyBytes}
+use Rattle.ob_types.specs.declared.refusal.Refusal.TheVariants.{BadIndex, FlushedLeft, UnknownPromise, NoMemory}
+use Rattle.ob_types.specs.declared.reply.Change.{Change}
+use Rattle.ob_types.specs.declared.reply.Change.TheVariants.{Unwritable, Writable}
+use Rattle.ob_seq.specs.State.{writable_after}
+use Rattle.ob_lifecycle.specs.Counts.{most_told}
+use Rattle.ob_lifecycle.specs.Events.{Event, Accepted, Refused, Finishing, Ticked, Opened, along, clock_after, commands_in}
+use Rattle.ob_lifecycle.specs.declared.fault.WriteFault.{WriteFault}
+use Rattle.ob_lifecycle.specs.declared.fault.WriteFault.TheVariants.{Refused as Declined, Finishing as Ends, Full}
+use Rattle.ob_lifecycle.specs.declared.refusals.Refusals.{Refusals}
+use Rattle.ob_lifecycle.specs.declared.strain.Strain.{Strain}
+
+-- a number as it is told: 2^64 - 1 at most
+abbrev pub as_told : ℕ → ℕ
+as_told n = min most_told n
+
+-- whether writers may go on after events
+abbrev pub may_go_on : Opened → List Event → Bool
+may_go_on opened events = writable_after opened.settings (commands_in events)
+
+-- whether an event stops writers: they might go on before it, and may not after it
+abbrev pub stops_by : Opened → List Event → Event → Bool
+stops_by opened earlier event = may_go_on opened earlier && not (may_go_on opened (earlier ++ event ∷ []))
+
+-- how often writers were stopped
+abbrev pub stops_after : Opened → List Event → ℕ
+stops_after opened events = as_told (count_by (λ stops. stops) (along (stops_by opened) events))
+
+-- the time that an event lets pass while writers are stopped: none passes between two ticks
+abbrev pub stopped_by : Opened → List Event → Event → ℕ
+stopped_by opened earlier event =
+    if may_go_on opened earlier then 0 else clock_after opened (earlier ++ event ∷ []) - clock_after opened earlier
+
+-- for how long writers were stopped, all together
+abbrev pub stopped_after : Opened → List Event → ℕ
+stopped_after opened events = sum_by (λ time. time) (along (stopped_by opened) events)
+
+-- why a call was refused, if this says so
+abbrev pub fault_of : Event → Option WriteFault
+fault_of (Accepted command) = None
+fault_of (Refused fault) = Some fault
+fault_of Finishing = None
+fault_of (Ticked now) = None
+
+-- whether a fault is this refusal of the connection
+abbrev pub is_for : Refusal → WriteFault → Bool
+is_for refusal (Declined other) = number_of other == number_of refusal
+is_for refusal Ends = false
+is_for refusal Full = false
+
+-- whether a fault is that the end was asked for
+abbrev pub is_for_the_end : WriteFault → Bool
+is_for_the_end (Declined refusal) = false
+is_for_the_end Ends = true
+is_for_the_end Full = false
+
+-- whether a fault is that the cap would be passed
+abbrev pub is_for_the_cap : WriteFault → Bool
+is_for_the_cap (Declined refusal) = false
+is_for_the_cap Ends = false
+is_for_the_cap Full = true
+
+-- how often a call was refused for such a reason
+abbrev pub times : (WriteFault → Bool) → List Event → ℕ
+times such events = as_told (count_by such (filter_map fault_of events))
+
+-- how often calls were refused, by the reason
+abbrev pub refusals_after : List Event → Refusals
+refusals_after events = record {
+  closed = times (is_for Closed) events;
+  finishing = times is_for_the_end events;
+  oversize = times (is_for Oversize) events;
+  full = times is_for_the_cap events;
+  too_much = times (is_for TooMuch) events;
+  no_memory = times (is_for NoMemory) events;
+  nothing_flushed = times (is_for NothingFlushed) events;
+  too_far = times (is_for TooFar) events;
+  too_many_bytes = times (is_for TooManyBytes) events;
+  bad_index = times (is_for BadIndex) events;
+  flushed_left = times (is_for FlushedLeft) events;
+  unknown_promise = times (is_for UnknownPromise) events;
+}
+
+-- what is kept of all this
+abbrev pub strain_after : Opened → List Event → Strain
+strain_after opened events = record {
+  stops = stops_after opened events;
+  stopped = stopped_after opened events;
+  refusals = refusals_after events;
+}
+
+-- one more of a number as it is told, if there is
+abbrev pub more_if : Bool → ℕ → ℕ
+more_if more n = if more then as_told (n + 1) else n
+
+-- the refusals, and one more for this reason
+abbrev pub refused_more : WriteFault → Refusals → Refusals
+refused_more fault refusals = record {
+  closed = more_if (is_for Closed fault) refusals.closed;
+  finishing = more_if (is_for_the_end fault) refusals.finishing;
+  oversize = more_if (is_for Oversize fault) refusals.oversize;
+  full = more_if (is_for_the_cap fault) refusals.full;
+  too_much = more_if (is_for TooMuch fault) refusals.too_much;
+  no_memory = more_if (is_for NoMemory fault) refusals.no_memory;
+  nothing_flushed = more_if (is_for NothingFlushed fault) refusals.nothing_flushed;
+  too_far = more_if (is_for TooFar fault) refusals.too_far;
+  too_many_bytes = more_if (is_for TooManyBytes fault) refusals.too_many_bytes;
+  bad_index = more_if (is_for BadIndex fault) refusals.bad_index;
+  flushed_left = more_if (is_for FlushedLeft fault) refusals.flushed_left;
+  unknown_promise = more_if (is_for UnknownPromise fault) refusals.unknown_promise;
+}
+
+-- whether a change is that writers are stopped
+abbrev pub is_stop : Option Change → Bool
+is_stop None = false
+is_stop (Some Unwritable) = true
+is_stop (Some Writable) = false
+
+-- the change of writability that a result reports, or why there is none
+abbrev pub change_in : {A E : Type 0} → (A → Option Change) → (E → WriteFault) → Result A E → Result (Option Change) WriteFault
+change_in change why (Ok value) = Ok (change value)
+change_in change why (Err refused) = Err (why refused)
+
+-- what a call makes of it that reports this
+abbrev pub strained : Result (Option Change) WriteFault → Strain → Strain
+strained (Ok change) strain = record strain { stops = more_if (is_stop change) strain.stops }
+strained (Err fault) strain = record strain { refusals = refused_more fault strain.refusals }
