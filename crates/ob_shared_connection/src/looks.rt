@@ -1,4 +1,4 @@
-//! Each look.
+//! The looks, each as that of `Connection` of the same name: what `ask` and `try_ask` of a handle take, and `ask` of a guard.
 ghost use Rattle.ob_types.specs.declared.command.Command.TheVariants as command;
 ghost use Rattle.ob_types.specs.declared.message.Message.TheVariants.{Block};
 ghost use Rattle.ob_seq.specs.State.{writable_after, empty_after, closed_after};
@@ -16,6 +16,7 @@ use ob_connection::{Connection, Status};
 use ob_types::Refusal;
 use std::marker::PhantomData;
 
+/// What is pending now.
 #[derive(Drop)]
 pub struct Look;
 
@@ -29,6 +30,7 @@ impl Ask for Look {
     }
 }
 
+/// Whether writers may go on.
 #[derive(Drop)]
 pub struct IsWritable;
 
@@ -42,6 +44,7 @@ impl Ask for IsWritable {
     }
 }
 
+/// Whether no message is flushed and not yet removed.
 #[derive(Drop)]
 pub struct IsEmpty;
 
@@ -55,6 +58,7 @@ impl Ask for IsEmpty {
     }
 }
 
+/// Whether a close was accepted.
 #[derive(Drop)]
 pub struct IsClosed;
 
@@ -68,6 +72,7 @@ impl Ask for IsClosed {
     }
 }
 
+/// Why a write of these bytes as a block would be refused now.
 #[derive(Drop)]
 pub struct RefusalOfBlock<'b>(pub &'b [u8]);
 
@@ -81,6 +86,7 @@ impl<'b> Ask for RefusalOfBlock<'b> {
     }
 }
 
+/// What has become of the promise of this number.
 #[derive(Drop)]
 pub struct Promise(pub u64);
 
@@ -94,6 +100,7 @@ impl Ask for Promise {
     }
 }
 
+/// The promise of the first flushed message.
 #[derive(Drop)]
 pub struct Front;
 
@@ -107,6 +114,8 @@ impl Ask for Front {
     }
 }
 
+/// The flushed blocks in front that can be sent at once, of at most this many pieces and this many bytes. They share their
+/// memory with the connection.
 #[derive(Drop)]
 pub struct Gather(pub u32, pub u32);
 

@@ -1,11 +1,6 @@
 //! The calls that are made if the lock is free. They wait for nobody, and wake nobody: each tells whom to wake.
-ghost use Rattle.std.specs.Prelude.{◌≡◌, ⊤, IfErr, IfOk, IfSome, None, OnErr};
-ghost use Rattle.ob_types.specs.declared.command.Command.TheVariants as command;
-ghost use Rattle.ob_types.specs.declared.promise.Outcome.TheVariants.{Failed};
-ghost use Rattle.ob_connection.specs.Looks.{Shows};
-ghost use Rattle.ob_connection.specs.Obeying.{cancelled_reply, flushed_reply};
-ghost use Rattle.ob_shared_connection.specs.Calls.{IsCall, Makes, ObeyingFreely, TakingQuietly};
-ghost use Rattle.ob_shared_connection.specs.Calls.{UnderLock, Writes, WritesAndFlushes};
+ghost use Rattle.std.specs.Prelude.{◌≡◌, IfErr, IfOk, IfSome, None, OnErr};
+ghost use Rattle.ob_shared_connection.specs.Calls.{IsCall, UnderLock};
 ghost use Rattle.ob_shared_connection.specs.Looking.{IsLook};
 ghost use Rattle.ob_shared_connection.specs.Removals.{MayGive};
 ghost use Rattle.ob_shared_connection.specs.Values.{appointed};
@@ -19,15 +14,10 @@ use crate::handle::Handle;
 use crate::moment::Moment;
 use crate::transport::Transport;
 use crate::wakes::Wakes;
-use crate::writes::WriteAndFlush;
-use crate::written::WrittenAndFlushed;
-use crate::{commands, looks};
-use ob_connection::{Flushed, Look, Refused, Taken, Written};
-use ob_types::{Cause, Message, Refusal};
 
 impl Handle {
-    /// Makes the call of an act, one of `commands` or of `writes`, if the lock is free; else the act comes back. Only the
-    /// handle that sends makes one that takes flushed messages away.
+    /// Makes the call of an act, one of `commands` or of `writes`, if the lock is free, as `try_act(Flush)`; else the act
+    /// comes back, with the message of a write. Only the handle that sends makes one that takes flushed messages away.
     pub fn try_act<A: Act>(&mut self, act: A) -> Result<(Result<A::Answer, A::Fault>, Wakes), A>
         requires { MayGive self.old.sends (A.commands act) }
         ensures under { IfOk result (λ told. UnderLock self.old
@@ -45,74 +35,6 @@ impl Handle {
         ensures back { IfErr result (λ again. again ≡ ask) }
     {
         self.caller.try_look(ask)
-    }
-
-    /// Adds a message behind all others, as `write`: it comes back if the lock is taken, and if it is refused.
-    pub fn try_write(
-        &mut self,
-        message: Message,
-    ) -> Result<(Result<Written, Refused>, Wakes), Message>
-        ensures under { IfOk result (λ told. UnderLock self.old (Writes message told.0) self.new) }
-        ensures busy { OnErr result (self.new ≡ self.old) }
-        ensures back { IfErr result (λ again. again ≡ message) }
-    {
-        match self.caller.try_call(commands::Write(message)) {
-            Ok(told) => Ok(told),
-            Err(act) => Err(act.0),
-        }
-    }
-
-    /// Writes and flushes under one lock, as `write_and_flush`: the message comes back if the lock is taken, and if it is
-    /// refused.
-    pub fn try_write_and_flush(
-        &mut self,
-        message: Message,
-    ) -> Result<(Result<WrittenAndFlushed, Refused>, Wakes), Message>
-        ensures under { IfOk result (λ told. UnderLock self.old (WritesAndFlushes message told.0) self.new) }
-        ensures busy { OnErr result (self.new ≡ self.old) }
-        ensures back { IfErr result (λ again. again ≡ message) }
-    {
-        self.caller
-            .try_call(WriteAndFlush(message))
-            .map_err(|act| act.0)
-    }
-
-    /// Lets the transport have all that was written so far, as `flush`. None if the lock is taken.
-    pub fn try_flush(&mut self) -> Option<(Result<Flushed, Refusal>, Wakes)>
-        ensures under { IfSome result (λ told. UnderLock self.old
-            (Makes (ObeyingFreely flushed_reply) command.Flush told.0) self.new) }
-        ensures busy { result ≡ None → self.new ≡ self.old }
-    {
-        self.caller.try_call(commands::Flush).ok()
-    }
-
-    /// Takes a promise back, as `cancel`. None if the lock is taken.
-    pub fn try_cancel(&mut self, id: u64) -> Option<(Result<bool, Refusal>, Wakes)>
-        ensures under { IfSome result (λ told. UnderLock self.old
-            (Makes (ObeyingFreely (cancelled_reply id)) (command.Cancel (record { 0 = id })) told.0) self.new) }
-        ensures busy { result ≡ None → self.new ≡ self.old }
-    {
-        self.caller.try_call(commands::Cancel(id)).ok()
-    }
-
-    /// Closes the connection for good, as `close`. None if the lock is taken.
-    pub fn try_close(&mut self, cause: Cause) -> Option<(Result<Taken, Refusal>, Wakes)>
-        ensures under { IfSome result (λ told. UnderLock self.old
-            (Makes (TakingQuietly (Failed cause) ⊤) (command.Close cause) told.0) self.new) }
-        ensures busy { result ≡ None → self.new ≡ self.old }
-    {
-        let Ok(told) = self.caller.try_call(commands::Close(cause)) else {
-            return None;
-        };
-        Some(told)
-    }
-
-    /// What is pending now, as `look`. None if the lock is taken.
-    pub fn try_look(&mut self) -> Option<(Look, Wakes)>
-        ensures under { IfSome result (λ told. UnderLock self.old (IsLook Shows told.0) self.new) }
-        ensures busy { result ≡ None → self.new ≡ self.old }
-    {
-        self.caller.try_look(looks::Look).ok()
     }
 
     /// Whether the connection is writable or closed, for a poll in place of a wait. If it is neither, it leaves word that a

@@ -4,7 +4,7 @@ ghost use Rattle.std.specs.Prelude.{◌≡◌, ◌<◌, IfErr, IfOk, IfSome, IsO
 ghost use Rattle.ob_types.specs.declared.command.Command.TheVariants as command;
 ghost use Rattle.ob_types.specs.declared.promise.Outcome.TheVariants.{Success};
 ghost use Rattle.ob_seq.specs.Effect.{bytes_in};
-ghost use Rattle.ob_shared_connection.specs.Calls.{GivingUp, IsCall, Makes, Taking, UnderLock, giving_up};
+ghost use Rattle.ob_shared_connection.specs.Calls.{IsCall, Makes, Taking, UnderLock};
 ghost use Rattle.ob_shared_connection.specs.Looking.{Gathers, IsLook};
 ghost use Rattle.ob_shared_connection.specs.Staying.{AreInFront};
 ghost use Rattle.ob_shared_connection.specs.Waiting.{Waited};
@@ -19,7 +19,7 @@ use crate::wakes::Wakes;
 use crate::{commands, looks};
 use bytes::Bytes;
 use ob_connection::Taken;
-use ob_types::{Cause, Refusal};
+use ob_types::Refusal;
 
 impl Transport {
     /// Makes the call of an act, one of `commands` or of `writes`, if the lock is free; else the act comes back.
@@ -68,18 +68,6 @@ impl Transport {
         ensures busy { result ≡ None → self.new ≡ self.old }
     {
         let Ok(told) = self.caller.try_call(commands::TakeSent(n)) else {
-            return None;
-        };
-        Some(told)
-    }
-
-    /// Fails what is flushed and closes the connection, as `give_up`. None if the lock is taken.
-    pub fn try_give_up(&mut self, cause: Cause) -> Option<(Result<Taken, Refusal>, Wakes)>
-        ensures under { IfSome result (λ told. UnderLock self.old
-            (λ before after. IsCall (GivingUp cause) (giving_up cause) before told.0 after) self.new) }
-        ensures busy { result ≡ None → self.new ≡ self.old }
-    {
-        let Ok(told) = self.caller.try_call(commands::GiveUp(cause)) else {
             return None;
         };
         Some(told)

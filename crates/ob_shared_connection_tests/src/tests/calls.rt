@@ -2,7 +2,7 @@
 
 use crate::tests::{flushed, four, opened};
 use ob_connection::Status;
-use ob_shared_connection::Glance;
+use ob_shared_connection::{Glance, looks};
 use ob_types::{Cause, Change, Outcome, Refusal, WaterMark};
 use std::test::Fail;
 
@@ -30,7 +30,7 @@ fn what_was_sent_is_taken_away(rt: HostRuntime) -> Result<(), Fail> {
     let gathered = transport.gather(&rt, 2, 100)?.len();
     let before = writer.glance();
     let taken = transport.take_sent(&rt, 18)?;
-    let left = writer.look(&rt).current_progress;
+    let left = writer.ask(&rt, looks::Look).current_progress;
     assert!(rt;
         (gathered, before, left)
             == (
@@ -54,7 +54,7 @@ fn messages_are_removed_one_by_one(rt: HostRuntime) -> Result<(), Fail> {
     assert!(rt;
         first == Some((0, Outcome::Success)) && second == Some((1, Outcome::Failed(Cause(3))))
     );
-    assert!(rt; writer.is_empty(&rt) && writer.front(&rt).is_none());
+    assert!(rt; writer.ask(&rt, looks::IsEmpty) && writer.ask(&rt, looks::Front).is_none());
     Ok(())
 }
 
@@ -62,7 +62,7 @@ fn messages_are_removed_one_by_one(rt: HostRuntime) -> Result<(), Fail> {
 fn a_promise_is_taken_back_once(rt: HostRuntime) -> Result<(), Fail> {
     let mut handle = opened(rt.alloc())?;
     let _written = handle.write(&rt, four())?;
-    let waits = handle.promise(&rt, 0);
+    let waits = handle.ask(&rt, looks::Promise(0));
     let cancelled = (handle.cancel(&rt, 0), handle.cancel(&rt, 0));
     assert!(rt; (waits, cancelled) == (Some(Status::Waiting), (Ok(true), Ok(false))));
     Ok(())
@@ -82,7 +82,7 @@ fn bits_and_marks_are_set(rt: HostRuntime) -> Result<(), Fail> {
                 Err(Refusal::NothingFlushed)
             )
     );
-    assert!(rt; !handle.is_writable(&rt) && handle.glance().word == 32);
+    assert!(rt; !handle.ask(&rt, looks::IsWritable) && handle.glance().word == 32);
     Ok(())
 }
 
@@ -91,8 +91,10 @@ fn a_connection_is_failed_and_closed(rt: HostRuntime) -> Result<(), Fail> {
     let (mut transport, mut writer) = flushed(&rt, rt.alloc(), 2)?;
     let failed = transport.fail_flushed(&rt, Cause(4), false)?;
     let closed = writer.close(&rt, Cause(5))?;
-    assert!(rt; (failed.from, failed.to, closed.count) == (0, 2, 0) && writer.is_closed(&rt));
-    assert!(rt; writer.refusal_of_block(&rt, b"x") == Some(Refusal::Closed));
+    assert!(rt;
+        (failed.from, failed.to, closed.count) == (0, 2, 0) && writer.ask(&rt, looks::IsClosed)
+    );
+    assert!(rt; writer.ask(&rt, looks::RefusalOfBlock(b"x")) == Some(Refusal::Closed));
     Ok(())
 }
 
@@ -111,7 +113,7 @@ fn a_guard_makes_several_calls_under_one_lock(rt: HostRuntime) -> Result<(), Fai
     let _written = guard.write(four())?;
     let _flushed = guard.flush()?;
     let taken = guard.take_sent(4)?;
-    assert!(rt; taken.count == 1 && guard.look().total == 0 && guard.is_empty());
+    assert!(rt; taken.count == 1 && guard.ask(looks::Look).total == 0 && guard.ask(looks::IsEmpty));
     let mut handle = guard.unlock();
     assert!(rt; handle.glance().total == 0);
     Ok(())
@@ -126,7 +128,7 @@ fn a_lock_is_taken_if_it_is_free(rt: HostRuntime) -> Result<(), Fail> {
     let Err(transport) = transport.try_lock() else {
         panic!(rt; "it is taken")
     };
-    assert!(rt; guard.look().total == 200);
+    assert!(rt; guard.ask(looks::Look).total == 200);
     let first = guard.unlock();
     let Ok(mut guard) = transport.try_lock() else {
         panic!(rt; "it is free again")

@@ -2,6 +2,7 @@
 
 use crate::tests::{flushed, four, opened, told, tried};
 use ob_shared_connection::Moment;
+use ob_shared_connection::commands::{Flush, Write};
 use ob_types::Cause;
 use std::test::Fail;
 
@@ -70,10 +71,10 @@ fn a_transport_that_polls_is_told_of_once(rt: HostRuntime) -> Result<(), Fail> {
     let Some((polled, none)) = transport.try_wait_for_work() else {
         panic!(rt; "the lock is free")
     };
-    let Ok((_written, first)) = writer.try_write(four()) else {
+    let Ok((_written, first)) = writer.try_act(Write(four())) else {
         panic!(rt; "the lock is free")
     };
-    let Some((_flushed, second)) = writer.try_flush() else {
+    let Ok((_flushed, second)) = writer.try_act(Flush) else {
         panic!(rt; "the lock is free")
     };
     let Some((ready, third)) = transport.try_wait_for_work() else {

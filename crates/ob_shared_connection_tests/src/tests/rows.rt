@@ -8,7 +8,7 @@ use ob_players::story::Story;
 use ob_players::trace::{push_answer, push_levels, push_look};
 use ob_players::words::{NoAnswer, Words};
 use ob_seq::Look;
-use ob_shared_connection::{Handle, Transport};
+use ob_shared_connection::{Handle, Transport, looks};
 use ob_stories::RUN;
 use ob_types::{Answer, Change, Command, Message, Outcome, PromiseId, Refusal, Reply, Settlements};
 use std::alloc::Global;
@@ -78,7 +78,7 @@ impl Handles {
 
     /// What a look shows, by the names of a buffer.
     fn look<R: Wait>(&mut self, rt: &R) -> Look {
-        let look = self.writer.look(rt);
+        let look = self.writer.ask(rt, looks::Look);
         Look {
             total: look.total,
             word: look.word,

@@ -3,7 +3,7 @@
 use crate::tests::{flushed, four};
 use bytes::Bytes;
 use ob_connection::{Ending, Socket, SocketFault};
-use ob_shared_connection::{Handle, SendFault, Transport};
+use ob_shared_connection::{Handle, SendFault, Transport, looks};
 use ob_types::{Cause, Change, Message};
 use std::alloc::Global;
 use std::io;
@@ -115,7 +115,9 @@ fn a_slow_socket_takes_all(rt: HostRuntime) -> Result<(), Fail> {
     assert!(rt;
         (last.bytes, last.more, none.bytes, none.blocked, none.more) == (3, false, 0, false, false)
     );
-    assert!(rt; socket.log.as_slice() == b"fourfour".as_slice() && writer.look(&rt).total == 0);
+    assert!(rt;
+        socket.log.as_slice() == b"fourfour".as_slice() && writer.ask(&rt, looks::Look).total == 0
+    );
     Ok(())
 }
 

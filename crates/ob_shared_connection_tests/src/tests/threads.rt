@@ -3,7 +3,7 @@
 use crate::tests::sending::{Slow, drains};
 use crate::tests::{flushed, four, opened, watch};
 use bytes::Bytes;
-use ob_shared_connection::{Handle, Moment, Transport};
+use ob_shared_connection::{Handle, Moment, Transport, looks};
 use ob_types::Cause;
 use std::alloc::AllocError;
 use std::process::Abort;
@@ -55,7 +55,7 @@ fn writes<R: Wait + Abort>(rt: &R, mut handle: Handle) -> Handle {
             return handle;
         }
         let (mut guard, moment) = handle.wait_writable(rt);
-        assert!(rt; moment == Moment::Ready && guard.is_writable());
+        assert!(rt; moment == Moment::Ready && guard.ask(looks::IsWritable));
         let written = guard.write(four()).is_ok();
         let flushed = guard.flush().is_ok();
         assert!(rt; written && flushed);

@@ -1,7 +1,8 @@
 //! Who sleeps uses no processor, and is woken. No clause says so: a body that spins, or that wakes nobody, is proved.
 
 use crate::tests::{flushed, four, opened, told as whom, watch};
-use ob_shared_connection::{Handle, Moment, Transport};
+use ob_shared_connection::commands::{Flush, Write};
+use ob_shared_connection::{Handle, Moment, Transport, looks};
 use ob_types::Cause;
 use std::alloc::Alloc;
 use std::fs::{Files, read_to_string};
@@ -107,7 +108,7 @@ fn sleeps<R: Wait + Clock + Files + Alloc>(rt: &R, sleeper: Sleeper) -> Sleeper 
         Sleeper::Locks(handle) => {
             sleep(rt, Duration::from_millis(30));
             let mut guard = handle.lock(rt);
-            let total = guard.look().total;
+            let total = guard.ask(looks::Look).total;
             ended(rt, before, total == 100)
         }
         other => other,
@@ -142,12 +143,12 @@ fn wakes<R: Wait + Clock>(rt: &R, sleeper: Sleeper) -> Sleeper {
 
 /// Nobody has the lock, and the transport waits for what is flushed, and not for what is written.
 fn tries(mut handle: Handle) -> bool {
-    let Ok((written, wakes)) = handle.try_write(four()) else {
+    let Ok((written, wakes)) = handle.try_act(Write(four())) else {
         return false;
     };
     let is_work = wakes.work;
     handle.wake(wakes);
-    let Some((flushed, wakes)) = handle.try_flush() else {
+    let Ok((flushed, wakes)) = handle.try_act(Flush) else {
         return false;
     };
     let is_right = wakes.work && !is_work && written.is_ok() && flushed.is_ok();
@@ -270,7 +271,7 @@ fn of_flushes<R: Wait + Clock>(rt: &R, handle: &mut Handle) -> Option<u128> {
 fn of_tries<R: Clock>(rt: &R, handle: &mut Handle) -> Option<u128> {
     let start = Instant::now(rt).ok()?;
     for _ in 0..CALLS {
-        let (_flushed, wakes) = handle.try_flush()?;
+        let (_flushed, wakes) = handle.try_act(Flush).ok()?;
         let _told = whom(wakes);
     }
     Some(start.elapsed(rt).ok()?.as_nanos())

@@ -20,7 +20,7 @@ fn a_write_is_flushed_behind_it(rt: HostRuntime) -> Result<(), Fail> {
             second.flushed.count
         ) == (2, Some(Change::Unwritable), 1)
     );
-    let look = writer.look(&rt);
+    let look = writer.ask(&rt, looks::Look);
     assert!(rt; (look.size, look.total) == (3, 401));
     Ok(())
 }
@@ -33,7 +33,7 @@ fn a_write_that_is_refused_is_not_flushed(rt: HostRuntime) -> Result<(), Fail> {
         panic!(rt; "it is closed")
     };
     assert!(rt; (refused.refusal, refused.message) == (Refusal::Closed, four()));
-    let Ok(Err(again)) = tried(writer.try_write_and_flush(four())) else {
+    let Ok(Err(again)) = tried(writer.try_act(writes::WriteAndFlush(four()))) else {
         panic!(rt; "the lock is free, and it is closed")
     };
     assert!(rt; (again.refusal, again.message) == (Refusal::Closed, four()));
@@ -59,16 +59,16 @@ fn a_taken_lock_gives_all_back(rt: HostRuntime) -> Result<(), Fail> {
     let mut writer = opened(rt.alloc())?;
     let mut guard = writer.another()?.lock(&rt);
     let _copied = guard.write_copy(b"copied")?;
-    let Err(message) = tried(writer.try_write_and_flush(four())) else {
+    let Err(write) = tried(writer.try_act(writes::WriteAndFlush(four()))) else {
         panic!(rt; "the lock is taken")
     };
     let Err(act) = tried(writer.try_act(commands::Cancel(7))) else {
         panic!(rt; "the lock is taken")
     };
-    assert!(rt; message == four() && act.0 == 7);
+    assert!(rt; write.0 == four() && act.0 == 7);
     assert!(rt; tried(writer.try_ask(looks::Promise(7))).is_err());
     drop(guard);
-    let Ok(Ok(done)) = tried(writer.try_write_and_flush(message)) else {
+    let Ok(Ok(done)) = tried(writer.try_act(write)) else {
         panic!(rt; "it is free again")
     };
     assert!(rt; (done.written.id, done.flushed.count) == (1, 2));
