@@ -1,4 +1,5 @@
 ghost use Rattle.std.specs.Prelude.{◌≡◌, ◌≤◌, ℕ, [], None, IfOk, IfSome, IsOk, IsSomeAnd, OnErr};
+ghost use Rattle.std.specs.Fn.{FnOnceReturnsAtMut};
 ghost use Rattle.ob_types.specs.Limits.{greatest_overhead, greatest_unknown};
 ghost use Rattle.ob_connection.specs.Connected.{StandsFor};
 ghost use Rattle.futures.specs.Poll.{IfReady, OnPending};
@@ -70,6 +71,18 @@ impl TaskConnection {
         ensures { result.now ≡ self.now.connection }
     {
         &self.connection
+    }
+
+    /// Calls of the connection that belong together, with one wake after the last: whoever may go on then. So a writer that
+    /// flushes and sends by itself wakes the task that sends only if something is left to send.
+    pub fn together<T, F: FnOnce(&mut Connection) -> T>(&mut self, calls: F) -> T
+        requires { F.IsAlwaysCallable calls }
+        ensures calls { FnOnceReturnsAtMut F.FnOnce calls self.old.connection result self.new.connection }
+        ensures wakes { WakesJust self.old self.new }
+    {
+        let answer = calls(&mut self.connection);
+        wake(&self.connection, &mut self.writers, &mut self.sender);
+        answer
     }
 
     /// Whoever may go on has been woken: while the connection is writable or closed no writer stands in the queue, and

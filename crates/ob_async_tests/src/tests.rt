@@ -51,6 +51,16 @@ fn take_sent(outbound: &Outbound, n: u64) -> bool {
         .is_some_and(|mut connection| connection.take_sent(n).is_ok())
 }
 
+/// Writes four bytes, flushes them and takes away *n* bytes, with one wake.
+fn write_and_send(outbound: &Outbound, n: u64) -> bool {
+    outbound.lock().is_some_and(|mut connection| {
+        connection.write_copy(b"four").is_ok()
+            && connection.together(|connection| {
+                connection.flush().is_ok() && connection.take_sent(n).is_ok()
+            })
+    })
+}
+
 fn give_up(outbound: &Outbound) -> bool {
     outbound
         .lock()
@@ -123,6 +133,18 @@ fn a_second_sender_wakes_the_first(rt: HostRuntime) -> Result<(), Fail> {
     assert!(rt; matches!(waits, (Poll::Pending, Poll::Pending)));
     assert!(rt; tasks[0].is_woken() && !tasks[1].is_woken());
     assert!(rt; write(&outbound, b"four") && flush(&outbound) && tasks[1].is_woken());
+    Ok(())
+}
+
+#[test]
+fn a_sender_is_woken_only_by_what_is_left(rt: HostRuntime) -> Result<(), Fail> {
+    let outbound = opened(rt.alloc())?;
+    let task = MockTask::new(&rt)?;
+    let mut has_work = outbound.has_work();
+    let waits = matches!(task.poll(&mut has_work), Poll::Pending);
+    let all = write_and_send(&outbound, 4) && !task.is_woken();
+    let left = write_and_send(&outbound, 3) && task.is_woken();
+    assert!(rt; (waits, all, left) == (true, true, true));
     Ok(())
 }
 

@@ -1,13 +1,16 @@
 use bytes::Bytes;
 use hidden::Writes;
 use limekeel::{Block, Refusal, SharedConnection, Written};
+use std::error::Error;
+use std::fmt;
+use std::io::{self, ErrorKind};
 
 /// How many bytes of an owner are copied at most: that costs less than to keep it, and a few bytes of a large buffer
 /// do not keep all of that.
 const FEW: usize = 2048;
 
 /// Why a message is there.
-const ONCE: &str = "it is written once";
+pub const LEFT: &str = "it was not written yet";
 
 /// What can be written as one message.
 ///
@@ -32,18 +35,23 @@ impl AsRef<[u8]> for Static {
 }
 
 /// The bytes of a message that has not moved away.
-pub(crate) fn bytes<M: AsRef<[u8]>>(message: &Option<M>) -> &[u8] {
-    message.as_ref().expect(ONCE).as_ref()
+pub fn bytes<M: AsRef<[u8]>>(message: &Option<M>) -> &[u8] {
+    message.as_ref().expect(LEFT).as_ref()
 }
 
 mod hidden {
-    use super::{Refusal, SharedConnection, Written, bytes};
+    use super::{Bytes, Refusal, SharedConnection, Written, bytes};
 
     /// What no user implements.
     pub trait Writes: AsRef<[u8]> + Sized {
         /// Writes it. It stays there if it is refused or copied, so that it is not dropped here.
         fn write_to(message: &mut Option<Self>, connection: &SharedConnection) -> Result<Written, Refusal> {
             connection.write(bytes(message))
+        }
+
+        /// The same bytes once more, if the connection is lent what runs a user's code when it is dropped.
+        fn lent(&self) -> Option<Bytes> {
+            None
         }
     }
 }
@@ -52,7 +60,17 @@ impl Writes for &[u8] {}
 impl<const N: usize> Writes for &[u8; N] {}
 impl Writes for &str {}
 
-/// Types whose values are not copied.
+impl Writes for Bytes {
+    fn write_to(message: &mut Option<Bytes>, connection: &SharedConnection) -> Result<Written, Refusal> {
+        write_owned(connection, message)
+    }
+
+    fn lent(&self) -> Option<Bytes> {
+        (self.len() > FEW).then(|| self.clone())
+    }
+}
+
+/// Other types whose values are not copied.
 macro_rules! writes {
     ($($message:ty: $write:expr;)*) => {
         $(impl Writes for $message {
@@ -64,11 +82,10 @@ macro_rules! writes {
 }
 
 writes! {
-    Bytes: write_owned;
     Vec<u8>: write_owned;
     String: write_owned;
-    &Block: |connection: &SharedConnection, block: &mut Option<Self>| connection.write_block(block.expect(ONCE));
-    Static: |connection: &SharedConnection, bytes: &mut Option<Self>| connection.write_static(bytes.expect(ONCE).0);
+    &Block: |connection: &SharedConnection, block: &mut Option<Self>| connection.write_block(block.expect(LEFT));
+    Static: |connection: &SharedConnection, bytes: &mut Option<Self>| connection.write_static(bytes.expect(LEFT).0);
 }
 
 /// Writes an owner, which moves into the connection if it has many bytes.
@@ -79,8 +96,63 @@ fn write_owned<M: AsRef<[u8]> + Send + 'static>(
     if bytes(message).len() <= FEW {
         return connection.write(bytes(message));
     }
-    connection.write_owned(message.take().expect(ONCE)).map_err(|refused| {
+    connection.write_owned(message.take().expect(LEFT)).map_err(|refused| {
         *message = Some(refused.owner);
         refused.refusal
     })
+}
+
+/// Why a message was not written, or not sent. A write that failed changed nothing.
+#[derive(Clone, Copy, Debug, PartialEq, Eq, Hash)]
+pub enum WriteError {
+    /// Nothing is sent any more: the connection was finished, its stream is broken, or its pump was dropped.
+    Gone,
+    /// This message was refused: [`Refusal::NoMemory`]; [`Refusal::Oversize`] above 2 GiB; [`Refusal::TooMuch`] if 4
+    /// GiB would be pending.
+    Refused(Refusal),
+}
+
+/// Why a write that does not wait did not write, with the message. Nothing changed.
+#[derive(Clone, Copy, Debug, PartialEq, Eq)]
+pub enum TryWriteError<M> {
+    /// The connection is not writable, or others wait for their turn.
+    Full(M),
+    /// Nothing is sent any more, as at [`WriteError::Gone`].
+    Gone(M),
+    /// This message was refused, as at [`WriteError::Refused`].
+    Refused(Refusal, M),
+}
+
+impl fmt::Display for WriteError {
+    fn fmt(&self, f: &mut fmt::Formatter<'_>) -> fmt::Result {
+        match self {
+            WriteError::Gone => f.write_str("nothing is sent any more"),
+            WriteError::Refused(refusal) => refusal.fmt(f),
+        }
+    }
+}
+
+impl<M> fmt::Display for TryWriteError<M> {
+    fn fmt(&self, f: &mut fmt::Formatter<'_>) -> fmt::Result {
+        match self {
+            TryWriteError::Full(_) => f.write_str("the connection is not writable now"),
+            TryWriteError::Gone(_) => WriteError::Gone.fmt(f),
+            TryWriteError::Refused(refusal, _) => refusal.fmt(f),
+        }
+    }
+}
+
+impl Error for WriteError {}
+
+impl<M: fmt::Debug> Error for TryWriteError<M> {}
+
+impl From<WriteError> for io::Error {
+    fn from(error: WriteError) -> io::Error {
+        let kind = match error {
+            WriteError::Gone => ErrorKind::BrokenPipe,
+            WriteError::Refused(Refusal::NoMemory) => ErrorKind::OutOfMemory,
+            WriteError::Refused(_) => ErrorKind::InvalidInput,
+        };
+        io::Error::new(kind, error)
+    }
 }

@@ -1,12 +1,11 @@
-use crate::errors::{TryWriteError, WriteError};
-use crate::gate::{Event, Gate, Shared, Waiting};
-use crate::message::Message;
+use crate::gate::{Event, Gate, Shared, Waiting, Wrote};
+use crate::message::{LEFT, Message, TryWriteError, WriteError};
 use crate::sink::OutboundSink;
 use limekeel::Outcome;
 use std::future::{Future, poll_fn};
 use std::pin::Pin;
 use std::sync::Arc;
-use std::task::{Context, Poll, ready};
+use std::task::{Context, Poll};
 
 /// What tasks write to one client with. Each has a clone, or a reference to one.
 ///
@@ -19,22 +18,12 @@ use std::task::{Context, Poll, ready};
 pub struct Outbound {
     /// Where `poll_ready` waits.
     pub(crate) turn: Waiting,
-    last: Arc<Last>,
-}
-
-/// What is dropped with the last outbound.
-#[derive(Debug)]
-struct Last(Arc<Shared>);
-
-impl Drop for Last {
-    fn drop(&mut self) {
-        self.0.with(Gate::finish);
-    }
 }
 
 impl Outbound {
     pub(crate) fn new(shared: &Arc<Shared>) -> Outbound {
-        Outbound { turn: Waiting::new(shared), last: Arc::new(Last(Arc::clone(shared))) }
+        shared.with(|gate| gate.outbounds += 1);
+        Outbound { turn: Waiting::new(&Arc::new(Arc::clone(shared))) }
     }
 
     fn with<T>(&self, call: impl FnOnce(&mut Gate) -> T) -> T {
@@ -70,13 +59,9 @@ impl Outbound {
     }
 
     async fn writes<M: Message>(&self, message: M, flushes: bool) -> Result<Receipt, WriteError> {
-        let mut message = Some(message);
-        if let Poll::Ready(written) = self.tries(&mut message, flushes) {
-            return written;
-        }
-        let mut turn = Waiting::new(&self.turn.shared);
-        let id = poll_fn(|cx| turn.poll_write(cx, &mut message, flushes)).await?;
-        Ok(self.receipt(id + 1))
+        let (mut message, mut waiting) = (Some(message), Waiting::new(&self.turn.shared));
+        let count = poll_fn(|cx| waiting.poll_write(cx, &mut message, flushes)).await?;
+        Ok(Receipt { waiting, count })
     }
 
     /// Writes a message and flushes, if the connection is writable and nobody waits for a turn.
@@ -100,28 +85,21 @@ impl Outbound {
 
     fn tries_once<M: Message>(&self, message: M, flushes: bool) -> Result<Receipt, TryWriteError<M>> {
         let mut held = Some(message);
-        let error = match self.tries(&mut held, flushes) {
-            Poll::Ready(Ok(receipt)) => return Ok(receipt),
-            Poll::Ready(Err(error)) => Some(error),
-            Poll::Pending => None,
+        let error: fn(M) -> TryWriteError<M> = match self.tries(&mut held, flushes) {
+            Poll::Ready(Ok(count)) => return Ok(self.receipt(count)),
+            Poll::Ready(Err(WriteError::Refused(refusal))) => {
+                return Err(TryWriteError::Refused(refusal, held.expect(LEFT)));
+            }
+            Poll::Ready(Err(WriteError::Gone)) => TryWriteError::Gone,
+            Poll::Pending => TryWriteError::Full,
         };
-        let message = held.expect("it was not written");
-        Err(match error {
-            None => TryWriteError::Full(message),
-            Some(WriteError::Gone) => TryWriteError::Gone(message),
-            Some(WriteError::Refused(refusal)) => TryWriteError::Refused(refusal, message),
-        })
+        Err(error(held.expect(LEFT)))
     }
 
     /// Writes a message, if one may that arrives now.
-    pub(crate) fn tries<M: Message>(
-        &self,
-        message: &mut Option<M>,
-        flushes: bool,
-    ) -> Poll<Result<Receipt, WriteError>> {
+    pub(crate) fn tries<M: Message>(&self, message: &mut Option<M>, flushes: bool) -> Wrote {
         let shared = &self.turn.shared;
-        let id = ready!(shared.with(|gate| gate.write(shared, message, flushes, false)))?;
-        Poll::Ready(Ok(self.receipt(id + 1)))
+        shared.with(|gate| shared.write(gate, message, flushes, false))
     }
 
     /// Has all sent that was written so far, by whomever.
@@ -136,7 +114,7 @@ impl Outbound {
     ///
     /// [`WriteError::Gone`], as of [`Outbound::write`].
     pub fn poll_ready(&mut self, cx: &mut Context<'_>) -> Poll<Result<(), WriteError>> {
-        self.turn.poll(cx, Event::Room, 0, |_, gate, is_turn| gate.enters(is_turn))
+        self.turn.poll(cx, (Event::Room, 0), |shared, gate, is_turn| shared.enters(gate, is_turn))
     }
 
     /// Waits as [`Outbound::poll_ready`]: for who makes a message once it may be written, since a task that waits in
@@ -154,7 +132,7 @@ impl Outbound {
     /// Whether a [`Outbound::try_write`] would be accepted now, but for its message.
     #[must_use]
     pub fn is_writable(&self) -> bool {
-        self.with(|gate| gate.enters(false) == Poll::Ready(Ok(())))
+        self.with(|gate| self.turn.shared.enters(gate, false) == Poll::Ready(Ok(())))
     }
 
     /// Whether nothing can be written any more.
@@ -166,7 +144,7 @@ impl Outbound {
     /// How many bytes were written and are not sent, with those that each message counts beside its own.
     #[must_use]
     pub fn pending(&self) -> u32 {
-        self.turn.shared.connection.look().total
+        self.with(|_| self.turn.shared.connection.look().total)
     }
 
     /// Flushes, and waits until all is sent that was written so far, by whomever: the stream took it.
@@ -190,7 +168,7 @@ impl Outbound {
     ///
     /// [`WriteError::Gone`] if the pump ended otherwise.
     pub async fn finish(&self) -> Result<(), WriteError> {
-        self.with(Gate::finish);
+        self.with(|gate| gate.ends(None));
         // no message has this promise, so it is that of the end
         sent(self.receipt(u64::MAX).await)
     }
@@ -198,13 +176,24 @@ impl Outbound {
     /// A [`futures_sink::Sink`] and a [`tokio::io::AsyncWrite`] over this one.
     #[must_use]
     pub fn into_sink(self) -> OutboundSink {
-        OutboundSink::new(self)
+        OutboundSink { outbound: Some(self), kept: None, flushed: None }
     }
 }
 
 impl Clone for Outbound {
     fn clone(&self) -> Outbound {
-        Outbound { turn: Waiting::new(&self.turn.shared), last: Arc::clone(&self.last) }
+        Outbound::new(&self.turn.shared)
+    }
+}
+
+impl Drop for Outbound {
+    fn drop(&mut self) {
+        self.with(|gate| {
+            gate.outbounds -= 1;
+            if gate.outbounds == 0 {
+                gate.ends(None);
+            }
+        });
     }
 }
 
@@ -257,7 +246,7 @@ impl Future for Receipt {
 
     fn poll(mut self: Pin<&mut Self>, cx: &mut Context<'_>) -> Poll<Outcome> {
         let count = self.count;
-        self.waiting
-            .poll(cx, Event::Sent(count), 0, |_, gate, _| gate.outcome(count).map_or(Poll::Pending, Poll::Ready))
+        let outcome = |_: &Shared, gate: &mut Gate, _| gate.outcome(count).map_or(Poll::Pending, Poll::Ready);
+        self.waiting.poll(cx, (Event::Sent(count), 0), outcome)
     }
 }

@@ -1,6 +1,6 @@
 use crate::gate::{Event, Shared, Waiting};
-use crate::{BROKEN, DROPPED};
-use limekeel::{Outcome, Transport};
+use crate::outbound::Outbound;
+use limekeel::{Change, Estimate, Marks, Outcome, Refusal, SharedConnection, Transport};
 use std::future::Future;
 use std::io::{self, ErrorKind, IoSlice};
 use std::pin::Pin;
@@ -10,6 +10,42 @@ use tokio::io::AsyncWrite;
 
 /// How often the stream is written to before other tasks have their turn.
 const TURNS: usize = 32;
+
+const ENDED: &str = "it has not ended";
+
+/// The cause of [`Outcome::Failed`] if the stream is broken.
+pub const BROKEN: u32 = 1;
+
+/// The cause of [`Outcome::Failed`] if the pump was dropped.
+pub const DROPPED: u32 = 2;
+
+/// What tasks write with to this stream, and the future that sends it, which the caller spawns.
+///
+/// # Errors
+///
+/// Those of [`split_with`].
+pub fn split<S: AsyncWrite + Unpin>(stream: S, marks: Marks) -> Result<(Outbound, Pump<S>), Refusal> {
+    split_with(stream, marks, Estimate::default())
+}
+
+/// The same with another estimate of what a message counts beside its bytes.
+///
+/// # Errors
+///
+/// [`Refusal::BadMarks`] if the low mark is 0, under which who waits would wait for ever, or above the high mark, or
+/// the high mark is above 2147483647; [`Refusal::BadEstimate`] if the overhead is above 65535; [`Refusal::NoMemory`].
+pub fn split_with<S>(stream: S, marks: Marks, estimate: Estimate) -> Result<(Outbound, Pump<S>), Refusal>
+where
+    S: AsyncWrite + Unpin,
+{
+    if marks.low == 0 {
+        return Err(Refusal::BadMarks);
+    }
+    let (connection, transport) = SharedConnection::open(marks, estimate)?;
+    let shared = Shared::new(connection, marks.high.into(), estimate.overhead.into());
+    let waiting = Waiting::new(&Arc::new(Arc::clone(&shared)));
+    Ok((Outbound::new(&shared), Pump { stream: Some(stream), transport, waiting }))
+}
 
 /// The future that sends what is written with an [`crate::Outbound`], for the user to spawn. It ends with its stream.
 ///
@@ -28,8 +64,6 @@ pub struct Pump<S> {
     transport: Transport,
     /// Where it waits for something to do.
     waiting: Waiting,
-    /// How many messages were sent.
-    sent: u64,
 }
 
 /// What became of a [`Pump`].
@@ -58,53 +92,53 @@ impl<S> Ended<S> {
 }
 
 impl<S: AsyncWrite + Unpin> Pump<S> {
-    pub(crate) fn new(stream: S, transport: Transport, shared: &Arc<Shared>) -> Pump<S> {
-        Pump { stream: Some(stream), transport, waiting: Waiting::new(shared), sent: 0 }
-    }
-
     /// Ready when all is sent that can come, and the stream is shut down.
     fn poll_all(&mut self, cx: &mut Context<'_>) -> Poll<io::Result<()>> {
-        let (mut turns, mut is_blocked) = (0..TURNS, false);
-        loop {
-            let sent = self.sent;
-            // who waits for what the last turn sent is woken before the next
-            let work = self.waiting.poll(cx, Event::Work, 0, |shared, gate, _| gate.work(&shared.connection, sent));
+        for _ in 0..TURNS {
+            let work = self.waiting.poll(cx, (Event::Work, 0), |shared, gate, _| shared.work(gate));
+            let mut stream = Pin::new(self.stream.as_mut().expect(ENDED));
             match work {
-                _ if is_blocked => return Poll::Pending,
-                Poll::Ready(0) => return self.stream().poll_shutdown(cx),
-                Poll::Ready(_) if turns.next().is_some() => is_blocked = self.send(cx)?,
-                Poll::Ready(_) => {
-                    cx.waker().wake_by_ref();
+                Poll::Ready(0) => return stream.poll_shutdown(cx),
+                Poll::Pending => {
+                    ready!(stream.poll_flush(cx))?;
                     return Poll::Pending;
                 }
-                Poll::Pending => {
-                    ready!(self.stream().poll_flush(cx))?;
-                    return Poll::Pending;
+                Poll::Ready(_) => {
+                    let shared = &self.waiting.shared;
+                    // so no writer finds the connection's lock taken, but while the stream is written to
+                    let mut gate = Some(shared.lock());
+                    let sent = self.transport.send_with(|pieces| {
+                        gate = None;
+                        let took = write_pieces(stream.as_mut(), cx, pieces);
+                        gate = Some(shared.lock());
+                        took
+                    })?;
+                    let mut gate = gate.expect("it was had again");
+                    gate.sent = sent.taken.promises.end;
+                    gate.is_stopped &= sent.taken.change != Some(Change::Writable);
+                    let _lent = gate.gone(sent.taken.promises.end);
+                    shared.lets_go(gate);
+                    if sent.blocked {
+                        return Poll::Pending;
+                    }
                 }
             }
         }
-    }
-
-    /// Lets the stream take once of what is flushed, and returns whether it has no room.
-    fn send(&mut self, cx: &mut Context<'_>) -> io::Result<bool> {
-        let stream = self.stream.as_mut().expect("it has not ended");
-        let sent = self.transport.send_with(|pieces| write_pieces(Pin::new(stream), cx, pieces))?;
-        self.sent = sent.taken.promises.end;
-        Ok(sent.blocked)
-    }
-
-    fn stream(&mut self) -> Pin<&mut S> {
-        Pin::new(self.stream.as_mut().expect("it has not ended"))
+        cx.waker().wake_by_ref();
+        Poll::Pending
     }
 }
 
 impl<S> Pump<S> {
-    /// Gives up what is left, and returns how many messages that were.
-    fn ends(&mut self, outcome: Outcome) -> u64 {
-        let lost = self.waiting.shared.with(|gate| gate.end(outcome));
+    /// Gives up what is left, and returns how many messages were sent and not sent.
+    fn ends(&mut self, outcome: Outcome) -> (u64, u64) {
+        let (counts, _lent) = self.waiting.shared.with(|gate| {
+            gate.ends(Some(outcome));
+            ((gate.sent, gate.written - gate.sent), gate.gone(u64::MAX))
+        });
         // it is not closed before this
         let _ = self.transport.give_up(BROKEN);
-        lost
+        counts
     }
 }
 
@@ -131,16 +165,15 @@ impl<S: AsyncWrite + Unpin> Future for Pump<S> {
     fn poll(self: Pin<&mut Self>, cx: &mut Context<'_>) -> Poll<Ended<S>> {
         let pump = self.get_mut();
         let error = ready!(pump.poll_all(cx)).err();
-        let lost = pump.ends(if error.is_none() { Outcome::Success } else { Outcome::Failed(BROKEN) });
-        let stream = pump.stream.take().expect("it has not ended");
-        Poll::Ready(Ended { stream, sent: pump.sent, lost, error })
+        let (sent, lost) = pump.ends(if error.is_none() { Outcome::Success } else { Outcome::Failed(BROKEN) });
+        Poll::Ready(Ended { stream: pump.stream.take().expect(ENDED), sent, lost, error })
     }
 }
 
 impl<S> Drop for Pump<S> {
     fn drop(&mut self) {
         if self.stream.is_some() {
-            self.ends(Outcome::Failed(DROPPED));
+            let _counts = self.ends(Outcome::Failed(DROPPED));
         }
     }
 }

@@ -1,4 +1,4 @@
-use crate::errors::WriteError;
+use crate::message::WriteError;
 use crate::outbound::{Outbound, Receipt, sent};
 use bytes::Bytes;
 use futures_sink::Sink;
@@ -39,17 +39,13 @@ const MOST: usize = 65536;
 #[derive(Debug)]
 pub struct OutboundSink {
     /// None once it is closed.
-    outbound: Option<Outbound>,
-    kept: Option<Bytes>,
+    pub(crate) outbound: Option<Outbound>,
+    pub(crate) kept: Option<Bytes>,
     /// What a flush waits for.
-    flushed: Option<Receipt>,
+    pub(crate) flushed: Option<Receipt>,
 }
 
 impl OutboundSink {
-    pub(crate) fn new(outbound: Outbound) -> OutboundSink {
-        OutboundSink { outbound: Some(outbound), kept: None, flushed: None }
-    }
-
     /// Writes what is kept, and returns what to write with then.
     fn poll_kept(&mut self, cx: &mut Context<'_>) -> Poll<Result<&mut Outbound, WriteError>> {
         let outbound = self.outbound.as_mut().ok_or(WriteError::Gone)?;
