@@ -7,6 +7,7 @@ use ob_budget::{Bounds, Budget, Pressure, RaiseFault};
 use ob_covered::{Budgeted, Cover, NotWritten, WriteFault};
 use ob_types::{Cause, Estimate, Message, Refusal, WaterMark};
 use std::alloc::Global;
+use std::process::Abort;
 use std::sync::Arc;
 use std::test::Fail;
 
@@ -51,47 +52,69 @@ const FULL: Result<Option<Pressure>, WriteFault> = Err(WriteFault::OverBudget(Ra
 fn pressure_comes_and_goes_and_the_room_ends(rt: HostRuntime) -> Result<(), Fail> {
     let (budget, cover, _other) = opened(rt.alloc(), 0)?;
     let mut connection = under(rt.alloc(), cover)?;
+    fill(&rt, &budget, &mut connection)?;
+    empty(&rt, &budget, &mut connection);
+    Ok(())
+}
+
+/// Ten blocks take the whole room, and pressure begins with the ninth.
+fn fill(rt: &impl Abort, budget: &Budget, connection: &mut Budgeted) -> Result<(), WriteFault> {
     for count in 1..=10u64 {
-        let told = write(&mut connection)?;
+        let told = write(connection)?;
         assert_eq!(rt; told.is_some(), count == 9, "write {count}");
         assert_eq!(rt;
-            (total(&budget), connection.held()),
+            (total(budget), connection.held()),
             (count * 100, count * 100)
         );
     }
-    assert_eq!(rt; write(&mut connection), FULL);
+    assert_eq!(rt; write(connection), FULL);
     assert_eq!(rt; connection.connection().look().total, 1000);
+    Ok(())
+}
+
+/// It ends once less than the low mark is left, and then there is room again.
+fn empty(rt: &impl Abort, budget: &Budget, connection: &mut Budgeted) {
     assert!(rt; connection.flush().answer.is_ok());
     let told = connection.take_sent(28);
-    assert_eq!(rt; (told.answer.is_ok(), told.pressure), (true, None));
-    assert_eq!(rt; total(&budget), 300);
+    assert_eq!(rt;
+        (told.answer.is_ok(), told.pressure, total(budget)),
+        (true, None, 300)
+    );
     let told = connection.take_sent(8);
     assert_eq!(rt;
-        (told.answer.is_ok(), told.pressure),
-        (true, Some(Pressure::Ended))
+        (told.answer.is_ok(), told.pressure, total(budget)),
+        (true, Some(Pressure::Ended), 100)
     );
-    assert_eq!(rt; total(&budget), 100);
-    assert_eq!(rt; write(&mut connection), Ok(None));
-    Ok(())
+    assert_eq!(rt; write(connection), Ok(None));
 }
 
 #[test]
 fn a_quantum_serves_several_writes(rt: HostRuntime) -> Result<(), Fail> {
     let (budget, cover, _other) = opened(rt.alloc(), 250)?;
     let mut connection = under(rt.alloc(), cover)?;
+    write_by_quanta(&rt, &budget, &mut connection)?;
+    Ok(())
+}
+
+/// Five blocks take two quanta, which are given back by a rest.
+fn write_by_quanta(
+    rt: &impl Abort,
+    budget: &Budget,
+    connection: &mut Budgeted,
+) -> Result<(), WriteFault> {
     let mut totals = [0u64; 5];
     for seen in totals.iter_mut() {
-        let _told = write(&mut connection)?;
-        *seen = total(&budget);
+        let _told = write(connection)?;
+        *seen = total(budget);
     }
     assert_eq!(rt; totals, [250, 250, 500, 500, 500]);
     // 500 are pending, and 500 held: nothing is spare
     assert!(rt; connection.flush().answer.is_ok());
     assert!(rt; connection.take_sent(20).answer.is_ok());
     // nothing is pending, and two quanta are held
-    assert_eq!(rt; total(&budget), 500);
+    assert_eq!(rt; total(budget), 500);
     let _told = connection.rest();
-    assert_eq!(rt; total(&budget), 0);
+    assert_eq!(rt; total(budget), 0);
     Ok(())
 }
 
@@ -100,23 +123,34 @@ fn what_one_gives_up_another_may_write(rt: HostRuntime) -> Result<(), Fail> {
     let (budget, cover, other) = opened(rt.alloc(), 0)?;
     let mut first = under(rt.alloc(), cover)?;
     let mut second = under(rt.alloc(), other)?;
+    give_way(&rt, &mut first, &mut second)?;
+    let told = second.retire();
+    assert_eq!(rt;
+        (told.answer.held(), told.pressure, total(&budget)),
+        (0, None, 0)
+    );
+    Ok(())
+}
+
+/// The second gets room once the first, which has it all, is given up.
+fn give_way(
+    rt: &impl Abort,
+    first: &mut Budgeted,
+    second: &mut Budgeted,
+) -> Result<(), WriteFault> {
     for _ in 0..10u32 {
-        let _told = write(&mut first)?;
+        let _told = write(first)?;
     }
-    assert_eq!(rt; write(&mut second), FULL);
+    assert_eq!(rt; write(second), FULL);
     let told = first.give_up(Cause(7));
     assert_eq!(rt;
         (told.answer.is_ok(), told.pressure),
         (true, Some(Pressure::Ended))
     );
     assert_eq!(rt;
-        write(&mut first),
-        Err(WriteFault::Refused(Refusal::Closed))
+        (write(first), write(second)),
+        (Err(WriteFault::Refused(Refusal::Closed)), Ok(None))
     );
-    assert_eq!(rt; write(&mut second), Ok(None));
-    let told = second.retire();
-    assert_eq!(rt; (told.answer.held(), told.pressure), (0, None));
-    assert_eq!(rt; total(&budget), 0);
     Ok(())
 }
 
@@ -124,23 +158,45 @@ fn what_one_gives_up_another_may_write(rt: HostRuntime) -> Result<(), Fail> {
 fn commands_return_what_those_of_a_connection_do(rt: HostRuntime) -> Result<(), Fail> {
     let (budget, cover, _other) = opened(rt.alloc(), 0)?;
     let mut connection = under(rt.alloc(), cover)?;
-    for _ in 0..4u32 {
-        let _told = write(&mut connection)?;
-    }
-    assert_eq!(rt; connection.cancel(1).answer, Ok(true));
-    let Ok(flushed) = connection.flush().answer else {
-        return Err(Fail::new("it is open"));
+    let marks = WaterMark::new(1, 2)?;
+    let Some(answers) = give_each(&budget, &mut connection, marks) else {
+        return Err(Fail::new("four are written, and it is open"));
     };
-    // the voided message counts nothing any more
-    assert_eq!(rt; (flushed.count, total(&budget)), (4, 300));
-    assert_eq!(rt; connection.progress(2).answer, Ok(()));
-    assert_eq!(rt; connection.user_bit(1, false).answer.is_ok(), true);
-    assert_eq!(rt; connection.set_marks(WaterMark::new(1, 2)?).answer, Ok(()));
-    assert!(rt; connection.remove().answer.is_ok());
-    assert!(rt; connection.remove_with(Cause(3)).answer.is_ok());
-    assert_eq!(rt; total(&budget), 200);
-    assert!(rt; connection.fail_flushed(Cause(4), true).answer.is_ok());
-    assert!(rt; connection.close(Cause(5)).answer.is_ok());
-    assert_eq!(rt; total(&budget), 0);
+    assert_eq!(rt; answers, ([true; 9], [4, 300, 200, 0]));
     Ok(())
+}
+
+/// Each command in turn: whether it did what one of a connection does, the count of the flush, and what all hold behind
+/// the flush, which voids the message that was taken back, behind two removals, and behind all.
+fn give_each(
+    budget: &Budget,
+    connection: &mut Budgeted,
+    marks: WaterMark,
+) -> Option<([bool; 9], [u64; 4])> {
+    for _ in 0..4u32 {
+        let _told = write(connection).ok()?;
+    }
+    let cancelled = connection.cancel(1).answer == Ok(true);
+    let flushed = connection.flush().answer.ok()?.count;
+    let held = total(budget);
+    let progressed = connection.progress(2).answer == Ok(());
+    let bit = connection.user_bit(1, false).answer.is_ok();
+    let set = connection.set_marks(marks).answer == Ok(());
+    let removed = connection.remove().answer.is_ok();
+    let removed_with = connection.remove_with(Cause(3)).answer.is_ok();
+    let less = total(budget);
+    let failed = connection.fail_flushed(Cause(4), true).answer.is_ok();
+    let closed = connection.close(Cause(5)).answer.is_ok();
+    let all = [
+        cancelled,
+        progressed,
+        bit,
+        set,
+        removed,
+        removed_with,
+        failed,
+        closed,
+        connection.connection().is_closed(),
+    ];
+    Some((all, [flushed, held, less, total(budget)]))
 }

@@ -31,6 +31,8 @@ impl Recorded {
     /// last of `records`, and nothing of it is copied. Our own.
     ///
     /// `HistoryFull` and `NoMemory` come as in `call`, and leave all as it was.
+    // in one piece with its callers, so that the command is not passed through memory
+    #[inline(always)]
     pub fn record(&mut self, caller: u32, command: Command) -> Result<(), Refusal>
         ensures { IsRecording self.old caller command result self.new }
     {
