@@ -1,3 +1,4 @@
+mod calls;
 mod connection;
 mod failing_sink;
 mod first_program;

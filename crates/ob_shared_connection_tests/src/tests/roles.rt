@@ -111,3 +111,23 @@ fn a_guard_that_is_left_tells_whom_to_wake(rt: HostRuntime) -> Result<(), Fail> 
     assert!(rt; (first.2, second.2, third.2) == (false, true, false));
     Ok(())
 }
+
+#[test]
+fn what_was_gathered_is_taken_under_a_lock_of_its_own(rt: HostRuntime) -> Result<(), Fail> {
+    let (mut transport, writer) = flushed(&rt, rt.alloc(), 3)?;
+    let Some((pieces, none)) = transport.try_gather(2, 1000) else {
+        panic!(rt; "the lock is free")
+    };
+    let whom = told(none);
+    let pieces = pieces?;
+    let mut guard = transport.lock(&rt);
+    let taken = guard.take_sent(8)?;
+    let ended = guard.unlock_transport().into_handle().finish();
+    assert!(rt; (pieces.len(), taken.count, whom) == (2, 2, (false, false, false)));
+    assert!(rt; ended.is_err());
+    assert!(rt;
+        [Moment::Ready, Moment::Closed, Moment::NotYet].map(|at| at.is_due()) == [true, true, false]
+    );
+    drop(writer);
+    Ok(())
+}
