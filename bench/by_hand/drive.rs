@@ -12,7 +12,7 @@ use std::sync::{Mutex, MutexGuard};
 use std::thread;
 use std::time::Duration;
 
-// what a line may ask for: a block of so many bytes, so many of them, by this writer
+// what a line may ask for: how long a block, how many of them, and by which writer
 const LONGEST_BLOCK: u64 = 1048576;
 const MOST_COPIES: u64 = 1024;
 const LAST_WRITER: u64 = 63;

@@ -4,7 +4,7 @@
  *
  *     epoll_server SECONDS SNDBUF [echo]
  *
- * It prints its port, and ends at QUIT or after so many seconds. SNDBUF is SO_SNDBUF of its sockets, or 0 for the system's own.
+ * It prints its port, and ends at QUIT or after SECONDS. SNDBUF is SO_SNDBUF of its sockets, or 0 for the system's own.
  */
 #define _GNU_SOURCE
 #include <arpa/inet.h>

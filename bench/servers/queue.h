@@ -33,7 +33,7 @@ bool queue_shared_begin(const uint8_t *bytes, uint32_t size);
 bool queue_shared_write(struct queue *queue);
 void queue_shared_end(void);
 
-/* Sends until nothing is left, the socket has no room, or so many turns were made. */
+/* Sends until nothing is left, the socket has no room, or `turns` turns were made. */
 enum sent queue_send(struct queue *queue, int socket, uint32_t turns);
 
 /* How many bytes are pending, as the queue counts them. */

@@ -57,7 +57,7 @@ impl Shared {
         }
     }
 
-    /// Sends what is there, at most so many pieces, which stay in line until the socket took them.
+    /// Sends what is there, at most `PIECES` pieces, which stay in line until the socket took them.
     fn send(&self, pieces: &mut Vec<&'static [u8]>) -> usize {
         let mut queue = self.queue.lock().unwrap();
         while queue.waiting.is_empty() {

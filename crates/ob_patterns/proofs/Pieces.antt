@@ -21,7 +21,7 @@ use Rattle.ob_patterns.specs.declared.chunks.Progress.{Progress}
 abbrev gave : List (List ℕ) → List (Option (List ℕ))
 gave pieces = map (λ piece. Some piece) pieces
 
--- a source gave so many pieces while they were wanted, and each of them is written, in their order
+-- a source gave *n* pieces while they were wanted, and each of them is written, in their order
 pub record Wrote (count : ℕ) (old : Connected) (before : Option (List (Option (List ℕ)))) (now : Connected)
     (after : Option (List (Option (List ℕ)))) : Type 0 where
   pub pieces : List (List ℕ)

@@ -39,7 +39,7 @@ is_refused (Ok done) = false
 is_refused (Err Unwritable) = false
 is_refused (Err (Refused refusal)) = true
 
--- each of these connections got the bytes or was left out, and so many did, and were for either reason
+-- each of these connections got the bytes or was left out: how many got them, and were left out for either reason
 pub record Broadcasts (old : List Connected) (bytes : List ℕ) (reached : Reached) (new : List Connected) : Type 0 where
   pub handed : List (Result Unit LeftOut)
   pub one_each : length handed ≡ length old

@@ -64,7 +64,7 @@ pub record SendsNothing (old : Connected) (sent_before : Option (List ℕ)) (cal
   pub unsent : sent_after ≡ sent_before
   pub unasked : calls_after ≡ calls_before
 
--- a connection sends in at most so many turns, unless it is closed
+-- a connection sends in at most *n* turns, unless it is closed
 abbrev pub Spins : ℕ → Connected → Option (List ℕ) → Option (List Call) → Next → Connected → Option (List ℕ) →
     Option (List Call) → Type 0
 Spins turns old sent_before calls_before next new sent_after calls_after =
@@ -94,7 +94,7 @@ pub record SendsLast (turns : ℕ) (old : Connected) (next : Next) (new : Connec
   pub spins : Spins 16 ready sent_before calls_before said new sent_after calls_after
   pub says : (next ≡ said) ⊎ (next ≡ ComeAgain)
 
--- a connection is served in at most so many turns, unless it is closed
+-- a connection is served in at most *n* turns, unless it is closed
 abbrev pub Serves : ℕ → Connected → Option (List ℕ) → Option (List Call) → Next → Connected → Option (List ℕ) →
     Option (List Call) → Type 0
 Serves turns old sent_before calls_before next new sent_after calls_after =

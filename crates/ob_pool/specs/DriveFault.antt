@@ -16,7 +16,7 @@ number_of (Refused writer refusal) = 6
 number_of (Transport fault) = 7
 number_of (Finish fault) = 8
 
--- if a fault names a writer, it names one of so many, who are numbered from 0 on
+-- if a fault names a writer, it names one of *n*, who are numbered from 0 on
 abbrev pub NamesOneOf : ℕ → DriveFault → Type 0
 NamesOneOf writers BadCount = Unit {0}
 NamesOneOf writers (BadPlan writer step) = writer < writers
@@ -27,7 +27,7 @@ NamesOneOf writers (Refused writer refusal) = writer < writers
 NamesOneOf writers (Transport fault) = Unit {0}
 NamesOneOf writers (Finish fault) = Unit {0}
 
--- a fault comes of the work of so many writers, and not of their plans: it names none but one of them, and if a writer
+-- a fault comes of the work of *n* writers, and not of their plans: it names none but one of them, and if a writer
 -- was refused, the history was full
 abbrev pub ComesOfWork : ℕ → DriveFault → Type 0
 ComesOfWork writers BadCount = ⊥

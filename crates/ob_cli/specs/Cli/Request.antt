@@ -40,7 +40,7 @@ WritesRequested (Drive options) script fault old new = WritesDrive options scrip
 WritesRequested Summary script fault old new = WritesOfTrace TellsSummary script old new
 WritesRequested (Draw marks) script fault old new = WritesOfTrace (TellsPicture marks) script old new
 
--- the trace of the first lines, so many of those that are carried out; a drive, a summary and a picture have none
+-- the trace of the first *n* lines, of those that are carried out; a drive, a summary and a picture have none
 abbrev pub requested_trace_of_first : ℕ → Request → List ℕ → List ℕ
 requested_trace_of_first count (Run options) script = trace_of_first count (run_language (first_history options)) script
 requested_trace_of_first count (Core marks) script = trace_of_first count (core_language marks) script

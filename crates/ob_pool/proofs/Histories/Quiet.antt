@@ -19,7 +19,7 @@ use Rattle.ob_pool.proofs.Plans.PlannedSteps.{IsPlanned, planned_is_harmless}
 abbrev command_of : Record → Command
 command_of one = one.command
 
--- a record is planned if its caller is one of so many writers
+-- a record is planned if its caller is one of the writers
 abbrev IfWriter : ℕ → Record → Type 0
 IfWriter writers one = one.caller < writers → IsPlanned one.command
 

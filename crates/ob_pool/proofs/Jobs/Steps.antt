@@ -42,6 +42,6 @@ pub made_more : (now then begun first count more : ℕ) → now ≡ then + 1 →
     more ≡ count + 1 → now ≡ first + more
 made_more now then begun first count more counted same made one_more = omega arith
 
--- a caller that stays is still one of so many
+-- a caller that stays is still one of as many as before
 pub numbered_still : (now begun first writers : ℕ) → now ≡ begun → begun ≡ first → first < writers → now < writers
 numbered_still now begun first writers same stays numbered = omega arith

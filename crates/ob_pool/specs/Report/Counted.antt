@@ -4,7 +4,7 @@ use Rattle.ob_pool.specs.Report.Counts.{bits_of, cancels_of, flushes_of, is_canc
 use Rattle.ob_pool.specs.Report.Counts.{refused_of, settled_as, taken_of, writes_of}
 use Rattle.ob_pool.specs.declared.report.Report.{Report}
 
--- each number of a report is the count of its line over the history, of which so many callers are writers
+-- each number of a report is the count of its line over the history, of which *n* callers are writers
 pub record IsCounted (writers : ℕ) (report : Report) : Type 0 where
   pub writes : report.writes ≡ writes_of report.recorded.records
   pub flushes : report.flushes ≡ flushes_of report.recorded.records

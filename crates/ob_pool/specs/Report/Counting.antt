@@ -9,7 +9,7 @@ use Rattle.ob_pool.specs.Report.Counts.{bits_of, cancels_of, flushes_of, refused
 use Rattle.ob_pool.specs.Report.Counts.{is_cancel, is_cancelled, is_failed, is_flush, is_success, is_user_bit, removed_by}
 use Rattle.ob_pool.specs.declared.report.counts.Counts.{Counts}
 
--- the counts of records, of which so many callers are writers
+-- the counts of records, of which *n* callers are writers
 abbrev pub counts_of : ℕ → List Record → Counts
 counts_of writers records = record {
   writes = writes_of records;

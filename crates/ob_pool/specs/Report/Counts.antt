@@ -65,7 +65,7 @@ cancels_of records = count_by is_cancel (accepted_commands records)
 abbrev pub bits_of : List Record → ℕ
 bits_of records = count_by is_user_bit (accepted_commands records)
 
--- how many records of so many writers, who are the callers from 0 on, have a refusal
+-- how many records of *n* writers, who are the callers from 0 on, have a refusal
 abbrev pub refused_of : ℕ → List Record → ℕ
 refused_of writers records = count_by (λ one. nat_lt one.caller writers && not (is_accepted one)) records
 

@@ -19,7 +19,7 @@ pub record HaveHandedIn (records : List Record) (handed : List Handed) : Type 0 
   pub counted : length records ≡ made_by handed
   pub saw : All (λ one. IsBeginning one.sight.seen records) handed
 
--- a report tells of threads that have ended, of which so many were writers: its history was kept as it was opened, the
+-- a report tells of threads that have ended, of which *n* were writers: its history was kept as it was opened, the
 -- callers have handed it in, its numbers are counted, and the words of the hand-off have come to rest
 pub record TellsEnd (opening : Opened) (marks : Marks) (writers : ℕ) (callers : List Handed) (report : Report)
     : Type 0 where

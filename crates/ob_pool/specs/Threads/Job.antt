@@ -54,7 +54,7 @@ room_for jobs = sum_by (λ job. job.room) jobs
 abbrev pub IsRoomy : Estimate → ℕ → Job → Type 0
 IsRoomy estimate task job = room_of estimate task job.plan ≤ job.room
 
--- a job is that of one of so many writers, who are numbered from 0 on
+-- a job is that of one of *n* writers, who are numbered from 0 on
 abbrev pub IsNumbered : ℕ → Job → Type 0
 IsNumbered writers job = job.maker.caller < writers
 
@@ -78,7 +78,7 @@ pub record IsOneCall (share : ShareValue) (asked : Command) (before after : List
   pub made : left.maker ≡ one_more share.maker
   pub commands : commands_in after ≡ commands_in before ++ asked ∷ []
 
--- jobs of so many writers may begin: their lane steps on these words and has room for all of them together, and
+-- jobs of *n* writers may begin: their lane steps on these words and has room for all of them together, and
 -- each has room for its plan
 pub record MayBegin (used : WordsValue) (estimate : Estimate) (task writers : ℕ) (lane : RunningLane)
     (jobs : List Job)
@@ -89,7 +89,7 @@ pub record MayBegin (used : WordsValue) (estimate : Estimate) (task writers : �
   pub room : room_for jobs ≤ lane.lane.room
   pub whole : lane.lane.room ≤ lane.words.grant.room
 
--- jobs of so many writers have been worked on: their lane is back, and they are done, or a fault of the work ended
+-- jobs of *n* writers have been worked on: their lane is back, and they are done, or a fault of the work ended
 -- them
 pub record JobsHaveEnded {Z : Type 0} (writers : ℕ) (jobs : List Job) (lane back : RunningLane)
     (handed : Result (Vec Handed Z) DriveFault) : Type 0 where

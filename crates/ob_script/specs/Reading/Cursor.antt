@@ -9,7 +9,7 @@ pub record Cursor : Type 0 where
   pub rest : List ℕ
   pub count : ℕ
 
--- so many first lines of a script are carried out, and these bytes are left: the further lines and the fault are those
+-- the first *n* lines of a script are carried out, and these bytes are left: the further lines and the fault are those
 -- of what is left
 pub record StandsAt {L : Type 0} (grammar : Grammar L) (script : List ℕ) (count : ℕ) (rest : List ℕ) : Type 0 where
   pub left : drop count (script_lines grammar script)
@@ -17,12 +17,12 @@ pub record StandsAt {L : Type 0} (grammar : Grammar L) (script : List ℕ) (coun
   pub fault : script_fault grammar script
       ≡ first_fault (count + 1) (readings_behind grammar (take count (script_lines grammar script)) rest)
 
--- no more lines of a script are carried out than so many first ones, and this fault, if any, ends it
+-- no more lines of a script are carried out than the first *n*, and this fault, if any, ends it
 abbrev pub EndsAt : {L : Type 0} → Grammar L → List ℕ → ℕ → Option (ℕ × LineFault) → Type 0
 EndsAt grammar script count fault =
     (take count (script_lines grammar script) ≡ script_lines grammar script) × (script_fault grammar script ≡ fault)
 
--- behind so many first lines of a script this one is carried out, and these bytes are left
+-- behind the first *n* lines of a script this one is carried out, and these bytes are left
 abbrev pub IsFollowed : {L : Type 0} → Grammar L → List ℕ → ℕ → L → List ℕ → Type 0
 IsFollowed grammar script count line rest =
     (drop count (script_lines grammar script) ≡ line ∷ drop (count + 1) (script_lines grammar script))

@@ -25,6 +25,6 @@ trace_of language script =
     trace_of_lines language script
     ++ text_unless (script_fault language.grammar script) (language.texts.last_text (script_lines language.grammar script))
 
--- the trace of the first lines of a script, so many of those that are carried out
+-- the trace of the first *n* lines of a script, of those that are carried out
 abbrev pub trace_of_first : {L : Type 0} → ℕ → Language L → List ℕ → List ℕ
 trace_of_first count language script = trace_behind language.texts [] (take count (script_lines language.grammar script))

@@ -27,7 +27,7 @@ peak_text (Some top) = codes "peak " ++ decimal top.value ++ codes " at line " +
 abbrev pub from_text : ℕ → List ℕ
 from_text first = codes " from line " ++ decimal first ++ 10 ∷ []
 
--- the line of a stretch of so many lines with a buffer that is not writable
+-- the line of a stretch of *n* lines with a buffer that is not writable
 abbrev pub stretch_text : ℕ → ℕ → List ℕ
 stretch_text lines first = codes "unwritable " ++ decimal lines ++ from_text first
 

@@ -19,12 +19,12 @@ hex_onto-zero : (count : ℕ) (rest : List ℕ) → hex_onto count 0 rest ≡ re
 hex_onto-zero zero rest = refl
 hex_onto-zero (suc count) rest = hex_onto-zero count (48 ∷ rest) ∙ zeros_before count rest
 
--- the least number with more than one digit and so many more
+-- the least number with more than one digit and *n* more
 abbrev limit : ℕ → ℕ
 limit zero = 16
 limit (suc more) = limit more * 16
 
--- with zeros before them, the digits of a number that has at most so many are its last ones
+-- with zeros before them, the digits of a number that has at most *n* are its last ones
 padded_digits : (more fuel number : ℕ) (rest : List ℕ) → number < limit more → more < fuel
     → replicate (more + 1 + length rest - length (digits_onto fuel 16 false number rest)) 48
     ++ digits_onto fuel 16 false number rest ≡ hex_onto (suc more) number rest

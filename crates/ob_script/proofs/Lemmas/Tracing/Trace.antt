@@ -50,7 +50,7 @@ trace_of-cut language script fault e =
     ∙ ap (λ o. trace_of_lines language script ++ text_unless o (language.texts.last_text (script_lines language.grammar script)))
     (sym e)
 
--- the trace of all lines is that of so many first lines
+-- the trace of all lines is that of the first *n* lines
 pub all_lines : {L : Type 0} (language : Language L) (script : List ℕ)
     → trace_of_first (length (script_lines language.grammar script)) language script ≡ trace_of_lines language script
 all_lines language script =
