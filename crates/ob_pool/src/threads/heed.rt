@@ -21,6 +21,7 @@ const NAPS: u32 = 10000;
 
 /// Reads whether the buffer is writable, as a writer of a server does before it writes. If the drive's writers heed that,
 /// a write waits for it. Else the plan is carried out whatever is read.
+#[inline(always)]
 pub fn heed<L: Named, R: Wait>(
     rt: &R,
     context: &Context<L>,
@@ -40,6 +41,8 @@ pub fn heed<L: Named, R: Wait>(
 }
 
 /// Waits while writers are stopped and something is flushed that the transport may still send.
+#[cold]
+#[inline(never)]
 fn wait_for_room<L: Named, R: Wait>(rt: &R, context: &Context<L>, share: Share<L>) -> Share<L>
     ensures { result.maker ≡ share.maker }
 {

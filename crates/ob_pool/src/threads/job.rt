@@ -145,6 +145,8 @@ impl<L: Named> Job<L> {
 
 /// One step of a writer that has read: one call of the shared buffer, of a write with its charge in the lane meanwhile.
 /// The receipt goes behind the others.
+// in one piece with the loop, so that what a step begins with and comes to is not moved through memory
+#[inline(always)]
 fn one_step<L: Named, R: Wait + Clock, G: Gate>(
     rt: &R,
     gate: &G,
@@ -192,6 +194,7 @@ fn one_step<L: Named, R: Wait + Clock, G: Gate>(
 }
 
 /// One call of the shared buffer, from a desk of its own. The receipt goes behind the others.
+#[inline(always)]
 fn one_call<L: Named, R: Wait>(
     rt: &R,
     context: &Context<L>,
