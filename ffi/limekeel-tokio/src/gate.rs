@@ -1,20 +1,20 @@
 //! Who may write next, and who is woken.
 //!
 //! All of it is under one mutex, which is had for the calls of the connection that go with it, and over no `await` nor
-//! write to the stream. So that a writer finds room and writes is one step, and so are a sending and its waking; and
-//! nobody finds the connection's own lock taken, for which one would pause. No waker is called or dropped under the
+//! write to the stream. So that a writer finds room and writes is one step, and so are a sending and its waking, to
+//! where the next begins; and nobody finds the connection's own lock taken, for which one would pause. No waker is called or dropped under the
 //! mutex, and no message is dropped under it: a waker may hold the last reference to a task, and what is dropped may
 //! lock the mutex again.
 //!
-//! All who wait stand in one list: the pump, which waits for work; writers, which wait for room; and those who wait
-//! until messages are sent. **Who is not in the list any more was woken, and the room that it asked for is kept.** A
+//! All who wait stand in one list: writers, which wait for room, and those who wait until messages are sent; the pump,
+//! which waits for work, beside it. **Who is not there any more was woken, and the room that it asked for is kept.** A
 //! writer has room if the connection is writable, and the pending bytes with the room that is kept are not above the
 //! high mark: what is pending and whether it is writable the connection says. Each step ends with this: as long as
 //! there is room, the first writer in the list is woken. So there is no room while a writer is in the list, and nobody
 //! passes one that waits; and the pending bytes with the room that is kept pass the high mark by one message at most.
 //!
 //! No wake-up is lost: who waits looks and joins the list in one step, and whoever brings about what it waits for takes
-//! it off the list in the step that does so: a flush, a sending, the end. And who waits has all flushed that was
+//! it off in the step that does so: a flush, a sending, the end. And who waits has all flushed that was
 //! written before, and who writes after it has waited flushes too: so nobody waits for what nobody sends.
 
 use crate::message::{Message, WriteError, bytes};
@@ -49,7 +49,10 @@ pub struct Gate {
     pub is_stopped: bool,
     /// How much room is kept for those who were woken and have not written yet.
     kept: u64,
-    /// All who wait, by what they wait for, and then in order of arrival, with how much room is kept when one is woken.
+    /// The pump, while it waits for something to do.
+    pub pump: Option<Waker>,
+    /// All others who wait, by what they wait for, and then in order of arrival, with how much room is kept when one is
+    /// woken.
     waiting: BTreeMap<Place, (u64, Waker)>,
     arrivals: u64,
     /// Who is woken as soon as the mutex is free again.
@@ -71,8 +74,6 @@ pub struct Gate {
 /// What one waits for.
 #[derive(Clone, Copy, Debug, PartialEq, Eq, PartialOrd, Ord)]
 pub enum Event {
-    /// The pump, until there is something to do.
-    Work,
     /// A writer, until there is room.
     Room,
     /// Until so many messages are sent, or the pump has ended.
@@ -146,14 +147,13 @@ impl Shared {
         Poll::Ready(Ok(gate.written))
     }
 
-    /// How many flushed messages the pump has to send next: 0 if there never will be one.
-    pub fn work(&self, gate: &mut Gate) -> Poll<u64> {
+    /// Whether the pump has something to send now.
+    pub fn has_work(&self, gate: &mut Gate) -> bool {
         if take(&mut gate.wanted) {
             // it is not closed, and no promise is cancelled
             let _ = self.connection.flush();
         }
-        let size = self.connection.look().size;
-        if size > 0 || gate.is_over { Poll::Ready(size) } else { Poll::Pending }
+        self.connection.look().size > 0
     }
 }
 
@@ -161,7 +161,7 @@ impl Gate {
     /// Has the pump flush what was written.
     pub fn flush(&mut self) {
         if !replace(&mut self.wanted, true) {
-            self.wakes_first(Event::Work, Event::Work);
+            self.woken.extend(self.pump.take());
         }
     }
 
@@ -181,7 +181,7 @@ impl Gate {
     pub fn ends(&mut self, end: Option<Outcome>) {
         (self.is_over, self.end) = (true, end.or(self.end));
         self.flush();
-        while self.wakes_first(Event::Work, Event::Room) {}
+        while self.wakes_first(Event::Room, Event::Room) {}
     }
 
     /// Wakes the first of those who wait for these events, if there is one, and keeps room for it.
@@ -235,9 +235,7 @@ impl Waiting {
                 *asked = size;
                 gate.waiting.insert(place, (size, cx.waker().clone()));
                 // who waits does not wait for what nobody sends
-                if event != Event::Work {
-                    gate.flush();
-                }
+                gate.flush();
             }
             (answer, left)
         });
