@@ -2,9 +2,9 @@
 //!
 //! All of it is under one mutex, which is had for the calls of the connection that go with it, and over no `await` nor
 //! write to the stream. So that a writer finds room and writes is one step, and so are a sending and its waking, to
-//! where the next begins; and nobody finds the connection's own lock taken, for which one would pause. No waker is called or dropped under the
-//! mutex, and no message is dropped under it: a waker may hold the last reference to a task, and what is dropped may
-//! lock the mutex again.
+//! where the next begins; and nobody finds the connection's own lock taken, for which one would pause. No waker is
+//! called or dropped under the mutex, and no message is dropped under it: a waker may hold the last reference to a
+//! task, and what is dropped may lock the mutex again.
 //!
 //! All who wait stand in one list: writers, which wait for room, and those who wait until messages are sent; the pump,
 //! which waits for work, beside it. **Who is not there any more was woken, and the room that it asked for is kept.** A
@@ -14,8 +14,8 @@
 //! passes one that waits; and the pending bytes with the room that is kept pass the high mark by one message at most.
 //!
 //! No wake-up is lost: who waits looks and joins the list in one step, and whoever brings about what it waits for takes
-//! it off in the step that does so: a flush, a sending, the end. And who waits has all flushed that was
-//! written before, and who writes after it has waited flushes too: so nobody waits for what nobody sends.
+//! it off in the step that does so: a flush, a sending, the end. And who waits has all flushed that was written before,
+//! and who writes after it has waited flushes too: so nobody waits for what nobody sends.
 
 use crate::message::{Message, WriteError, bytes};
 use bytes::Bytes;
@@ -163,6 +163,11 @@ impl Gate {
         if !replace(&mut self.wanted, true) {
             self.woken.extend(self.pump.take());
         }
+    }
+
+    /// Whether some were let in who write soon.
+    pub fn expects_more(&self) -> bool {
+        self.kept > 0 && !self.is_stopped
     }
 
     /// What became of the last of this many messages, if that is known.

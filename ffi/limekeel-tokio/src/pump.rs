@@ -4,6 +4,7 @@ use limekeel::{Change, Estimate, Marks, Outcome, Refusal, SharedConnection, Tran
 use std::collections::VecDeque;
 use std::future::Future;
 use std::io::{self, ErrorKind, IoSlice};
+use std::mem::replace;
 use std::pin::Pin;
 use std::sync::Arc;
 use std::task::{Context, Poll, ready};
@@ -44,7 +45,7 @@ where
     }
     let (connection, transport) = SharedConnection::open(marks, estimate)?;
     let shared = Shared::new(connection, marks.high.into(), estimate.overhead.into());
-    Ok((Outbound::new(&shared), Pump { stream: Some(stream), transport, shared }))
+    Ok((Outbound::new(&shared), Pump { stream: Some(stream), transport, shared, has_paused: false }))
 }
 
 /// The future that sends what is written with an [`crate::Outbound`], for the user to spawn. It ends with its stream.
@@ -63,6 +64,8 @@ pub struct Pump<S> {
     stream: Option<S>,
     transport: Transport,
     shared: Arc<Shared>,
+    /// Whether it let others go before, since it sent last.
+    has_paused: bool,
 }
 
 /// What became of a [`Pump`].
@@ -93,7 +96,7 @@ impl<S> Ended<S> {
 impl<S: AsyncWrite + Unpin> Pump<S> {
     /// Ready when all is sent that can come, and the stream is shut down.
     fn poll_all(&mut self, cx: &mut Context<'_>) -> Poll<io::Result<()>> {
-        let Pump { stream, transport, shared } = self;
+        let Pump { stream, transport, shared, has_paused } = self;
         let mut stream = Pin::new(stream.as_mut().expect(ENDED));
         // what was lent, which is dropped without the mutex
         let mut lent = VecDeque::new();
@@ -109,6 +112,11 @@ impl<S: AsyncWrite + Unpin> Pump<S> {
                 ready!(stream.poll_flush(cx))?;
                 return Poll::Pending;
             }
+            // what those write who were let in goes by the same call; but nobody is waited for twice
+            if gate.expects_more() && !replace(has_paused, true) {
+                break;
+            }
+            *has_paused = false;
             // had from what was sent to what is sent next, and not while the stream is written to
             let mut had = Some(gate);
             let sent = transport.send_with(|pieces| {
