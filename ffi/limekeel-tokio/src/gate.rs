@@ -26,9 +26,9 @@ use std::mem::{replace, take};
 use std::sync::{Arc, Mutex, MutexGuard, PoisonError};
 use std::task::{Context, Poll, Waker, ready};
 
-/// How often the mutex is tried before a thread sleeps on it, each time after twice as long a pause, the first of a
-/// microsecond or two: who has it makes more calls meanwhile, and that costs less than to hand it over for each.
-const TRIES: u32 = 5;
+/// How often the mutex is tried before a thread sleeps on it, each time after twice as long a pause, the first of some
+/// microseconds: who has it makes more calls meanwhile, and that costs less than to hand it over for each.
+const TRIES: u32 = 4;
 
 /// What the writers and the pump of a connection have in common.
 #[derive(Debug)]
@@ -47,6 +47,8 @@ pub type Link = Arc<Arc<Shared>>;
 pub struct Gate {
     /// Whether the connection said last that it is not writable.
     pub is_stopped: bool,
+    /// What is pending: as the connection said after the last sending, and what was written since.
+    pub pending: u64,
     /// How much room is kept for those who were woken and have not written yet.
     kept: u64,
     /// The pump, while it waits for something to do.
@@ -96,7 +98,7 @@ impl Shared {
         for turn in 0..TRIES {
             match self.gate.try_lock() {
                 Ok(gate) => return gate,
-                Err(_) => (0..32 << turn).for_each(|_| spin_loop()),
+                Err(_) => (0..64 << turn).for_each(|_| spin_loop()),
             }
         }
         // nothing that panics leaves it half changed
@@ -119,10 +121,15 @@ impl Shared {
         woken.into_iter().for_each(Waker::wake);
     }
 
+    /// How much a message counts.
+    fn size(&self, message: &Option<impl Message>) -> u64 {
+        bytes(message).len() as u64 + self.overhead
+    }
+
     /// Whether one may write that arrives now.
     fn has_room(&self, gate: &Gate) -> bool {
         // while it is writable no more is pending than the high mark
-        !gate.is_stopped && (gate.kept == 0 || u64::from(self.connection.glance().total) + gate.kept <= self.high)
+        !gate.is_stopped && (gate.kept == 0 || gate.pending + gate.kept <= self.high)
     }
 
     /// Ready if one may write: since its turn has come, or there is room.
@@ -136,9 +143,12 @@ impl Shared {
     /// Writes a message if one may. It is left to the caller unless it has moved into the connection.
     pub fn write<M: Message>(&self, gate: &mut Gate, message: &mut Option<M>, flushes: bool, is_turn: bool) -> Wrote {
         ready!(self.enters(gate, is_turn))?;
-        let lent = message.as_ref().and_then(M::lent);
+        let (size, lent) = (self.size(message), message.as_ref().and_then(M::lent));
         let Written { id, change } = M::write_to(message, &self.connection).map_err(WriteError::Refused)?;
-        gate.lent.extend(lent.map(|bytes| (id, bytes)));
+        if let Some(bytes) = lent {
+            gate.lent.push_back((id, bytes));
+        }
+        gate.pending += size;
         gate.is_stopped |= change == Some(Change::Unwritable);
         gate.written = id + 1;
         if flushes {
@@ -249,7 +259,7 @@ impl Waiting {
 
     /// Writes a message, as soon as there is room and it is this one's turn.
     pub fn poll_write<M: Message>(&mut self, cx: &mut Context<'_>, message: &mut Option<M>, flushes: bool) -> Wrote {
-        let size = bytes(message).len() as u64 + self.shared.overhead;
+        let size = self.shared.size(message);
         // others may wait behind it for what nobody else flushes
         let call = |shared: &Shared, gate: &mut Gate, turn| shared.write(gate, message, flushes || turn, turn);
         self.poll(cx, (Event::Room, size), call)

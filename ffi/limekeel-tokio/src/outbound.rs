@@ -59,7 +59,12 @@ impl Outbound {
     }
 
     async fn writes<M: Message>(&self, message: M, flushes: bool) -> Result<Receipt, WriteError> {
-        let (mut message, mut waiting) = (Some(message), Waiting::new(&self.turn.shared));
+        let mut message = Some(message);
+        // most often it need not wait
+        if let Poll::Ready(count) = self.tries(&mut message, flushes) {
+            return Ok(self.receipt(count?));
+        }
+        let mut waiting = Waiting::new(&self.turn.shared);
         let count = poll_fn(|cx| waiting.poll_write(cx, &mut message, flushes)).await?;
         Ok(Receipt { waiting, count })
     }

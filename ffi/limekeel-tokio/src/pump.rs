@@ -129,6 +129,7 @@ impl<S: AsyncWrite + Unpin> Pump<S> {
             gate = had.expect("it was had again");
             gate.sent = sent.taken.promises.end;
             gate.is_stopped &= sent.taken.change != Some(Change::Writable);
+            gate.pending = shared.connection.glance().total.into();
             lent.extend(gate.gone(sent.taken.promises.end));
             if sent.blocked {
                 shared.lets_go(gate);
