@@ -50,7 +50,7 @@ pub struct Gate {
     /// What is pending: as the connection said after the last sending, and what was written since.
     pub pending: u64,
     /// How much room is kept for those who were woken and have not written yet.
-    kept: u64,
+    pub kept: u64,
     /// The pump, while it waits for something to do.
     pub pump: Option<Waker>,
     /// All others who wait, by what they wait for, and then in order of arrival, with how much room is kept when one is
@@ -145,9 +145,7 @@ impl Shared {
         ready!(self.enters(gate, is_turn))?;
         let (size, lent) = (self.size(message), message.as_ref().and_then(M::lent));
         let Written { id, change } = M::write_to(message, &self.connection).map_err(WriteError::Refused)?;
-        if let Some(bytes) = lent {
-            gate.lent.push_back((id, bytes));
-        }
+        lent.into_iter().for_each(|bytes| gate.lent.push_back((id, bytes)));
         gate.pending += size;
         gate.is_stopped |= change == Some(Change::Unwritable);
         gate.written = id + 1;
@@ -173,11 +171,6 @@ impl Gate {
         if !replace(&mut self.wanted, true) {
             self.woken.extend(self.pump.take());
         }
-    }
-
-    /// Whether some were let in who write soon.
-    pub fn expects_more(&self) -> bool {
-        self.kept > 0 && !self.is_stopped
     }
 
     /// What became of the last of this many messages, if that is known.

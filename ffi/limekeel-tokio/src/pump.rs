@@ -45,7 +45,7 @@ where
     }
     let (connection, transport) = SharedConnection::open(marks, estimate)?;
     let shared = Shared::new(connection, marks.high.into(), estimate.overhead.into());
-    Ok((Outbound::new(&shared), Pump { stream: Some(stream), transport, shared, has_paused: false }))
+    Ok((Outbound::new(&shared), Pump { stream: Some(stream), transport, shared, paused: None }))
 }
 
 /// The future that sends what is written with an [`crate::Outbound`], for the user to spawn. It ends with its stream.
@@ -64,8 +64,8 @@ pub struct Pump<S> {
     stream: Option<S>,
     transport: Transport,
     shared: Arc<Shared>,
-    /// Whether it let others go before, since it sent last.
-    has_paused: bool,
+    /// How many messages were sent when it last let others go before.
+    paused: Option<u64>,
 }
 
 /// What became of a [`Pump`].
@@ -96,7 +96,7 @@ impl<S> Ended<S> {
 impl<S: AsyncWrite + Unpin> Pump<S> {
     /// Ready when all is sent that can come, and the stream is shut down.
     fn poll_all(&mut self, cx: &mut Context<'_>) -> Poll<io::Result<()>> {
-        let Pump { stream, transport, shared, has_paused } = self;
+        let Pump { stream, transport, shared, paused } = self;
         let mut stream = Pin::new(stream.as_mut().expect(ENDED));
         // what was lent, which is dropped without the mutex
         let mut lent = VecDeque::new();
@@ -112,11 +112,10 @@ impl<S: AsyncWrite + Unpin> Pump<S> {
                 ready!(stream.poll_flush(cx))?;
                 return Poll::Pending;
             }
-            // what those write who were let in goes by the same call; but nobody is waited for twice
-            if gate.expects_more() && !replace(has_paused, true) {
+            // what those write who were let in goes by the same call; but they are waited for once
+            if gate.kept > 0 && !gate.is_stopped && replace(paused, Some(gate.sent)) != Some(gate.sent) {
                 break;
             }
-            *has_paused = false;
             // had from what was sent to what is sent next, and not while the stream is written to
             let mut had = Some(gate);
             let sent = transport.send_with(|pieces| {
