@@ -8,10 +8,15 @@ mod ways;
 
 use bytes::Bytes;
 use std::env;
-use std::io::Read;
+use std::io::{self, IoSlice, Read};
 use std::net::{TcpListener, TcpStream};
+use std::pin::Pin;
+use std::sync::{Arc, Mutex};
+use std::task::{Context, Poll};
 use std::thread::{self, JoinHandle};
 use std::time::{Duration, Instant};
+use tokio::io::AsyncWrite;
+use tokio::net::tcp::OwnedWriteHalf;
 use ways::{Handle, WAYS, Way, open};
 
 /// A throughput is of this many bytes, or of this many messages if that is less.
@@ -66,23 +71,76 @@ async fn throughput(way: Way, size: usize, writers: usize) -> f64 {
     (count * writers) as f64 / start.elapsed().as_secs_f64()
 }
 
-/// The times in microseconds from before a write to the reading of its message: half are below the first, and 99 of
-/// 100 below the second. Each of some tasks writes a message of 64 bytes every millisecond.
-async fn latency(way: Way) -> (f64, f64) {
+/// A socket that notes when the system has taken how many bytes.
+struct Noted {
+    socket: OwnedWriteHalf,
+    taken: Arc<Mutex<Vec<(usize, Instant)>>>,
+}
+
+impl Noted {
+    fn notes(&self, took: Poll<io::Result<usize>>) -> Poll<io::Result<usize>> {
+        if let Poll::Ready(Ok(count)) = took {
+            self.taken.lock().expect("nobody panics").push((count, Instant::now()));
+        }
+        took
+    }
+}
+
+impl AsyncWrite for Noted {
+    fn poll_write(mut self: Pin<&mut Self>, cx: &mut Context<'_>, bytes: &[u8]) -> Poll<io::Result<usize>> {
+        let took = Pin::new(&mut self.socket).poll_write(cx, bytes);
+        self.notes(took)
+    }
+
+    fn poll_write_vectored(
+        mut self: Pin<&mut Self>,
+        cx: &mut Context<'_>,
+        pieces: &[IoSlice<'_>],
+    ) -> Poll<io::Result<usize>> {
+        let took = Pin::new(&mut self.socket).poll_write_vectored(cx, pieces);
+        self.notes(took)
+    }
+
+    fn is_write_vectored(&self) -> bool {
+        self.socket.is_write_vectored()
+    }
+
+    fn poll_flush(mut self: Pin<&mut Self>, cx: &mut Context<'_>) -> Poll<io::Result<()>> {
+        Pin::new(&mut self.socket).poll_flush(cx)
+    }
+
+    fn poll_shutdown(mut self: Pin<&mut Self>, cx: &mut Context<'_>) -> Poll<io::Result<()>> {
+        Pin::new(&mut self.socket).poll_shutdown(cx)
+    }
+}
+
+/// Below which time half of these are, and 99 of 100, in microseconds.
+fn half_and_most(mut times: Vec<u64>) -> [f64; 2] {
+    times.sort_unstable();
+    [times.len() / 2, times.len() * 99 / 100].map(|place| times[place] as f64 / 1e3)
+}
+
+/// The times in microseconds from before a write until the system has taken its message, and until the client has read
+/// it: half are below the first of each, and 99 of 100 below the second. Each of some tasks writes a message of 64 bytes
+/// every millisecond.
+async fn latency(way: Way) -> [[f64; 2]; 2] {
     const TASKS: usize = 32;
     const EACH: usize = 1000;
+    const SIZE: usize = 64;
     let (server, mut client) = pair();
-    let (_reading, writing) = server.into_split();
+    let (_reading, socket) = server.into_split();
     let start = Instant::now();
+    let nanos = move |at: Instant| at.duration_since(start).as_nanos() as u64;
     let reader = thread::spawn(move || {
-        let (mut times, mut message) = (Vec::new(), [0; 64]);
+        let (mut read, mut message) = (Vec::new(), [0; SIZE]);
         while client.read_exact(&mut message).is_ok() {
-            let sent = u64::from_le_bytes(message[..8].try_into().expect("eight bytes"));
-            times.push(start.elapsed().as_nanos() as u64 - sent);
+            let began = u64::from_le_bytes(message[..8].try_into().expect("eight bytes"));
+            read.push((began, nanos(Instant::now())));
         }
-        times
+        read
     });
-    let handle = open(way, writing, 64);
+    let taken = Arc::default();
+    let handle = open(way, Noted { socket, taken: Arc::clone(&taken) }, SIZE);
     let tasks: Vec<_> = (0..TASKS)
         .map(|task| {
             let handle = handle.clone();
@@ -91,8 +149,8 @@ async fn latency(way: Way) -> (f64, f64) {
                 let mut ticks = tokio::time::interval(Duration::from_millis(1));
                 for _ in 0..EACH {
                     ticks.tick().await;
-                    let mut message = [0; 64];
-                    message[..8].copy_from_slice(&(start.elapsed().as_nanos() as u64).to_le_bytes());
+                    let mut message = [0; SIZE];
+                    message[..8].copy_from_slice(&nanos(Instant::now()).to_le_bytes());
                     handle.write(Bytes::copy_from_slice(&message)).await;
                 }
             })
@@ -102,10 +160,15 @@ async fn latency(way: Way) -> (f64, f64) {
     for task in tasks {
         task.await.expect("it wrote all");
     }
-    let mut times = tokio::task::spawn_blocking(|| reader.join().expect("it read")).await.expect("it read");
-    assert_eq!(times.len(), TASKS * EACH);
-    times.sort_unstable();
-    (times[times.len() / 2] as f64 / 1e3, times[times.len() * 99 / 100] as f64 / 1e3)
+    let read = tokio::task::spawn_blocking(|| reader.join().expect("it read")).await.expect("it read");
+    assert_eq!(read.len(), TASKS * EACH);
+    let (mut sent, mut end) = (Vec::new(), 0);
+    for (count, at) in taken.lock().expect("nobody panics").iter() {
+        end += count;
+        // of each message whose last byte was among these
+        sent.extend(read[sent.len()..end / SIZE].iter().map(|(began, _)| nanos(*at) - began));
+    }
+    [half_and_most(sent), half_and_most(read.iter().map(|(began, came)| came - began).collect())]
 }
 
 /// How many kilobytes of memory this process has.
@@ -156,8 +219,8 @@ fn main() {
             println!("{:.0}", runtime().block_on(throughput(way(name), size, writers)));
         }
         ["latency", name] => {
-            let (half, most) = runtime().block_on(latency(way(name)));
-            println!("{half:.1} {most:.1}");
+            let [[half, most], [half_read, most_read]] = runtime().block_on(latency(way(name)));
+            println!("{half:.1} {most:.1} {half_read:.1} {most_read:.1}");
         }
         ["memory", name] => {
             println!("{:.0}", runtime().block_on(memory(way(name))));

@@ -5,8 +5,7 @@ use futures_sink::Sink;
 use limekeel_tokio::{Marks, Outbound, split};
 use std::future::poll_fn;
 use std::pin::Pin;
-use tokio::io::{AsyncWriteExt, BufWriter};
-use tokio::net::tcp::OwnedWriteHalf;
+use tokio::io::{AsyncWrite, AsyncWriteExt, BufWriter};
 use tokio::sync::mpsc::{Receiver, Sender, channel};
 use tokio_util::codec::{BytesCodec, FramedWrite};
 
@@ -63,7 +62,7 @@ impl Handle {
 }
 
 /// A handle of a client, whose messages have this size. Each way lets about as many wait.
-pub fn open(way: Way, stream: OwnedWriteHalf, size: usize) -> Handle {
+pub fn open<S: AsyncWrite + Unpin + Send + 'static>(way: Way, stream: S, size: usize) -> Handle {
     let marks = Marks::default();
     let limekeel = |stream| {
         let (outbound, pump) = split(stream, marks).expect("there is memory");
@@ -95,7 +94,7 @@ pub fn open(way: Way, stream: OwnedWriteHalf, size: usize) -> Handle {
     }
 }
 
-async fn writes_all(mut receiver: Receiver<Bytes>, mut stream: OwnedWriteHalf) {
+async fn writes_all(mut receiver: Receiver<Bytes>, mut stream: impl AsyncWrite + Unpin) {
     while let Some(message) = receiver.recv().await {
         if stream.write_all(&message).await.is_err() {
             return;
@@ -104,7 +103,7 @@ async fn writes_all(mut receiver: Receiver<Bytes>, mut stream: OwnedWriteHalf) {
 }
 
 /// Flushes when no message waits.
-async fn buffers(mut receiver: Receiver<Bytes>, mut stream: BufWriter<OwnedWriteHalf>) {
+async fn buffers(mut receiver: Receiver<Bytes>, mut stream: BufWriter<impl AsyncWrite + Unpin>) {
     while let Some(message) = receiver.recv().await {
         if stream.write_all(&message).await.is_err() {
             return;
@@ -120,7 +119,7 @@ async fn buffers(mut receiver: Receiver<Bytes>, mut stream: BufWriter<OwnedWrite
     }
 }
 
-async fn frames(mut receiver: Receiver<Bytes>, stream: OwnedWriteHalf) {
+async fn frames(mut receiver: Receiver<Bytes>, stream: impl AsyncWrite + Unpin) {
     let mut framed = FramedWrite::new(stream, BytesCodec::new());
     while let Some(message) = receiver.recv().await {
         if feed(&mut framed, message).await.is_err() {
@@ -137,7 +136,7 @@ async fn frames(mut receiver: Receiver<Bytes>, stream: OwnedWriteHalf) {
     }
 }
 
-async fn feed(framed: &mut FramedWrite<OwnedWriteHalf, BytesCodec>, message: Bytes) -> std::io::Result<()> {
+async fn feed(framed: &mut FramedWrite<impl AsyncWrite + Unpin, BytesCodec>, message: Bytes) -> std::io::Result<()> {
     poll_fn(|cx| Sink::<Bytes>::poll_ready(Pin::new(&mut *framed), cx)).await?;
     Pin::new(framed).start_send(message)
 }

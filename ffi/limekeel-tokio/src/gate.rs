@@ -1,21 +1,21 @@
 //! Who may write next, and who is woken.
 //!
 //! All of it is under one mutex, which is had for the calls of the connection that go with it, and over no `await` nor
-//! write to the stream. So that a writer finds room and writes is one step, and so are a sending and its waking; and
-//! nobody finds the connection's own lock taken, for which one would pause. No waker is called or dropped under the
-//! mutex, and no message is dropped under it: a waker may hold the last reference to a task, and what is dropped may
-//! lock the mutex again.
+//! write to the stream. So that a writer finds room and writes is one step, and so are a sending and its waking, to
+//! where the next begins; and nobody finds the connection's own lock taken, for which one would pause. No waker is
+//! called or dropped under the mutex, and no message is dropped under it: a waker may hold the last reference to a
+//! task, and what is dropped may lock the mutex again.
 //!
-//! All who wait stand in one list: the pump, which waits for work; writers, which wait for room; and those who wait
-//! until messages are sent. **Who is not in the list any more was woken, and the room that it asked for is kept.** A
+//! All who wait stand in one list: writers, which wait for room, and those who wait until messages are sent; the pump,
+//! which waits for work, beside it. **Who is not there any more was woken, and the room that it asked for is kept.** A
 //! writer has room if the connection is writable, and the pending bytes with the room that is kept are not above the
 //! high mark: what is pending and whether it is writable the connection says. Each step ends with this: as long as
 //! there is room, the first writer in the list is woken. So there is no room while a writer is in the list, and nobody
 //! passes one that waits; and the pending bytes with the room that is kept pass the high mark by one message at most.
 //!
 //! No wake-up is lost: who waits looks and joins the list in one step, and whoever brings about what it waits for takes
-//! it off the list in the step that does so: a flush, a sending, the end. And who waits has all flushed that was
-//! written before, and who writes after it has waited flushes too: so nobody waits for what nobody sends.
+//! it off in the step that does so: a flush, a sending, the end. And who waits has all flushed that was written before,
+//! and who writes after it has waited flushes too: so nobody waits for what nobody sends.
 
 use crate::message::{Message, WriteError, bytes};
 use bytes::Bytes;
@@ -26,9 +26,9 @@ use std::mem::{replace, take};
 use std::sync::{Arc, Mutex, MutexGuard, PoisonError};
 use std::task::{Context, Poll, Waker, ready};
 
-/// How often the mutex is tried before a thread sleeps on it, each time after twice as long a pause, the first of a
-/// microsecond or two: who has it makes more calls meanwhile, and that costs less than to hand it over for each.
-const TRIES: u32 = 5;
+/// How often the mutex is tried before a thread sleeps on it, each time after twice as long a pause, the first of some
+/// microseconds: who has it makes more calls meanwhile, and that costs less than to hand it over for each.
+const TRIES: u32 = 4;
 
 /// What the writers and the pump of a connection have in common.
 #[derive(Debug)]
@@ -47,9 +47,14 @@ pub type Link = Arc<Arc<Shared>>;
 pub struct Gate {
     /// Whether the connection said last that it is not writable.
     pub is_stopped: bool,
+    /// What is pending: as the connection said after the last sending, and what was written since.
+    pub pending: u64,
     /// How much room is kept for those who were woken and have not written yet.
-    kept: u64,
-    /// All who wait, by what they wait for, and then in order of arrival, with how much room is kept when one is woken.
+    pub kept: u64,
+    /// The pump, while it waits for something to do.
+    pub pump: Option<Waker>,
+    /// All others who wait, by what they wait for, and then in order of arrival, with how much room is kept when one is
+    /// woken.
     waiting: BTreeMap<Place, (u64, Waker)>,
     arrivals: u64,
     /// Who is woken as soon as the mutex is free again.
@@ -71,8 +76,6 @@ pub struct Gate {
 /// What one waits for.
 #[derive(Clone, Copy, Debug, PartialEq, Eq, PartialOrd, Ord)]
 pub enum Event {
-    /// The pump, until there is something to do.
-    Work,
     /// A writer, until there is room.
     Room,
     /// Until so many messages are sent, or the pump has ended.
@@ -95,7 +98,7 @@ impl Shared {
         for turn in 0..TRIES {
             match self.gate.try_lock() {
                 Ok(gate) => return gate,
-                Err(_) => (0..32 << turn).for_each(|_| spin_loop()),
+                Err(_) => (0..64 << turn).for_each(|_| spin_loop()),
             }
         }
         // nothing that panics leaves it half changed
@@ -118,10 +121,15 @@ impl Shared {
         woken.into_iter().for_each(Waker::wake);
     }
 
+    /// How much a message counts.
+    fn size(&self, message: &Option<impl Message>) -> u64 {
+        bytes(message).len() as u64 + self.overhead
+    }
+
     /// Whether one may write that arrives now.
     fn has_room(&self, gate: &Gate) -> bool {
         // while it is writable no more is pending than the high mark
-        !gate.is_stopped && (gate.kept == 0 || u64::from(self.connection.glance().total) + gate.kept <= self.high)
+        !gate.is_stopped && (gate.kept == 0 || gate.pending + gate.kept <= self.high)
     }
 
     /// Ready if one may write: since its turn has come, or there is room.
@@ -135,9 +143,10 @@ impl Shared {
     /// Writes a message if one may. It is left to the caller unless it has moved into the connection.
     pub fn write<M: Message>(&self, gate: &mut Gate, message: &mut Option<M>, flushes: bool, is_turn: bool) -> Wrote {
         ready!(self.enters(gate, is_turn))?;
-        let lent = message.as_ref().and_then(M::lent);
+        let (size, lent) = (self.size(message), message.as_ref().and_then(M::lent));
         let Written { id, change } = M::write_to(message, &self.connection).map_err(WriteError::Refused)?;
-        gate.lent.extend(lent.map(|bytes| (id, bytes)));
+        lent.into_iter().for_each(|bytes| gate.lent.push_back((id, bytes)));
+        gate.pending += size;
         gate.is_stopped |= change == Some(Change::Unwritable);
         gate.written = id + 1;
         if flushes {
@@ -146,14 +155,13 @@ impl Shared {
         Poll::Ready(Ok(gate.written))
     }
 
-    /// How many flushed messages the pump has to send next: 0 if there never will be one.
-    pub fn work(&self, gate: &mut Gate) -> Poll<u64> {
+    /// Whether the pump has something to send now.
+    pub fn has_work(&self, gate: &mut Gate) -> bool {
         if take(&mut gate.wanted) {
             // it is not closed, and no promise is cancelled
             let _ = self.connection.flush();
         }
-        let size = self.connection.look().size;
-        if size > 0 || gate.is_over { Poll::Ready(size) } else { Poll::Pending }
+        self.connection.look().size > 0
     }
 }
 
@@ -161,7 +169,7 @@ impl Gate {
     /// Has the pump flush what was written.
     pub fn flush(&mut self) {
         if !replace(&mut self.wanted, true) {
-            self.wakes_first(Event::Work, Event::Work);
+            self.woken.extend(self.pump.take());
         }
     }
 
@@ -181,7 +189,7 @@ impl Gate {
     pub fn ends(&mut self, end: Option<Outcome>) {
         (self.is_over, self.end) = (true, end.or(self.end));
         self.flush();
-        while self.wakes_first(Event::Work, Event::Room) {}
+        while self.wakes_first(Event::Room, Event::Room) {}
     }
 
     /// Wakes the first of those who wait for these events, if there is one, and keeps room for it.
@@ -235,9 +243,7 @@ impl Waiting {
                 *asked = size;
                 gate.waiting.insert(place, (size, cx.waker().clone()));
                 // who waits does not wait for what nobody sends
-                if event != Event::Work {
-                    gate.flush();
-                }
+                gate.flush();
             }
             (answer, left)
         });
@@ -246,7 +252,7 @@ impl Waiting {
 
     /// Writes a message, as soon as there is room and it is this one's turn.
     pub fn poll_write<M: Message>(&mut self, cx: &mut Context<'_>, message: &mut Option<M>, flushes: bool) -> Wrote {
-        let size = bytes(message).len() as u64 + self.shared.overhead;
+        let size = self.shared.size(message);
         // others may wait behind it for what nobody else flushes
         let call = |shared: &Shared, gate: &mut Gate, turn| shared.write(gate, message, flushes || turn, turn);
         self.poll(cx, (Event::Room, size), call)

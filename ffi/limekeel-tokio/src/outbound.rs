@@ -59,7 +59,12 @@ impl Outbound {
     }
 
     async fn writes<M: Message>(&self, message: M, flushes: bool) -> Result<Receipt, WriteError> {
-        let (mut message, mut waiting) = (Some(message), Waiting::new(&self.turn.shared));
+        let mut message = Some(message);
+        // most often it need not wait
+        if let Poll::Ready(count) = self.tries(&mut message, flushes) {
+            return Ok(self.receipt(count?));
+        }
+        let mut waiting = Waiting::new(&self.turn.shared);
         let count = poll_fn(|cx| waiting.poll_write(cx, &mut message, flushes)).await?;
         Ok(Receipt { waiting, count })
     }
@@ -85,15 +90,14 @@ impl Outbound {
 
     fn tries_once<M: Message>(&self, message: M, flushes: bool) -> Result<Receipt, TryWriteError<M>> {
         let mut held = Some(message);
-        let error: fn(M) -> TryWriteError<M> = match self.tries(&mut held, flushes) {
-            Poll::Ready(Ok(count)) => return Ok(self.receipt(count)),
-            Poll::Ready(Err(WriteError::Refused(refusal))) => {
-                return Err(TryWriteError::Refused(refusal, held.expect(LEFT)));
-            }
-            Poll::Ready(Err(WriteError::Gone)) => TryWriteError::Gone,
-            Poll::Pending => TryWriteError::Full,
-        };
-        Err(error(held.expect(LEFT)))
+        let answer = self.tries(&mut held, flushes);
+        let left = || held.expect(LEFT);
+        match answer {
+            Poll::Ready(Ok(count)) => Ok(self.receipt(count)),
+            Poll::Ready(Err(WriteError::Gone)) => Err(TryWriteError::Gone(left())),
+            Poll::Ready(Err(WriteError::Refused(refusal))) => Err(TryWriteError::Refused(refusal, left())),
+            Poll::Pending => Err(TryWriteError::Full(left())),
+        }
     }
 
     /// Writes a message, if one may that arrives now.

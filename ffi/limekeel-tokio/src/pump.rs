@@ -1,8 +1,10 @@
-use crate::gate::{Event, Shared, Waiting};
+use crate::gate::Shared;
 use crate::outbound::Outbound;
 use limekeel::{Change, Estimate, Marks, Outcome, Refusal, SharedConnection, Transport};
+use std::collections::VecDeque;
 use std::future::Future;
 use std::io::{self, ErrorKind, IoSlice};
+use std::mem::replace;
 use std::pin::Pin;
 use std::sync::Arc;
 use std::task::{Context, Poll, ready};
@@ -43,8 +45,7 @@ where
     }
     let (connection, transport) = SharedConnection::open(marks, estimate)?;
     let shared = Shared::new(connection, marks.high.into(), estimate.overhead.into());
-    let waiting = Waiting::new(&Arc::new(Arc::clone(&shared)));
-    Ok((Outbound::new(&shared), Pump { stream: Some(stream), transport, waiting }))
+    Ok((Outbound::new(&shared), Pump { stream: Some(stream), transport, shared, paused: None }))
 }
 
 /// The future that sends what is written with an [`crate::Outbound`], for the user to spawn. It ends with its stream.
@@ -62,8 +63,9 @@ pub struct Pump<S> {
     /// None once it has ended.
     stream: Option<S>,
     transport: Transport,
-    /// Where it waits for something to do.
-    waiting: Waiting,
+    shared: Arc<Shared>,
+    /// How many messages were sent when it last let others go before.
+    paused: Option<u64>,
 }
 
 /// What became of a [`Pump`].
@@ -94,36 +96,46 @@ impl<S> Ended<S> {
 impl<S: AsyncWrite + Unpin> Pump<S> {
     /// Ready when all is sent that can come, and the stream is shut down.
     fn poll_all(&mut self, cx: &mut Context<'_>) -> Poll<io::Result<()>> {
+        let Pump { stream, transport, shared, paused } = self;
+        let mut stream = Pin::new(stream.as_mut().expect(ENDED));
+        // what was lent, which is dropped without the mutex
+        let mut lent = VecDeque::new();
+        let mut gate = shared.lock();
         for _ in 0..TURNS {
-            let work = self.waiting.poll(cx, (Event::Work, 0), |shared, gate, _| shared.work(gate));
-            let mut stream = Pin::new(self.stream.as_mut().expect(ENDED));
-            match work {
-                Poll::Ready(0) => return stream.poll_shutdown(cx),
-                Poll::Pending => {
-                    ready!(stream.poll_flush(cx))?;
-                    return Poll::Pending;
+            if !shared.has_work(&mut gate) {
+                let is_over = gate.is_over;
+                let _old = gate.pump.replace(cx.waker().clone());
+                shared.lets_go(gate);
+                if is_over {
+                    return stream.poll_shutdown(cx);
                 }
-                Poll::Ready(_) => {
-                    let shared = &self.waiting.shared;
-                    // so no writer finds the connection's lock taken, but while the stream is written to
-                    let mut gate = Some(shared.lock());
-                    let sent = self.transport.send_with(|pieces| {
-                        gate = None;
-                        let took = write_pieces(stream.as_mut(), cx, pieces);
-                        gate = Some(shared.lock());
-                        took
-                    })?;
-                    let mut gate = gate.expect("it was had again");
-                    gate.sent = sent.taken.promises.end;
-                    gate.is_stopped &= sent.taken.change != Some(Change::Writable);
-                    let _lent = gate.gone(sent.taken.promises.end);
-                    shared.lets_go(gate);
-                    if sent.blocked {
-                        return Poll::Pending;
-                    }
-                }
+                ready!(stream.poll_flush(cx))?;
+                return Poll::Pending;
+            }
+            // what those write who were let in goes by the same call; but they are waited for once
+            if gate.kept > 0 && !gate.is_stopped && replace(paused, Some(gate.sent)) != Some(gate.sent) {
+                break;
+            }
+            // had from what was sent to what is sent next, and not while the stream is written to
+            let mut had = Some(gate);
+            let sent = transport.send_with(|pieces| {
+                had.take().into_iter().for_each(|gate| shared.lets_go(gate));
+                lent.clear();
+                let took = write_pieces(stream.as_mut(), cx, pieces);
+                had = Some(shared.lock());
+                took
+            })?;
+            gate = had.expect("it was had again");
+            gate.sent = sent.taken.promises.end;
+            gate.is_stopped &= sent.taken.change != Some(Change::Writable);
+            gate.pending = shared.connection.glance().total.into();
+            lent.extend(gate.gone(sent.taken.promises.end));
+            if sent.blocked {
+                shared.lets_go(gate);
+                return Poll::Pending;
             }
         }
+        shared.lets_go(gate);
         cx.waker().wake_by_ref();
         Poll::Pending
     }
@@ -132,7 +144,7 @@ impl<S: AsyncWrite + Unpin> Pump<S> {
 impl<S> Pump<S> {
     /// Gives up what is left, and returns how many messages were sent and not sent.
     fn ends(&mut self, outcome: Outcome) -> (u64, u64) {
-        let (counts, _lent) = self.waiting.shared.with(|gate| {
+        let (counts, _lent) = self.shared.with(|gate| {
             gate.ends(Some(outcome));
             ((gate.sent, gate.written - gate.sent), gate.gone(u64::MAX))
         });

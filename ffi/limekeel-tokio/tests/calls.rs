@@ -130,6 +130,51 @@ fn room_is_kept_for_those_who_were_woken() {
     assert_eq!((woken(&writers), outbound.pending()), (4, 400));
 }
 
+/// A connection that was full, of which three writers were let in again.
+macro_rules! three_let_in {
+    ($pump:ident, $stream:ident, $writers:ident) => {
+        let $stream = Memory::new(Within { vectored: true, ..Within::default() });
+        let (outbound, pump) = split($stream.clone(), Marks { low: 150, high: 350 }).unwrap();
+        let mut $pump = ByHand::new(pump);
+        for _ in 0..4 {
+            drop(outbound.try_write(b"full").unwrap());
+        }
+        let mut $writers: Vec<_> = (0..3).map(|_| ByHand::new(outbound.write(b"next")).waits()).collect();
+        assert!($pump.poll().is_pending());
+        assert!($writers.iter().all(|writer| writer.woken() == 1));
+    };
+}
+
+#[test]
+fn what_those_write_who_were_let_in_goes_by_one_write() {
+    three_let_in!(pump, stream, writers);
+    let woken = pump.woken();
+    assert!(writers[0].poll().is_ready());
+    assert_eq!(pump.woken(), woken + 1);
+    // it comes again by itself, behind the others
+    assert!(pump.poll().is_pending());
+    assert_eq!((stream.with(|within| within.writes), pump.woken()), (1, woken + 2));
+    assert!(writers[1].poll().is_ready() && writers[2].poll().is_ready());
+    assert!(pump.poll().is_pending());
+    assert_eq!((stream.with(|within| (within.writes, within.got.len())), pump.woken()), ((2, 28), woken + 2));
+}
+
+#[test]
+fn one_that_was_let_in_and_does_not_write_holds_up_nothing() {
+    three_let_in!(pump, stream, writers);
+    assert!(writers[0].poll().is_ready());
+    for sent in [16, 20] {
+        assert!(pump.poll().is_pending());
+        assert_eq!(stream.with(|within| within.got.len()), sent);
+    }
+    // and after it has sent others are waited for once more
+    assert!(writers[1].poll().is_ready());
+    for sent in [20, 24] {
+        assert!(pump.poll().is_pending());
+        assert_eq!(stream.with(|within| within.got.len()), sent);
+    }
+}
+
 #[test]
 fn a_writer_that_is_dropped_passes_its_turn_on() {
     let (outbound, mut pump, _) = filled();
