@@ -36,8 +36,9 @@
  *
  * Errors. Each call returns a status, alone or as the first member of a struct: LIMEKEEL_OK, or
  * why the call did nothing. A call that did not return LIMEKEEL_OK left everything as it was, and
- * all else in its struct is 0. A handle that owns nothing is LIMEKEEL_NOT_OPEN and no crash. No
- * call reads errno, aborts, or calls back; LIMEKEEL_NO_MEMORY leaves in errno what malloc did.
+ * all else in its struct is 0, but for what limekeel_budgeted_free says, and for `pressure`. A handle
+ * that owns nothing is LIMEKEEL_NOT_OPEN and no crash. No call reads errno, aborts, or calls back;
+ * LIMEKEEL_NO_MEMORY leaves in errno what malloc did.
  * Pointers may not be NULL, but for the bytes, parts and pieces of limekeel_write, limekeel_write_lent,
  * limekeel_write_parts, limekeel_block_new and limekeel_gather if there are none.
  */
@@ -64,7 +65,7 @@ extern "C" {
 
 /* A number of the structs, functions and numbers of this header. limekeel_open says LIMEKEEL_OTHER_VERSION to an archive of
  * another. Before 1.0 each version may have another. */
-#define LIMEKEEL_EDGE 836637042u
+#define LIMEKEEL_EDGE 3281395174u
 
 /* What may tell a change of writability is not to be dropped. */
 #if (defined(__cplusplus) && __cplusplus >= 201703L) || (defined(__STDC_VERSION__) && __STDC_VERSION__ >= 202311L)
@@ -88,15 +89,19 @@ enum limekeel_status {
     LIMEKEEL_BAD_INDEX = 8,        /* the index of a user bit is 1 to 31 */
     LIMEKEEL_FLUSHED_LEFT = 9,     /* flushed messages are left: fail or remove them before a close */
     LIMEKEEL_UNKNOWN_PROMISE = 10, /* no write was accepted under this promise */
-    LIMEKEEL_NO_MEMORY = 12,       /* malloc refused, or a block has more owners, or a connection more handles, than can be counted */
-    LIMEKEEL_NOT_OPEN = 13,        /* the connection or block owns nothing */
+    LIMEKEEL_NO_MEMORY = 12,       /* malloc refused, or a block has more owners, or a connection or a budget more handles, than can
+                                    * be counted */
+    LIMEKEEL_NOT_OPEN = 13,        /* the connection, block or budget owns nothing */
     LIMEKEEL_ALREADY_OPEN = 14,    /* it owns something already */
     LIMEKEEL_BAD_ESTIMATE = 15,    /* the overhead or the unknown size is above 65535 */
     LIMEKEEL_NO_BLOCK = 16,        /* the block that is to be written owns nothing */
     LIMEKEEL_OTHER_VERSION = 17,   /* the archive is of another version than this header */
-    LIMEKEEL_BUSY = 18,            /* another call has the lock of the shared connection: try again */
+    LIMEKEEL_BUSY = 18,            /* another call has the lock of the shared connection, or others came in between 65536 times at
+                                    * the budget: try again */
     LIMEKEEL_FINISHING = 19,       /* the end of the managed connection was asked for */
-    LIMEKEEL_FULL = 20             /* more bytes would be pending than the managed connection may hold */
+    LIMEKEEL_FULL = 20,            /* more bytes would be pending than the managed connection may hold */
+    LIMEKEEL_OVER_BUDGET = 21,     /* the budget has no room for the message */
+    LIMEKEEL_BAD_BOUNDS = 22       /* the low mark of the budget is above the high mark, or its room above 2^62 - 1 */
 };
 
 /* How a call changed writability. Each change is reported once: act on it. */
@@ -104,6 +109,13 @@ enum limekeel_change {
     LIMEKEEL_UNCHANGED = 0,
     LIMEKEEL_UNWRITABLE = 1, /* stop writing */
     LIMEKEEL_WRITABLE = 2    /* go on */
+};
+
+/* How a call changed pressure at its budget. Each change is told once, to the call that made it, whatever its status is. */
+enum limekeel_pressure {
+    LIMEKEEL_PRESSURE_UNCHANGED = 0,
+    LIMEKEEL_PRESSURE_BEGAN = 1, /* read less and accept fewer */
+    LIMEKEEL_PRESSURE_ENDED = 2  /* go on, and wake who waits for that */
 };
 
 /* How a promise was settled. */
@@ -176,6 +188,15 @@ struct limekeel_transport {
 struct limekeel_managed {
     uint8_t *at;
 };
+/* A handle of a budget for the memory of many connections, one for each thread; and a connection that a budget covers. */
+struct limekeel_budget {
+    uint8_t *at;
+};
+struct limekeel_budgeted {
+    uint8_t *at;
+};
+#define LIMEKEEL_BUDGET LIMEKEEL_CONNECTION
+#define LIMEKEEL_BUDGETED LIMEKEEL_CONNECTION
 #define LIMEKEEL_MANAGED LIMEKEEL_CONNECTION
 #define LIMEKEEL_SHARED LIMEKEEL_CONNECTION
 #define LIMEKEEL_TRANSPORT LIMEKEEL_CONNECTION
@@ -373,6 +394,58 @@ struct limekeel_numbers {
     struct limekeel_refusals refusals;
 };
 
+/* What a look at a budget returns. */
+struct limekeel_budget_told {
+    uint32_t status;
+    bool is_pressed; /* whether pressure stands */
+    uint64_t total;  /* the bytes that all its connections hold */
+};
+
+/* What the calls of a connection that a budget covers return: the reply of a connection, and a limekeel_pressure, which is told
+ * once. A write that is refused may have begun pressure too. */
+struct limekeel_pressed_done {
+    uint32_t status;
+    uint32_t pressure;
+};
+
+struct limekeel_pressed_written {
+    struct limekeel_written written;
+    uint32_t pressure;
+};
+
+struct limekeel_pressed_flushed {
+    struct limekeel_flushed flushed;
+    uint32_t pressure;
+};
+
+struct limekeel_pressed_removed {
+    struct limekeel_removed removed;
+    uint32_t pressure;
+};
+
+struct limekeel_pressed_taken {
+    struct limekeel_taken taken;
+    uint32_t pressure;
+};
+
+struct limekeel_pressed_cancelled {
+    struct limekeel_cancelled cancelled;
+    uint32_t pressure;
+};
+
+struct limekeel_pressed_changed {
+    struct limekeel_changed changed;
+    uint32_t pressure;
+};
+
+struct limekeel_standing {
+    uint32_t status;
+    bool writable; /* whether writers may go on */
+    bool closed;   /* whether a close was accepted */
+    bool empty;    /* whether no message is flushed and not yet removed */
+    uint64_t held; /* the bytes that it holds of the budget: at least those that are pending */
+};
+
 /* The layout that the archive was compiled with. */
 #if defined(__cplusplus)
 #define LIMEKEEL_LAYOUT(type, size, last, offset)                                                         \
@@ -412,6 +485,17 @@ LIMEKEEL_LAYOUT(limekeel_state, 12, finished, 8);
 LIMEKEEL_LAYOUT(limekeel_count, 16, bytes, 8);
 LIMEKEEL_LAYOUT(limekeel_refusals, 96, unknown_promise, 88);
 LIMEKEEL_LAYOUT(limekeel_numbers, 208, refusals, 112);
+LIMEKEEL_LAYOUT(limekeel_budget, 8, at, 0);
+LIMEKEEL_LAYOUT(limekeel_budgeted, 8, at, 0);
+LIMEKEEL_LAYOUT(limekeel_budget_told, 16, total, 8);
+LIMEKEEL_LAYOUT(limekeel_pressed_done, 8, pressure, 4);
+LIMEKEEL_LAYOUT(limekeel_pressed_written, 24, pressure, 16);
+LIMEKEEL_LAYOUT(limekeel_pressed_flushed, 24, pressure, 16);
+LIMEKEEL_LAYOUT(limekeel_pressed_removed, 40, pressure, 32);
+LIMEKEEL_LAYOUT(limekeel_pressed_taken, 48, pressure, 40);
+LIMEKEEL_LAYOUT(limekeel_pressed_cancelled, 12, pressure, 8);
+LIMEKEEL_LAYOUT(limekeel_pressed_changed, 12, pressure, 8);
+LIMEKEEL_LAYOUT(limekeel_standing, 16, held, 8);
 LIMEKEEL_LAYOUT(limekeel_shared, 8, at, 0);
 LIMEKEEL_LAYOUT(limekeel_transport, 8, at, 0);
 LIMEKEEL_LAYOUT(limekeel_glance, 12, total, 8);
@@ -612,6 +696,95 @@ struct limekeel_current_told limekeel_managed_current(const struct limekeel_mana
 struct limekeel_gathered limekeel_managed_gather_pieces(const struct limekeel_managed *managed, struct limekeel_piece *pieces,
                                                         size_t length, uint32_t max_bytes);
 
+/* A budget for the memory of many connections on whatever threads: all that are opened within it together never hold more than
+ * `room` pending bytes, at each moment. Netty has none; Linux has such a one for TCP (tcp_mem). A write that finds no room is
+ * LIMEKEEL_OVER_BUDGET, and allocates nothing: answer something smaller, give this connection or the slowest one up, or try
+ * later. Pressure begins when more than `high` bytes are held, and ends when fewer than `low` are: the call that makes it begin
+ * or end is told so in `pressure`, once. Meanwhile read less and accept fewer.
+ *
+ * A connection takes at least `quantum` bytes at once while the room has as many, so that most writes touch nothing that threads
+ * share, and gives back what is spare above two of them: 4096 to 16384 for many connections. What is held is what is pending and
+ * what is spare. With a room of a hundred times two quanta for each connection, less than a hundredth is ever spare.
+ *
+ * Each thread has a handle of its own, which limekeel_budget_share makes, and no lock around it. A connection needs no handle once
+ * it is open, and may move between threads. Handles may be freed before the connections: the last of all frees the budget.
+ *
+ * Opens a budget of which nothing is held, and gives its first handle. Call limekeel_budget_open. */
+uint32_t limekeel_budget_open_for(struct limekeel_budget *budget, uint32_t edge, uint64_t room, uint64_t low, uint64_t high,
+                                  uint64_t quantum);
+static inline uint32_t limekeel_budget_open(struct limekeel_budget *budget, uint64_t room, uint64_t low, uint64_t high,
+                                            uint64_t quantum)
+{
+    return limekeel_budget_open_for(budget, LIMEKEEL_EDGE, room, low, high, quantum);
+}
+
+/* Makes a second handle of the same budget, for another thread. A handle gives a 1024th of the connections that it may open yet,
+ * of 2^62 in all, so a thousand may be made of the first one. */
+uint32_t limekeel_budget_share(struct limekeel_budget *budget, struct limekeel_budget *second);
+
+/* The bytes that all connections of the budget hold, and whether pressure stands: read in one load, so ask as often as you like.
+ * The second asks by a connection of the budget. */
+struct limekeel_budget_told limekeel_budget_look(struct limekeel_budget *budget);
+struct limekeel_budget_told limekeel_budgeted_look_at_budget(struct limekeel_budgeted *budgeted);
+
+/* Lets a handle go. */
+uint32_t limekeel_budget_free(struct limekeel_budget *budget);
+
+/* Opens a connection within a budget, as limekeel_open. It holds nothing before its first write. LIMEKEEL_NOT_OPEN says that the
+ * budget owns nothing. Call limekeel_open_within. */
+uint32_t limekeel_open_within_for(struct limekeel_budgeted *budgeted, uint32_t edge, uint32_t low, uint32_t high,
+                                  uint32_t overhead, uint32_t unknown, struct limekeel_budget *budget);
+static inline uint32_t limekeel_open_within(struct limekeel_budgeted *budgeted, uint32_t low, uint32_t high, uint32_t overhead,
+                                            uint32_t unknown, struct limekeel_budget *budget)
+{
+    return limekeel_open_within_for(budgeted, LIMEKEEL_EDGE, low, high, overhead, unknown, budget);
+}
+
+/* Frees it with all that waits in it, and gives back what it holds of the budget. Promises that wait are not reported: give it up
+ * before. LIMEKEEL_BUSY says that others came in between 65536 times: what waited is gone, and it holds its bytes of the budget
+ * still, so free it again. */
+LIMEKEEL_TOLD struct limekeel_pressed_done limekeel_budgeted_free(struct limekeel_budgeted *budgeted);
+
+/* Gives back what it holds of the budget above what is pending, unless others come in between 65536 times: for a connection that
+ * is idle, as before a thread or task waits with nothing to send. */
+LIMEKEEL_TOLD struct limekeel_pressed_done limekeel_budgeted_rest(struct limekeel_budgeted *budgeted);
+
+/* The writes, as those of a connection. LIMEKEEL_OVER_BUDGET and LIMEKEEL_BUSY come after LIMEKEEL_CLOSED and LIMEKEEL_OVERSIZE, and
+ * before anything is allocated; LIMEKEEL_OVER_BUDGET only if there was no room at one moment while the call ran. */
+LIMEKEEL_TOLD struct limekeel_pressed_written limekeel_budgeted_write_bytes(struct limekeel_budgeted *budgeted,
+                                                                            const uint8_t *bytes, size_t length);
+LIMEKEEL_TOLD struct limekeel_pressed_written limekeel_budgeted_write_block(struct limekeel_budgeted *budgeted,
+                                                                            const struct limekeel_block *block);
+LIMEKEEL_TOLD struct limekeel_pressed_written limekeel_budgeted_write_lent_bytes(struct limekeel_budgeted *budgeted,
+                                                                                 const uint8_t *bytes, size_t length);
+LIMEKEEL_TOLD struct limekeel_pressed_written limekeel_budgeted_write_region(struct limekeel_budgeted *budgeted, uint64_t length);
+LIMEKEEL_TOLD struct limekeel_pressed_written limekeel_budgeted_write_other(struct limekeel_budgeted *budgeted, uint32_t value);
+
+/* The commands, as those of a connection. Each gives back what is spare above two quanta. */
+LIMEKEEL_TOLD struct limekeel_pressed_flushed limekeel_budgeted_flush(struct limekeel_budgeted *budgeted);
+LIMEKEEL_TOLD struct limekeel_pressed_done limekeel_budgeted_progress(struct limekeel_budgeted *budgeted, uint64_t n);
+LIMEKEEL_TOLD struct limekeel_pressed_cancelled limekeel_budgeted_cancel(struct limekeel_budgeted *budgeted, uint64_t id);
+LIMEKEEL_TOLD struct limekeel_pressed_changed limekeel_budgeted_user_bit(struct limekeel_budgeted *budgeted, uint32_t index,
+                                                                         bool writable);
+LIMEKEEL_TOLD struct limekeel_pressed_done limekeel_budgeted_set_marks(struct limekeel_budgeted *budgeted, uint32_t low,
+                                                                       uint32_t high);
+LIMEKEEL_TOLD struct limekeel_pressed_removed limekeel_budgeted_remove(struct limekeel_budgeted *budgeted);
+LIMEKEEL_TOLD struct limekeel_pressed_removed limekeel_budgeted_remove_with(struct limekeel_budgeted *budgeted, uint32_t cause);
+LIMEKEEL_TOLD struct limekeel_pressed_taken limekeel_budgeted_take_sent(struct limekeel_budgeted *budgeted, uint64_t n);
+LIMEKEEL_TOLD struct limekeel_pressed_taken limekeel_budgeted_fail_flushed(struct limekeel_budgeted *budgeted, uint32_t cause,
+                                                                           bool notify);
+LIMEKEEL_TOLD struct limekeel_pressed_taken limekeel_budgeted_close(struct limekeel_budgeted *budgeted, uint32_t cause);
+LIMEKEEL_TOLD struct limekeel_pressed_taken limekeel_budgeted_give_up(struct limekeel_budgeted *budgeted, uint32_t cause);
+
+/* How it stands, and the looks of a connection. */
+struct limekeel_standing limekeel_budgeted_state(const struct limekeel_budgeted *budgeted);
+struct limekeel_look_told limekeel_budgeted_look(const struct limekeel_budgeted *budgeted);
+struct limekeel_promise_told limekeel_budgeted_promise(const struct limekeel_budgeted *budgeted, uint64_t id);
+struct limekeel_front_told limekeel_budgeted_front(const struct limekeel_budgeted *budgeted);
+struct limekeel_current_told limekeel_budgeted_current(const struct limekeel_budgeted *budgeted);
+struct limekeel_gathered limekeel_budgeted_gather_pieces(const struct limekeel_budgeted *budgeted,
+                                                         struct limekeel_piece *pieces, size_t length, uint32_t max_bytes);
+
 /* A connection that several threads write to, and one sends from. Each thread has a handle of its own, a limekeel_shared or
  * the limekeel_transport, and no lock around it: a handle is used by one call at a time, and handles of one connection by
  * any threads at once. A call takes the lock of the connection if that is free, and else returns LIMEKEEL_BUSY, and nothing
@@ -733,6 +906,14 @@ struct limekeel_told_sent {
 };
 LIMEKEEL_TOLD struct limekeel_told_sent limekeel_managed_send(struct limekeel_managed *managed, int socket, uint32_t max_turns);
 
+/* The same of a connection that a budget covers. The changes of pressure by its turns are told as one: the last, if any. */
+struct limekeel_pressed_sent {
+    struct limekeel_sent sent;
+    uint32_t pressure;
+};
+LIMEKEEL_TOLD struct limekeel_pressed_sent limekeel_budgeted_send(struct limekeel_budgeted *budgeted, int socket,
+                                                                  uint32_t max_turns);
+
 /* Messages that are made in place, as by a serializer, in memory that small ones share: reserve room, fill it, write it. These
  * are in room.c, over limekeel_write_lent. One connection has one of these, which is let go of as messages are taken away. */
 struct limekeel_chunk;
@@ -827,6 +1008,18 @@ LIMEKEEL_TOLD static inline struct limekeel_written limekeel_managed_write_lent(
     return limekeel_managed_write_lent_bytes(managed, length > 0 ? (const uint8_t *)bytes : (const uint8_t *)"", length);
 }
 
+LIMEKEEL_TOLD static inline struct limekeel_pressed_written limekeel_budgeted_write(struct limekeel_budgeted *budgeted,
+                                                                                   const void *bytes, size_t length)
+{
+    return limekeel_budgeted_write_bytes(budgeted, length > 0 ? (const uint8_t *)bytes : (const uint8_t *)"", length);
+}
+
+LIMEKEEL_TOLD static inline struct limekeel_pressed_written limekeel_budgeted_write_lent(struct limekeel_budgeted *budgeted,
+                                                                                        const void *bytes, size_t length)
+{
+    return limekeel_budgeted_write_lent_bytes(budgeted, length > 0 ? (const uint8_t *)bytes : (const uint8_t *)"", length);
+}
+
 LIMEKEEL_TOLD static inline struct limekeel_written limekeel_write_parts(struct limekeel_connection *connection,
                                                                          const struct limekeel_piece *parts,
                                                                          size_t length)
@@ -849,6 +1042,14 @@ static inline struct limekeel_gathered limekeel_managed_gather(const struct lime
 {
     struct limekeel_piece none = {(const uint8_t *)"", 0};
     return limekeel_managed_gather_pieces(managed, length > 0 ? pieces : &none, length, max_bytes);
+}
+
+static inline struct limekeel_gathered limekeel_budgeted_gather(const struct limekeel_budgeted *budgeted,
+                                                                struct limekeel_piece *pieces, size_t length,
+                                                                uint32_t max_bytes)
+{
+    struct limekeel_piece none = {(const uint8_t *)"", 0};
+    return limekeel_budgeted_gather_pieces(budgeted, length > 0 ? pieces : &none, length, max_bytes);
 }
 
 #ifdef LIMEKEEL_IOVEC
@@ -880,14 +1081,16 @@ static inline const char *limekeel_strstatus(uint32_t status)
     case LIMEKEEL_FLUSHED_LEFT: return "flushed messages are left";
     case LIMEKEEL_UNKNOWN_PROMISE: return "no write has this promise";
     case LIMEKEEL_NO_MEMORY: return "out of memory";
-    case LIMEKEEL_NOT_OPEN: return "the connection or block owns nothing";
-    case LIMEKEEL_ALREADY_OPEN: return "the connection or block owns something already";
+    case LIMEKEEL_NOT_OPEN: return "the connection, block or budget owns nothing";
+    case LIMEKEEL_ALREADY_OPEN: return "the connection, block or budget owns something already";
     case LIMEKEEL_BAD_ESTIMATE: return "the overhead or the size of unknown messages is above 65535";
     case LIMEKEEL_NO_BLOCK: return "the block that is to be written owns nothing";
     case LIMEKEEL_OTHER_VERSION: return "the archive is of another version than the header";
-    case LIMEKEEL_BUSY: return "another call has the lock";
+    case LIMEKEEL_BUSY: return "another call has the lock, or others came in between at the budget";
     case LIMEKEEL_FINISHING: return "the connection is finishing";
     case LIMEKEEL_FULL: return "more would be pending than the connection may hold";
+    case LIMEKEEL_OVER_BUDGET: return "the budget has no room for the message";
+    case LIMEKEEL_BAD_BOUNDS: return "the low mark of the budget is above the high mark, or its room above 2^62 - 1";
     default: return "no status of this version";
     }
 }

@@ -1,5 +1,5 @@
 /*
- * limekeel_send and limekeel_managed_send, over sendmsg. limekeel.h says what they do.
+ * limekeel_send, limekeel_managed_send and limekeel_budgeted_send, over sendmsg. limekeel.h says what they do.
  *
  * They are made of calls of the archive, and not themselves proved. liblimekeel.a has this file too.
  */
@@ -52,10 +52,18 @@ static uint32_t offer(int socket, struct iovec *slices, size_t count, uint64_t *
     }
 }
 
-/* What is sent from: a connection, or else a managed one. */
+/* What is sent from: a connection, or else a managed one, or else one that a budget covers. */
 struct source {
     struct limekeel_connection *connection;
     struct limekeel_managed *managed;
+    struct limekeel_budgeted *budgeted;
+};
+
+/* What a removal told, and what a sending tells: of a managed connection the end, of one that a budget covers pressure. */
+struct told {
+    struct limekeel_sent sent;
+    bool finished;
+    uint32_t pressure;
 };
 
 static size_t gather(struct source source, struct iovec *slices)
@@ -63,28 +71,39 @@ static size_t gather(struct source source, struct iovec *slices)
     struct limekeel_piece *pieces = (struct limekeel_piece *)slices;
     if (source.managed)
         return limekeel_managed_gather_pieces(source.managed, pieces, LIMEKEEL_PIECES, UINT32_MAX).count;
+    if (source.budgeted)
+        return limekeel_budgeted_gather_pieces(source.budgeted, pieces, LIMEKEEL_PIECES, UINT32_MAX).count;
     return limekeel_gather_pieces(source.connection, pieces, LIMEKEEL_PIECES, UINT32_MAX).count;
 }
 
 static bool is_empty(struct source source)
 {
+    if (source.budgeted)
+        return limekeel_budgeted_state(source.budgeted).empty;
     return source.managed ? limekeel_managed_state(source.managed).empty : limekeel_is_empty(source.connection).holds;
 }
 
-static struct limekeel_told_taken take_sent(struct source source, uint64_t bytes)
+static struct limekeel_taken take_sent(struct source source, uint64_t bytes, struct told *told)
 {
-    if (source.managed)
-        return limekeel_managed_take_sent(source.managed, bytes);
-    struct limekeel_told_taken told = {limekeel_take_sent(source.connection, bytes), false};
-    return told;
+    if (source.managed) {
+        struct limekeel_told_taken taken = limekeel_managed_take_sent(source.managed, bytes);
+        told->finished = told->finished || taken.finished;
+        return taken.taken;
+    }
+    if (source.budgeted) {
+        struct limekeel_pressed_taken taken = limekeel_budgeted_take_sent(source.budgeted, bytes);
+        if (taken.pressure != LIMEKEEL_PRESSURE_UNCHANGED)
+            told->pressure = taken.pressure;
+        return taken.taken;
+    }
+    return limekeel_take_sent(source.connection, bytes);
 }
 
 /* Takes away what was sent, along with what went before. */
-static void take(struct source source, uint64_t bytes, struct limekeel_told_sent *told)
+static void take(struct source source, uint64_t bytes, struct told *told)
 {
-    struct limekeel_told_taken now = take_sent(source, bytes);
+    struct limekeel_taken taken = take_sent(source, bytes, told);
     struct limekeel_sent *sent = &told->sent;
-    struct limekeel_taken taken = now.taken;
     if (sent->taken.outcome == LIMEKEEL_SUCCESS) {
         /* the promises follow those before, and writability changed by one of them at most */
         taken.from = sent->taken.from;
@@ -95,12 +114,11 @@ static void take(struct source source, uint64_t bytes, struct limekeel_told_sent
     sent->taken = taken;
     sent->status = taken.status;
     sent->bytes += bytes;
-    told->finished = told->finished || now.finished;
 }
 
-static struct limekeel_told_sent send_from(struct source source, int socket, uint32_t max_turns)
+static struct told send_from(struct source source, int socket, uint32_t max_turns)
 {
-    struct limekeel_told_sent told = {0};
+    struct told told = {0};
     struct limekeel_sent *sent = &told.sent;
     for (uint32_t turn = 1;; turn++) {
         struct iovec slices[LIMEKEEL_PIECES];
@@ -120,12 +138,22 @@ static struct limekeel_told_sent send_from(struct source source, int socket, uin
 
 struct limekeel_sent limekeel_send(struct limekeel_connection *connection, int socket, uint32_t max_turns)
 {
-    struct source source = {connection, NULL};
+    struct source source = {.connection = connection};
     return send_from(source, socket, max_turns).sent;
 }
 
 struct limekeel_told_sent limekeel_managed_send(struct limekeel_managed *managed, int socket, uint32_t max_turns)
 {
-    struct source source = {NULL, managed};
-    return send_from(source, socket, max_turns);
+    struct source source = {.managed = managed};
+    struct told told = send_from(source, socket, max_turns);
+    struct limekeel_told_sent sent = {told.sent, told.finished};
+    return sent;
+}
+
+struct limekeel_pressed_sent limekeel_budgeted_send(struct limekeel_budgeted *budgeted, int socket, uint32_t max_turns)
+{
+    struct source source = {.budgeted = budgeted};
+    struct told told = send_from(source, socket, max_turns);
+    struct limekeel_pressed_sent sent = {told.sent, told.pressure};
+    return sent;
 }

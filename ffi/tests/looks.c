@@ -84,6 +84,33 @@ static void look_at(const struct limekeel_connection *connection, uint64_t size,
     expect("gather", limekeel_gather(connection, pieces, 4, UINT32_MAX).status == LIMEKEEL_OK);
 }
 
+static void look_at_budgeted(const struct limekeel_budgeted *budgeted)
+{
+    struct limekeel_piece pieces[4];
+    expect("state", limekeel_budgeted_state(budgeted).held == 102);
+    expect("look", limekeel_budgeted_look(budgeted).total == 102);
+    expect("promise", limekeel_budgeted_promise(budgeted, 0).state == LIMEKEEL_FIXED);
+    expect("front", limekeel_budgeted_front(budgeted).any);
+    expect("current", limekeel_budgeted_current(budgeted).number == 6);
+    expect("gather", limekeel_budgeted_gather(budgeted, pieces, 4, UINT32_MAX).count == 1);
+}
+
+/* The same of a connection that a budget covers. */
+static void looks_within(struct limekeel_block *block)
+{
+    struct limekeel_budget *budget = given(&handles, sizeof *budget);
+    struct limekeel_budgeted *budgeted = given(&handles, sizeof *budgeted);
+    expect("budget", limekeel_budget_open(budget, 1000, 100, 200, 0) == LIMEKEEL_OK);
+    expect("open", limekeel_open_within(budgeted, 100, 200, 96, 8, budget) == LIMEKEEL_OK);
+    may_be_written(&handles, false);
+    expect("write", limekeel_budgeted_write_block(budgeted, block).written.status == LIMEKEEL_OK);
+    expect("flush", limekeel_budgeted_flush(budgeted).flushed.count == 1);
+    may_be_written(&heap, false);
+    look_at_budgeted(budgeted);
+    may_be_written(&heap, true);
+    expect("remove", limekeel_budgeted_remove(budgeted).removed.any);
+}
+
 int main(void)
 {
     heap = pages();
@@ -115,6 +142,8 @@ int main(void)
     }
     /* the handles still cannot be written */
     expect("a block", limekeel_write_block(other, block).status == LIMEKEEL_OK);
+    may_be_written(&handles, true);
+    looks_within(block);
     puts("no look writes");
     return 0;
 }

@@ -1,4 +1,5 @@
 pub mod Another
+pub mod Cutting
 pub mod Few
 pub mod Gathered
 pub mod Holder

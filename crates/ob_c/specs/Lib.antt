@@ -1,4 +1,5 @@
 pub mod Blocks
+pub mod Budgets
 pub mod Gathering
 pub mod Held
 pub mod Looks

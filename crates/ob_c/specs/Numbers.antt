@@ -35,7 +35,7 @@ no_block = 16
 abbrev pub other_version : ℕ
 other_version = 17
 
--- the status of a call that found the lock taken
+-- the status of a call that found the lock taken, or that lost too many steps at a budget to others
 abbrev pub busy : ℕ
 busy = 18
 
@@ -46,6 +46,14 @@ finishing = 19
 -- the status of a write past the limit on the pending bytes
 abbrev pub full : ℕ
 full = 20
+
+-- the status of a write that the budget had no room for
+abbrev pub over_budget : ℕ
+over_budget = 21
+
+-- the status of an opening of a budget whose low mark is above the high mark, or whose room is too great
+abbrev pub bad_bounds : ℕ
+bad_bounds = 22
 
 -- what a call has to report: its reply, or else the status of a handle that holds nothing, or of its refusal
 abbrev pub accepted : {A : Type 0} → Option (Result A Refusal) → Result A ℕ

@@ -3,6 +3,10 @@ use Rattle.std.specs.Prelude.{ℕ, List, Some}
 use Rattle.std.specs.Borrow.{Lends, MutBor, Fml}
 use Rattle.ob_connection.specs.Connected.{Connected}
 use Rattle.ob_connection.specs.contracts.connection.Connection.{the_row as connection_row}
+use Rattle.ob_covered.specs.Budgeted.{BudgetedValue}
+use Rattle.ob_covered.specs.Cover.{CoverValue}
+use Rattle.ob_covered.specs.contracts.budgeted.Budgeted.{the_row as covered_row}
+use Rattle.ob_covered.specs.contracts.cover.Cover.{the_row as cover_row}
 use Rattle.ob_lifecycle.specs.Managed.{Managed as ManagedValue}
 use Rattle.ob_lifecycle.specs.contracts.managed.ManagedConnection.{the_row as inner_row}
 use Rattle.ob_shared_connection.specs.Values.{HandleValue}
@@ -10,10 +14,14 @@ use Rattle.ob_shared_connection.specs.contracts.handle.Handle.{the_row as sharer
 use Rattle.ob_shared_connection.specs.contracts.transport.Transport.{the_row as sender_row}
 use Rattle.ob_c.specs.Shared.{bytes_row}
 use Rattle.ob_c.specs.declared.block.Block.{Block}
+use Rattle.ob_c.specs.declared.budget.Budget.{Budget}
+use Rattle.ob_c.specs.declared.budgeted.Budgeted.{Budgeted}
 use Rattle.ob_c.specs.declared.handle.Handle.{Handle}
 use Rattle.ob_c.specs.declared.managed.Managed.{Managed}
 use Rattle.ob_c.specs.declared.shared.Shared.{Shared}
 use Rattle.ob_c.specs.declared.transport.Transport.{Transport}
+use Rattle.ob_c.specs.contracts.budget.Budget.{the_row as budget_row}
+use Rattle.ob_c.specs.contracts.budgeted.Budgeted.{the_row as budgeted_row}
 use Rattle.ob_c.specs.contracts.transport.Transport.{the_row as transport_row}
 use Rattle.ob_c.specs.contracts.managed.Managed.{the_row as managed_row}
 use Rattle.ob_c.specs.contracts.shared.Shared.{the_row as shared_row}
@@ -59,3 +67,19 @@ managed_with managed connection = record { at = managed.at; value = Some connect
 -- and it ends with what was left behind the reference
 abbrev pub LendsManaged : MutBor Managed → MutBor ManagedValue → Fml
 LendsManaged managed connection = Lends managed_row inner_row managed connection (managed_with managed.now)
+
+-- what C holds of a budget at the same place, with this cover behind it
+abbrev pub budget_with : Budget → CoverValue → Budget
+budget_with budget cover = record { at = budget.at; value = Some cover }
+
+-- and it ends with what was left behind the reference
+abbrev pub LendsCover : MutBor Budget → MutBor CoverValue → Fml
+LendsCover budget cover = Lends budget_row cover_row budget cover (budget_with budget.now)
+
+-- what C holds of a connection that a budget covers at the same place, with this one behind it
+abbrev pub budgeted_with : Budgeted → BudgetedValue → Budgeted
+budgeted_with budgeted connection = record { at = budgeted.at; value = Some connection }
+
+-- and it ends with what was left behind the reference
+abbrev pub LendsBudgeted : MutBor Budgeted → MutBor BudgetedValue → Fml
+LendsBudgeted budgeted connection = Lends budgeted_row covered_row budgeted connection (budgeted_with budgeted.now)

@@ -3,6 +3,13 @@
 
 mod block;
 mod blocks;
+mod budget;
+mod budgeted;
+mod budgeted_commands;
+mod budgeted_looks;
+mod budgeted_opening;
+mod budgeted_writes;
+mod budgets;
 mod commands;
 mod gather;
 mod handle;
@@ -17,6 +24,7 @@ mod numbers;
 mod opening;
 mod parts;
 mod pieces;
+mod pressed;
 mod removals;
 mod replies;
 mod sends;

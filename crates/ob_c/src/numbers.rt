@@ -26,7 +26,7 @@ pub(crate) const NO_BLOCK: u32 = 16;
 /// The status of an opening for another edge than this one.
 pub(crate) const OTHER_VERSION: u32 = 17;
 
-/// The status of a call that found the lock taken by another one: nothing changed.
+/// The status of a call that found the lock taken by another one, or that lost too many steps at a budget to others.
 pub(crate) const BUSY: u32 = 18;
 
 /// The status of a write to a managed connection whose end was asked for.
@@ -35,9 +35,15 @@ pub(crate) const FINISHING: u32 = 19;
 /// The status of a write to a managed connection past its limit on the pending bytes.
 pub(crate) const FULL: u32 = 20;
 
+/// The status of a write that the budget had no room for.
+pub(crate) const OVER_BUDGET: u32 = 21;
+
+/// The status of an opening of a budget whose low mark is above the high mark, or whose room is above 2^62 - 1 bytes.
+pub(crate) const BAD_BOUNDS: u32 = 22;
+
 /// A number of the structs, functions and numbers that C and this library have to agree on: `ffi/check_edge` computes it of
 /// them, and wants another one if they change.
-pub(crate) const EDGE: u32 = 836637042;
+pub(crate) const EDGE: u32 = 3281395174;
 
 /// What a call has to report: its reply, or else the status of a handle that holds nothing, or of its refusal.
 pub(crate) fn accepted<T>(answer: Option<Result<T, Refusal>>) -> Result<T, u32>

@@ -1,7 +1,9 @@
 -- How a seat covers the bytes of one connection.
 use Rattle.std.specs.Prelude.{◌≡◌, ◌≤◌, ◌<◌, ◌+◌, ◌-◌, ℕ, Option, Some, None}
-use Rattle.ob_budget.specs.Account.{HoldsAlike}
+use Rattle.ob_budget.specs.Account.{HoldsAlike, first_account}
+use Rattle.ob_budget.specs.Bounds.{BoundsValue}
 use Rattle.ob_budget.specs.Calls.{IsRefused, most_tries}
+use Rattle.ob_budget.specs.Cut.{kept_account, given_account}
 use Rattle.ob_budget.specs.Values.{SeatValue}
 use Rattle.ob_budget.specs.declared.fault.RaiseFault.{RaiseFault}
 use Rattle.ob_budget.specs.declared.pressure.Pressure.{Pressure}
@@ -49,3 +51,23 @@ pub record TakesSparingly (needed : ℕ) (old new : CoverValue) : Type 0 where
 abbrev pub HoldsAtMost : ℕ → CoverValue → CoverValue → Type 0
 HoldsAtMost most old new =
     new.seat.account.lost < old.seat.account.lost + most_tries → new.seat.account.held ≤ most
+
+-- the cover that a budget is opened with: it is for all seats, and holds nothing
+pub record IsFirst (bounds : BoundsValue) (quantum : ℕ) (cover : CoverValue) : Type 0 where
+  pub quantum_is : cover.quantum ≡ quantum
+  pub bounds_are : cover.seat.budget.bounds ≡ bounds
+  pub account : cover.seat.account ≡ first_account bounds
+
+-- what is left of a cover that gives this many seats away
+abbrev pub left_of : ℕ → CoverValue → CoverValue
+left_of seats cover = record {
+  seat = record { budget = cover.seat.budget; account = kept_account seats cover.seat.account };
+  quantum = cover.quantum;
+}
+
+-- the cover that gets them: at the same budget and with the same quantum, and it holds nothing
+abbrev pub given_by : ℕ → CoverValue → CoverValue
+given_by seats cover = record {
+  seat = record { budget = cover.seat.budget; account = given_account seats cover.seat.account };
+  quantum = cover.quantum;
+}

@@ -7,6 +7,7 @@ ghost use Rattle.ob_covered.specs.Cover.{CoverValue, Tells, HoldsAtMost};
 mod commands;
 mod copying;
 mod giving_up;
+mod renewing;
 mod sending;
 mod write;
 

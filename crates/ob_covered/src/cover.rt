@@ -3,6 +3,8 @@ ghost use Rattle.std.specs.Arc.{arc_value};
 ghost use Rattle.ob_covered.specs.Cover.{CoverValue, Tells, IsShort, HoldsAtMost, TakesSparingly};
 ghost use Rattle.ob_covered.specs.Inside.{cover_of, IsCover};
 
+mod cuts;
+
 use ob_budget::{Budget, Pressure, RaiseFault, Seat};
 use std::marker::Model;
 use std::sync::Arc;

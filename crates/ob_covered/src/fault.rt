@@ -32,3 +32,8 @@ pub struct NotWritten {
     /// The message, whole.
     pub message: Message,
 }
+
+/// No cover was cut off another: that one's seat is for too few, or its budget has more covers than can be counted.
+#[derive(Clone, Copy, Debug, PartialEq, Eq, Error)]
+#[error("the cover has no seat to give")]
+pub struct NoSeat;

@@ -8,4 +8,4 @@ mod fault;
 
 pub use budgeted::Budgeted;
 pub use cover::Cover;
-pub use fault::{NotWritten, Told, WriteFault};
+pub use fault::{NoSeat, NotWritten, Told, WriteFault};

@@ -23,7 +23,7 @@ mod heap;
 pub const PIECES: usize = 1024;
 
 /// A number of these declarations, which `limekeel_open_for` compares with the archive's.
-pub const EDGE: u32 = 836637042;
+pub const EDGE: u32 = 3281395174;
 
 macro_rules! numbers {
     ($($name:ident = $number:literal),* $(,)?) => {
@@ -36,7 +36,9 @@ numbers! {
     OK = 0, OVERSIZE = 1, BAD_MARKS = 2, TOO_MUCH = 3, CLOSED = 4, NOTHING_FLUSHED = 5, TOO_FAR = 6, TOO_MANY_BYTES = 7,
     BAD_INDEX = 8, FLUSHED_LEFT = 9, UNKNOWN_PROMISE = 10, NO_MEMORY = 12, NOT_OPEN = 13, ALREADY_OPEN = 14,
     BAD_ESTIMATE = 15, NO_BLOCK = 16, OTHER_VERSION = 17, BUSY = 18, FINISHING = 19, FULL = 20,
+    OVER_BUDGET = 21, BAD_BOUNDS = 22,
     UNCHANGED = 0, UNWRITABLE = 1, WRITABLE = 2,
+    PRESSURE_UNCHANGED = 0, PRESSURE_BEGAN = 1, PRESSURE_ENDED = 2,
     NO_OUTCOME = 0, SUCCESS = 1, FAILED = 2, CANCELLED = 3,
     UNKNOWN = 0, WAITING = 1, FIXED = 2, SETTLED = 3, SETTLED_BEFORE = 4,
     FRONT_NOTHING = 0, FRONT_BLOCKS = 1, FRONT_EMPTY_BLOCKS = 2, FRONT_REGION = 3, FRONT_OTHER = 4,
@@ -95,6 +97,22 @@ pub struct Transport {
 #[repr(C)]
 #[derive(Debug)]
 pub struct Managed {
+    /// The archive's.
+    pub at: *mut u8,
+}
+
+/// A handle of a budget: null, or a pointer that owns one. It is freed by `limekeel_budget_free` alone.
+#[repr(C)]
+#[derive(Debug)]
+pub struct Budget {
+    /// The archive's.
+    pub at: *mut u8,
+}
+
+/// A connection that a budget covers: null, or a pointer that owns one. It is freed by `limekeel_budgeted_free` alone.
+#[repr(C)]
+#[derive(Debug)]
+pub struct Budgeted {
     /// The archive's.
     pub at: *mut u8,
 }
@@ -160,6 +178,24 @@ plain! {
     ToldCancelled 12 { cancelled at 0: Cancelled, finished at 8: bool }
     /// `struct limekeel_told_changed`.
     ToldChanged 12 { changed at 0: Changed, finished at 8: bool }
+    /// `struct limekeel_budget_told`.
+    BudgetTold 16 { status at 0: u32, is_pressed at 4: bool, total at 8: u64 }
+    /// `struct limekeel_pressed_done`.
+    PressedDone 8 { status at 0: u32, pressure at 4: u32 }
+    /// `struct limekeel_pressed_written`.
+    PressedWritten 24 { written at 0: Written, pressure at 16: u32 }
+    /// `struct limekeel_pressed_flushed`.
+    PressedFlushed 24 { flushed at 0: Flushed, pressure at 16: u32 }
+    /// `struct limekeel_pressed_removed`.
+    PressedRemoved 40 { removed at 0: Removed, pressure at 32: u32 }
+    /// `struct limekeel_pressed_taken`.
+    PressedTaken 48 { taken at 0: Taken, pressure at 40: u32 }
+    /// `struct limekeel_pressed_cancelled`.
+    PressedCancelled 12 { cancelled at 0: Cancelled, pressure at 8: u32 }
+    /// `struct limekeel_pressed_changed`.
+    PressedChanged 12 { changed at 0: Changed, pressure at 8: u32 }
+    /// `struct limekeel_standing`.
+    Standing 16 { status at 0: u32, writable at 4: bool, closed at 5: bool, empty at 6: bool, held at 8: u64 }
     /// `struct limekeel_state`.
     State 12 {
         status at 0: u32, writable at 4: bool, closed at 5: bool, empty at 6: bool, finishing at 7: bool,
@@ -181,6 +217,7 @@ plain! {
 }
 
 const _: () = assert!(size_of::<Connection>() == 8 && size_of::<Block>() == 8);
+const _: () = assert!(size_of::<Budget>() == 8 && size_of::<Budgeted>() == 8);
 const _: () = assert!(size_of::<Shared>() == 8 && size_of::<Transport>() == 8 && size_of::<Managed>() == 8);
 
 #[allow(missing_docs)]
@@ -271,6 +308,60 @@ unsafe extern "C" {
     pub fn limekeel_managed_current(managed: *const Managed) -> Current;
     pub fn limekeel_managed_gather_pieces(
         managed: *const Managed,
+        pieces: *mut Piece,
+        length: usize,
+        max_bytes: u32,
+    ) -> Gathered;
+    pub fn limekeel_budget_open_for(
+        budget: *mut Budget,
+        edge: u32,
+        room: u64,
+        low: u64,
+        high: u64,
+        quantum: u64,
+    ) -> u32;
+    pub fn limekeel_budget_share(budget: *mut Budget, second: *mut Budget) -> u32;
+    pub fn limekeel_budget_look(budget: *mut Budget) -> BudgetTold;
+    pub fn limekeel_budgeted_look_at_budget(budgeted: *mut Budgeted) -> BudgetTold;
+    pub fn limekeel_budget_free(budget: *mut Budget) -> u32;
+    pub fn limekeel_open_within_for(
+        budgeted: *mut Budgeted,
+        edge: u32,
+        low: u32,
+        high: u32,
+        overhead: u32,
+        unknown: u32,
+        budget: *mut Budget,
+    ) -> u32;
+    pub fn limekeel_budgeted_free(budgeted: *mut Budgeted) -> PressedDone;
+    pub fn limekeel_budgeted_rest(budgeted: *mut Budgeted) -> PressedDone;
+    pub fn limekeel_budgeted_write_bytes(budgeted: *mut Budgeted, bytes: *const u8, length: usize) -> PressedWritten;
+    pub fn limekeel_budgeted_write_block(budgeted: *mut Budgeted, block: *const Block) -> PressedWritten;
+    pub fn limekeel_budgeted_write_lent_bytes(
+        budgeted: *mut Budgeted,
+        bytes: *const u8,
+        length: usize,
+    ) -> PressedWritten;
+    pub fn limekeel_budgeted_write_region(budgeted: *mut Budgeted, length: u64) -> PressedWritten;
+    pub fn limekeel_budgeted_write_other(budgeted: *mut Budgeted, value: u32) -> PressedWritten;
+    pub fn limekeel_budgeted_flush(budgeted: *mut Budgeted) -> PressedFlushed;
+    pub fn limekeel_budgeted_progress(budgeted: *mut Budgeted, n: u64) -> PressedDone;
+    pub fn limekeel_budgeted_cancel(budgeted: *mut Budgeted, id: u64) -> PressedCancelled;
+    pub fn limekeel_budgeted_user_bit(budgeted: *mut Budgeted, index: u32, writable: bool) -> PressedChanged;
+    pub fn limekeel_budgeted_set_marks(budgeted: *mut Budgeted, low: u32, high: u32) -> PressedDone;
+    pub fn limekeel_budgeted_remove(budgeted: *mut Budgeted) -> PressedRemoved;
+    pub fn limekeel_budgeted_remove_with(budgeted: *mut Budgeted, cause: u32) -> PressedRemoved;
+    pub fn limekeel_budgeted_take_sent(budgeted: *mut Budgeted, n: u64) -> PressedTaken;
+    pub fn limekeel_budgeted_fail_flushed(budgeted: *mut Budgeted, cause: u32, notify: bool) -> PressedTaken;
+    pub fn limekeel_budgeted_close(budgeted: *mut Budgeted, cause: u32) -> PressedTaken;
+    pub fn limekeel_budgeted_give_up(budgeted: *mut Budgeted, cause: u32) -> PressedTaken;
+    pub fn limekeel_budgeted_state(budgeted: *const Budgeted) -> Standing;
+    pub fn limekeel_budgeted_look(budgeted: *const Budgeted) -> Look;
+    pub fn limekeel_budgeted_promise(budgeted: *const Budgeted, id: u64) -> Promise;
+    pub fn limekeel_budgeted_front(budgeted: *const Budgeted) -> Front;
+    pub fn limekeel_budgeted_current(budgeted: *const Budgeted) -> Current;
+    pub fn limekeel_budgeted_gather_pieces(
+        budgeted: *const Budgeted,
         pieces: *mut Piece,
         length: usize,
         max_bytes: u32,

@@ -4,7 +4,7 @@
 //! above a high mark it tells writers to stop, below a low mark to go on. It is Netty's `ChannelOutboundBuffer` and
 //! `WriteBufferWaterMark`, without end. The archive below was compiled from a proof that each call returns what a short
 //! definition says, whatever was called before. This crate over it is not proved; it is small, and its `unsafe` stands
-//! in five files.
+//! in six files.
 //!
 //! ```
 //! use limekeel::{Change, Connection, Estimate, Marks};
@@ -21,8 +21,8 @@
 //! # Ok::<(), Box<dyn std::error::Error>>(())
 //! ```
 //!
-//! A [`ManagedConnection`] ends in order, refuses what is past a limit, names a peer that stalls, and counts. A
-//! [`SharedConnection`] is one that threads use at once. A connection goes from thread to thread, and is used by one at a time:
+//! A [`ManagedConnection`] ends in order, refuses what is past a limit, names a peer that stalls, and counts. All
+//! [`BudgetedConnection`]s of a [`Budget`] together never hold more than its room. A [`SharedConnection`] is one that threads use at once. A connection goes from thread to thread, and is used by one at a time:
 //!
 //! ```
 //! fn goes_to_another_thread<T: Send>() {}
@@ -83,6 +83,7 @@
 #![deny(unsafe_code, missing_docs)]
 
 mod block;
+mod budget;
 mod common;
 mod connection;
 mod managed;
@@ -96,6 +97,8 @@ mod views;
 mod waits;
 
 #[allow(unsafe_code)]
+mod budget_raw;
+#[allow(unsafe_code)]
 mod handles;
 #[allow(unsafe_code)]
 mod lent;
@@ -105,6 +108,7 @@ mod managed_raw;
 mod raw;
 
 pub use block::Block;
+pub use budget::{Bounds, Budget, BudgetLook, BudgetedConnection, Pressed, Pressure};
 pub use connection::{Connection, Estimate, Marks};
 pub use managed::{Count, Limits, ManagedConnection, Numbers, Refusals, Told};
 pub use raw::Pieces;

@@ -1,4 +1,4 @@
-//! The `unsafe` of this crate, but that of `lent.rs`, `handles.rs`, `managed_raw.rs` and `common.rs`. Each call here is as safe as its signature.
+//! The `unsafe` of this crate, but that of `lent.rs`, `handles.rs`, `managed_raw.rs`, `budget_raw.rs` and `common.rs`. Each call here is as safe as its signature.
 //!
 //! What the archive asks of a caller, and why it is so here:
 //!

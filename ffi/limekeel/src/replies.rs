@@ -40,6 +40,12 @@ pub enum Refusal {
     Finishing,
     /// More bytes would be pending than the managed connection may hold.
     Full,
+    /// The budget has no room for the message.
+    OverBudget,
+    /// Other threads came in between 65536 times at the budget: try again.
+    Busy,
+    /// The low mark of the budget is above the high mark, or its room above 2^62 - 1.
+    BadBounds,
     /// A status that this crate does not know; it names no call that this crate makes.
     Unknown(u32),
 }
@@ -64,6 +70,9 @@ impl Refusal {
             Refusal::OtherVersion => sys::OTHER_VERSION,
             Refusal::Finishing => sys::FINISHING,
             Refusal::Full => sys::FULL,
+            Refusal::OverBudget => sys::OVER_BUDGET,
+            Refusal::Busy => sys::BUSY,
+            Refusal::BadBounds => sys::BAD_BOUNDS,
             Refusal::Unknown(status) => status,
         }
     }
@@ -86,6 +95,9 @@ impl Refusal {
             sys::OTHER_VERSION => Refusal::OtherVersion,
             sys::FINISHING => Refusal::Finishing,
             sys::FULL => Refusal::Full,
+            sys::OVER_BUDGET => Refusal::OverBudget,
+            sys::BUSY => Refusal::Busy,
+            sys::BAD_BOUNDS => Refusal::BadBounds,
             other => Refusal::Unknown(other),
         }
     }
@@ -109,6 +121,9 @@ impl fmt::Display for Refusal {
             Refusal::OtherVersion => "the archive is of another version than the crate",
             Refusal::Finishing => "the connection is finishing",
             Refusal::Full => "more would be pending than the connection may hold",
+            Refusal::OverBudget => "the budget has no room for the message",
+            Refusal::Busy => "another call has the lock, or others came in between at the budget",
+            Refusal::BadBounds => "the low mark of the budget is above the high mark, or its room above 2^62 - 1",
             Refusal::Unknown(status) => return write!(f, "status {status}"),
         })
     }

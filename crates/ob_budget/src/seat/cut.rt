@@ -8,8 +8,9 @@ use crate::fault::OneSeat;
 use std::marker::Brand;
 
 impl Seat {
-    /// Gives some of its seats to a new one, which holds nothing.
-    fn give(&mut self, budget: &Budget, seats: u64) -> Seat
+    /// A new seat, which holds nothing and is for this many of the seats that this one is for. At least one stays. What this
+    /// one holds stays.
+    pub fn give(&mut self, budget: &Budget, seats: u64) -> Seat
         requires budget { self.old.budget ≡ budget.now }
         requires given { 0 < seats }
         requires kept { seats < self.old.account.seats }

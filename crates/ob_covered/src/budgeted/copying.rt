@@ -12,7 +12,9 @@ ghost use Rattle.ob_covered.specs.Cover.{Tells, TakesSparingly};
 
 use super::Budgeted;
 use crate::fault::{Told, WriteFault};
+use bytes::Bytes;
 use ob_connection::{Connection, Written};
+use ob_types::{Message, Refusal};
 
 /// Writes a copy to a connection that the budget let through.
 fn put_copy(connection: &mut Connection, bytes: &[u8]) -> Result<Written, WriteFault>
@@ -63,6 +65,42 @@ impl Budgeted {
             Err(fault) => Told {
                 answer: Err(WriteFault::OverBudget(fault)),
                 pressure: None,
+            },
+        }
+    }
+
+    /// Writes the bytes of a block, which the message shares: no byte is copied. It is refused as `write_copy` is, and not
+    /// shared then; `NoMemory` comes also, before `OverBudget`, if the block has more owners than can be counted.
+    pub fn write_shared(&mut self, block: &Bytes) -> Told<Result<Written, WriteFault>>
+        ensures written { IfOk result.answer (λ written.
+            Obeys self.old.connection (Write (Block block.now)) written_reply (accepted written) self.new.connection) }
+        ensures room { OnOk result.answer (room_in self.new.connection ≡ room_for_one_more self.old.connection.unsent) }
+        ensures refused { IfErr result.answer (λ why. IsNotWritten self.old (Block block.now) why self.new) }
+        ensures told { Tells self.old.cover result.pressure self.new.cover }
+        ensures sparing { (now : ℕ) → IsPending self.old.connection now → TakesSparingly
+            (now + counted_bytes self.old.connection.unsent.settings.estimate (Block block.now)) self.old.cover self.new.cover }
+    {
+        if let Some(refusal) = self.connection.refusal_of_block(block.as_slice()) {
+            return Told {
+                answer: Err(WriteFault::Refused(refusal)),
+                pressure: None,
+            };
+        }
+        let Ok(shared) = block.clone() else {
+            return Told {
+                answer: Err(WriteFault::Refused(Refusal::NoMemory)),
+                pressure: None,
+            };
+        };
+        let Told { answer, pressure } = self.write(Message::Block(shared));
+        match answer {
+            Ok(written) => Told {
+                answer: Ok(written),
+                pressure,
+            },
+            Err(not) => Told {
+                answer: Err(not.why),
+                pressure,
             },
         }
     }

@@ -1,0 +1,236 @@
+//! What the calls of a connection that a budget covers return to C: a reply, and how pressure at the budget changed.
+
+ghost use Rattle.std.specs.Prelude.{◌≡◌};
+ghost use Rattle.ob_c.specs.Budgets.{fault_number, pressure_number, rested_in_c, settled, settled_write};
+ghost use Rattle.ob_c.specs.Budgets.{pressed_cancelled_in_c, pressed_changed_in_c, pressed_done_in_c, pressed_flushed_in_c};
+ghost use Rattle.ob_c.specs.Budgets.{pressed_removed_in_c, pressed_taken_in_c, pressed_written_in_c};
+
+use crate::numbers::{BUSY, DONE, NOT_OPEN, OVER_BUDGET, accepted, status_of};
+use crate::replies::{Cancelled, Changed, Flushed, Removed, Taken, Written};
+use ob_budget::{Pressure, RaiseFault};
+use ob_covered::{Told, WriteFault};
+use ob_types::{Change, Refusal};
+
+/// The number of a turn of pressure.
+pub(crate) fn pressure_number(pressure: Option<Pressure>) -> u32
+    ensures { result ≡ pressure_number pressure }
+{
+    match pressure {
+        None => 0,
+        Some(Pressure::Began) => 1,
+        Some(Pressure::Ended) => 2,
+    }
+}
+
+/// What a command has to report, and the number of the turn of pressure.
+pub(crate) fn settled<T>(told: Option<Told<Result<T, Refusal>>>) -> (Result<T, u32>, u32)
+    ensures { result ≡ settled told }
+{
+    match told {
+        None => (Err(NOT_OPEN), 0),
+        Some(told) => (accepted(Some(told.answer)), pressure_number(told.pressure)),
+    }
+}
+
+/// What a write has to report, and the number of the turn of pressure.
+pub(crate) fn settled_write(
+    told: Option<Told<Result<ob_connection::Written, WriteFault>>>,
+) -> (Result<ob_connection::Written, u32>, u32)
+    ensures { result ≡ settled_write told }
+{
+    let Some(told) = told else {
+        return (Err(NOT_OPEN), 0);
+    };
+    match told.answer {
+        Err(why) => (Err(fault_number(why)), pressure_number(told.pressure)),
+        Ok(written) => (Ok(written), pressure_number(told.pressure)),
+    }
+}
+
+/// The status of a write that was refused.
+fn fault_number(why: WriteFault) -> u32
+    ensures { result ≡ fault_number why }
+{
+    match why {
+        WriteFault::Refused(refusal) => u32::from(refusal.number()),
+        WriteFault::OverBudget(RaiseFault::Full) => OVER_BUDGET,
+        WriteFault::OverBudget(RaiseFault::Busy) => BUSY,
+    }
+}
+
+/// What a command returns that has nothing more to say.
+#[repr(C)]
+#[derive(Clone, Copy)]
+pub struct PressedDone {
+    /// 0, or why nothing changed.
+    pub status: u32,
+    /// How pressure at the budget changed by this call.
+    pub pressure: u32,
+}
+
+impl PressedDone {
+    /// What C gets for this.
+    pub(crate) fn of(told: (Result<(), u32>, u32)) -> PressedDone
+        ensures { result ≡ pressed_done_in_c told }
+    {
+        let (answer, pressure) = told;
+        PressedDone {
+            status: status_of(answer),
+            pressure,
+        }
+    }
+
+    /// What C gets for a rest.
+    pub(crate) fn rested(told: Option<Option<Pressure>>) -> PressedDone
+        ensures { result ≡ rested_in_c told }
+    {
+        match told {
+            None => PressedDone {
+                status: NOT_OPEN,
+                pressure: 0,
+            },
+            Some(pressure) => PressedDone {
+                status: DONE,
+                pressure: pressure_number(pressure),
+            },
+        }
+    }
+}
+
+/// What a write returns.
+#[repr(C)]
+#[derive(Clone, Copy)]
+pub struct PressedWritten {
+    /// The reply.
+    pub written: Written,
+    /// How pressure at the budget changed by this call.
+    pub pressure: u32,
+}
+
+impl PressedWritten {
+    /// What C gets for this.
+    pub(crate) fn of(told: (Result<ob_connection::Written, u32>, u32)) -> PressedWritten
+        ensures { result ≡ pressed_written_in_c told }
+    {
+        let (answer, pressure) = told;
+        PressedWritten {
+            written: Written::of(answer),
+            pressure,
+        }
+    }
+}
+
+/// What a flush returns.
+#[repr(C)]
+#[derive(Clone, Copy)]
+pub struct PressedFlushed {
+    /// The reply.
+    pub flushed: Flushed,
+    /// How pressure at the budget changed by this call.
+    pub pressure: u32,
+}
+
+impl PressedFlushed {
+    /// What C gets for this.
+    pub(crate) fn of(told: (Result<ob_connection::Flushed, u32>, u32)) -> PressedFlushed
+        ensures { result ≡ pressed_flushed_in_c told }
+    {
+        let (answer, pressure) = told;
+        PressedFlushed {
+            flushed: Flushed::of(answer),
+            pressure,
+        }
+    }
+}
+
+/// What the removal of the first flushed message returns.
+#[repr(C)]
+#[derive(Clone, Copy)]
+pub struct PressedRemoved {
+    /// The reply.
+    pub removed: Removed,
+    /// How pressure at the budget changed by this call.
+    pub pressure: u32,
+}
+
+impl PressedRemoved {
+    /// What C gets for this.
+    pub(crate) fn of(told: (Result<ob_connection::Removed, u32>, u32)) -> PressedRemoved
+        ensures { result ≡ pressed_removed_in_c told }
+    {
+        let (answer, pressure) = told;
+        PressedRemoved {
+            removed: Removed::of(answer),
+            pressure,
+        }
+    }
+}
+
+/// What a call returns that takes several messages away.
+#[repr(C)]
+#[derive(Clone, Copy)]
+pub struct PressedTaken {
+    /// The reply.
+    pub taken: Taken,
+    /// How pressure at the budget changed by this call.
+    pub pressure: u32,
+}
+
+impl PressedTaken {
+    /// What C gets for this.
+    pub(crate) fn of(told: (Result<ob_connection::Taken, u32>, u32)) -> PressedTaken
+        ensures { result ≡ pressed_taken_in_c told }
+    {
+        let (answer, pressure) = told;
+        PressedTaken {
+            taken: Taken::of(answer),
+            pressure,
+        }
+    }
+}
+
+/// What a cancellation returns.
+#[repr(C)]
+#[derive(Clone, Copy)]
+pub struct PressedCancelled {
+    /// The reply.
+    pub cancelled: Cancelled,
+    /// How pressure at the budget changed by this call.
+    pub pressure: u32,
+}
+
+impl PressedCancelled {
+    /// What C gets for this.
+    pub(crate) fn of(told: (Result<bool, u32>, u32)) -> PressedCancelled
+        ensures { result ≡ pressed_cancelled_in_c told }
+    {
+        let (answer, pressure) = told;
+        PressedCancelled {
+            cancelled: Cancelled::of(answer),
+            pressure,
+        }
+    }
+}
+
+/// What a change of a user bit returns.
+#[repr(C)]
+#[derive(Clone, Copy)]
+pub struct PressedChanged {
+    /// The reply.
+    pub changed: Changed,
+    /// How pressure at the budget changed by this call.
+    pub pressure: u32,
+}
+
+impl PressedChanged {
+    /// What C gets for this.
+    pub(crate) fn of(told: (Result<Option<Change>, u32>, u32)) -> PressedChanged
+        ensures { result ≡ pressed_changed_in_c told }
+    {
+        let (answer, pressure) = told;
+        PressedChanged {
+            changed: Changed::of(answer),
+            pressure,
+        }
+    }
+}
