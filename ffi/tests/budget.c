@@ -272,7 +272,7 @@ static void *works(void *at)
         struct limekeel_standing standing = limekeel_budgeted_state(&one);
         expect("never more than the room", look.total <= ROOM && standing.held <= ROOM);
         expect("no less than is pending", standing.held >= limekeel_budgeted_look(&one).total);
-        if (refused || round % 7 == 6) {
+        if (refused || round % 9 == 8) {
             counts(worker, limekeel_budgeted_flush(&one).pressure);
             struct limekeel_pressed_taken taken = limekeel_budgeted_fail_flushed(&one, 1, true);
             expect("they are gone", taken.taken.status == LIMEKEEL_OK);

@@ -136,7 +136,7 @@ fn works(budget: &Budget, start: &Barrier) -> (u64, u64) {
         counts(told.pressure);
         assert!(matches!(told.answer, Ok(_) | Err(Refusal::OverBudget | Refusal::Busy)), "{told:?}");
         assert!(budget.look().total <= BOUNDS.room && connection.held() >= u64::from(connection.look().total));
-        if told.answer.is_err() || round % 7 == 6 {
+        if told.answer.is_err() || round % 9 == 8 {
             counts(connection.flush().pressure);
             counts(connection.fail_flushed(1, true).pressure);
         }
