@@ -4,7 +4,6 @@ use limekeel::{Change, Estimate, Marks, Outcome, Refusal, SharedConnection, Tran
 use std::collections::VecDeque;
 use std::future::Future;
 use std::io::{self, ErrorKind, IoSlice};
-use std::mem::replace;
 use std::pin::Pin;
 use std::sync::Arc;
 use std::task::{Context, Poll, ready};
@@ -113,7 +112,7 @@ impl<S: AsyncWrite + Unpin> Pump<S> {
                 return Poll::Pending;
             }
             // what those write who were let in goes by the same call; but they are waited for once
-            if gate.kept > 0 && !gate.is_stopped && replace(paused, Some(gate.sent)) != Some(gate.sent) {
+            if gate.kept > 0 && !gate.is_stopped && paused.replace(gate.sent) != Some(gate.sent) {
                 break;
             }
             // had from what was sent to what is sent next, and not while the stream is written to

@@ -176,6 +176,16 @@ fn one_that_was_let_in_and_does_not_write_holds_up_nothing() {
 }
 
 #[test]
+fn what_is_gone_before_the_stream_blocks_is_told_at_once() {
+    let (outbound, mut pump, stream) = opened();
+    stream.with(|within| within.stalled = true);
+    let mut empty = ByHand::new(outbound.try_write(b"").unwrap()).waits();
+    drop(outbound.try_write(b"full").unwrap());
+    assert!(pump.poll().is_pending());
+    assert_eq!((empty.woken(), empty.poll()), (1, Poll::Ready(Outcome::Success)));
+}
+
+#[test]
 fn a_writer_that_is_dropped_passes_its_turn_on() {
     let (outbound, mut pump, _) = filled();
     let first = ByHand::new(outbound.write(b"one ")).waits();
