@@ -121,8 +121,8 @@ fn half_and_most(mut times: Vec<u64>) -> [f64; 2] {
 }
 
 /// The times in microseconds from before a write until the system has taken its message, and until the client has read
-/// it: half are below the first of each, and 99 of 100 below the second. Each of some tasks writes a message of 64 bytes
-/// every millisecond.
+/// it: half are below the first of each, and 99 of 100 below the second. Each of some tasks writes a message of 64
+/// bytes every millisecond.
 async fn latency(way: Way) -> [[f64; 2]; 2] {
     const TASKS: usize = 32;
     const EACH: usize = 1000;

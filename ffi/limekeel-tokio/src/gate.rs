@@ -69,7 +69,7 @@ pub struct Gate {
     /// Whether nothing can be written any more, and what became of the pump.
     pub is_over: bool,
     end: Option<Outcome>,
-    /// What messages that wait were lent, a second time, with their promises: so it is dropped last outside of the mutex.
+    /// What messages that wait were lent, once more, with their promises: so it is dropped last outside of the mutex.
     lent: VecDeque<(u64, Bytes)>,
 }
 
