@@ -200,3 +200,39 @@ fn give_each(
     ];
     Some((all, [flushed, held, less, total(budget)]))
 }
+
+#[test]
+fn covers_are_cut_off_one(rt: HostRuntime) -> Result<(), Fail> {
+    let alloc = rt.alloc();
+    let Ok(mut first) = Cover::open(alloc, Bounds::new(1000, 200, 800)?, 0) else {
+        return Err(Fail::new("out of memory"));
+    };
+    let Ok(mut other) = first.share() else {
+        return Err(Fail::new("there are 2^62 seats"));
+    };
+    let Ok(of_one) = other.split() else {
+        return Err(Fail::new("there are 2^52 seats"));
+    };
+    let mut connection = under(alloc, of_one)?;
+    let block = Bytes::from_static(&[0; 804]);
+    let written = connection.write_shared(&block);
+    assert_eq!(rt;
+        (written.answer.is_ok(), written.pressure),
+        (true, Some(Pressure::Began))
+    );
+    let looks = [first.look(), other.look(), connection.look_at_budget()];
+    assert_eq!(rt;
+        looks.map(|look| (look.total, look.is_pressed)),
+        [(900, true); 3]
+    );
+    let none = Estimate {
+        overhead: 0,
+        unknown: 0,
+    };
+    let ended = connection.renew(alloc, WaterMark::new(1, 2)?, none);
+    assert_eq!(rt;
+        (ended, connection.held(), first.look().total),
+        (Some(Pressure::Ended), 0, 0)
+    );
+    Ok(())
+}
